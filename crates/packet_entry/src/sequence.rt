@@ -1,0 +1,85 @@
+ghost use Rattle.std.specs.Prelude.{◌≡◌, ◌<◌, ◌↔◌, List, [], ◌∷◌, ◌++◌, length, OnOk, IfErr, OnErr, IsSome, IsTrue, slice_get, option_copied, option_to_list};
+
+use std::alloc::Global;
+use std::collections::VecDeque;
+use std::marker::Model;
+
+/// A list of items of its own, taken from the front and added to at the end. It is made from a `Vec` and
+/// gives it back without taking memory. Places count from 0.
+#[derive(Debug, Drop)]
+pub struct Sequence<T> {
+    items: VecDeque<T>,
+}
+
+impl<T> Model for Sequence<T> {
+    ghost Value = { List T };
+
+    ghost view = { λ s. s.items.items };
+}
+
+impl<T> Sequence<T> {
+    /// No items. Takes no memory.
+    pub fn new(alloc: Global) -> Sequence<T>
+        ensures { result ≡ [] }
+    {
+        Sequence {
+            items: VecDeque::new(alloc),
+        }
+    }
+
+    /// The items of the vector, which is taken over as it is. Takes no memory.
+    pub fn from_vec(items: Vec<T>) -> Sequence<T>
+        ensures { result ≡ items.items }
+    {
+        Sequence {
+            items: VecDeque::from_vec(items),
+        }
+    }
+
+    /// A vector of the items. Takes no memory.
+    pub fn into_vec(self) -> Vec<T>
+        ensures { result.items ≡ self }
+    {
+        self.items.into_vec()
+    }
+
+    /// How many items there are.
+    pub fn len(&self) -> usize
+        ensures { result ≡ length self.now }
+    {
+        self.items.len()
+    }
+
+    pub fn is_empty(&self) -> bool
+        ensures { IsTrue result ↔ (self.now ≡ []) }
+    {
+        self.items.is_empty()
+    }
+
+    /// The item at a place; `None` past the end.
+    pub fn get(&self, at: usize) -> Option<&T>
+        ensures value { option_copied result ≡ slice_get self.now at }
+        ensures found { IsSome result ↔ (at < length self.now) }
+    {
+        self.items.get(at)
+    }
+
+    /// Adds an item at the end. For want of memory the item comes back and nothing has changed.
+    pub fn push(&mut self, item: T) -> Result<(), T>
+        ensures ok { OnOk result (self.new ≡ self.old ++ item ∷ []) }
+        ensures returned { IfErr result (λ back. back ≡ item) }
+        ensures err { OnErr result (self.new ≡ self.old) }
+    {
+        match self.items.push_back(item) {
+            Ok(()) => Ok(()),
+            Err(failed) => Err(failed.value),
+        }
+    }
+
+    /// Takes the first item out; `None` where there is none.
+    pub fn take_first(&mut self) -> Option<T>
+        ensures { self.old ≡ option_to_list result ++ self.new }
+    {
+        self.items.pop_front()
+    }
+}
