@@ -1,4 +1,5 @@
 ghost use Rattle.std.specs.Prelude.{◌≡◌, ◌<◌, ◌↔◌, List, [], ◌∷◌, ◌++◌, length, OnOk, IfErr, OnErr, IsSome, IsTrue, slice_get, option_copied, option_to_list};
+ghost use Rattle.std.specs.Option.{option_copied_mut};
 
 use std::alloc::Global;
 use std::collections::VecDeque;
@@ -12,12 +13,17 @@ pub struct Sequence<T> {
 }
 
 impl<T> Model for Sequence<T> {
+    ghost use Rattle.std.specs.Prelude.{List};
+
     ghost Value = { List T };
 
     ghost view = { λ s. s.items.items };
 }
 
 impl<T> Sequence<T> {
+    ghost use Rattle.std.specs.Borrow.{sem};
+    ghost use Rattle.packet_entry.specs.SequenceLends.{lends_item};
+
     /// No items. Takes no memory.
     pub fn new(alloc: Global) -> Sequence<T>
         ensures { result ≡ [] }
@@ -62,6 +68,15 @@ impl<T> Sequence<T> {
         ensures found { IsSome result ↔ (at < length self.now) }
     {
         self.items.get(at)
+    }
+
+    /// The item at a place, to be changed; `None` past the end.
+    pub fn get_mut(&mut self, at: usize) -> Option<&mut T>
+        ensures* writes_back { sem 𝓛 (lends_item T.row self.entry at result) }
+        ensures value { option_copied_mut result ≡ slice_get self.old at }
+        ensures found { IsSome result ↔ (at < length self.old) }
+    {
+        self.items.get_mut(at)
     }
 
     /// Adds an item at the end. For want of memory the item comes back and nothing has changed.
