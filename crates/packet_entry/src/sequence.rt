@@ -1,4 +1,4 @@
-ghost use Rattle.std.specs.Prelude.{◌≡◌, ◌<◌, ◌↔◌, List, [], ◌∷◌, ◌++◌, length, OnOk, IfErr, OnErr, IsSome, IsTrue, slice_get, option_copied, option_to_list};
+ghost use Rattle.std.specs.Prelude.{◌≡◌, ◌<◌, ◌↔◌, List, [], ◌∷◌, ◌++◌, length, OnOk, IfErr, OnErr, IsSome, IsNone, IsTrue, slice_get, option_copied, option_to_list};
 ghost use Rattle.std.specs.Option.{option_copied_mut};
 
 use std::alloc::Global;
@@ -93,7 +93,8 @@ impl<T> Sequence<T> {
 
     /// Takes the first item out; `None` where there is none.
     pub fn take_first(&mut self) -> Option<T>
-        ensures { self.old ≡ option_to_list result ++ self.new }
+        ensures first { self.old ≡ option_to_list result ++ self.new }
+        ensures empty { IsNone result ↔ (self.old ≡ []) }
     {
         self.items.pop_front()
     }
