@@ -1,0 +1,2 @@
+pub mod FreeIds
+pub mod Places
