@@ -39,12 +39,12 @@ same_mod id h = omega arith
 -- the look at this id found it among ids, and the walk went on
 walk_on : (looks id : ℕ) (ids : List ℕ) → id < IDS → is_among ids id ≡ true → Walk looks (id_behind id) ids → Walk (suc looks) id ids
 walk_on looks id ids h e w = record {
-    way = w.way + 1;
-    short = omega (arith, w.short);
-    is = ap (λ b. cond b (free_from looks (id_behind id) ids) id) e ∙ w.is ∙ behind_by id w.way;
-    passed = passed_on;
-    found = found_on w.found;
-  }
+  way = w.way + 1;
+  short = omega (arith, w.short);
+  is = ap (λ b. cond b (free_from looks (id_behind id) ids) id) e ∙ w.is ∙ behind_by id w.way;
+  passed = passed_on;
+  found = found_on w.found;
+}
   where
     passed_on : (n : ℕ) → n < w.way + 1 → is_among ids ((id + n) % IDS) ≡ true
     passed_on zero below_way = ap (is_among ids) (same_mod id h) ∙ e
@@ -59,21 +59,21 @@ walk_on looks id ids h e w = record {
 -- the look at this id found it free
 walk_here : (looks id : ℕ) (ids : List ℕ) → id < IDS → is_among ids id ≡ false → Walk (suc looks) id ids
 walk_here looks id ids h e = record {
-    way = 0;
-    short = omega arith;
-    is = ap (λ b. cond b (free_from looks (id_behind id) ids) id) e ∙ sym (same_mod id h);
-    passed = λ n none. absurd (omega (arith, none));
-    found = inr (ap (is_among ids) (same_mod id h) ∙ e);
-  }
+  way = 0;
+  short = omega arith;
+  is = ap (λ b. cond b (free_from looks (id_behind id) ids) id) e ∙ sym (same_mod id h);
+  passed = λ n none. absurd (omega (arith, none));
+  found = inr (ap (is_among ids) (same_mod id h) ∙ e);
+}
 
 walk : (looks id : ℕ) (ids : List ℕ) → id < IDS → Walk looks id ids
 walk zero id ids h = record {
-    way = 0;
-    short = omega arith;
-    is = sym (same_mod id h);
-    passed = λ n none. absurd (omega (arith, none));
-    found = inl refl;
-  }
+  way = 0;
+  short = omega arith;
+  is = sym (same_mod id h);
+  passed = λ n none. absurd (omega (arith, none));
+  found = inl refl;
+}
 walk (suc looks) id ids h =
     elim (cases_Bool (is_among ids id)) [ inl e ↦ walk_on looks id ids h e (walk looks (id_behind id) ids (below id)) | inr e ↦ walk_here looks id ids h e ]
 
@@ -87,9 +87,9 @@ candidate : (n id q : ℕ) → id < IDS → is_member nat_eq (candidates n id) q
 unfolding candidates
 candidate zero id q h m = absurd (cc (m))
 candidate (suc n) id q h m = elim (or_cases (nat_eq q id) (is_member nat_eq (candidates n (id_behind id)) q) m) [
-    inl e ↦ record { way = 0; short = omega arith; is = eqb-true q id e ∙ sym (same_mod id h) }
+  | inl e ↦ record { way = 0; short = omega arith; is = eqb-true q id e ∙ sym (same_mod id h) }
   | inr e ↦ (let c = candidate n (id_behind id) q (below id) e in record { way = c.way + 1; short = omega (arith, c.short); is = c.is ∙ behind_by id c.way })
-  ]
+]
 
 -- this id isn't one of those behind it, as long as these are fewer than all others
 apart : (n id q : ℕ) → n < IDS → id < IDS → IsCandidate n (id_behind id) q → nat_eq id q ≡ false
@@ -130,12 +130,12 @@ free_at_last ids id h few w = elim (w.found) [ inr free ↦ free | inl all ↦ e
 
 pub first_free : (last : ℕ) (ids : List ℕ) → last < IDS → length ids < IDS → IsFirstFree last ids (fresh last ids)
 first_free last ids h few = let w = walk (length ids) (id_behind last) ids (below last) in record {
-    way = w.way;
-    short = w.short;
-    is = w.is ∙ counted last w.way;
-    free = ap (is_among ids) w.is ∙ free_at_last ids (id_behind last) (below last) few w;
-    passed = λ n lt. ap (is_among ids) (sym (counted last n)) ∙ w.passed n lt;
-  }
+  way = w.way;
+  short = w.short;
+  is = w.is ∙ counted last w.way;
+  free = ap (is_among ids) w.is ∙ free_at_last ids (id_behind last) (below last) few w;
+  passed = λ n lt. ap (is_among ids) (sym (counted last n)) ∙ w.passed n lt;
+}
   where
     counted : (last n : ℕ) → (id_behind last + n) % IDS ≡ (last + 1 + n) % IDS
     counted last n = omega arith

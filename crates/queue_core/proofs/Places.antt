@@ -24,10 +24,10 @@ pub place_found : (xs : List (ℕ × Card)) (id place : ℕ) (w : ℕ × Card) �
     → remove_entry (is_id id) xs ≡ take place xs ++ remove_entry (is_id id) (drop place xs)
     → IsPlace xs id place
 place_found xs id place w within at_place same passed_lookup passed_remove = record {
-    within = within;
-    found = passed_lookup ∙ ap (lookup (is_id id)) front ∙ ap (λ b. cond b (Some w.1) (lookup (is_id id) (drop (suc place) xs))) test ∙ ap (option_map (λ (v : ℕ × Card). v.1)) (sym there);
-    others = passed_remove ∙ ap (λ ys. take place xs ++ remove_entry (is_id id) ys) front ∙ ap (λ b. take place xs ++ cond b (drop (suc place) xs) (w ∷ remove_entry (is_id id) (drop (suc place) xs))) test;
-  }
+  within = within;
+  found = passed_lookup ∙ ap (lookup (is_id id)) front ∙ ap (λ b. cond b (Some w.1) (lookup (is_id id) (drop (suc place) xs))) test ∙ ap (option_map (λ (v : ℕ × Card). v.1)) (sym there);
+  others = passed_remove ∙ ap (λ ys. take place xs ++ remove_entry (is_id id) ys) front ∙ ap (λ b. take place xs ++ cond b (drop (suc place) xs) (w ∷ remove_entry (is_id id) (drop (suc place) xs))) test;
+}
   where
     front : drop place xs ≡ w ∷ drop (suc place) xs
     front = drop-cons xs place w within ∙ ap (λ v. v ∷ drop (suc place) xs) (sym at_place)
@@ -42,51 +42,51 @@ place_found xs id place w within at_place same passed_lookup passed_remove = rec
 apart_from : (id k : ℕ) (es : List (ℕ × Card)) → AllByRecursion (λ y. nat_eq k y ≡ false) (keys_of es) → AllByRecursion (λ y. nat_eq k y ≡ false) (keys_of (remove_entry (is_id id) es))
 apart_from id k [] h = tt
 apart_from id k (e ∷ es) h = elim (cases_Bool (is_id id e.0)) [
-    inl same ↦ rw same h.1
+  | inl same ↦ rw same h.1
   | inr other ↦ rw other (h.0, apart_from id k es h.1)
-  ]
+]
 
 apart_without : (id : ℕ) (es : List (ℕ × Card)) → IsDistinct nat_eq (keys_of es) → IsDistinct nat_eq (keys_of (remove_entry (is_id id) es))
 unfolding IsDistinct
 apart_without id [] h = tt
 apart_without id (e ∷ es) h = elim (cases_Bool (is_id id e.0)) [
-    inl same ↦ rw same h.1
+  | inl same ↦ rw same h.1
   | inr other ↦ rw other (apart_from id e.0 es h.0, apart_without id es h.1)
-  ]
+]
 
 fewer : (id : ℕ) (es : List (ℕ × Card)) → length (remove_entry (is_id id) es) ≤ length es
 fewer id [] = omega arith
 fewer id (e ∷ es) = elim (cases_Bool (is_id id e.0)) [
-    inl same ↦ rw same (omega arith)
+  | inl same ↦ rw same (omega arith)
   | inr other ↦ rw other (omega (arith, fewer id es))
-  ]
+]
 
 -- a queue keeps what it keeps when a packet leaves
 pub held_without : (h : Held) (id : ℕ) → IsHeld h → h.offer ≡ None → IsHeld (record { state = without h.state id; offer = None })
 held_without h id is none = record {
-    apart = apart_without id h.state.waiting is.apart;
-    next = tt;
-    undecided = tt;
-    few = omega (arith, fewer id h.state.waiting, is.few);
-  }
+  apart = apart_without id h.state.waiting is.apart;
+  next = tt;
+  undecided = tt;
+  few = omega (arith, fewer id h.state.waiting, is.few);
+}
 
 -- when an arrival begins
 pub held_begun : (q : Bound) (card : Card) → IsHeld (record { state = q; offer = None }) → is_decided_early q ≡ false → length q.waiting + 1 < 2 ^ 32 → IsHeld (record { state = q; offer = Some (next_id q, card) })
 held_begun q card is undecided few = record {
-    apart = is.apart;
-    next = refl;
-    undecided = undecided;
-    few = few;
-  }
+  apart = is.apart;
+  next = refl;
+  undecided = undecided;
+  few = few;
+}
 
 -- and when it is settled
 pub held_taken : (q : Bound) (id : ℕ) (card : Card) → q.last < IDS → IsHeld (record { state = q; offer = Some (id, card) }) → IsHeld (record { state = taken q id card; offer = None })
 held_taken q id card last is = record {
-    apart = rw (map_push (λ (w : ℕ × Card). w.0) q.waiting (id, card)) (IsDistinct-push nat_eq_equiv (keys_of q.waiting) id is.apart free);
-    next = tt;
-    undecided = tt;
-    few = omega (arith, length_push q.waiting (id, card), is.few);
-  }
+  apart = rw (map_push (λ (w : ℕ × Card). w.0) q.waiting (id, card)) (IsDistinct-push nat_eq_equiv (keys_of q.waiting) id is.apart free);
+  next = tt;
+  undecided = tt;
+  few = omega (arith, length_push q.waiting (id, card), is.few);
+}
   where
     free : is_among (keys_of q.waiting) id ≡ false
     free = ap (is_among (keys_of q.waiting)) is.next ∙ fresh_is_free q.last (keys_of q.waiting) last (omega (arith, length-keys_of q.waiting, is.few))
@@ -95,11 +95,11 @@ held_taken q id card last is = record {
 pub held_empty : (q : Bound) → q.waiting ≡ [] → IsHeld (record { state = q; offer = None })
 unfolding IsDistinct
 held_empty q none = record {
-    apart = subst (λ (es : List (ℕ × Card)). IsDistinct nat_eq (keys_of es)) (sym none) tt;
-    next = tt;
-    undecided = tt;
-    few = omega (arith, ap (λ (es : List (ℕ × Card)). length es) none);
-  }
+  apart = subst (λ (es : List (ℕ × Card)). IsDistinct nat_eq (keys_of es)) (sym none) tt;
+  next = tt;
+  undecided = tt;
+  few = omega (arith, ap (λ (es : List (ℕ × Card)). length es) none);
+}
 
 -- what is taken out of an id's place is what waits under the id
 pub leaves : (waiting : List (ℕ × Card)) (id place : ℕ) (w : ℕ × Card) → IsPlace waiting id place → w ≡ get_or waiting place w → lookup (is_id id) waiting ≡ Some w.1

@@ -9,8 +9,7 @@ use packet_entry::Packet;
 /// waits, as long as fewer than 2^32 packets wait.
 pub fn first_free_id()
     ensures { (last : ℕ) (ids : List ℕ) → last < 2 ^ 32 → length ids < 2 ^ 32 → IsFirstFree last ids (fresh last ids) }
-{
-}
+{}
 
 /// The id that the next arrival gets.
 pub(crate) fn fresh_id(last: u32, waiting: &[(u32, Packet)]) -> u32

@@ -39,17 +39,35 @@ impl Model for Queue {
     ghost Value = { Held };
 
     ghost view = { λ q. record {
-        state = record {
-            port = q.port; mode = q.mode; range = q.range; maximum = q.maximum; flags = q.flags;
-            last = q.last; dropped = q.dropped; user_dropped = q.user_dropped; waiting = q.waiting.items };
-        offer = q.offer } };
+      state = record {
+        port = q.port;
+        mode = q.mode;
+        range = q.range;
+        maximum = q.maximum;
+        flags = q.flags;
+        last = q.last;
+        dropped = q.dropped;
+        user_dropped = q.user_dropped;
+        waiting = q.waiting.items;
+      };
+      offer = q.offer;
+    } };
 
     ghost invariant = { λ q.
         IsHeld (record {
-            state = record {
-                port = q.port; mode = q.mode; range = q.range; maximum = q.maximum; flags = q.flags;
-                last = q.last; dropped = q.dropped; user_dropped = q.user_dropped; waiting = q.waiting.items };
-            offer = q.offer })
+          state = record {
+            port = q.port;
+            mode = q.mode;
+            range = q.range;
+            maximum = q.maximum;
+            flags = q.flags;
+            last = q.last;
+            dropped = q.dropped;
+            user_dropped = q.user_dropped;
+            waiting = q.waiting.items;
+          };
+          offer = q.offer;
+        })
         × IfSome q.offer (λ _. vec_len q.waiting < vec_capacity q.waiting) };
 }
 
