@@ -1,0 +1,137 @@
+//! One name of the machine in memory: its file, its room and its faults.
+ghost use Rattle.std.specs.Prelude.{◌≡◌, ◌-◌, ◌≤◌, ◌⊎◌, ◌++◌, length, take, drop, unwrap_or, option_copied, is_none, IfOk, OnOk, OnErr, IsErr, IsTrue, ◌↔◌, None};
+ghost use Rattle.host_io.specs.Host.{bytes_of};
+ghost use Rattle.host_io.specs.Machine.{is_named, raised, stored};
+
+use crate::Failed;
+use std::alloc::{AllocError, Global};
+use std::marker::Model;
+
+/// How many reads and writes have failed. A count stands still at its type's last value.
+#[derive(Clone, Copy)]
+pub(crate) struct Faults {
+    pub(crate) read: u64,
+    pub(crate) write: u64,
+}
+
+/// The vector keeps memory for the room, so that no write takes any.
+#[derive(Drop)]
+pub(crate) struct Entry {
+    name: String,
+    is_present: bool,
+    bytes: Vec<u8>,
+    room: Option<u64>,
+    faults: Faults,
+}
+
+impl Model for Entry {
+    ghost use Rattle.std.specs.Prelude.{◌≡◌, ◌≤◌, [], if◌then◌else◌, unwrap_or, IsFalse, Some, None};
+    ghost use Rattle.std.specs.String.{string_bytes};
+    ghost use Rattle.std.specs.Vec.{vec_capacity};
+    ghost use Rattle.host_io.specs.Machine as machine;
+
+    ghost Value = { machine.Entry };
+
+    ghost view = { λ e. record {
+      name = string_bytes e.name;
+      content = if e.is_present then Some e.bytes.items else None;
+      room = e.room;
+      read_faults = e.faults.read;
+      write_faults = e.faults.write;
+    } };
+
+    ghost invariant = { λ e. (unwrap_or e.room 0 ≤ vec_capacity e.bytes) ×
+        (IsFalse e.is_present → e.bytes.items ≡ []) };
+}
+
+impl Entry {
+    /// A name with neither file nor room.
+    pub(crate) fn new(alloc: Global, name: &str, faults: Faults) -> Result<Entry, AllocError>
+        ensures { IfOk result (λ entry. entry ≡ record {
+          name = name.now;
+          content = None;
+          room = None;
+          read_faults = faults.read;
+          write_faults = faults.write;
+        }) }
+    {
+        Ok(Entry {
+            name: String::from_str(alloc, name)?,
+            is_present: false,
+            bytes: Vec::new(alloc),
+            room: None,
+            faults,
+        })
+    }
+
+    pub(crate) fn is_named(&self, name: &str) -> bool
+        ensures { result ≡ is_named name.now self.now }
+    {
+        self.name.as_str() == name
+    }
+
+    pub(crate) fn content(&self) -> Option<&[u8]>
+        ensures { option_copied result ≡ self.now.content }
+    {
+        if self.is_present {
+            Some(&self.bytes)
+        } else {
+            None
+        }
+    }
+
+    pub(crate) fn room(&self) -> Option<u64>
+        ensures { result ≡ self.now.room }
+    {
+        self.room
+    }
+
+    pub(crate) fn put(&mut self, bytes: &[u8]) -> Result<(), AllocError>
+        ensures ok { OnOk result (self.new ≡ record self.old { content = Some bytes.now }) }
+        ensures err { OnErr result (self.new ≡ self.old) }
+    {
+        let more = bytes.len().saturating_sub(self.bytes.len());
+        self.bytes.reserve(more)?;
+        self.bytes.clear();
+        self.bytes.extend_from_slice(bytes).unwrap();
+        self.is_present = true;
+        Ok(())
+    }
+
+    pub(crate) fn give_room(&mut self, bytes: u64) -> Result<(), AllocError>
+        ensures ok { OnOk result (self.new ≡ record self.old { room = Some bytes }) }
+        ensures err { OnErr result (self.new ≡ self.old) }
+    {
+        let more = (bytes as usize).saturating_sub(self.bytes.len());
+        self.bytes.reserve(more)?;
+        self.room = Some(bytes);
+        Ok(())
+    }
+
+    pub(crate) fn count_read_fault(&mut self)
+        ensures { self.new ≡ record self.old { read_faults = raised self.old.read_faults } }
+    {
+        self.faults.read = self.faults.read.saturating_add(1);
+    }
+
+    pub(crate) fn count_write_fault(&mut self)
+        ensures { self.new ≡ record self.old { write_faults = raised self.old.write_faults } }
+    {
+        self.faults.write = self.faults.write.saturating_add(1);
+    }
+
+    /// Stores the first `count` bytes of the piece at place `at`, which is 0 or the file's length.
+    pub(crate) fn store(&mut self, at: u64, piece: &[u8], count: usize)
+        requires at { (at ≡ 0) ⊎ (at ≡ length (bytes_of self.old.content)) }
+        requires count { count ≤ length piece.now }
+        requires room { count ≤ unwrap_or self.old.room 0 - at }
+        ensures { self.new ≡ stored at piece.now (take count piece.now) self.old }
+    {
+        self.bytes.truncate(at as usize);
+        self.bytes.extend_from_slice(&piece[..count]).unwrap();
+        self.is_present = true;
+        if count == 0 && !piece.is_empty() {
+            self.faults.write = self.faults.write.saturating_add(1);
+        }
+    }
+}

@@ -1,0 +1,3 @@
+pub mod Messages
+pub mod Attributes
+pub mod Acknowledgements

@@ -1,0 +1,75 @@
+//! Acknowledgements: `struct nlmsgerr`.
+ghost use Rattle.std.specs.Prelude.{◌≡◌, ◌^◌, ◌+◌, ◌<◌, ◌≤◌, ◌++◌, ◌==◌, if◌then◌else◌, length, take, OnOk, OnErr, IsOk};
+ghost use Rattle.std.specs.Vec.{vec_len, vec_capacity};
+ghost use Rattle.netlink_codec.specs.Messages.{message_of, message_header_length};
+ghost use Rattle.netlink_codec.specs.Acknowledgements.{acknowledgement, answer, negated_errno};
+
+use crate::messages::{HEADER_LENGTH, Message, append_parts, header_of};
+use byteorder::{ByteOrder, LittleEndian};
+use std::alloc::AllocError;
+
+/// The kind of an acknowledgement.
+const NLMSG_ERROR: u16 = 2;
+/// The flag by which a request asks for an acknowledgement of success.
+const NLM_F_ACK: u16 = 4;
+/// The bytes of an errno.
+const ERRNO_LENGTH: usize = 4;
+
+/// Appends the acknowledgement of a request to `out`: a message of kind `NLMSG_ERROR` with the
+/// request's sequence and port, minus the errno as an `i32`, and then the request's header where
+/// `errno` is 0, and otherwise the whole request. Where `errno` is 0 and the request doesn't have
+/// the flag `NLM_F_ACK`, there is no acknowledgement and nothing is appended.
+///
+/// `AllocError` is want of memory, and then `out` has what it had. It doesn't come where `out` has
+/// room for 20 bytes and the whole request.
+#[tactic(auto, unfolding(crate::specs::Acknowledgements::answer))]
+pub fn ack(request: &Message<'_>, errno: u16, out: &mut Vec<u8>) -> Result<(), AllocError>
+    requires { length request.now.whole.now < 2 ^ 31 }
+    ensures ok { OnOk result (out.new.items ≡ out.old.items ++ answer (message_of request.now) errno) }
+    ensures err { OnErr result (out.new.items ≡ out.old.items) }
+
+    // Where there is room for the longer answer it succeeds, and room is never lost.
+    ensures room { vec_len out.old + (message_header_length + 4 + length request.now.whole.now) ≤ vec_capacity out.old → IsOk result }
+    ensures capacity { vec_capacity out.old ≤ vec_capacity out.new }
+{
+    if errno == 0 && request.flags & NLM_F_ACK == 0 {
+        return Ok(());
+    }
+    put_ack(request, errno, out)
+}
+
+fn put_ack(request: &Message<'_>, errno: u16, out: &mut Vec<u8>) -> Result<(), AllocError>
+    requires { length request.now.whole.now < 2 ^ 31 }
+    ensures ok { OnOk result (out.new.items ≡ out.old.items ++ acknowledgement (message_of request.now) errno) }
+    ensures err { OnErr result (out.new.items ≡ out.old.items) }
+
+    // Where there is room for the longer answer it succeeds, and room is never lost.
+    ensures room { vec_len out.old + (message_header_length + 4 + length request.now.whole.now) ≤ vec_capacity out.old → IsOk result }
+    ensures capacity { vec_capacity out.old ≤ vec_capacity out.new }
+{
+    let quoted = quoted_part(request.whole, errno);
+    let length = ERRNO_LENGTH + quoted.len();
+    let header = header_of(NLMSG_ERROR, 0, request.sequence, request.port, length);
+    append_parts(out, &header, &negated(errno), quoted)
+}
+
+// Minus the errno, as an `i32`.
+fn negated(errno: u16) -> [u8; ERRNO_LENGTH]
+    ensures { result ≡ negated_errno errno }
+{
+    let mut bytes = [0; ERRNO_LENGTH];
+    LittleEndian::write_i32(&mut bytes, -i32::from(errno));
+    bytes
+}
+
+// What of the request is sent back.
+fn quoted_part(whole: &[u8], errno: u16) -> &[u8]
+    ensures within { length result.now ≤ length whole.now }
+    ensures part { result.now ≡ (if errno == 0 then take message_header_length whole.now else whole.now) }
+{
+    if errno == 0 {
+        &whole[..HEADER_LENGTH.min(whole.len())]
+    } else {
+        whole
+    }
+}

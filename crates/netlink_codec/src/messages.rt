@@ -1,0 +1,149 @@
+//! Messages: `struct nlmsghdr` and the bytes behind it.
+ghost use Rattle.std.specs.Prelude.{◌≡◌, ℕ, ◌+◌, ◌^◌, ◌<◌, ◌≤◌, ◌↔◌, ◌++◌, length, min, drop, Some, OnOk, OnErr, IfSome, IsNone, IsOk, option_map};
+ghost use Rattle.std.specs.Vec.{vec_len, vec_capacity};
+ghost use Rattle.byteorder.specs.Endian.{little_bytes, little_number};
+ghost use Rattle.netlink_codec.specs.Messages.{NetlinkMessage, Front, HasNoMessage, message_of, framed_of, message_header_length, header_text, message_text, first_message, pad};
+
+use byteorder::{ByteOrder, LittleEndian};
+use std::alloc::AllocError;
+
+/// The bytes of a message's header, with its length in front.
+pub(crate) const HEADER_LENGTH: usize = 16;
+/// Where the kind begins in the header, behind the length.
+const KIND: usize = 4;
+/// Where the flags begin.
+const FLAGS: usize = 6;
+/// Where the sequence begins.
+const SEQUENCE: usize = 8;
+/// Where the port begins.
+const PORT: usize = 12;
+
+/// Messages and attributes begin at multiples of this many bytes.
+pub(crate) const ALIGNMENT: usize = 4;
+
+/// A message that stands in front of some bytes, which it borrows.
+#[derive(Clone, Copy, Debug, PartialEq, Eq)]
+pub struct Message<'a> {
+    /// What the message is about; kinds below 16 are control messages.
+    pub kind: u16,
+    /// Flags, such as `NLM_F_REQUEST` 1 and `NLM_F_ACK` 4.
+    pub flags: u16,
+    /// The sender's number for this message.
+    pub sequence: u32,
+    /// The port of the sender.
+    pub port: u32,
+    /// The bytes behind the header, without padding.
+    pub body: &'a [u8],
+    /// Header and body, without padding.
+    pub whole: &'a [u8],
+}
+
+/// `length` rounded up to a multiple of 4.
+pub(crate) fn padded(length: usize) -> usize
+    requires { length < 2 ^ 63 }
+    ensures { result ≡ pad length }
+{
+    (length + ALIGNMENT - 1) / ALIGNMENT * ALIGNMENT
+}
+
+/// Cuts the first message from `bytes`, and says how many of them it uses: its length rounded up
+/// to a multiple of 4, or all that there are.
+///
+/// `None` where there are fewer than 16 bytes, or the message's length is below 16 or above what
+/// is there (`NLMSG_OK`). Nothing is copied.
+pub fn next_message(bytes: &[u8]) -> Option<(Message<'_>, usize)>
+    ensures found { IfSome result (λ framed. Front bytes.now (message_of framed.0) framed.1) }
+    ensures only { (message : NetlinkMessage) (used : ℕ) → Front bytes.now message used →
+        option_map framed_of result ≡ Some (message, used) }
+    ensures none { IsNone result ↔ HasNoMessage bytes.now }
+    ensures reading { option_map framed_of result ≡ first_message bytes.now }
+{
+    read_message(bytes)
+}
+
+#[tactic(auto, unfolding(crate::specs::Messages::first_message))]
+fn read_message(bytes: &[u8]) -> Option<(Message<'_>, usize)>
+    ensures { option_map framed_of result ≡ first_message bytes.now }
+{
+    if bytes.len() < HEADER_LENGTH {
+        return None;
+    }
+    let length = LittleEndian::read_u32(bytes) as usize;
+    if length < HEADER_LENGTH || bytes.len() < length {
+        return None;
+    }
+    let whole = &bytes[..length];
+    let message = Message {
+        kind: LittleEndian::read_u16(&bytes[KIND..]),
+        flags: LittleEndian::read_u16(&bytes[FLAGS..]),
+        sequence: LittleEndian::read_u32(&bytes[SEQUENCE..]),
+        port: LittleEndian::read_u32(&bytes[PORT..]),
+        body: &whole[HEADER_LENGTH..],
+        whole,
+    };
+    Some((message, padded(length).min(bytes.len())))
+}
+
+/// Appends a message to `out`: a header of 16 bytes, whose length counts itself and the body, and
+/// the body. No padding is written behind it.
+///
+/// `AllocError` is want of memory, and then `out` has what it had. It doesn't come where `out` has
+/// room for the message.
+pub fn put_message(
+    out: &mut Vec<u8>,
+    kind: u16,
+    flags: u16,
+    sequence: u32,
+    port: u32,
+    body: &[u8],
+) -> Result<(), AllocError>
+    requires { length body.now < 2 ^ 31 }
+    ensures ok { OnOk result (out.new.items ≡ out.old.items ++ message_text kind flags sequence port body.now) }
+    ensures err { OnErr result (out.new.items ≡ out.old.items) }
+
+    // Where there is room it succeeds, and room is never lost.
+    ensures room { vec_len out.old + (message_header_length + length body.now) ≤ vec_capacity out.old → IsOk result }
+    ensures capacity { vec_capacity out.old ≤ vec_capacity out.new }
+{
+    let header = header_of(kind, flags, sequence, port, body.len());
+    append_parts(out, &header, body, &[])
+}
+
+// The header of a message with these fields and so many bytes behind it.
+pub(crate) fn header_of(
+    kind: u16,
+    flags: u16,
+    sequence: u32,
+    port: u32,
+    body_length: usize,
+) -> [u8; HEADER_LENGTH]
+    requires { message_header_length + body_length < 2 ^ 32 }
+    ensures { result ≡ header_text kind flags sequence port (message_header_length + body_length) }
+{
+    let mut header = [0; HEADER_LENGTH];
+    LittleEndian::write_u32(&mut header, (HEADER_LENGTH + body_length) as u32);
+    LittleEndian::write_u16(&mut header[KIND..], kind);
+    LittleEndian::write_u16(&mut header[FLAGS..], flags);
+    LittleEndian::write_u32(&mut header[SEQUENCE..], sequence);
+    LittleEndian::write_u32(&mut header[PORT..], port);
+    header
+}
+
+/// Appends `head`, `middle` and `tail`, or nothing.
+pub(crate) fn append_parts(
+    out: &mut Vec<u8>,
+    head: &[u8],
+    middle: &[u8],
+    tail: &[u8],
+) -> Result<(), AllocError>
+    requires { length head.now + length middle.now + length tail.now < 2 ^ 64 }
+    ensures ok { OnOk result (out.new.items ≡ out.old.items ++ head.now ++ middle.now ++ tail.now) }
+    ensures err { OnErr result (out.new.items ≡ out.old.items) }
+    ensures room { vec_len out.old + (length head.now + length middle.now + length tail.now) ≤ vec_capacity out.old → IsOk result }
+    ensures capacity { vec_capacity out.old ≤ vec_capacity out.new }
+{
+    out.reserve(head.len() + middle.len() + tail.len())?;
+    out.extend_from_slice(head)?;
+    out.extend_from_slice(middle)?;
+    out.extend_from_slice(tail)
+}

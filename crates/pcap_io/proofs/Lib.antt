@@ -1,0 +1,7 @@
+pub mod Fields
+pub mod Header
+pub mod Records
+pub mod Whole
+pub mod Answers
+pub mod Room
+pub mod Apart

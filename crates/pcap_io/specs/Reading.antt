@@ -1,0 +1,95 @@
+-- What is wrong with a text that is no capture file: the first fault from the front. The layout is that of
+-- pcap-savefile(5). In each table of tests below the first line that applies decides.
+use Rattle.std.specs.Prelude.{◌≡◌, ℕ, ◌+◌, ◌<◌, Bool, true, false, not, ◌==◌, ◌&&◌, if◌then◌else◌, nat_lt, List, [], ◌++◌, length, slice_range, Result, Ok, Err, ◌⊎◌}
+use Rattle.std.specs.Int.{Width, w16, w32, byte_len, from_be_bytes, from_le_bytes}
+use Rattle.packet_entry.specs.declared.packet.TheConstants.{MAX_FRAME}
+use Rattle.pcap_io.specs.declared.capture.Capture.{Capture}
+use Rattle.pcap_io.specs.declared.capture.Frame.{Frame}
+use Rattle.pcap_io.specs.declared.fault.CaptureFault.{CaptureFault}
+use Rattle.pcap_io.specs.declared.fault.CaptureFault.TheVariants.{Magic, Pcapng, Version, LinkType, Cut, TooLong, NoMemory}
+use Rattle.pcap_io.specs.declared.format.TheConstants.{FILE_HEADER, RECORD_HEADER, MICROSECOND_MAGIC, NANOSECOND_MAGIC, MICROSECOND_MAGIC_SWAPPED, NANOSECOND_MAGIC_SWAPPED, PCAPNG_BLOCK, MAJOR_VERSION, MINOR_VERSION, MAJOR_AT, MINOR_AT, ZONE_AT, SIGFIGS_AT, SNAP_AT, LINK_AT, SECONDS_AT, FRACTION_AT, CAPTURED_AT, ORIGINAL_AT}
+use Rattle.pcap_io.specs.Text.{is_link_type, IsCapture}
+
+infixl 10 ◌>>=◌
+abbrev pub ◌>>=◌ : {A B : Type 0} → Result A CaptureFault → (A → Result B CaptureFault) → Result B CaptureFault
+(Ok x) >>= f = f x
+(Err e) >>= f = Err e
+
+-- what a call answered is this, unless memory ran out
+abbrev pub Fails : {A : Type 0} → CaptureFault → Result A CaptureFault → Type 0
+Fails NoMemory wanted = Unit {0}
+Fails fault wanted = wanted ≡ Err fault
+
+abbrev pub Gives : {A : Type 0} → Result A CaptureFault → Result A CaptureFault → Type 0
+Gives (Ok x) wanted = wanted ≡ Ok x
+Gives (Err fault) wanted = Fails fault wanted
+
+-- what the bytes of a field are worth
+abbrev pub number : Bool → Width → List ℕ → ℕ
+number big w bytes = if big then from_be_bytes w bytes else from_le_bytes w bytes
+
+-- the number in the field that begins at a byte of a text
+abbrev pub number_at : Bool → Width → ℕ → List ℕ → ℕ
+number_at big w at text = number big w (slice_range text at (at + byte_len w))
+
+-- byte order and resolution, by the first four bytes read as big-endian: whether the file is big-endian, and
+-- whether its fractions are nanoseconds. A pcapng file begins with its section header block's type.
+abbrev pub resolution_of : ℕ → Result (Bool × Bool) CaptureFault
+resolution_of magic =
+    if magic == PCAPNG_BLOCK then Err Pcapng
+    else if magic == MICROSECOND_MAGIC then Ok (true, false)
+    else if magic == NANOSECOND_MAGIC then Ok (true, true)
+    else if magic == MICROSECOND_MAGIC_SWAPPED then Ok (false, false)
+    else if magic == NANOSECOND_MAGIC_SWAPPED then Ok (false, true)
+    else Err Magic
+
+abbrev pub magic_at : List ℕ → Result (Bool × Bool) CaptureFault
+magic_at text = if nat_lt (length text) 4 then Err Magic else resolution_of (number_at true w32 0 text)
+
+-- the header in front in this byte order, as a capture without frames, or the first thing that is wrong with it
+unfoldable pub fields_at : Bool → Bool → List ℕ → Result Capture CaptureFault
+fields_at big nanos text =
+    if nat_lt (length text) FILE_HEADER then Err (Cut 0 0)
+    else if not (number_at big w16 MAJOR_AT text == MAJOR_VERSION && number_at big w16 MINOR_AT text == MINOR_VERSION) then Err Version
+    else if not (is_link_type (number_at big w32 LINK_AT text)) then Err (LinkType (number_at big w32 LINK_AT text))
+    else Ok (record {
+      big = big;
+      nanos = nanos;
+      zone = number_at big w32 ZONE_AT text;
+      sigfigs = number_at big w32 SIGFIGS_AT text;
+      snap = number_at big w32 SNAP_AT text;
+      link = number_at big w32 LINK_AT text;
+      frames = [];
+    })
+
+-- the same in the byte order that the magic number tells
+unfoldable pub header_at : List ℕ → Result Capture CaptureFault
+header_at text = magic_at text >>= λ magic. fields_at magic.0 magic.1 text
+
+-- the record in front, of the frame with this number, at this byte of the file, or the first thing that is wrong with it
+unfoldable pub record_at : Bool → ℕ → ℕ → List ℕ → Result Frame CaptureFault
+record_at big number at text =
+    if nat_lt (length text) RECORD_HEADER then Err (Cut number at)
+    else if nat_lt MAX_FRAME (number_at big w32 CAPTURED_AT text) then Err (TooLong number (number_at big w32 CAPTURED_AT text))
+    else if nat_lt (length text) (RECORD_HEADER + number_at big w32 CAPTURED_AT text) then Err (Cut number at)
+    else Ok (record {
+      seconds = number_at big w32 SECONDS_AT text;
+      fraction = number_at big w32 FRACTION_AT text;
+      original = number_at big w32 ORIGINAL_AT text;
+      bytes = slice_range text RECORD_HEADER (RECORD_HEADER + number_at big w32 CAPTURED_AT text);
+    })
+
+-- The text is a whole capture, and then something that is no whole record. The place of the fault is the number
+-- of that record, counted from 1, and the byte at which it begins.
+pub record BreaksOff (text : List ℕ) (fault : CaptureFault) : Type 0 where
+  pub before : List ℕ
+  pub capture : Capture
+  pub whole : IsCapture before capture
+  pub rest : List ℕ
+  pub parts : text ≡ before ++ rest
+  pub more : 0 < length rest
+  pub broken : record_at capture.big (length capture.frames + 1) (length before) rest ≡ Err fault
+
+-- the first fault of a text
+abbrev pub IsFault : List ℕ → CaptureFault → Type 0
+IsFault text fault = (header_at text ≡ Err fault) ⊎ BreaksOff text fault
