@@ -1,0 +1,67 @@
+-- What the files of a command hold, before it and after it, as a host tells it.
+use Rattle.std.specs.Prelude.{◌≡◌, ◌≢◌, ◌⊎◌, ℕ, List, Option, Some, None, IsSomeAnd}
+use Rattle.pcap_io.specs.declared.capture.Capture.{Capture}
+use Rattle.nfq_cli.specs.declared.script.Verdict.{Verdict}
+use Rattle.nfq_cli.specs.declared.script.OnId.{OnId}
+use Rattle.nfq_cli.specs.Rules.{rules_text}
+use Rattle.nfq_cli.specs.Script.{IsScript}
+use Rattle.nfq_cli.specs.Forms.{AreRules, AScript, AnInput, IsInput}
+use Rattle.nfq_cli.specs.Words.{PlayFiles}
+use Rattle.nfq_cli.specs.History.{IsLegal}
+use Rattle.nfq_cli.specs.Solo.{solo_histories}
+use Rattle.nfq_cli.specs.Outputs.{output_text, ledger_text, journal_text}
+use Rattle.host_io.specs.Host.{Rises}
+
+-- what each name holds
+abbrev pub Contents : Type 0
+Contents = List ℕ → Option (List ℕ)
+
+-- how many faults each name has had
+abbrev pub Counts : Type 0
+Counts = List ℕ → ℕ
+
+-- the file is there, in the form
+abbrev pub IsInside : (List ℕ → Type 0) → Option (List ℕ) → Type 0
+IsInside Form file = IsSomeAnd file Form
+
+-- the file is there, and isn't in the form
+abbrev pub IsOutside : (List ℕ → Type 0) → Option (List ℕ) → Type 0
+IsOutside Form file = IsSomeAnd file (λ text. Form text → ⊥)
+
+-- the first file, in the order rules, script, capture, that is outside its form
+abbrev pub IsRefused : Option (List ℕ) → Option (List ℕ) → Option (List ℕ) → Type 0
+IsRefused rules script capture =
+    IsOutside AreRules rules
+    ⊎ (IsInside AreRules rules × IsOutside AScript script)
+    ⊎ (IsInside AreRules rules × IsInside AScript script × IsOutside AnInput capture)
+
+-- all three are in their forms
+abbrev pub AreInForm : Option (List ℕ) → Option (List ℕ) → Option (List ℕ) → Type 0
+AreInForm rules script capture = IsInside AreRules rules × IsInside AScript script × IsInside AnInput capture
+
+-- the read count of one of the inputs rose
+abbrev pub ReadFaultRose : PlayFiles → Counts → Counts → Type 0
+ReadFaultRose f old new = Rises (old f.rules) (new f.rules) ⊎ Rises (old f.script) (new f.script) ⊎ Rises (old f.input) (new f.input)
+
+-- the write count of one of the outputs rose
+abbrev pub WriteFaultRose : PlayFiles → Counts → Counts → Type 0
+WriteFaultRose f old new = Rises (old f.output) (new f.output) ⊎ Rises (old f.ledger) (new f.ledger) ⊎ Rises (old f.journal) (new f.journal)
+
+-- every name but the outputs holds what it held
+abbrev pub OthersStay : PlayFiles → Contents → Contents → Type 0
+OthersStay f old new = (name : List ℕ) → name ≢ f.output → name ≢ f.ledger → name ≢ f.journal → new name ≡ old name
+
+-- The headline, for what one thread plays of the first form: the outputs are the texts of the schedule's run
+-- on the three inputs. Its history is legal: at every moment the queue's state is its replay.
+pub record IsPlayed (f : PlayFiles) (old new : Contents) : Type 0 where
+  pub port : ℕ
+  pub lines : List OnId
+  pub rest : Verdict
+  pub capture : Capture
+  pub rules : old f.rules ≡ Some rules_text
+  pub script : IsSomeAnd (old f.script) (λ text. IsScript text port lines rest)
+  pub input : IsSomeAnd (old f.input) (λ text. IsInput text capture)
+  pub legal : IsLegal (solo_histories port lines rest capture.frames).entries
+  pub output_is : new f.output ≡ Some (output_text port lines rest capture)
+  pub ledger_is : new f.ledger ≡ Some (ledger_text port lines rest capture)
+  pub journal_is : new f.journal ≡ Some (journal_text port lines rest capture)

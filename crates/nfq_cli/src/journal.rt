@@ -1,0 +1,291 @@
+//! The journal: the histories as text.
+ghost use Rattle.std.specs.Prelude.{◌≡◌, ◌∷◌, ◌++◌, [], OnOk, IfOk, string_bytes, codes, decimal, drop, length};
+ghost use Rattle.nfq_cli.specs.Journal as text;
+
+use crate::histories::{Did, Entry, Event, Histories, PortLog, Reply, Request};
+use packet_entry::{Bytes, Card, Sequence};
+use queue_core::Outcome;
+use std::alloc::{AllocError, Global};
+
+/// Appends the journal of these histories.
+pub fn journal_text(
+    alloc: Global,
+    histories: &Histories,
+    out: &mut String,
+) -> Result<(), AllocError>
+    ensures { OnOk result (string_bytes out.new ≡ string_bytes out.old ++ text.journal histories.now) }
+{
+    out.push_str("nfq-journal 1\n")?;
+    push_histories(alloc, histories, out)?;
+    out.push_str("end\n")
+}
+
+fn push_histories(alloc: Global, histories: &Histories, out: &mut String) -> Result<(), AllocError>
+    ensures { OnOk result (string_bytes out.new ≡ string_bytes out.old ++ text.histories histories.now) }
+{
+    push_entries(alloc, &histories.entries, out)?;
+    push_logs(alloc, &histories.logs, out)
+}
+
+fn push_entries(
+    alloc: Global,
+    entries: &Sequence<Entry>,
+    out: &mut String,
+) -> Result<(), AllocError>
+    ensures { OnOk result (string_bytes out.new ≡ string_bytes out.old ++ text.entries entries.now) }
+{
+    for at in 0..entries.len() {
+        let Some(entry) = entries.get(at) else {
+            unreachable!()
+        };
+        push_entry(alloc, entry, out)?;
+    }
+    Ok(())
+}
+
+fn push_logs(alloc: Global, logs: &Sequence<PortLog>, out: &mut String) -> Result<(), AllocError>
+    ensures { OnOk result (string_bytes out.new ≡ string_bytes out.old ++ text.logs logs.now) }
+{
+    for at in 0..logs.len() {
+        let Some(log) = logs.get(at) else {
+            unreachable!()
+        };
+        push_log(alloc, log, out)?;
+    }
+    Ok(())
+}
+
+fn push_log(alloc: Global, log: &PortLog, out: &mut String) -> Result<(), AllocError>
+    ensures { OnOk result (string_bytes out.new ≡ string_bytes out.old ++ text.log log.now) }
+{
+    let port = log.port;
+    writeln!(out, "P {port}")?;
+    push_dids(alloc, &log.dids, out)
+}
+
+fn push_dids(alloc: Global, dids: &Sequence<Did>, out: &mut String) -> Result<(), AllocError>
+    ensures { OnOk result (string_bytes out.new ≡ string_bytes out.old ++ text.dids dids.now) }
+{
+    for at in 0..dids.len() {
+        let Some(did) = dids.get(at) else {
+            unreachable!()
+        };
+        push_did(alloc, did, out)?;
+    }
+    Ok(())
+}
+
+fn push_entry(alloc: Global, entry: &Entry, out: &mut String) -> Result<(), AllocError>
+    ensures { OnOk result (string_bytes out.new ≡ string_bytes out.old ++ text.entry entry.now) }
+{
+    let queue = entry.queue;
+    match &entry.event {
+        Event::Arrive { card, bypass, room } => {
+            let bypass = yes_no(*bypass);
+            let room = yes_no(*room);
+            write!(out, "A {queue} ")?;
+            push_card(alloc, card, bypass, room, out)?;
+        }
+        Event::Ask {
+            port,
+            call,
+            request,
+        } => {
+            let port = *port;
+            let call = *call;
+            write!(out, "M {queue} {port} {call} ")?;
+            push_request(alloc, request, out)?;
+        }
+    }
+    push_reply(&entry.reply, out)
+}
+
+/// What an arrival's line says of the packet, and the blank behind it.
+fn push_card(
+    alloc: Global,
+    card: &Card,
+    bypass: &str,
+    room: &str,
+    out: &mut String,
+) -> Result<(), AllocError>
+    ensures { OnOk result (string_bytes out.new ≡ string_bytes out.old ++ text.card card.now bypass.now room.now) }
+{
+    push_journey(card, out)?;
+    write!(out, "{bypass} {room} ")?;
+    push_facts(card, out)?;
+    push_bytes(alloc, card.link.as_slice(), out)?;
+    out.push_str(" ")?;
+    push_bytes(alloc, card.bytes.as_slice(), out)?;
+    out.push_str(" ")
+}
+
+/// Where the packet is on its way.
+fn push_journey(card: &Card, out: &mut String) -> Result<(), AllocError>
+    ensures { OnOk result (string_bytes out.new ≡ string_bytes out.old ++ text.journey card.now) }
+{
+    let number = card.number;
+    let visit = card.visit;
+    let table = card.table;
+    write!(out, "{number} {visit} {table} ")
+}
+
+/// What else is known of the packet, but for its bytes.
+fn push_facts(card: &Card, out: &mut String) -> Result<(), AllocError>
+    ensures { OnOk result (string_bytes out.new ≡ string_bytes out.old ++ text.facts card.now) }
+{
+    let mark = card.mark;
+    let seconds = card.seconds;
+    let micros = card.micros;
+    let protocol = card.protocol;
+    write!(out, "{mark} {seconds} {micros} {protocol} ")
+}
+
+fn push_request(alloc: Global, request: &Request, out: &mut String) -> Result<(), AllocError>
+    ensures { OnOk result (string_bytes out.new ≡ string_bytes out.old ++ text.request request.now) }
+{
+    match request {
+        Request::Config {
+            queue,
+            command,
+            params,
+            maxlen,
+            flags,
+            mask,
+        } => {
+            let queue = *queue;
+            write!(out, "config {queue}")?;
+            if let Some(command) = command {
+                let command = *command;
+                write!(out, " cmd {command}")?;
+            }
+            if let Some(params) = params {
+                let mode = params.mode;
+                let range = params.range;
+                write!(out, " params {mode} {range}")?;
+            }
+            push_number(" maxlen ", *maxlen, out)?;
+            push_number(" flags ", *flags, out)?;
+            push_number(" mask ", *mask, out)
+        }
+        Request::Verdict {
+            queue,
+            head,
+            mark,
+            payload,
+        } => {
+            let queue = *queue;
+            write!(out, "verdict {queue} ")?;
+            match head {
+                Some(head) => {
+                    let verdict = head.verdict;
+                    let id = head.id;
+                    write!(out, "{verdict} {id}")?;
+                }
+                None => out.push_str("-")?,
+            }
+            push_number(" mark ", *mark, out)?;
+            push_payload(alloc, payload, out)
+        }
+    }
+}
+
+/// A word and its number, where there is one.
+fn push_number(word: &str, number: Option<u32>, out: &mut String) -> Result<(), AllocError>
+    ensures { OnOk result (string_bytes out.new ≡ string_bytes out.old ++ text.part word.now number) }
+{
+    match number {
+        Some(number) => write!(out, "{word}{number}"),
+        None => Ok(()),
+    }
+}
+
+fn push_payload(alloc: Global, payload: &Option<Bytes>, out: &mut String) -> Result<(), AllocError>
+    ensures { OnOk result (string_bytes out.new ≡ string_bytes out.old ++ text.payload payload.now) }
+{
+    match payload {
+        Some(bytes) => {
+            out.push_str(" payload ")?;
+            push_bytes(alloc, bytes.as_slice(), out)
+        }
+        None => Ok(()),
+    }
+}
+
+/// Bytes in lower-case hexadecimal, `-` for none.
+fn push_bytes(alloc: Global, bytes: &[u8], out: &mut String) -> Result<(), AllocError>
+    ensures { OnOk result (string_bytes out.new ≡ string_bytes out.old ++ text.hexadecimal bytes.now) }
+{
+    if bytes.is_empty() {
+        return out.push_str("-");
+    }
+    out.push_str(hex::encode(alloc, bytes)?.as_str())
+}
+
+/// What an entry's line says of its reply, with the line's end.
+fn push_reply(reply: &Reply, out: &mut String) -> Result<(), AllocError>
+    ensures { OnOk result (string_bytes out.new ≡ string_bytes out.old ++ text.reply reply.now) }
+{
+    match reply {
+        Reply::Arrived { outcome } => push_outcome(*outcome, out),
+        Reply::Answer { errno, taken } => {
+            let errno = *errno;
+            let taken = *taken;
+            writeln!(out, " = {errno} {taken}")
+        }
+    }
+}
+
+fn push_outcome(outcome: Outcome, out: &mut String) -> Result<(), AllocError>
+    ensures { OnOk result (string_bytes out.new ≡ string_bytes out.old ++ text.outcome outcome) }
+{
+    match outcome {
+        Outcome::Taken { id } => writeln!(out, "taken:{id}"),
+        Outcome::Overflow => out.push_str("overflow\n"),
+        Outcome::OverflowOpen => out.push_str("overflow-open\n"),
+        Outcome::UserFull { id } => writeln!(out, "userfull:{id}"),
+        Outcome::UserFullOpen { id } => writeln!(out, "userfull-open:{id}"),
+        Outcome::NoQueue => out.push_str("noqueue\n"),
+        Outcome::Bypassed => out.push_str("bypassed\n"),
+        Outcome::CopyNone => out.push_str("copynone\n"),
+        Outcome::Loop => out.push_str("loop\n"),
+    }
+}
+
+fn push_did(alloc: Global, did: &Did, out: &mut String) -> Result<(), AllocError>
+    ensures { OnOk result (string_bytes out.new ≡ string_bytes out.old ++ text.did did.now) }
+{
+    match did {
+        Did::Received {
+            queue,
+            number,
+            visit,
+        } => {
+            let queue = *queue;
+            let number = *number;
+            let visit = *visit;
+            writeln!(out, "R {queue} {number} {visit}")
+        }
+        Did::Sent {
+            call,
+            request,
+            answer,
+        } => {
+            let call = *call;
+            write!(out, "S {call} ")?;
+            push_request(alloc, request, out)?;
+            match answer {
+                Some(answer) => {
+                    let answer = *answer;
+                    writeln!(out, " = {answer}")
+                }
+                None => out.push_str(" = -\n"),
+            }
+        }
+    }
+}
+
+fn yes_no(yes: bool) -> &'static str
+    ensures { result.now ≡ text.yes_no yes }
+{
+    if yes { "y" } else { "n" }
+}
