@@ -14,6 +14,10 @@ const RULES: &[u8] = b"*filter\n-A FORWARD -j NFQUEUE --queue-num 0\nCOMMIT\n";
 const SCRIPT: &[u8] = b"port 7\nopen config 0 bind\nopen config 0 params packet 0\n\
     on id 2 do verdict this drop this\non any do verdict this accept this\n";
 
+/// The same without its last line.
+const CUT_SCRIPT: &[u8] = b"port 7\nopen config 0 bind\nopen config 0 params packet 0\n\
+    on id 2 do verdict this drop this\n";
+
 /// The header of a capture: little-endian, microseconds, version 2.4, no snap length, raw IP.
 const HEADER: [u8; 24] = [
     0xd4, 0xc3, 0xb2, 0xa1, 2, 0, 4, 0, 0, 0, 0, 0, 0, 0, 0, 0, 0, 0, 0, 0, 101, 0, 0, 0,
@@ -130,20 +134,11 @@ fn a_capture_without_frames_is_played(rt: HostRuntime) -> Result<(), Fail> {
 fn what_is_in_no_form_writes_nothing(rt: HostRuntime) -> Result<(), Fail> {
     let alloc = rt.alloc();
     let input = capture(alloc, &[1, 2, 3])?;
-    let script_end = "on any do verdict this accept this\n".len();
-    assert!(rt; script_end < SCRIPT.len());
-    assert!(rt; input.len() > 80);
-
     let mut no_rule = host(alloc, b"*filter\nCOMMIT\n", Some(SCRIPT), &input)?;
     assert_eq!(rt; played(alloc, &mut no_rule)?, 9);
     no_output(&rt, &no_rule);
 
-    let mut no_last_line = host(
-        alloc,
-        RULES,
-        Some(&SCRIPT[..SCRIPT.len() - script_end]),
-        &input,
-    )?;
+    let mut no_last_line = host(alloc, RULES, Some(CUT_SCRIPT), &input)?;
     assert_eq!(rt; played(alloc, &mut no_last_line)?, 9);
     no_output(&rt, &no_last_line);
 
@@ -151,7 +146,12 @@ fn what_is_in_no_form_writes_nothing(rt: HostRuntime) -> Result<(), Fail> {
     assert_eq!(rt; played(alloc, &mut no_script)?, 2);
     no_output(&rt, &no_script);
 
-    let mut cut = host(alloc, RULES, Some(SCRIPT), &input[..80])?;
+    let mut cut = host(
+        alloc,
+        RULES,
+        Some(SCRIPT),
+        input.get(..80).ok_or("too short")?,
+    )?;
     assert_eq!(rt; played(alloc, &mut cut)?, 9);
     no_output(&rt, &cut);
     Ok(())

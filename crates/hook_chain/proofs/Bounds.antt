@@ -1,0 +1,101 @@
+-- What a reader has read: the answer that is left, the bounds, and how many lines.
+use Rattle.std.proofs.Common.{◌≡◌, ℕ, ◌+◌, ◌<◌, ◌≤◌, true, false, cond, ◌&&◌, ltb, List, [], ◌∷◌, ◌++◌, length, length-append, Option, Some, None, Err, refl, sym, subst, arith}
+use Rattle.std.specs.Prelude.{IfSome, is_none}
+use Rattle.std.specs.Str.Lines.{lines}
+use Rattle.std.proofs.lemmas.Bool.{ltb-true, and_parts}
+use Rattle.std.proofs.lemmas.List.Elements.{All-nil, All-push}
+use Rattle.hook_chain.specs.declared.rule.Rule.{Rule}
+use Rattle.hook_chain.specs.Words.{◌>>=◌}
+use Rattle.hook_chain.specs.Rules.{IsPick, IsTable}
+use Rattle.hook_chain.specs.Line.{Says, Nothing, Opens, Policy, Adds, Closes, says}
+use Rattle.hook_chain.specs.declared.reader.Stop.{Stop}
+use Rattle.hook_chain.specs.declared.reader.Stop.TheVariants.{Refused, NoMemory}
+use Rattle.hook_chain.specs.Reader.{IsSound, Moves, fault_of}
+use Rattle.hook_chain.specs.RulesFile.{Answers, Place, start, may_open, after, behind_line, tables_from, tables_of}
+use Rattle.hook_chain.proofs.Picks.{SaysPick, says_if}
+
+pub record IsRead (text : List ℕ) (number : ℕ) (p : Place) (rest : List ℕ) : Type 0 where
+  pub answer : tables_of text ≡ tables_from number p (lines rest)
+  pub sound : IsSound p
+  pub count : number + length rest ≤ length text + 1
+
+pub tables_from-on : (number : ℕ) (p q : Place) (line : List ℕ) (rest : List (List ℕ)) → behind_line p line ≡ Some q → tables_from number p (line ∷ rest) ≡ tables_from (number + 1) q rest
+unfolding tables_from
+tables_from-on number p q line rest e = rw e refl
+
+pub tables_from-off : (number : ℕ) (p : Place) (line : List ℕ) (rest : List (List ℕ)) → behind_line p line ≡ None → tables_from number p (line ∷ rest) ≡ Err number
+unfolding tables_from
+tables_from-off number p line rest e = rw e refl
+
+no_rules : IsTable []
+no_rules = record { length = omega arith; picks = All-nil (λ r. IsPick r.pick) }
+
+pub sound_start : IsSound start
+sound_start = record { tables = record { length = omega arith; each = All-nil IsTable }; table = tt; room = tt }
+
+one_more : (rules : List Rule) (rule : Rule) → IsTable rules → IsPick rule.pick → length rules < 1000 → IsTable (rules ++ rule ∷ [])
+one_more rules rule t p room = record {
+  length = omega (arith, length-append rules (rule ∷ []));
+  picks = All-push (λ r. IsPick r.pick) rules rule t.picks p;
+}
+
+-- what a line leads to keeps the bounds
+sound_opens : (p : Place) (name : List ℕ) → IsSound p → IfSome (after p (Opens name)) IsSound
+unfolding after
+sound_opens p name s =
+    elim (may_open p name) as (λ b. b ≡ may_open p name → IfSome (cond b (Some (record p { names = p.names ++ name ∷ []; inside = Some [] })) None) IsSound) [
+      | true ↦ λ e.
+          let first = and_parts (is_none p.inside && ltb (length p.closed) 16) _ (sym e) in
+          let second = and_parts (is_none p.inside) (ltb (length p.closed) 16) first.0 in
+          record { tables = s.tables; table = no_rules; room = ltb-true (length p.closed) 16 second.1 }
+      | false ↦ λ e. tt
+    ] refl
+
+sound_adds : (p : Place) (rule : Rule) (inside : Option (List Rule)) → IsSound p → IfSome inside IsTable → IfSome inside (λ _. length p.closed < 16) → IsPick rule.pick → IfSome (inside >>= λ rules. cond (ltb (length rules) 1000) (Some (record p { inside = Some (rules ++ rule ∷ []) })) None) IsSound
+sound_adds p rule None s table room pick = tt
+sound_adds p rule (Some rules) s table room pick =
+    elim (ltb (length rules) 1000) as (λ b. b ≡ ltb (length rules) 1000 → IfSome (cond b (Some (record p { inside = Some (rules ++ rule ∷ []) })) None) IsSound) [
+      | true ↦ λ e. record { tables = s.tables; table = one_more rules rule table pick (ltb-true (length rules) 1000 (sym e)); room = room }
+      | false ↦ λ e. tt
+    ] refl
+
+sound_closes : (p : Place) (inside : Option (List Rule)) → IsSound p → IfSome inside IsTable → IfSome inside (λ _. length p.closed < 16) → IfSome (inside >>= λ rules. Some (record p { closed = p.closed ++ rules ∷ []; inside = None })) IsSound
+sound_closes p None s table room = tt
+sound_closes p (Some rules) s table room = record {
+  tables = record { length = omega (arith, length-append p.closed (rules ∷ [])); each = All-push IsTable p.closed rules s.tables.each table };
+  table = tt;
+  room = tt;
+}
+
+sound_after : (p : Place) (said : Says) → IsSound p → SaysPick said → IfSome (after p said) IsSound
+unfolding after
+sound_after p Nothing s pick = s
+sound_after p (Opens name) s pick = sound_opens p name s
+sound_after p Policy s pick = elim (is_none p.inside) as (λ b. IfSome (cond b None (Some p)) IsSound) [ true ↦ tt | false ↦ s ]
+sound_after p (Adds rule) s pick = sound_adds p rule p.inside s s.table s.room pick
+sound_after p Closes s pick = sound_closes p p.inside s s.table s.room
+
+sound_line : (p : Place) (said : Option Says) → IsSound p → IfSome said SaysPick → IfSome (said >>= after p) IsSound
+sound_line p None s pick = tt
+sound_line p (Some said) s pick = sound_after p said s pick
+
+pub sound_behind : (p q : Place) (line : List ℕ) → IsSound p → behind_line p line ≡ Some q → IsSound q
+sound_behind p q line s e = subst (λ (o : Option Place). IfSome o IsSound) e (sound_line p (says line) s (says_if line))
+
+pub is_read_first : (text : List ℕ) (p : Place) → p ≡ start → IsRead text 1 p text
+unfolding tables_of
+is_read_first text p e = rw e (record { answer = refl; sound = sound_start; count = omega arith })
+
+pub is_read_next : (text : List ℕ) (number : ℕ) (p q : Place) (rest line behind : List ℕ) → IsRead text number p rest → lines rest ≡ line ∷ lines behind → length behind < length rest → behind_line p line ≡ Some q → IsRead text (number + 1) q behind
+is_read_next text number p q rest line behind r first shorter e = record {
+  answer = rw (r.answer, first) (tables_from-on number p q line (lines behind) e);
+  sound = sound_behind p q line r.sound e;
+  count = omega (arith, r.count);
+}
+
+pub is_refused : (text : List ℕ) (number : ℕ) (p : Place) (rest line behind : List ℕ) → IsRead text number p rest → lines rest ≡ line ∷ lines behind → behind_line p line ≡ None → tables_of text ≡ Err number
+is_refused text number p rest line behind r first e = rw (r.answer, first) (tables_from-off number p line (lines behind) e)
+
+pub is_fault : (stop : Stop) (text : List ℕ) (number : ℕ) (p q : Place) (rest line behind : List ℕ) → IsRead text number p rest → lines rest ≡ line ∷ lines behind → Moves {A = Unit {0}} (Err stop) (behind_line p line) q → Answers (Err (fault_of stop number)) (tables_of text)
+is_fault Refused text number p q rest line behind r first e = is_refused text number p rest line behind r first e
+is_fault NoMemory text number p q rest line behind r first e = tt

@@ -1,0 +1,12 @@
+pub mod Bounds
+pub mod Digits
+pub mod FileForm
+pub mod LineForm
+pub mod Names
+pub mod OptionForm
+pub mod Options
+pub mod Picks
+pub mod Rotation
+pub mod RuleForm
+pub mod RuleLineForm
+pub mod Splitting

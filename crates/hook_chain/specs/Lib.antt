@@ -1,0 +1,10 @@
+pub mod Balance
+pub mod Line
+pub mod Numbers
+pub mod Grammar
+pub mod Reader
+pub mod Route
+pub mod RuleLine
+pub mod Rules
+pub mod RulesFile
+pub mod Words

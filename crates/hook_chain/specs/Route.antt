@@ -1,0 +1,53 @@
+-- Where a packet goes next: nf_hook_slow and nf_reinject of the kernel's netfilter core.c and
+-- nf_queue.c over the tables of one hook, and the matches of iptables-extensions(8): protocol and mark.
+use Rattle.std.specs.Prelude.{ℕ, ◌+◌, ◌-◌, ◌==◌, max, Bool, true, false, not, ◌&&◌, bit_and, List, [], ◌∷◌, drop, find, Option, Some, None, if◌then◌else◌}
+use Rattle.std.specs.Option.{option_map_or}
+use Rattle.packet_entry.specs.declared.packet.Card.{Card}
+use Rattle.ip_fields.specs.declared.packet.IpFields.{IpFields}
+use Rattle.ip_fields.specs.Packet.{fields_of}
+use Rattle.hook_chain.specs.declared.rule.Rule.{Rule}
+use Rattle.hook_chain.specs.declared.rule.MarkTest.{MarkTest}
+use Rattle.hook_chain.specs.declared.rule.Pick.{Pick}
+use Rattle.hook_chain.specs.declared.rule.Pick.TheVariants.{Number, Balance}
+use Rattle.hook_chain.specs.declared.chain.Next.{Next}
+use Rattle.hook_chain.specs.declared.chain.Next.TheVariants.{Released, To}
+use Rattle.hook_chain.specs.declared.chain.Decision.{Decision}
+use Rattle.hook_chain.specs.declared.chain.Decision.TheVariants.{Drop, Accept, Repeat, Stop, Queue}
+use Rattle.hook_chain.specs.Balance.{balanced}
+
+-- -p: the fields of the bytes that are there have this protocol
+abbrev pub has_protocol : Option IpFields → ℕ → Bool
+has_protocol fields protocol = option_map_or (λ f. f.protocol == protocol) fields false
+
+-- -m mark --mark value/mask: the mask is laid on the packet's mark alone, and `!` turns the test round
+abbrev pub has_mark : ℕ → MarkTest → Bool
+has_mark mark test =
+    if test.negated then not (bit_and mark test.mask == test.value)
+    else bit_and mark test.mask == test.value
+
+-- a rule matches a packet of this mark and these fields where each test that it has holds
+abbrev pub matches : ℕ → Option IpFields → Rule → Bool
+matches mark fields r = option_map_or (has_protocol fields) r.protocol true && option_map_or (has_mark mark) r.mark true
+
+abbrev pub queue_of : ℕ → Option IpFields → Pick → ℕ
+queue_of key fields (Number queue) = queue
+queue_of key fields (Balance first total) = balanced key fields first total
+
+-- In each table the first rule that matches queues the packet; after the last table it is released.
+-- `number` is the number of the first of these tables.
+unfoldable pub next_of : ℕ → ℕ → Option IpFields → ℕ → List (List Rule) → Next
+next_of key mark fields number [] = Released
+next_of key mark fields number (rules ∷ tables) =
+    option_map_or (λ r. To (queue_of key fields r.pick) r.bypass number) (find (matches mark fields) rules) (next_of key mark fields (number + 1) tables)
+
+-- the tables from number `from` on; they count from 1, and 0 takes all as well
+unfoldable pub next : List (List Rule) → ℕ → Card → ℕ → Next
+next tables key c from = next_of key c.mark (fields_of c.bytes) (max from 1) (drop (max from 1 - 1) tables)
+
+-- what a verdict's decision means for a packet that its table had queued
+abbrev pub onward_of : List (List Rule) → ℕ → Card → Decision → Option Next
+onward_of tables key c Drop = None
+onward_of tables key c Accept = Some (next tables key c (c.table + 1))
+onward_of tables key c Repeat = Some (next tables key c c.table)
+onward_of tables key c Stop = Some Released
+onward_of tables key c (Queue number bypass) = Some (To number bypass c.table)

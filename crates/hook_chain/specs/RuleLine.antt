@@ -1,0 +1,78 @@
+-- The line `-A FORWARD MATCHES -j NFQUEUE OPTIONS`, by its words: iptables-extensions(8), the matches
+-- `-p` and `mark` and the target NFQUEUE, as iptables-save(8) writes them.
+use Rattle.std.specs.Prelude.{ℕ, ◌+◌, ◌-◌, ◌^◌, ◌&&◌, nat_lt, not, Bool, true, false, List, [], ◌∷◌, Option, Some, None, is_some, is_none, unwrap_or, option_map, bytes_eq, codes, if◌then◌else◌}
+use Rattle.std.specs.Option.{option_map_or}
+use Rattle.hook_chain.specs.declared.rule.Rule.{Rule}
+use Rattle.hook_chain.specs.declared.rule.MarkTest.{MarkTest}
+use Rattle.hook_chain.specs.declared.rule.Pick.{Pick}
+use Rattle.hook_chain.specs.declared.rule.Pick.TheVariants.{Number, Balance}
+use Rattle.hook_chain.specs.Words.{◌>>=◌, first_word, behind, cut_at}
+use Rattle.hook_chain.specs.Numbers.{decimal_below, wide}
+
+-- a protocol by its name or its number
+unfoldable pub protocol_of : List ℕ → Option ℕ
+protocol_of word =
+    if bytes_eq word (codes "tcp") then Some 6
+    else if bytes_eq word (codes "udp") then Some 17
+    else if bytes_eq word (codes "icmp") then Some 1
+    else if bytes_eq word (codes "ipv6-icmp") then Some 58
+    else decimal_below (2 ^ 8) word
+
+-- at most one `-p PROTO`, and the words behind it
+unfoldable pub protocol_match : List (List ℕ) → Option (Option ℕ × List (List ℕ))
+protocol_match words = option_map_or (λ rest. do
+  word ← first_word rest
+  protocol ← protocol_of word.0
+  Some (Some protocol, word.1)) (behind (codes "-p") words) (Some (None, words))
+
+-- VALUE/MASK, or VALUE with the mask of all bits
+unfoldable pub value_and_mask : List ℕ → Option (ℕ × ℕ)
+value_and_mask word = option_map_or (λ parts. do
+  value ← wide parts.0
+  mask ← wide parts.1
+  Some (value, mask)) (cut_at 47 word) (option_map (λ value. (value, 2 ^ 32 - 1)) (wide word))
+
+-- at most one `-m mark [!] --mark VALUE[/MASK]`, and the words behind it
+unfoldable pub mark_match : List (List ℕ) → Option (Option MarkTest × List (List ℕ))
+mark_match words = option_map_or (λ rest. do
+  test ← behind (codes "mark") rest
+  word ← (behind (codes "--mark") (unwrap_or (behind (codes "!") test) test) >>= first_word)
+  bits ← value_and_mask word.0
+  Some (Some (record { value = bits.0; mask = bits.1; negated = is_some (behind (codes "!") test) }), word.1))
+    (behind (codes "-m") words) (Some (None, words))
+
+-- A:B, with A below B, which are at most 65,535 queues
+unfoldable pub range_of : List ℕ → Option Pick
+range_of word = do
+  parts ← cut_at 58 word
+  first ← decimal_below (2 ^ 16) parts.0
+  last ← decimal_below (2 ^ 16) parts.1
+  if nat_lt first last && nat_lt (last - first + 1) (2 ^ 16) then Some (Balance first (last - first + 1)) else None
+
+-- `--queue-num N` or `--queue-balance A:B`
+unfoldable pub pick_of : List ℕ → List ℕ → Option Pick
+pick_of option value =
+    if bytes_eq option (codes "--queue-num") then option_map Number (decimal_below (2 ^ 16) value)
+    else if bytes_eq option (codes "--queue-balance") then range_of value
+    else None
+
+-- The options in any order, each at most once, and at most one that picks the queue, which else is 0.
+-- `pick` and `bypass` were said before these words.
+unfoldable pub options_after : Option Pick → Bool → List (List ℕ) → Option (Pick × Bool)
+options_after pick bypass [] = Some (unwrap_or pick (Number 0), bypass)
+options_after pick bypass (w ∷ []) =
+    if bytes_eq w (codes "--queue-bypass") && not bypass then Some (unwrap_or pick (Number 0), true) else None
+options_after pick bypass (w ∷ v ∷ ws) =
+    if bytes_eq w (codes "--queue-bypass") && not bypass then options_after pick true (v ∷ ws)
+    else if is_none pick then (pick_of w v >>= λ p. options_after (Some p) bypass ws)
+    else None
+
+-- the words behind `-A`
+unfoldable pub rule_of : List (List ℕ) → Option Rule
+rule_of words = do
+  matches ← behind (codes "FORWARD") words
+  protocol ← protocol_match matches
+  mark ← mark_match protocol.1
+  options ← (behind (codes "-j") mark.1 >>= behind (codes "NFQUEUE"))
+  option ← options_after None false options
+  Some (record { protocol = protocol.0; mark = mark.0; pick = option.0; bypass = option.1 })

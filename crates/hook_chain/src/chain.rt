@@ -1,0 +1,160 @@
+//! Where a packet goes next.
+
+ghost use Rattle.std.specs.Prelude.{◌≡◌, ◌+◌, ◌^◌, ◌<◌, ◌≤◌, length, IfSome, All, find, drop, max, slice_index_or, option_map, option_copied};
+ghost use Rattle.ip_fields.specs.Packet.{IsAddressed, fields_of};
+ghost use Rattle.hook_chain.specs.Rules.{IsPick, AreTables};
+ghost use Rattle.hook_chain.specs.Route.{has_mark, has_protocol, matches, next, onward_of, queue_of};
+
+use crate::flow::balance;
+use crate::rule::{MarkTest, Pick, Rule};
+use crate::tables::Tables;
+use ip_fields::{IpFields, fields};
+use packet_entry::Packet;
+
+/// Where a packet goes next.
+#[derive(Clone, Copy, Debug, PartialEq, Eq)]
+pub enum Next {
+    /// On its way: no table is left that queues it.
+    Released,
+    /// To this queue, which this table chose; with `bypass` it goes on where nobody is bound there.
+    To {
+        queue: u16,
+        bypass: bool,
+        table: u16,
+    },
+}
+
+/// What a verdict says of a packet.
+#[derive(Clone, Copy, Debug, PartialEq, Eq)]
+pub enum Decision {
+    /// It is destroyed.
+    Drop,
+    /// It goes on with the next table.
+    Accept,
+    /// It goes through its table again.
+    Repeat,
+    /// It is released at once.
+    Stop,
+    /// It arrives at this queue, in the same table.
+    Queue { number: u16, bypass: bool },
+}
+
+/// What the rules look at.
+#[derive(Clone, Copy)]
+struct Look {
+    mark: u32,
+    fields: Option<IpFields>,
+}
+
+/// Where a packet goes that enters the tables at number `from`.
+///
+/// The tables count from 1, and 0 takes all of them as well. In each table the first rule that matches
+/// queues the packet; past the last table it is released. `key` is the flow hash's. No memory is taken,
+/// and each rule is looked at once.
+pub fn route(tables: &Tables, key: u32, packet: &Packet, from: u16) -> Next
+    ensures exact { result ≡ next tables.now key packet.now from }
+{
+    enter(tables, key, packet, first_number(from))
+}
+
+/// The tables count from 1, and 0 takes all of them as well.
+fn first_number(from: u16) -> usize
+    ensures { result ≡ max from 1 }
+{
+    from.max(1) as usize
+}
+
+/// Where a packet goes after this decision, from the table that queued it last.
+///
+/// Accept goes on with the next table and Repeat with the same one; Stop releases. Queue sends it to
+/// that queue, in its table. `None` comes exactly for Drop.
+pub fn onward(tables: &Tables, key: u32, packet: &Packet, decision: &Decision) -> Option<Next>
+    ensures exact { result ≡ onward_of tables.now key packet.now decision.now }
+{
+    let table = packet.table();
+    match *decision {
+        Decision::Drop => None,
+        Decision::Accept => Some(enter(tables, key, packet, table as usize + 1)),
+        Decision::Repeat => Some(route(tables, key, packet, table)),
+        Decision::Stop => Some(Next::Released),
+        Decision::Queue { number, bypass } => Some(Next::To {
+            queue: number,
+            bypass,
+            table,
+        }),
+    }
+}
+
+/// Goes through the tables from number `from` on.
+#[tactic(auto, unfolding(crate::specs::Route::next, crate::specs::Route::next_of))]
+fn enter(tables: &Tables, key: u32, packet: &Packet, from: usize) -> Next
+    requires { 1 ≤ from }
+    ensures { result ≡ next tables.now key packet.now from }
+{
+    let look = Look::at(packet);
+    let tables = tables.as_slice();
+    for at in from - 1..tables.len() {
+        if let Some(rule) = look.first_match(tables[at].rules()) {
+            return Next::To {
+                queue: look.queue(key, &rule.pick),
+                bypass: rule.bypass,
+                table: at as u16 + 1,
+            };
+        }
+    }
+    Next::Released
+}
+
+impl Look {
+    fn at(packet: &Packet) -> Look
+        ensures mark { result.mark ≡ packet.now.mark }
+        ensures fields { result.fields ≡ fields_of packet.now.bytes }
+        ensures addressed { IfSome result.fields IsAddressed }
+    {
+        Look {
+            mark: packet.mark(),
+            fields: fields(packet.bytes()),
+        }
+    }
+
+    /// The first rule that matches.
+    fn first_match<'a>(&self, rules: &'a [Rule]) -> Option<&'a Rule>
+        requires { All (λ r. IsPick r.pick) rules.now }
+        ensures first { option_copied result ≡ find (matches self.now.mark self.now.fields) rules.now }
+        ensures pick { IfSome result (λ r. IsPick r.now.pick) }
+    {
+        rules.iter().find(|rule| self.matches(rule))
+    }
+
+    fn matches(&self, rule: &Rule) -> bool
+        ensures { result ≡ matches self.now.mark self.now.fields rule.now }
+    {
+        rule.protocol
+            .map_or(true, |protocol| self.has_protocol(protocol))
+            && rule.mark.map_or(true, |test| self.has_mark(&test))
+    }
+
+    fn has_protocol(&self, protocol: u8) -> bool
+        ensures { result ≡ has_protocol self.now.fields protocol }
+    {
+        self.fields
+            .map_or(false, |fields| fields.protocol == protocol)
+    }
+
+    fn has_mark(&self, test: &MarkTest) -> bool
+        ensures { result ≡ has_mark self.now.mark test.now }
+    {
+        (self.mark & test.mask == test.value) != test.negated
+    }
+
+    fn queue(&self, key: u32, pick: &Pick) -> u16
+        requires pick { IsPick pick.now }
+        requires addressed { IfSome self.now.fields IsAddressed }
+        ensures { result ≡ queue_of key self.now.fields pick.now }
+    {
+        match *pick {
+            Pick::Number { queue } => queue,
+            Pick::Balance { first, total } => balance(key, self.fields.as_ref(), first, total),
+        }
+    }
+}

@@ -1,0 +1,28 @@
+//! The tables of the FORWARD hook, and where a packet goes next.
+//!
+//! [`read_tables`] reads the text that iptables-save(8) writes, reduced to rules with the target NFQUEUE.
+//! [`route`] takes a packet through the tables: in each the first rule that matches queues it.
+//! [`onward`] says where it goes after a verdict. [`balance`] picks one of several queues by the packet's
+//! flow, the same for both directions. Only `read_tables` takes memory.
+#![tactic(auto)]
+
+mod chain;
+mod fault;
+mod flow;
+mod line;
+mod number;
+mod reader;
+mod rule;
+mod rule_line;
+mod tables;
+mod word;
+
+pub use chain::{Decision, Next, onward, route};
+pub use fault::LineFault;
+pub use flow::balance;
+pub use reader::read_tables;
+pub use rule::{MarkTest, Pick, Rule};
+pub use tables::Tables;
+
+#[cfg(test)]
+mod tests;

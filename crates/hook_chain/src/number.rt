@@ -1,0 +1,80 @@
+//! The numbers of a rules file.
+
+ghost use Rattle.std.specs.Prelude.{◌≡◌, ◌+◌, ◌*◌, ◌-◌, ◌<◌, ◌≤◌, ◌^◌};
+ghost use Rattle.hook_chain.specs.Numbers.{below, decimal, decimal_below, digit_in, number, wide};
+
+/// The number that the digits of this radix spell. `None` where there is no digit, where a byte is no
+/// digit of the radix, and where the number doesn't fit 32 bits.
+#[tactic(auto, unfolding(crate::specs::Numbers::number))]
+fn number(word: &[u8], radix: u32) -> Option<u32>
+    requires { 1 ≤ radix }
+    ensures { result ≡ number radix word.now }
+{
+    if word.is_empty() {
+        return None;
+    }
+    let mut number: u32 = 0;
+    for byte in word {
+        let digit = digit(*byte, radix)?;
+        number = with_digit(number, radix, digit)?;
+    }
+    Some(number)
+}
+
+/// The number with one more digit at its end, if it fits.
+fn with_digit(number: u32, radix: u32, digit: u32) -> Option<u32>
+    ensures { result ≡ below (2 ^ 32) (number * radix + digit) }
+{
+    number.checked_mul(radix)?.checked_add(digit)
+}
+
+/// What a byte stands for as a digit of this radix.
+fn digit(byte: u8, radix: u32) -> Option<u32>
+    ensures { result ≡ digit_in radix byte }
+{
+    let value = match byte {
+        b'0'..=b'9' => byte - b'0',
+        b'a'..=b'f' => byte - b'a' + 10,
+        b'A'..=b'F' => byte - b'A' + 10,
+        _ => return None,
+    };
+    let value = u32::from(value);
+    if value < radix { Some(value) } else { None }
+}
+
+/// A decimal number below 2^32, without a leading zero.
+#[tactic(auto, unfolding(crate::specs::Numbers::decimal))]
+fn decimal(word: &[u8]) -> Option<u32>
+    ensures { result ≡ decimal word.now }
+{
+    if word.len() > 1 && word[0] == b'0' {
+        return None;
+    }
+    number(word, 10)
+}
+
+/// A decimal number of 16 bits.
+pub(crate) fn decimal_16(word: &[u8]) -> Option<u16>
+    ensures { result ≡ decimal_below (2 ^ 16) word.now }
+{
+    u16::try_from(decimal(word)?).ok()
+}
+
+/// A decimal number of 8 bits.
+pub(crate) fn decimal_8(word: &[u8]) -> Option<u8>
+    ensures { result ≡ decimal_below (2 ^ 8) word.now }
+{
+    u8::try_from(decimal(word)?).ok()
+}
+
+/// A number of 32 bits: decimal, or `0x` and hexadecimal digits in either case, with leading zeros as
+/// they come.
+#[tactic(auto, unfolding(crate::specs::Numbers::wide))]
+pub(crate) fn wide(word: &[u8]) -> Option<u32>
+    ensures { result ≡ wide word.now }
+{
+    match word.strip_prefix(b"0x") {
+        Some(digits) => number(digits, 16),
+        None => decimal(word),
+    }
+}

@@ -1,0 +1,231 @@
+//! The reading of a whole rules file, line by line.
+
+ghost use Rattle.std.specs.Prelude.{ℕ, List, ◌≡◌, IfOk, [], ◌+◌, ◌<◌, length, map, bytes_eq};
+ghost use Rattle.std.specs.List.{list_any};
+ghost use Rattle.hook_chain.specs.declared.reader.Stop.TheVariants.{NoMemory};
+ghost use Rattle.hook_chain.specs.Rules.{AreTables};
+ghost use Rattle.hook_chain.specs.Grammar.{IsFirstRefused, IsRulesFile};
+ghost use Rattle.hook_chain.specs.declared.rule.Rule.{Rule};
+ghost use Rattle.hook_chain.specs.Line.{Adds, Closes, Opens, Policy, said};
+ghost use Rattle.hook_chain.specs.RulesFile.{Answers, after, behind_line, may_open, start, tables_from, tables_of};
+ghost use Rattle.hook_chain.specs.Reader.{IsSound, Moves, fault_of, place_of};
+
+use crate::fault::LineFault;
+use crate::line::{Line, parse_line};
+use crate::rule::Rule;
+use crate::tables::{Table, Tables};
+use crate::word::{is_word, next_line};
+use std::alloc::{AllocError, AllocFailed, Global};
+
+/// The most tables of a rules file.
+const MAX_TABLES: usize = 16;
+/// The most rules of a table.
+const MAX_RULES: usize = 1_000;
+
+/// Why a reader doesn't go on.
+#[derive(Clone, Copy)]
+enum Stop {
+    /// The line may not stand here.
+    Refused,
+    NoMemory,
+}
+
+/// The tables of a rules file as iptables-save(8) writes it, reduced to the FORWARD chain, the target
+/// NFQUEUE and the matches of protocol and mark.
+///
+/// `Bad` comes exactly where a line may not stand in its place or the file ends inside a table, with
+/// the first such line, and `NoMemory` only for want of memory. The bytes are gone over once, line by
+/// line.
+pub fn read_tables(alloc: Global, bytes: &[u8]) -> Result<Tables, LineFault>
+    requires { length bytes.now < 4_294_967_295 }
+
+    // What is read is in the grammar, and what is in the grammar is read, unless memory runs out.
+    ensures found { IfOk result (IsRulesFile bytes.now) }
+    ensures only { (tables : List (List Rule)) → IsRulesFile bytes.now tables → Answers result (Ok tables) }
+
+    // What is refused is refused at the first line that may not stand, and a file with such a line is
+    // refused there, unless memory runs out.
+    ensures refused { (line : ℕ) → result ≡ Err (LineFault.Bad line) → IsFirstRefused bytes.now line }
+    ensures stuck { (line : ℕ) → IsFirstRefused bytes.now line → Answers result (Err line) }
+
+    // Both at once, as a function of the text.
+    ensures exact { Answers result (tables_of bytes.now) }
+    ensures bounds { IfOk result AreTables }
+{
+    read_lines(alloc, bytes)
+}
+
+/// Reads line after line.
+fn read_lines(alloc: Global, bytes: &[u8]) -> Result<Tables, LineFault>
+    requires { length bytes.now < 4_294_967_295 }
+    ensures exact { Answers result (tables_of bytes.now) }
+    ensures bounds { IfOk result AreTables }
+{
+    let mut reader = Reader::new(alloc);
+    let mut rest = bytes;
+    let mut number = 1;
+    while let Some((line, behind)) = next_line(rest) {
+        if let Err(stop) = reader.read(alloc, line) {
+            return Err(stop.at(number));
+        }
+        rest = behind;
+        number += 1;
+    }
+    reader.finish(number)
+}
+
+impl From<AllocError> for Stop {
+    ghost from_gives = { λ _ e. e ≡ NoMemory };
+
+    fn from(_error: AllocError) -> Stop {
+        Stop::NoMemory
+    }
+}
+
+impl<T: Drop> From<AllocFailed<T>> for Stop {
+    ghost from_gives = { λ _ e. e ≡ NoMemory };
+
+    fn from(_error: AllocFailed<T>) -> Stop {
+        Stop::NoMemory
+    }
+}
+
+impl Stop {
+    /// The fault of the file whose line `number` stopped the reader.
+    fn at(self, number: u32) -> LineFault
+        ensures { result ≡ fault_of self number }
+    {
+        match self {
+            Stop::Refused => LineFault::Bad { line: number },
+            Stop::NoMemory => LineFault::NoMemory,
+        }
+    }
+}
+
+/// Where the reading of a rules file stands.
+#[derive(Drop)]
+struct Reader<'a> {
+    /// The names of the tables that were opened.
+    names: Vec<&'a [u8]>,
+    /// The tables that were closed.
+    closed: Vec<Table>,
+    /// The open table.
+    inside: Option<Table>,
+}
+
+impl<'a> Reader<'a> {
+    fn new(alloc: Global) -> Reader<'a>
+        ensures { place_of result ≡ start }
+    {
+        Reader {
+            names: Vec::new(alloc),
+            closed: Vec::new(alloc),
+            inside: None,
+        }
+    }
+
+    /// Goes on behind this line.
+    fn read(&mut self, alloc: Global, line: &'a [u8]) -> Result<(), Stop>
+        ensures { Moves result (behind_line (place_of self.old) line.now) (place_of self.new) }
+    {
+        match parse_line(line) {
+            Some(line) => self.take(alloc, line),
+            None => Err(Stop::Refused),
+        }
+    }
+
+    /// The tables of a file that ends here; `number` is the number of its lines plus 1.
+    #[tactic(auto, unfolding(crate::specs::RulesFile::tables_from))]
+    fn finish(self, number: u32) -> Result<Tables, LineFault>
+        requires { IsSound (place_of self) }
+        ensures { Answers result (tables_from number (place_of self.entry) []) }
+    {
+        let Reader {
+            names: _names,
+            closed,
+            inside,
+        } = self;
+        match inside {
+            None => Ok(Tables::from_vec(closed)),
+            Some(_table) => Err(LineFault::Bad { line: number }),
+        }
+    }
+
+    /// Goes on behind a line that says this.
+    #[tactic(auto, unfolding(crate::specs::RulesFile::after))]
+    fn take(&mut self, alloc: Global, line: Line<'a>) -> Result<(), Stop>
+        ensures { Moves result (after (place_of self.old) (said line.entry)) (place_of self.new) }
+    {
+        match line {
+            Line::Nothing => Ok(()),
+            Line::Opens { name } => self.open(alloc, name),
+            Line::Policy => self.policy(),
+            Line::Adds { rule } => self.add(rule),
+            Line::Closes => self.close(),
+        }
+    }
+
+    #[tactic(auto, unfolding(crate::specs::RulesFile::after))]
+    fn open(&mut self, alloc: Global, name: &'a [u8]) -> Result<(), Stop>
+        ensures { Moves result (after (place_of self.old) (Opens name.now)) (place_of self.new) }
+    {
+        if !self.may_open(name) {
+            return Err(Stop::Refused);
+        }
+        self.names.push(name)?;
+        self.inside = Some(Table::new(alloc));
+        Ok(())
+    }
+
+    fn may_open(&self, name: &[u8]) -> bool
+        ensures { result ≡ may_open (place_of self.now) name.now }
+    {
+        self.inside.is_none() && self.closed.len() < MAX_TABLES && !self.is_known(name)
+    }
+
+    fn is_known(&self, name: &[u8]) -> bool
+        ensures { result ≡ list_any (λ known. bytes_eq known name.now) (place_of self.now).names }
+    {
+        is_among(self.names.as_slice(), name)
+    }
+
+    #[tactic(auto, unfolding(crate::specs::RulesFile::after))]
+    fn policy(&mut self) -> Result<(), Stop>
+        ensures { Moves result (after (place_of self.old) Policy) (place_of self.new) }
+    {
+        if self.inside.is_none() {
+            return Err(Stop::Refused);
+        }
+        Ok(())
+    }
+
+    #[tactic(auto, unfolding(crate::specs::RulesFile::after))]
+    fn add(&mut self, rule: Rule) -> Result<(), Stop>
+        ensures { Moves result (after (place_of self.old) (Adds rule)) (place_of self.new) }
+    {
+        match &mut self.inside {
+            Some(table) if table.len() < MAX_RULES => {
+                table.push(rule)?;
+                Ok(())
+            }
+            _ => Err(Stop::Refused),
+        }
+    }
+
+    #[tactic(auto, unfolding(crate::specs::RulesFile::after))]
+    fn close(&mut self) -> Result<(), Stop>
+        ensures { Moves result (after (place_of self.old) Closes) (place_of self.new) }
+    {
+        let Some(table) = self.inside.take() else {
+            return Err(Stop::Refused);
+        };
+        self.closed.push(table)?;
+        Ok(())
+    }
+}
+
+fn is_among(names: &[&[u8]], name: &[u8]) -> bool
+    ensures { result ≡ list_any (λ known. bytes_eq known.now name.now) names.now }
+{
+    names.iter().any(|known| is_word(known, name))
+}

@@ -1,0 +1,163 @@
+//! A rule by the words of its line: `-A FORWARD MATCHES -j NFQUEUE OPTIONS`.
+
+ghost use Rattle.std.specs.Prelude.{◌≡◌, false, ◌+◌, ◌-◌, ◌<◌, ◌≤◌, ◌^◌, option_map};
+ghost use Rattle.hook_chain.specs.Words.{words_of};
+ghost use Rattle.hook_chain.specs.RuleLine.{mark_match, options_after, pick_of, protocol_match, protocol_of, range_of, rule_of, value_and_mask};
+
+use crate::number::{decimal_8, decimal_16, wide};
+use crate::rule::{MarkTest, Pick, Rule};
+use crate::word::{behind, cut, is_word, next_word};
+
+/// Internet Protocol numbers (IANA) that a rule may name.
+const ICMP: u8 = 1;
+
+const TCP: u8 = 6;
+
+const UDP: u8 = 17;
+
+const IPV6_ICMP: u8 = 58;
+
+/// The mask of a mark test that names none.
+const ALL_BITS: u32 = u32::MAX;
+
+/// The most queues that a rule balances over, as its option keeps their number in 16 bits.
+const MOST_QUEUES: u32 = 65_535;
+
+/// The rule that stands behind `-A` in a line.
+#[tactic(auto, unfolding(crate::specs::RuleLine::rule_of))]
+pub(crate) fn rule(line: &[u8]) -> Option<Rule>
+    ensures { result ≡ rule_of (words_of line.now) }
+{
+    let rest = behind(line, b"FORWARD")?;
+    let (protocol, rest) = protocol_test(rest)?;
+    let (mark, rest) = mark_test(rest)?;
+    let rest = behind(rest, b"-j")?;
+    let rest = behind(rest, b"NFQUEUE")?;
+    let (pick, bypass) = options(rest)?;
+    Some(Rule {
+        protocol,
+        mark,
+        pick,
+        bypass,
+    })
+}
+
+/// `-p PROTO`, if it is there.
+#[tactic(auto, unfolding(crate::specs::RuleLine::protocol_match))]
+fn protocol_test(line: &[u8]) -> Option<(Option<u8>, &[u8])>
+    ensures { option_map (λ x. (x.0, words_of x.1.now)) result ≡ protocol_match (words_of line.now) }
+{
+    let Some(rest) = behind(line, b"-p") else {
+        return Some((None, line));
+    };
+    let (word, rest) = next_word(rest)?;
+    let protocol = protocol(word)?;
+    Some((Some(protocol), rest))
+}
+
+#[tactic(auto, unfolding(crate::specs::RuleLine::protocol_of))]
+fn protocol(word: &[u8]) -> Option<u8>
+    ensures { result ≡ protocol_of word.now }
+{
+    if is_word(word, b"tcp") {
+        Some(TCP)
+    } else if is_word(word, b"udp") {
+        Some(UDP)
+    } else if is_word(word, b"icmp") {
+        Some(ICMP)
+    } else if is_word(word, b"ipv6-icmp") {
+        Some(IPV6_ICMP)
+    } else {
+        decimal_8(word)
+    }
+}
+
+/// `-m mark [!] --mark VALUE[/MASK]`, if it is there.
+#[tactic(auto, unfolding(crate::specs::RuleLine::mark_match))]
+fn mark_test(line: &[u8]) -> Option<(Option<MarkTest>, &[u8])>
+    ensures { option_map (λ x. (x.0, words_of x.1.now)) result ≡ mark_match (words_of line.now) }
+{
+    let Some(rest) = behind(line, b"-m") else {
+        return Some((None, line));
+    };
+    let test = behind(rest, b"mark")?;
+    let (negated, test) = match behind(test, b"!") {
+        Some(test) => (true, test),
+        None => (false, test),
+    };
+    let (word, rest) = next_word(behind(test, b"--mark")?)?;
+    let (value, mask) = value_and_mask(word)?;
+    let test = MarkTest {
+        value,
+        mask,
+        negated,
+    };
+    Some((Some(test), rest))
+}
+
+/// `VALUE/MASK`, or `VALUE` with all bits.
+#[tactic(auto, unfolding(crate::specs::RuleLine::value_and_mask))]
+fn value_and_mask(word: &[u8]) -> Option<(u32, u32)>
+    ensures { result ≡ value_and_mask word.now }
+{
+    match cut(word, b'/') {
+        Some((value, mask)) => Some((wide(value)?, wide(mask)?)),
+        None => Some((wide(word)?, ALL_BITS)),
+    }
+}
+
+/// The options behind `-j NFQUEUE`, to the end of the line.
+#[tactic(auto, unfolding(crate::specs::RuleLine::options_after))]
+fn options(line: &[u8]) -> Option<(Pick, bool)>
+    ensures { result ≡ options_after None false (words_of line.now) }
+{
+    let mut pick = None;
+    let mut bypass = false;
+    let mut line = line;
+    while let Some((option, rest)) = next_word(line) {
+        if is_word(option, b"--queue-bypass") && !bypass {
+            bypass = true;
+            line = rest;
+        } else if pick.is_none() {
+            let (value, rest) = next_word(rest)?;
+            pick = Some(pick_of(option, value)?);
+            line = rest;
+        } else {
+            return None;
+        }
+    }
+    Some((pick.unwrap_or(Pick::Number { queue: 0 }), bypass))
+}
+
+/// `--queue-num N` or `--queue-balance A:B`.
+#[tactic(auto, unfolding(crate::specs::RuleLine::pick_of))]
+fn pick_of(option: &[u8], value: &[u8]) -> Option<Pick>
+    ensures { result ≡ pick_of option.now value.now }
+{
+    if is_word(option, b"--queue-num") {
+        let queue = decimal_16(value)?;
+        Some(Pick::Number { queue })
+    } else if is_word(option, b"--queue-balance") {
+        range(value)
+    } else {
+        None
+    }
+}
+
+/// `A:B`, the first and the last queue.
+#[tactic(auto, unfolding(crate::specs::RuleLine::range_of))]
+fn range(word: &[u8]) -> Option<Pick>
+    ensures { result ≡ range_of word.now }
+{
+    let (first, last) = cut(word, b':')?;
+    let first = decimal_16(first)?;
+    let last = decimal_16(last)?;
+    if last <= first {
+        return None;
+    }
+    let total = u32::from(last - first) + 1;
+    if total > MOST_QUEUES {
+        return None;
+    }
+    Some(Pick::Balance { first, total })
+}

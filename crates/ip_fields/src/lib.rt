@@ -1,0 +1,15 @@
+//! What an IP packet says of itself, and where it starts in a captured frame.
+//!
+//! [`fields`] reads the addresses and the protocol at their fixed places in an IPv4 or IPv6 header.
+//! [`link_cut`] says how long the link header in front of the packet is, by the capture's link type.
+//! Both copy nothing, take no memory and answer `None` exactly where the bytes hold no IP packet.
+#![tactic(auto)]
+
+mod frame;
+mod packet;
+
+pub use frame::{LinkCut, link_cut};
+pub use packet::{IpFields, fields};
+
+#[cfg(test)]
+mod tests;
