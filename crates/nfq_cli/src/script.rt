@@ -71,7 +71,10 @@ impl Script {
     }
 }
 
-/// Reads a script of the first form. Any other text is `NotInForm`.
+/// Reads a script of the first form: the port, the two lines that open queue 0, at most 997 lines that each
+/// answer the notice of an id, and the line that answers every other notice. Each line is ended by a line
+/// feed, words are one blank apart, and numbers are decimal with no leading zero. Any other text is
+/// `NotInForm`, and so is one of more than 1,048,576 bytes.
 pub fn read_script(alloc: Global, bytes: &[u8]) -> Result<Script, FormFault>
     // What is read is spelled so.
     ensures found { IfOk result (λ s. IsScript bytes.now s.port s.lines.items s.rest) }
