@@ -1,5 +1,5 @@
 -- Facts for one outcome.
-use Rattle.std.proofs.Common.{◌≡◌, ℕ, List, Option, Some, None, Result, Ok, Err, OnOk, inl, inr, refl, sym, subst}
+use Rattle.std.proofs.Common.{◌≡◌, ◌⊎◌, ℕ, List, Option, Some, None, Result, Ok, Err, OnOk, inl, inr, refl, sym, subst}
 use Rattle.std.specs.Prelude.{IsSomeAnd}
 use Rattle.pcap_io.specs.declared.capture.Capture.{Capture}
 use Rattle.nfq_cli.specs.declared.script.Verdict.{Verdict}
@@ -9,6 +9,9 @@ use Rattle.nfq_cli.specs.Script.{IsScript}
 use Rattle.nfq_cli.specs.Forms.{AreRules, AScript, AnInput, IsInput}
 use Rattle.nfq_cli.specs.Told.{IsInside, IsOutside, IsRefused, AreInForm, IsPlayed, Contents}
 use Rattle.nfq_cli.specs.Words.{PlayFiles}
+use Rattle.nfq_cli.specs.declared.stop.Stop.{Stop}
+use Rattle.nfq_cli.specs.declared.stop.Stop.TheVariants as stop
+use Rattle.nfq_cli.specs.Stops.{status_of}
 
 pub on_ok : {T E : Type 0} (A B : Type 0) (r : Result T E) → (A → B) → OnOk r A → OnOk r B
 on_ok A B (Ok x) f h = f h
@@ -49,3 +52,14 @@ not_refused_once_played old new o f named is_f is_named played =
     let there = subst (λ n. IsPlayed n old new) same played in
     not_refused (old f.rules) (old f.script) (old f.input)
     (in_form (old f.rules) (old f.script) (old f.input) there.port there.lines there.rest there.capture there.rules there.script there.input)
+
+-- A command that stops for no file outside its form stops for memory, or for a fault of the host.
+pub stops_for : (why : Stop) (Read Write : Type 0) → (why ≡ stop.ReadFault → Read) → (why ≡ stop.WriteFault → Write) → (why ≡ stop.NotInForm → ⊥)
+    → (status_of why ≡ 0) ⊎ (status_of why ≡ 8) ⊎ Read ⊎ Write
+stops_for stop.ReadFault Read Write read write form = inr (inr (inl (read refl)))
+stops_for stop.WriteFault Read Write read write form = inr (inr (inr (write refl)))
+stops_for stop.NotInForm Read Write read write form = absurd (form refl)
+stops_for stop.NoMemory Read Write read write form = inr (inl refl)
+
+pub same_files : (o : Option PlayFiles) (f named : PlayFiles) → o ≡ Some f → o ≡ Some named → named ≡ f
+same_files o f named is_f is_named = cc

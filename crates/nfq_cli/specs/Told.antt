@@ -47,6 +47,14 @@ ReadFaultRose f old new = Rises (old f.rules) (new f.rules) ⊎ Rises (old f.scr
 abbrev pub WriteFaultRose : PlayFiles → Counts → Counts → Type 0
 WriteFaultRose f old new = Rises (old f.output) (new f.output) ⊎ Rises (old f.ledger) (new f.ledger) ⊎ Rises (old f.journal) (new f.journal)
 
+-- The writing, in the order output, ledger, journal, stopped at a file whose write count rose, and the files
+-- behind it hold what they held.
+abbrev pub IsStopped : PlayFiles → Counts → Counts → Contents → Contents → Type 0
+IsStopped f old_count new_count old new =
+    (Rises (old_count f.output) (new_count f.output) × (new f.ledger ≡ old f.ledger) × (new f.journal ≡ old f.journal))
+    ⊎ (Rises (old_count f.ledger) (new_count f.ledger) × (new f.journal ≡ old f.journal))
+    ⊎ Rises (old_count f.journal) (new_count f.journal)
+
 -- every name but the outputs holds what it held
 abbrev pub OthersStay : PlayFiles → Contents → Contents → Type 0
 OthersStay f old new = (name : List ℕ) → name ≢ f.output → name ≢ f.ledger → name ≢ f.journal → new name ≡ old name

@@ -6,7 +6,7 @@ ghost use Rattle.pcap_io.specs.Text.{IsHeld};
 ghost use Rattle.nfq_cli.specs.Rules.{rules_text};
 ghost use Rattle.nfq_cli.specs.Script.{IsScript};
 ghost use Rattle.nfq_cli.specs.Forms.{AreRules, AScript, AnInput, IsInput};
-ghost use Rattle.nfq_cli.specs.Told.{IsInside, IsOutside, IsRefused, AreInForm, IsPlayed, ReadFaultRose, WriteFaultRose, OthersStay};
+ghost use Rattle.nfq_cli.specs.Told.{IsInside, IsOutside, IsRefused, AreInForm, IsPlayed, ReadFaultRose, WriteFaultRose, IsStopped, OthersStay};
 ghost use Rattle.nfq_cli.specs.Words.{are_apart, names_of, PlayFiles, words_of_play};
 
 use crate::fault::FormFault;
@@ -45,6 +45,9 @@ pub fn play<H: Host>(alloc: Global, words: &[String], host: &mut H) -> u8
         ReadFaultRose f (H.read_faults host.old) (H.read_faults host.new) }
     ensures write_fault { result ≡ 3 → (f : PlayFiles) → words_of_play words.now ≡ Some f →
         WriteFaultRose f (H.write_faults host.old) (H.write_faults host.new) }
+    // At 3 the outputs behind the one that failed hold what they held.
+    ensures stopped { result ≡ 3 → (f : PlayFiles) → words_of_play words.now ≡ Some f →
+        IsStopped f (H.write_faults host.old) (H.write_faults host.new) (H.content host.old) (H.content host.new) }
 
     // 9 comes only where the order reaches a file outside its form ..
     ensures not_in_form { result ≡ 9 → (f : PlayFiles) → words_of_play words.now ≡ Some f → IsTrue (H.tells host.old) →
@@ -91,6 +94,9 @@ fn carry_out<H: Host>(alloc: Global, files: &Play<'_>, host: &mut H) -> Result<(
     ensures write_fault { IsErrOf result Stop.WriteFault → WriteFaultRose
         (names_of files.now.rules.now files.now.script.now files.now.input.now files.now.output.now files.now.ledger.now files.now.journal.now)
         (H.write_faults host.old) (H.write_faults host.new) }
+    ensures stopped { IsErrOf result Stop.WriteFault → IsStopped
+        (names_of files.now.rules.now files.now.script.now files.now.input.now files.now.output.now files.now.ledger.now files.now.journal.now)
+        (H.write_faults host.old) (H.write_faults host.new) (H.content host.old) (H.content host.new) }
     ensures in_form { IsErrOf result Stop.WriteFault → IsTrue (H.tells host.old) → AreInForm
         (H.content host.old files.now.rules.now) (H.content host.old files.now.script.now) (H.content host.old files.now.input.now) }
     ensures untouched { IsErr result → ¬ IsErrOf result Stop.WriteFault → SameFiles (H.content host.old) (H.content host.new) }
@@ -196,6 +202,9 @@ fn write_outputs<H: Host>(files: &Play<'_>, outputs: &Outputs, host: &mut H) -> 
     ensures write_fault { OnErr result (WriteFaultRose
         (names_of files.now.rules.now files.now.script.now files.now.input.now files.now.output.now files.now.ledger.now files.now.journal.now)
         (H.write_faults host.old) (H.write_faults host.new)) }
+    ensures stopped { OnErr result (IsStopped
+        (names_of files.now.rules.now files.now.script.now files.now.input.now files.now.output.now files.now.ledger.now files.now.journal.now)
+        (H.write_faults host.old) (H.write_faults host.new) (H.content host.old) (H.content host.new)) }
     ensures others { OthersStay
         (names_of files.now.rules.now files.now.script.now files.now.input.now files.now.output.now files.now.ledger.now files.now.journal.now)
         (H.content host.old) (H.content host.new) }
