@@ -1,4 +1,5 @@
 pub mod Digits
+pub mod Fair
 pub mod Lines
 pub mod Outcomes
 pub mod Passing

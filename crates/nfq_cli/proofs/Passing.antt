@@ -1,5 +1,5 @@
 -- One frame's way through the ready queue: what it adds to the histories, by the definitions.
-use Rattle.std.proofs.Common.{◌≡◌, ◌≢◌, ◌≤◌, ◌<◌, ℕ, zero, suc, ◌+◌, ◌*◌, ◌%◌, List, [], ◌∷◌, ◌++◌, length, Option, Some, None, Bool, true, false, cond, refl, sym, ap, subst, ◌∙◌, arith, append_assoc, take, drop, ◌-◌}
+use Rattle.std.proofs.Common.{◌≡◌, ◌≤◌, ◌<◌, ℕ, suc, ◌+◌, ◌*◌, List, [], ◌∷◌, ◌++◌, length, Option, Some, None, true, false, refl, sym, ap, subst, ◌∙◌, arith, append_assoc, take, drop, ◌-◌}
 use Rattle.std.proofs.lemmas.Bool.{eq-eqb, ne_eqb, lt-leb, le-leb}
 use Rattle.std.proofs.Math.Nat.{add-zero, le_refl}
 use Rattle.std.specs.List.{AllByRecursion, All}
@@ -20,12 +20,9 @@ use Rattle.queue_core.specs.Step.{arrive_bound, next_id, taken, with_last, way_o
 use Rattle.nfq_cli.specs.declared.script.Verdict.{Verdict}
 use Rattle.nfq_cli.specs.declared.script.OnId.{OnId}
 use Rattle.nfq_cli.specs.declared.script.Verdict.TheVariants as verdict
-use Rattle.nfq_cli.specs.declared.histories.Request.{Request}
 use Rattle.nfq_cli.specs.declared.histories.Request.TheVariants as asked
 use Rattle.nfq_cli.specs.declared.histories.Event.TheVariants.{Arrive, Ask}
-use Rattle.nfq_cli.specs.declared.histories.Reply.TheVariants.{Arrived, Answer}
 use Rattle.nfq_cli.specs.declared.histories.Entry.{Entry}
-use Rattle.nfq_cli.specs.declared.histories.Did.{Did}
 use Rattle.nfq_cli.specs.declared.histories.Did.TheVariants.{Sent}
 use Rattle.nfq_cli.specs.declared.ledger.FateLine.{FateLine}
 use Rattle.nfq_cli.specs.Code.{code_of}
@@ -33,11 +30,11 @@ use Rattle.nfq_cli.specs.Script.{answer}
 use Rattle.nfq_cli.specs.declared.histories.Histories.{Histories}
 use Rattle.nfq_cli.specs.Solo.{solo_histories}
 use Rattle.nfq_cli.specs.History.{histories_of, step, replay, replay_from, IsLegal, IsLegalFrom}
-use Rattle.nfq_cli.specs.Schedule.{World, Notice, at_first, queued_card, verdict_on, notices_of, has_room, receive, send, arrive, emptied, over, opened, solo}
+use Rattle.nfq_cli.specs.Schedule.{World, Notice, at_first, queued_card, verdict_on, has_room, receive, arrive, emptied, over, solo}
 use Rattle.nfq_cli.specs.Ready.{IsReady}
 use Rattle.nfq_cli.specs.Passing.{taken_entry, received, asked_entry, call_behind, line_of, fate_of}
 use Rattle.nfq_cli.specs.declared.ledger.Fate.TheVariants as fate
-use Rattle.nfq_cli.specs.Fates.{Happening, fate_by_request, happenings, happenings_from, happens, last_of, is_later, fate_line, fates_from, fates}
+use Rattle.nfq_cli.specs.Fates.{Happening, fate_by_request, happenings, happenings_from, happens, last_of, fate_line, fates_from, fates}
 
 -- ---- histories, piece by piece
 
@@ -220,7 +217,7 @@ fit_on [] l h small = (small, tt)
 fit_on (k ∷ ls) l h small = (h.0, fit_on ls l h.1 small)
 
 -- two entries at the end of a list, one after the other
-pushed : (es : List Entry) (a b : Entry) → (es ++ a ∷ []) ++ b ∷ [] ≡ es ++ a ∷ b ∷ []
+pub pushed : (es : List Entry) (a b : Entry) → (es ++ a ∷ []) ++ b ∷ [] ≡ es ++ a ∷ b ∷ []
 pushed es a b = append_assoc es (a ∷ []) (b ∷ [])
 
 module _ (port : ℕ) (lines : List OnId) (rest : Verdict) (frames : List Frame) (at : ℕ) (h : Held) (w : World) (told : List FateLine)

@@ -1,5 +1,5 @@
 -- How the parts of a script are spelled, one behind the other.
-use Rattle.std.proofs.Common.{◌≡◌, ◌<◌, ◌^◌, ℕ, List, [], ◌∷◌, ◌++◌, get_or, ap, append_assoc, arith}
+use Rattle.std.proofs.Common.{◌≡◌, ℕ, List, ◌++◌, get_or, ap, append_assoc, arith}
 use Rattle.std.specs.Prelude.{codes, decimal}
 use Rattle.nfq_cli.specs.declared.script.OnId.{OnId}
 use Rattle.nfq_cli.specs.declared.script.Verdict.{Verdict}

@@ -1,5 +1,5 @@
 -- Texts that are appended piece by piece.
-use Rattle.std.proofs.Common.{◌≡◌, List, [], ◌∷◌, ◌++◌, ℕ, zero, suc, ◌+◌, take, drop, length, length-take, ◌≤◌, Option, Some, refl, Result, Ok, Err, OnOk, is_ok, cond, ap, sym, subst, ◌∙◌, append_assoc, arith}
+use Rattle.std.proofs.Common.{◌≡◌, List, [], ◌∷◌, ◌++◌, ℕ, zero, suc, ◌+◌, take, drop, length, length-take, ◌≤◌, Some, refl, Result, Ok, Err, OnOk, is_ok, cond, ap, sym, subst, ◌∙◌, append_assoc, arith}
 use Rattle.std.specs.Prelude.{slice_get, All}
 use Rattle.std.proofs.lemmas.Option.{get_or_from_slice_get, slice_get_within}
 

@@ -1,6 +1,6 @@
 -- The journal's text: one line for each entry, and for each thing that a port did. Words are separated by
 -- one blank, numbers are decimal, bytes are lower-case hexadecimal, `-` for none.
-use Rattle.std.specs.Prelude.{ℕ, List, [], ◌∷◌, ◌++◌, Option, Some, None, Bool, true, false, codes, decimal, if◌then◌else◌}
+use Rattle.std.specs.Prelude.{ℕ, List, [], ◌∷◌, ◌++◌, Option, Some, None, Bool, true, false, codes, decimal}
 use Rattle.hex.specs.Hex.{encode_lower}
 use Rattle.packet_entry.specs.declared.packet.Card.{Card}
 use Rattle.queue_core.specs.declared.request.Params.{Params}

@@ -3,6 +3,7 @@ pub mod Fates
 pub mod Forms
 pub mod History
 pub mod Journal
+pub mod Law
 pub mod Ledger
 pub mod Outputs
 pub mod Passing

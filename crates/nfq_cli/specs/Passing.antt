@@ -1,9 +1,8 @@
 -- What one frame's way through the ready queue adds: it arrives, its notice is received, and its verdict is
 -- carried out.
-use Rattle.std.specs.Prelude.{◌≡◌, ◌+◌, ◌%◌, ℕ, List, [], ◌∷◌, Option, Some, None, Bool, false, true, ◌==◌, if◌then◌else◌}
+use Rattle.std.specs.Prelude.{◌+◌, ◌%◌, ℕ, false, true, ◌==◌, if◌then◌else◌}
 use Rattle.packet_entry.specs.declared.packet.Card.{Card}
 use Rattle.queue_core.specs.declared.offers.Outcome.TheVariants as outcome
-use Rattle.queue_core.specs.declared.request.Head.{Head}
 use Rattle.queue_core.specs.declared.decision.TheConstants.{ACCEPT}
 use Rattle.nfq_cli.specs.declared.histories.Request.{Request}
 use Rattle.nfq_cli.specs.declared.histories.Event.TheVariants as event

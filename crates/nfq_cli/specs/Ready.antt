@@ -1,7 +1,6 @@
 -- The queue between two packets of a run: it copies packets, has room, and nothing waits.
-use Rattle.std.specs.Prelude.{◌≡◌, ◌<◌, ◌+◌, ◌%◌, ℕ, List, [], ◌∷◌, Option, Some, None}
+use Rattle.std.specs.Prelude.{◌≡◌, ◌<◌, [], None}
 use Rattle.queue_core.specs.declared.request.TheConstants.{PACKET}
-use Rattle.queue_core.specs.State.{Bound}
 use Rattle.queue_core.specs.Held.{Held}
 
 pub record IsReady (h : Held) : Type 0 where

@@ -1,12 +1,11 @@
 -- The schedule of one thread, for a script of the first form over the one rule, which queues every packet at
 -- queue 0. The world is a list of entries, the notices that weren't received yet, and what the port did; the
 -- queue's state in it is the replay of the entries.
-use Rattle.std.specs.Prelude.{◌≡◌, ℕ, zero, suc, ◌+◌, ◌*◌, ◌%◌, List, [], ◌∷◌, ◌++◌, length, Option, Some, None, Bool, true, false, not, ◌&&◌, ◌==◌, nat_lt, if◌then◌else◌}
+use Rattle.std.specs.Prelude.{ℕ, zero, suc, ◌+◌, ◌*◌, ◌%◌, List, [], ◌∷◌, ◌++◌, length, Option, Some, None, Bool, true, false, not, ◌&&◌, ◌==◌, nat_lt, if◌then◌else◌}
 use Rattle.packet_entry.specs.declared.packet.Card.{Card}
 use Rattle.packet_entry.specs.declared.packet.TheConstants.{IPV4}
 use Rattle.packet_entry.specs.Card.{opening_card}
 use Rattle.pcap_io.specs.declared.capture.Frame.{Frame}
-use Rattle.queue_core.specs.declared.offers.Outcome.{Outcome}
 use Rattle.queue_core.specs.declared.offers.Outcome.TheVariants as outcome
 use Rattle.queue_core.specs.declared.request.TheConstants.{BIND, PACKET}
 use Rattle.queue_core.specs.State.{Bound}

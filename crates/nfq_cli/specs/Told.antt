@@ -1,5 +1,5 @@
 -- What the files of a command hold, before it and after it, as a host tells it.
-use Rattle.std.specs.Prelude.{◌≡◌, ◌≢◌, ◌⊎◌, ℕ, List, Option, Some, None, IsSomeAnd}
+use Rattle.std.specs.Prelude.{◌≡◌, ◌≢◌, ◌⊎◌, ℕ, List, Option, Some, IsSomeAnd}
 use Rattle.pcap_io.specs.declared.capture.Capture.{Capture}
 use Rattle.nfq_cli.specs.declared.script.Verdict.{Verdict}
 use Rattle.nfq_cli.specs.declared.script.OnId.{OnId}

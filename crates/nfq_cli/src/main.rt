@@ -6,6 +6,7 @@ mod fault;
 mod forms;
 mod histories;
 mod journal;
+mod laws;
 mod ledger;
 mod outputs;
 mod play;

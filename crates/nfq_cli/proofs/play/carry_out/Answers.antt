@@ -1,5 +1,4 @@
-use Rattle.std.proofs.Common.{◌≡◌, ℕ, List, Some, ap, ◌∙◌}
-use Rattle.std.specs.Prelude.{IsTrue}
+use Rattle.std.proofs.Common.{ℕ, List, Some, ap, ◌∙◌}
 use Rattle.nfq_cli.proofs.Outcomes.{on_ok, on_ok_both, in_form}
 use Rattle.nfq_cli.proofs.play.carry_out.Goals as goal
 

@@ -1,4 +1,4 @@
-use Rattle.std.proofs.Common.{◌≡◌, ap, sym, ◌∙◌, arith}
+use Rattle.std.proofs.Common.{◌∙◌}
 use Rattle.nfq_cli.proofs.Digits.{cut_behind_number}
 use Rattle.nfq_cli.proofs.reading.number.Goals as goal
 

@@ -1,6 +1,4 @@
-use Rattle.std.proofs.Common.{◌≡◌, ◌≤◌, length, get_or, subst, sym, ◌∙◌, ap, arith, Option}
-use Rattle.std.specs.Prelude.{IfSome, decimal}
-use Rattle.std.specs.Str.Parse.{ParsesUnsigned}
+use Rattle.std.proofs.Common.{◌≡◌, ◌≤◌, length, get_or, ◌∙◌, arith}
 use Rattle.nfq_cli.proofs.Digits.{digits_are_text, parsed_is, parsed_only, no_leading_zero}
 use Rattle.nfq_cli.proofs.reading.value.Goals as goal
 use Rattle.nfq_cli.proofs.reading.value.Goals.{else-digits-gt1-via-then-digits-gt1+else-digits-eq48, else-digits-gt1-via-else-digits-gt1}

@@ -1,6 +1,6 @@
-use Rattle.std.proofs.Common.{◌≡◌, ◌∷◌, [], ◌++◌, length, subst, sym, ap, ◌∙◌, refl, arith}
+use Rattle.std.proofs.Common.{◌≡◌, ◌∷◌, [], ◌++◌, length, ap, refl, arith}
 use Rattle.std.proofs.lemmas.List.{length-append}
-use Rattle.nfq_cli.proofs.Lines.{IsReadSoFar, one_read, all_read, more_than_read}
+use Rattle.nfq_cli.proofs.Lines.{one_read, all_read, more_than_read}
 use Rattle.nfq_cli.proofs.script.read_lines.Goals as goal
 
 pub returns-then-len-eq-MAX_ON_ID_LINES-clause-only : goal.returns-then-len-eq-MAX_ON_ID_LINES-clause-only

@@ -1,4 +1,4 @@
-use Rattle.std.proofs.Common.{◌≡◌, ◌++◌, sym, ap, ◌∙◌, List, ℕ, arith}
+use Rattle.std.proofs.Common.{◌++◌, sym, ap, ◌∙◌, List, ℕ, arith}
 use Rattle.nfq_cli.specs.Script.{on_any, on_ids}
 use Rattle.nfq_cli.specs.Reading.{heading}
 use Rattle.nfq_cli.proofs.Spelling.{script_parts, no_line_in_last}
