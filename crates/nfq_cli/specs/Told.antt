@@ -9,6 +9,7 @@ use Rattle.nfq_cli.specs.Forms.{AreRules, AScript, AnInput, IsInput}
 use Rattle.nfq_cli.specs.Words.{PlayFiles}
 use Rattle.nfq_cli.specs.History.{IsLegal}
 use Rattle.nfq_cli.specs.Solo.{solo_histories}
+use Rattle.nfq_cli.specs.Law.{IsFair}
 use Rattle.nfq_cli.specs.Outputs.{output_text, ledger_text, journal_text}
 use Rattle.host_io.specs.Host.{Rises}
 
@@ -60,7 +61,8 @@ abbrev pub OthersStay : PlayFiles → Contents → Contents → Type 0
 OthersStay f old new = (name : List ℕ) → name ≢ f.output → name ≢ f.ledger → name ≢ f.journal → new name ≡ old name
 
 -- The headline, for what one thread plays of the first form: the outputs are the texts of the schedule's run
--- on the three inputs. Its history is legal: at every moment the queue's state is its replay.
+-- on the three inputs. Its history is legal: at every moment the queue's state is its replay. Each frame's
+-- packet arrives once and leaves once, and the frames that are written are those that the script accepts.
 pub record IsPlayed (f : PlayFiles) (old new : Contents) : Type 0 where
   pub port : ℕ
   pub lines : List OnId
@@ -70,6 +72,7 @@ pub record IsPlayed (f : PlayFiles) (old new : Contents) : Type 0 where
   pub script : IsSomeAnd (old f.script) (λ text. IsScript text port lines rest)
   pub input : IsSomeAnd (old f.input) (λ text. IsInput text capture)
   pub legal : IsLegal (solo_histories port lines rest capture.frames).entries
+  pub fair : IsFair port lines rest capture.frames
   pub output_is : new f.output ≡ Some (output_text port lines rest capture)
   pub ledger_is : new f.ledger ≡ Some (ledger_text port lines rest capture)
   pub journal_is : new f.journal ≡ Some (journal_text port lines rest capture)

@@ -5,9 +5,11 @@ ghost use Rattle.packet_entry.specs.declared.packet.TheConstants.{MAX_FRAME};
 ghost use Rattle.pcap_io.specs.Text.{IsHeld};
 ghost use Rattle.nfq_cli.specs.History.{IsLegal};
 ghost use Rattle.nfq_cli.specs.Solo.{solo_histories};
+ghost use Rattle.nfq_cli.specs.Law.{IsFair};
 ghost use Rattle.nfq_cli.specs.Outputs.{output_text, ledger_text, journal_text};
 
 use crate::journal::journal_text;
+use crate::laws::every_packet_leaves_once;
 use crate::ledger::ledger_text;
 use crate::released::released_capture;
 use crate::run::solo;
@@ -32,8 +34,10 @@ pub fn outputs_of(alloc: Global, script: &Script, capture: Capture) -> Result<Ou
     ensures output { IfOk result (λ o. o.capture.items ≡ output_text script.now.port script.now.lines.items script.now.rest capture) }
     ensures ledger { IfOk result (λ o. string_bytes o.ledger ≡ ledger_text script.now.port script.now.lines.items script.now.rest capture) }
     ensures legal { IfOk result (λ _. IsLegal (solo_histories script.now.port script.now.lines.items script.now.rest capture.frames).entries) }
+    ensures fair { IfOk result (λ _. IsFair script.now.port script.now.lines.items script.now.rest capture.frames) }
     ensures journal { IfOk result (λ o. string_bytes o.journal ≡ journal_text script.now.port script.now.lines.items script.now.rest capture) }
 {
+    every_packet_leaves_once();
     let run = solo(alloc, script, &capture)?;
     let mut journal = String::new(alloc);
     journal_text(alloc, &run.histories, &mut journal)?;

@@ -16,6 +16,7 @@ returns-clause-played g c =
       script = c.in_ok-script.ensures.script t;
       input = c.in_ok-script.ensures.input t;
       legal = c.in_ok-outputs.ensures.legal;
+      fair = c.in_ok-outputs.ensures.fair;
       output_is = w.0 tells ∙ ap (λ (xs : List ℕ). Some xs) c.in_ok-outputs.ensures.output;
       ledger_is = w.1.0 tells ∙ ap Some c.in_ok-outputs.ensures.ledger;
       journal_is = w.1.1 tells ∙ ap Some c.in_ok-outputs.ensures.journal;
