@@ -4,7 +4,7 @@ ghost use Rattle.nfq_cli.specs.Journal as text;
 
 use crate::histories::{Did, Entry, Event, Histories, PortLog, Reply, Request};
 use packet_entry::{Bytes, Card, Sequence};
-use queue_core::Outcome;
+use queue_core::{Head, Outcome, Params};
 use std::alloc::{AllocError, Global};
 
 /// Appends the journal of these histories.
@@ -154,15 +154,8 @@ fn push_request(alloc: Global, request: &Request, out: &mut String) -> Result<()
         } => {
             let queue = *queue;
             write!(out, "config {queue}")?;
-            if let Some(command) = command {
-                let command = *command;
-                write!(out, " cmd {command}")?;
-            }
-            if let Some(params) = params {
-                let mode = params.mode;
-                let range = params.range;
-                write!(out, " params {mode} {range}")?;
-            }
+            push_command(*command, out)?;
+            push_params(*params, out)?;
             push_number(" maxlen ", *maxlen, out)?;
             push_number(" flags ", *flags, out)?;
             push_number(" mask ", *mask, out)
@@ -175,17 +168,38 @@ fn push_request(alloc: Global, request: &Request, out: &mut String) -> Result<()
         } => {
             let queue = *queue;
             write!(out, "verdict {queue} ")?;
-            match head {
-                Some(head) => {
-                    let verdict = head.verdict;
-                    let id = head.id;
-                    write!(out, "{verdict} {id}")?;
-                }
-                None => out.push_str("-")?,
-            }
+            push_head(*head, out)?;
             push_number(" mark ", *mark, out)?;
             push_payload(alloc, payload, out)
         }
+    }
+}
+
+fn push_command(command: Option<u8>, out: &mut String) -> Result<(), AllocError>
+    ensures { OnOk result (string_bytes out.new ≡ string_bytes out.old ++ text.part (codes " cmd ") command) }
+{
+    match command {
+        Some(command) => write!(out, " cmd {command}"),
+        None => Ok(()),
+    }
+}
+
+fn push_params(params: Option<Params>, out: &mut String) -> Result<(), AllocError>
+    ensures { OnOk result (string_bytes out.new ≡ string_bytes out.old ++ text.params params) }
+{
+    match params {
+        Some(Params { range, mode }) => write!(out, " params {mode} {range}"),
+        None => Ok(()),
+    }
+}
+
+/// The verdict and the id, `-` where there is no verdict header.
+fn push_head(head: Option<Head>, out: &mut String) -> Result<(), AllocError>
+    ensures { OnOk result (string_bytes out.new ≡ string_bytes out.old ++ text.head head) }
+{
+    match head {
+        Some(Head { verdict, id }) => write!(out, "{verdict} {id}"),
+        None => out.push_str("-"),
     }
 }
 
