@@ -1,0 +1,4 @@
+pub mod ContentLemmas
+pub mod TextLemmas
+pub mod DecodedLemmas
+pub mod NoticeLemmas

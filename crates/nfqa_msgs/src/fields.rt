@@ -1,0 +1,81 @@
+//! The types of a request's numbers are as wide as their fields. Nothing runs here: each function reads
+//! its argument, so that its type's range is known.
+ghost use Rattle.std.specs.Prelude.{◌<◌, ◌^◌, IfSome};
+ghost use Rattle.nfqa_msgs.specs.Decoding.{PayloadFits};
+ghost use Rattle.nfqa_msgs.specs.Spelling.{FitsRequest, FitsHead, FitsParams};
+
+use crate::{Head, Params, Request};
+
+pub(crate) fn fits_its_fields(request: &Request)
+    requires { PayloadFits request.now }
+    ensures { FitsRequest request.now }
+{
+    match request {
+        Request::Config {
+            queue,
+            command,
+            params,
+            maxlen,
+            flags,
+            mask,
+        } => {
+            fits_queue(*queue);
+            fits_byte(*command);
+            fits_params(*params);
+            fits_number(*maxlen);
+            fits_number(*flags);
+            fits_number(*mask);
+        }
+        Request::Verdict {
+            queue,
+            head,
+            mark,
+            ..
+        } => {
+            fits_queue(*queue);
+            fits_head(*head);
+            fits_number(*mark);
+        }
+        Request::Batch { queue, head, mark } => {
+            fits_queue(*queue);
+            fits_head(*head);
+            fits_number(*mark);
+        }
+    }
+}
+
+fn fits_queue(queue: u16)
+    ensures { queue < 2 ^ 16 }
+{
+    let _queue = queue;
+}
+
+fn fits_byte(byte: Option<u8>)
+    ensures { IfSome byte (λ n. n < 2 ^ 8) }
+{
+    if let Some(_byte) = byte {}
+}
+
+fn fits_number(number: Option<u32>)
+    ensures { IfSome number (λ n. n < 2 ^ 32) }
+{
+    if let Some(_number) = number {}
+}
+
+fn fits_params(params: Option<Params>)
+    ensures { IfSome params FitsParams }
+{
+    if let Some(params) = params {
+        let _range = params.range;
+        let _mode = params.mode;
+    }
+}
+
+fn fits_head(head: Option<Head>)
+    ensures { IfSome head FitsHead }
+{
+    if let Some(head) = head {
+        let _verdict = head.verdict;
+        let _id = head.id;
+    }
+}

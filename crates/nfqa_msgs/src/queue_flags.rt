@@ -1,0 +1,44 @@
+use bitflags::{Flag, Flags, bitflag_items};
+
+/// The flags of a queue (`enum nfqnl_attr_config`, `NFQA_CFG_F_*`).
+#[derive(Clone, Copy, PartialEq, Eq, Debug)]
+pub struct QueueFlags(u32);
+
+bitflag_items! {
+    impl QueueFlags: u32 {
+        /// What finds no room goes on unqueued.
+        const FAIL_OPEN = 1;
+        /// Connection tracking is told of; refused here.
+        const CONNTRACK = 2;
+        /// Packets are taken before they are cut; without effect here.
+        const GSO = 4;
+        /// User and group are told of; without effect here.
+        const UID_GID = 8;
+        /// The security context is told of; refused here.
+        const SECCTX = 16;
+    }
+}
+
+impl Flags for QueueFlags {
+    ghost use Rattle.std.specs.Prelude.{⊤, [], ◌∷◌, codes};
+
+    type Bits = u32;
+
+    ghost exact = { ⊤ };
+
+    ghost table = { (codes "FAIL_OPEN", 1) ∷ (codes "CONNTRACK", 2) ∷ (codes "GSO", 4) ∷ (codes "UID_GID", 8) ∷ (codes "SECCTX", 16) ∷ [] };
+
+    ghost set_of = { λ flags. flags.0 };
+
+    fn flags<'a>() -> &'a [Flag<QueueFlags>] {
+        QueueFlags::FLAGS
+    }
+
+    fn bits(&self) -> u32 {
+        self.0
+    }
+
+    fn from_bits_retain(bits: u32) -> QueueFlags {
+        QueueFlags(bits)
+    }
+}

@@ -1,0 +1,76 @@
+use packet_entry::Bytes;
+
+/// The verdict and the id that a verdict message names.
+#[derive(Clone, Copy, Debug, PartialEq, Eq)]
+pub struct Head {
+    /// The decision in its low 8 bits, for `QUEUE` with the queue's number in its high 16 bits.
+    pub verdict: u32,
+    /// The id that the packet waits under; in a batch the greatest id.
+    pub id: u32,
+}
+
+/// What of a packet is copied into its notice.
+#[derive(Clone, Copy, Debug, PartialEq, Eq)]
+pub struct Params {
+    /// How many bytes at most, under the mode `PACKET`.
+    pub range: u32,
+    /// `NONE`, `META` or `PACKET`. Any other mode changes neither mode nor range.
+    pub mode: u8,
+}
+
+/// What a port asks of a queue. What a message doesn't have is `None`.
+#[derive(Debug, Drop)]
+pub enum Request {
+    /// To bind or unbind the queue, or to set it up. (`NFQNL_MSG_CONFIG`)
+    Config {
+        /// The queue's number.
+        queue: u16,
+        /// `BIND`, `UNBIND`, `PF_BIND`, `PF_UNBIND`, or one that is refused.
+        command: Option<u8>,
+        /// Copy mode and range.
+        params: Option<Params>,
+        /// How many packets may wait.
+        maxlen: Option<u32>,
+        /// The bits of [`QueueFlags`](crate::QueueFlags) to be set.
+        flags: Option<u32>,
+        /// The bits that `flags` sets or clears.
+        mask: Option<u32>,
+    },
+    /// A verdict on one packet. (`NFQNL_MSG_VERDICT`)
+    Verdict {
+        /// The queue's number.
+        queue: u16,
+        /// The verdict, and the id of the packet.
+        head: Option<Head>,
+        /// The packet's new mark.
+        mark: Option<u32>,
+        /// The bytes that replace the packet's.
+        payload: Option<Bytes>,
+    },
+    /// A verdict on all packets up to an id. (`NFQNL_MSG_VERDICT_BATCH`)
+    Batch {
+        /// The queue's number.
+        queue: u16,
+        /// The verdict, and the greatest id.
+        head: Option<Head>,
+        /// The new mark of each packet.
+        mark: Option<u32>,
+    },
+}
+
+/// What a message is decoded to.
+#[derive(Debug, Drop)]
+pub enum Decoded {
+    /// It touches no queue, and isn't refused.
+    Nothing,
+    /// It is refused before any queue is touched.
+    Refused {
+        /// `EINVAL`, `EOPNOTSUPP` or `ERANGE`.
+        errno: u16,
+    },
+    /// It asks something of a queue.
+    Asked {
+        /// What it asks.
+        request: Request,
+    },
+}
