@@ -146,7 +146,7 @@ module _ (m : Machine) (name : List ℕ) where
 module _ (m : Machine) (name : List ℕ) (at : ℕ) (piece : List ℕ) where
   pub files-after_write : ChangesOnly name (content_of m) (content_of (after_write m name at piece))
   files-after_write other ne =
-      let counted : Machine = record m { calls = raised m.calls } in
+      let counted : Machine = record m { calls = raised m.calls; writes = raised m.writes } in
       elim (write_fails m name) as (λ b. content_of (if b then count_write_fault counted name else record counted { entries = changed m.entries name (stored at piece (taken m name at piece)) }) other ≡ content_of m other) [
         | true ↦ kept-changed name (λ e. record e { write_faults = raised e.write_faults }) (λ e. refl) (option_and_then (λ e. e.content)) (λ e. refl) other m.entries
         | false ↦ ap (option_and_then (λ (e : Entry). e.content)) (find-changed_other name (stored at piece (taken m name at piece)) (λ e. refl) other ne m.entries)
@@ -154,7 +154,7 @@ module _ (m : Machine) (name : List ℕ) (at : ℕ) (piece : List ℕ) where
 
   read_faults-after_write : (other : List ℕ) → read_faults_of m other ≤ read_faults_of (after_write m name at piece) other
   read_faults-after_write other =
-      let counted : Machine = record m { calls = raised m.calls } in
+      let counted : Machine = record m { calls = raised m.calls; writes = raised m.writes } in
       elim (write_fails m name) as (λ b. read_faults_of m other ≤ read_faults_of (if b then count_write_fault counted name else record counted { entries = changed m.entries name (stored at piece (taken m name at piece)) }) other) [
         | true ↦ counts_stay (λ e. e.read_faults) name (λ e. record e { write_faults = raised e.write_faults }) (λ e. refl) (λ e. le_refl e.read_faults) m.other_read_faults m.other_read_faults (le_refl _) other m.entries
         | false ↦ counts_stay (λ e. e.read_faults) name (stored at piece (taken m name at piece)) (λ e. refl) (λ e. le_refl e.read_faults) m.other_read_faults m.other_read_faults (le_refl _) other m.entries
@@ -168,7 +168,7 @@ module _ (m : Machine) (name : List ℕ) (at : ℕ) (piece : List ℕ) where
 
   write_faults-after_write : (other : List ℕ) → write_faults_of m other ≤ write_faults_of (after_write m name at piece) other
   write_faults-after_write other =
-      let counted : Machine = record m { calls = raised m.calls } in
+      let counted : Machine = record m { calls = raised m.calls; writes = raised m.writes } in
       elim (write_fails m name) as (λ b. write_faults_of m other ≤ write_faults_of (if b then count_write_fault counted name else record counted { entries = changed m.entries name (stored at piece (taken m name at piece)) }) other) [
         | true ↦ counts_stay (λ e. e.write_faults) name (λ e. record e { write_faults = raised e.write_faults }) (λ e. refl) (λ e. le-raised e.write_faults) m.other_write_faults _ (shared-stays (is_some (entry_of m name)) m.other_write_faults) other m.entries
         | false ↦ counts_stay (λ e. e.write_faults) name (stored at piece (taken m name at piece)) (λ e. refl) (stored-stays (taken m name at piece)) m.other_write_faults m.other_write_faults (le_refl _) other m.entries
@@ -223,11 +223,12 @@ if_works (Err e) fails told p fact = tt
 
 -- ---- a write that does what it was asked
 
-pub write-works : (m : Machine) (name : List ℕ) (at : ℕ) (piece : List ℕ) (call room : ℕ) (bytes : List ℕ) (entries : List Entry) → call ≡ raised m.calls → Some room ≡ room_of m name → list_any (λ n. n == call) m.failing ≡ false → bytes ≡ (if list_any (λ n. n == call) m.short then [] else take (room - at) piece) → entries ≡ changed m.entries name (stored at piece bytes) → record m { entries = entries; calls = call } ≡ after_write m name at piece
-write-works m name at piece call room bytes entries calls some told prefix after =
+pub write-works : (m : Machine) (name : List ℕ) (at : ℕ) (piece : List ℕ) (call writes room : ℕ) (bytes : List ℕ) (entries : List Entry) → call ≡ raised m.calls → writes ≡ raised m.writes → Some room ≡ room_of m name → list_any (λ n. n == call) m.failing ≡ false → bytes ≡ (if list_any (λ n. n == call) m.short then [] else take (room - at) piece) → entries ≡ changed m.entries name (stored at piece bytes) → record m { entries = entries; calls = call; writes = writes } ≡ after_write m name at piece
+write-works m name at piece call writes room bytes entries calls counts some told prefix after =
     let told' : is_next_among m m.failing ≡ false = rw calls at told in
     let works : write_fails m name ≡ false = rw (told', ← some) refl in
     let same : taken m name at piece ≡ bytes = rw (← some, ← calls) (sym prefix) in
     rw works
-    (ap (λ es. record m { entries = es; calls = call }) (after ∙ ap (λ bs. changed m.entries name (stored at piece bs)) (sym same))
-    ∙ ap (λ k. record m { entries = changed m.entries name (stored at piece (taken m name at piece)); calls = k }) calls)
+    (ap (λ es. record m { entries = es; calls = call; writes = writes }) (after ∙ ap (λ bs. changed m.entries name (stored at piece bs)) (sym same))
+    ∙ ap (λ k. record m { entries = changed m.entries name (stored at piece (taken m name at piece)); calls = k; writes = writes }) calls
+    ∙ ap (λ k. record m { entries = changed m.entries name (stored at piece (taken m name at piece)); calls = raised m.calls; writes = k }) counts)

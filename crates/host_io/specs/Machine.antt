@@ -18,13 +18,14 @@ pub record Machine : Type 0 where
   pub other_write_faults : ℕ
   pub calls : ℕ  -- how many reads and writes there were
   pub reads : ℕ  -- how many of them were reads
+  pub writes : ℕ  -- and how many writes
   pub failing : List ℕ  -- the numbers of the calls that fail; the first call has number 1
   pub short : List ℕ  -- the numbers of the calls that, if they are writes, take nothing
 
 -- no file, no room, no call so far, and none that goes wrong
 abbrev pub new_machine : Machine
 new_machine =
-    record { entries = []; other_read_faults = 0; other_write_faults = 0; calls = 0; reads = 0; failing = []; short = [] }
+    record { entries = []; other_read_faults = 0; other_write_faults = 0; calls = 0; reads = 0; writes = 0; failing = []; short = [] }
 
 -- a count raised by one, but not above its last value
 abbrev pub raised : ℕ → ℕ
@@ -134,7 +135,7 @@ stored at piece bytes entry =
 
 abbrev pub after_write : Machine → List ℕ → ℕ → List ℕ → Machine
 after_write machine name at piece =
-    let counted = record machine { calls = raised machine.calls } in
+    let counted = record machine { calls = raised machine.calls; writes = raised machine.writes } in
     if write_fails machine name
     then count_write_fault counted name
     else record counted { entries = changed machine.entries name (stored at piece (taken machine name at piece)) }

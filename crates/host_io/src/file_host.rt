@@ -56,6 +56,8 @@ impl<R: Files + Print + Drop> Host for FileHost<R> {
 
     ghost reads = { λ _. 0 };
 
+    ghost writes = { λ _. 0 };
+
     fn read(&mut self, name: &str, at: u64, out: &mut [u8]) -> Result<usize, Failed>
         ensures within { IfOk result (λ n. n ≤ length out.old) }
         ensures counter { MatchResult result (λ _. self.new ≡ self.old) (λ _. self.new ≡ raised self.old) }

@@ -39,6 +39,9 @@ pub trait Host {
     /// A number that each read may raise by one and that nothing else changes.
     ghost reads: { Self → ℕ };
 
+    /// A number that each write may raise by one and that nothing else changes.
+    ghost writes: { Self → ℕ };
+
     /// Copies bytes of the named file from place `at` on to the front of `out`, at most as many as it
     /// has room for, and answers how many. 0 at a buffer with room is the end of the file.
     /// Where there is no such file the read fails. After a failure `out` holds any bytes.
@@ -50,7 +53,8 @@ pub trait Host {
         ensures failed { OnErr result (Rises (read_faults self.old name.now) (read_faults self.new name.now)) }
         ensures files { SameFiles (content self.old) (content self.new) }
         ensures later { IsLater tells read_faults write_faults self.old self.new }
-        ensures reads { (reads self.old ≤ reads self.new) × (reads self.new ≤ reads self.old + 1) };
+        ensures reads { (reads self.old ≤ reads self.new) × (reads self.new ≤ reads self.old + 1) }
+        ensures writes { writes self.new ≡ writes self.old };
 
     /// Stores a prefix of the piece at place `at` of the named file and answers its length, in bytes.
     /// At place 0 the file is made anew first, also for an empty piece.
@@ -66,5 +70,6 @@ pub trait Host {
             Rises (write_faults self.old name.now) (write_faults self.new name.now)) }
         ensures files { ChangesOnly name.now (content self.old) (content self.new) }
         ensures later { IsLater tells read_faults write_faults self.old self.new }
-        ensures reads { reads self.new ≡ reads self.old };
+        ensures reads { reads self.new ≡ reads self.old }
+        ensures writes { (writes self.old ≤ writes self.new) × (writes self.new ≤ writes self.old + 1) };
 }

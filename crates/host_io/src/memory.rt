@@ -26,6 +26,7 @@ pub struct MemoryHost {
     others: Faults,
     calls: u64,
     reads: u64,
+    writes: u64,
     failing: Vec<u64>,
     short: Vec<u64>,
 }
@@ -41,6 +42,7 @@ impl Model for MemoryHost {
       other_write_faults = h.others.write;
       calls = h.calls;
       reads = h.reads;
+      writes = h.writes;
       failing = h.failing.items;
       short = h.short.items;
     } };
@@ -56,6 +58,7 @@ impl MemoryHost {
             others: Faults { read: 0, write: 0 },
             calls: 0,
             reads: 0,
+            writes: 0,
             failing: Vec::new(alloc),
             short: Vec::new(alloc),
         }
@@ -128,6 +131,7 @@ impl MemoryHost {
     {
         let call = self.calls.saturating_add(1);
         self.calls = call;
+        self.writes = self.writes.saturating_add(1);
         match room_in(&self.entries, name) {
             Some(room) if !self.failing.contains(&call) => {
                 let count = taken_count(&self.short, call, room, at, piece);
@@ -153,6 +157,8 @@ impl Host for MemoryHost {
 
     ghost reads = { λ m. m.reads };
 
+    ghost writes = { λ m. m.writes };
+
     fn read(&mut self, name: &str, at: u64, out: &mut [u8]) -> Result<usize, Failed>
         ensures fails { IsErr result ↔ IsTrue (read_fails self.old name.now) }
         ensures copied { IfOk result (λ n. let bytes = take (length out.old) (drop at (bytes_of (content_of self.old name.now))) in
@@ -166,6 +172,7 @@ impl Host for MemoryHost {
         ensures files { SameFiles (content_of self.old) (content_of self.new) }
         ensures later { IsLater (λ _. true) read_faults_of write_faults_of self.old self.new }
         ensures reads { (self.old.reads ≤ self.new.reads) × (self.new.reads ≤ self.old.reads + 1) }
+        ensures writes { self.new.writes ≡ self.old.writes }
     {
         self.read_step(name, at, out)
     }
@@ -186,6 +193,7 @@ impl Host for MemoryHost {
         ensures files { ChangesOnly name.now (content_of self.old) (content_of self.new) }
         ensures later { IsLater (λ _. true) read_faults_of write_faults_of self.old self.new }
         ensures reads { self.new.reads ≡ self.old.reads }
+        ensures writes { (self.old.writes ≤ self.new.writes) × (self.new.writes ≤ self.old.writes + 1) }
     {
         self.write_step(name, at, piece)
     }

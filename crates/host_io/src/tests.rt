@@ -24,6 +24,8 @@ impl Host for Drip {
 
     ghost reads = { λ _. 0 };
 
+    ghost writes = { λ _. 0 };
+
     fn read(&mut self, _name: &str, at: u64, out: &mut [u8]) -> Result<usize, Failed> {
         if out.is_empty() || at >= self.bytes.len() as u64 {
             return Ok(0);

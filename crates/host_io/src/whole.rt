@@ -1,5 +1,5 @@
 //! Whole files, over any host.
-ghost use Rattle.std.specs.Prelude.{◌≡◌, ◌⊎◌, ◌+◌, ◌<◌, ◌≤◌, length, take, IsTrue, IfOk, OnOk, OnErr, IsErrOf, None};
+ghost use Rattle.std.specs.Prelude.{◌≡◌, ◌⊎◌, ◌+◌, ◌<◌, ◌≤◌, max, length, take, IsTrue, IfOk, OnOk, OnErr, IsErrOf, None};
 ghost use Rattle.host_io.specs.declared.whole.ReadStop.TheVariants.{NoMemory, ReadFault};
 ghost use Rattle.host_io.specs.Host.{Rises, IsLater, SameFiles, ChangesOnly, bytes_of};
 ghost use Rattle.std.specs.Io.{StartsWith};
@@ -91,6 +91,7 @@ pub fn read_whole<H: Host>(
     ensures files { SameFiles (H.content host.old) (H.content host.new) }
     ensures later { IsLater H.tells H.read_faults H.write_faults host.old host.new }
     ensures reads { H.reads host.new ≤ H.reads host.old + limit + 2 }
+    ensures writes { H.writes host.new ≡ H.writes host.old }
 {
     let mut piece = Vec::new(alloc);
     piece.resize(PIECE, 0)?;
@@ -105,7 +106,6 @@ pub fn read_whole<H: Host>(
 }
 
 /// Writes these bytes as the whole of the named file, which is made anew. Takes no memory.
-/// Each write but the last takes at least one byte.
 pub fn write_whole<H: Host>(host: &mut H, name: &str, bytes: &[u8]) -> Result<(), WriteFault>
     ensures bytes { OnOk result (IsTrue (H.tells host.old) → H.content host.new name.now ≡ Some bytes.now) }
     ensures write_fault { OnErr result
@@ -113,6 +113,8 @@ pub fn write_whole<H: Host>(host: &mut H, name: &str, bytes: &[u8]) -> Result<()
     ensures files { ChangesOnly name.now (H.content host.old) (H.content host.new) }
     ensures later { IsLater H.tells H.read_faults H.write_faults host.old host.new }
     ensures reads { H.reads host.new ≡ H.reads host.old }
+    // Each write but the last takes at least one byte, so there are no more writes than bytes, and one at least.
+    ensures writes { H.writes host.new ≤ H.writes host.old + max 1 (length bytes.now) }
 {
     let mut at = 0usize;
     loop {
@@ -152,6 +154,7 @@ fn read_on<H: Host>(
     ensures files { SameFiles (H.content host.old) (H.content host.new) }
     ensures later { IsLater H.tells H.read_faults H.write_faults host.old host.new }
     ensures reads { H.reads host.new ≤ H.reads host.old + 1 }
+    ensures writes { H.writes host.new ≡ H.writes host.old }
 {
     let n = host.read(name, bytes.len() as u64, piece)?;
     bytes.extend_from_slice(&piece[..n])?;
@@ -173,6 +176,7 @@ fn write_on<H: Host>(host: &mut H, name: &str, bytes: &[u8], at: usize) -> Resul
     ensures files { ChangesOnly name.now (H.content host.old) (H.content host.new) }
     ensures later { IsLater H.tells H.read_faults H.write_faults host.old host.new }
     ensures reads { H.reads host.new ≡ H.reads host.old }
+    ensures writes { H.writes host.new ≤ H.writes host.old + 1 }
 {
     host.write(name, at as u64, &bytes[at..])
 }

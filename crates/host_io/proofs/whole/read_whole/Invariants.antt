@@ -1,4 +1,4 @@
-use Rattle.std.proofs.Common.{◌+◌, ◌-◌, ◌<◌, ◌≤◌, length, IsTrue}
+use Rattle.std.proofs.Common.{◌≡◌, ◌+◌, ◌-◌, ◌<◌, ◌≤◌, length, IsTrue}
 use Rattle.std.specs.Io.{StartsWith}
 use Rattle.host_io.specs.Host.{IsLater, SameFiles, bytes_of}
 use Rattle.host_io.proofs.whole.read_whole.Given as goal
@@ -10,6 +10,7 @@ invariant-loop-host g l = record {
   files : SameFiles (g.H.Host.content l.fn.host) (g.H.Host.content l.host);
   later : IsLater g.H.Host.tells g.H.Host.read_faults g.H.Host.write_faults l.fn.host l.host;
   reads : g.H.Host.reads l.host ≤ g.H.Host.reads l.fn.host + length l.bytes.items;
+  writes : g.H.Host.writes l.host ≡ g.H.Host.writes l.fn.host;
   limited : g.H.Host.reads l.host ≤ g.H.Host.reads l.fn.host + l.limit + 1;
 }
 
