@@ -400,71 +400,65 @@ fn a_table_has_1000_rules_and_a_file_16_tables(rt: HostRuntime) -> Result<(), Fa
     Ok(())
 }
 
-#[test]
-fn packets_are_routed(rt: HostRuntime) -> Result<(), Fail> {
-    let alloc = rt.alloc();
-    let one = read_tables(
-        alloc,
-        b"*filter\n-A FORWARD -j NFQUEUE --queue-num 0\nCOMMIT\n",
-    )?;
-    let marked = read_tables(
-        alloc,
-        b"*filter\n-A FORWARD -m mark ! --mark 0x1/0x1 -j NFQUEUE --queue-num 0\nCOMMIT\n",
-    )?;
-    let two = read_tables(
-        alloc,
-        b"*filter\n-A FORWARD -p tcp -j NFQUEUE --queue-num 1\nCOMMIT\n*security\n-A FORWARD -j NFQUEUE --queue-num 2 --queue-bypass\nCOMMIT\n",
-    )?;
-    let flows = read_tables(
-        alloc,
-        b"*filter\n-A FORWARD -j NFQUEUE --queue-balance 0:3\nCOMMIT\n",
-    )?;
-    let mut back = BYTES;
-    back[15] = 2;
-    back[19] = 1;
-    let there = Packet::new(alloc, 1, 0, 0, IPV4, &[], &BYTES)?;
-    let mut packet = match Packet::new(alloc, 1, 0, 0, IPV4, &[], &back) {
-        Ok(packet) => packet,
-        Err(fault) => {
-            there.destroy();
-            return Err(fault.into());
-        }
-    };
-    let directions = (route(&flows, 3, &there, 1), route(&flows, 3, &packet, 1));
-    there.destroy();
-    let to = |queue: u16, bypass: bool, table: u16| Next::To {
+/// TCP goes to queue 1 in the first table, and everything to queue 2, with the bypass, in the second.
+const TWO_TABLES: &[u8] =
+    b"*filter\n-A FORWARD -p tcp -j NFQUEUE --queue-num 1\nCOMMIT\n*security\n-A FORWARD -j NFQUEUE --queue-num 2 --queue-bypass\nCOMMIT\n";
+
+/// What isn't marked goes to queue 0.
+const UNMARKED: &[u8] =
+    b"*filter\n-A FORWARD -m mark ! --mark 0x1/0x1 -j NFQUEUE --queue-num 0\nCOMMIT\n";
+
+/// Flows are spread over four queues.
+const FLOWS: &[u8] = b"*filter\n-A FORWARD -j NFQUEUE --queue-balance 0:3\nCOMMIT\n";
+
+fn to(queue: u16, bypass: bool, table: u16) -> Next {
+    Next::To {
         queue,
         bypass,
         table,
-    };
-    let past = route(&one, 0, &packet, 2);
-    let all = route(&one, 0, &packet, 0);
-    let second = route(&two, 0, &packet, 2);
+    }
+}
+
+#[test]
+fn packets_are_routed_from_a_table_on(rt: HostRuntime) -> Result<(), Fail> {
+    let alloc = rt.alloc();
+    let two = read_tables(alloc, TWO_TABLES)?;
+    let packet = Packet::new(alloc, 1, 0, 0, IPV4, &[], &BYTES)?;
+    let routes = [
+        route(&two, 0, &packet, 0),
+        route(&two, 0, &packet, 1),
+        route(&two, 0, &packet, 2),
+        route(&two, 0, &packet, 3),
+    ];
+    packet.destroy();
+    let wanted = [
+        to(1, false, 1),
+        to(1, false, 1),
+        to(2, true, 2),
+        Next::Released,
+    ];
+    assert_eq!(rt; routes.as_slice(), wanted.as_slice());
+    Ok(())
+}
+
+#[test]
+fn decisions_send_a_packet_on(rt: HostRuntime) -> Result<(), Fail> {
+    let alloc = rt.alloc();
+    let two = read_tables(alloc, TWO_TABLES)?;
+    let mut packet = Packet::new(alloc, 1, 0, 0, IPV4, &[], &BYTES)?;
     packet.queued(1);
+    let elsewhere = Decision::Queue {
+        number: 9,
+        bypass: true,
+    };
     let decisions = [
         onward(&two, 0, &packet, &Decision::Drop),
         onward(&two, 0, &packet, &Decision::Accept),
         onward(&two, 0, &packet, &Decision::Repeat),
         onward(&two, 0, &packet, &Decision::Stop),
-        onward(
-            &two,
-            0,
-            &packet,
-            &Decision::Queue {
-                number: 9,
-                bypass: true,
-            },
-        ),
+        onward(&two, 0, &packet, &elsewhere),
     ];
-    let unmarked = route(&marked, 0, &packet, 1);
-    packet.edit(Some(1), None);
-    let repeated = onward(&marked, 0, &packet, &Decision::Repeat);
     packet.destroy();
-
-    assert_eq!(rt; directions.0, directions.1);
-    assert_eq!(rt; past, Next::Released);
-    assert_eq!(rt; all, to(0, false, 1));
-    assert_eq!(rt; second, to(2, true, 2));
     let wanted = [
         None,
         Some(to(2, true, 2)),
@@ -473,7 +467,45 @@ fn packets_are_routed(rt: HostRuntime) -> Result<(), Fail> {
         Some(to(9, true, 1)),
     ];
     assert_eq!(rt; decisions.as_slice(), wanted.as_slice());
+    Ok(())
+}
+
+#[test]
+fn a_marked_packet_is_repeated_past_its_rule(rt: HostRuntime) -> Result<(), Fail> {
+    let alloc = rt.alloc();
+    let tables = read_tables(alloc, UNMARKED)?;
+    let mut packet = Packet::new(alloc, 1, 0, 0, IPV4, &[], &BYTES)?;
+    let unmarked = route(&tables, 0, &packet, 1);
+    packet.queued(1);
+    packet.edit(Some(1), None);
+    let repeated = onward(&tables, 0, &packet, &Decision::Repeat);
+    packet.destroy();
     assert_eq!(rt; unmarked, to(0, false, 1));
     assert_eq!(rt; repeated, Some(Next::Released));
+    Ok(())
+}
+
+#[test]
+fn both_directions_of_a_flow_go_to_one_queue(rt: HostRuntime) -> Result<(), Fail> {
+    let alloc = rt.alloc();
+    let flows = read_tables(alloc, FLOWS)?;
+    let mut back = BYTES;
+    back[15] = 2;
+    back[19] = 1;
+    let packet = Packet::new(alloc, 1, 0, 0, IPV4, &[], &BYTES)?;
+    let there = route(&flows, 3, &packet, 1);
+    packet.destroy();
+    let packet = Packet::new(alloc, 1, 0, 0, IPV4, &[], &back)?;
+    let back = route(&flows, 3, &packet, 1);
+    packet.destroy();
+    assert_eq!(rt; there, back);
+    match there {
+        Next::To {
+            queue,
+            bypass: _,
+            table,
+        } => assert_eq!(rt; (queue < 4, table), (true, 1)),
+        Next::Released => assert!(rt; false, "isn't queued"),
+    }
     Ok(())
 }

@@ -50,92 +50,59 @@ fn decoded_of(alloc: Global, text: &[u8]) -> Result<Decoded, Fail> {
 }
 
 #[test]
-fn worked_messages_are_decoded(rt: HostRuntime) -> Result<(), Fail> {
-    assert!(rt;
-        matches!(
-            &decoded_of(rt.alloc(), BIND_QUEUE)?,
+fn worked_configs_are_decoded(rt: HostRuntime) -> Result<(), Fail> {
+    let params = Params {
+        range: 0,
+        mode: PACKET,
+    };
+    for (text, command, set) in [
+        (BIND_QUEUE.as_slice(), Some(BIND), None),
+        (SET_PARAMS.as_slice(), None, Some(params)),
+    ] {
+        match decoded_of(rt.alloc(), text)? {
             Decoded::Asked {
                 request: Request::Config {
-                    queue: 0,
-                    command: Some(BIND),
-                    params: None,
-                    maxlen: None,
-                    flags: None,
-                    mask: None,
+                    queue,
+                    command: told,
+                    params,
+                    maxlen,
+                    flags,
+                    mask,
                 },
+            } => {
+                assert_eq!(rt; (queue, told, params), (0, command, set));
+                assert_eq!(rt; (maxlen, flags, mask), (None, None, None));
             }
-        )
-    );
-    assert!(rt;
-        matches!(
-            &decoded_of(rt.alloc(), SET_PARAMS)?,
-            Decoded::Asked {
-                request: Request::Config {
-                    queue: 0,
-                    command: None,
-                    params: Some(Params {
-                        range: 0,
-                        mode: PACKET
-                    }),
-                    maxlen: None,
-                    flags: None,
-                    mask: None,
-                },
-            }
-        )
-    );
-    assert!(rt;
-        matches!(
-            &decoded_of(rt.alloc(), ACCEPT)?,
+            _ => assert!(rt; false, "is no config"),
+        }
+    }
+    Ok(())
+}
+
+#[test]
+fn worked_verdicts_are_decoded(rt: HostRuntime) -> Result<(), Fail> {
+    let first = Head { verdict: 1, id: 1 };
+    for (text, head, mark) in [
+        (ACCEPT.as_slice(), Some(first), None),
+        (CUT.as_slice(), None, None),
+        (MARKED_TWICE.as_slice(), Some(first), Some(9)),
+        (WITH_UNKNOWN.as_slice(), Some(first), None),
+    ] {
+        match decoded_of(rt.alloc(), text)? {
             Decoded::Asked {
                 request: Request::Verdict {
-                    queue: 0,
-                    head: Some(Head { verdict: 1, id: 1 }),
-                    mark: None,
-                    payload: None,
+                    queue,
+                    head: told,
+                    mark: set,
+                    payload,
                 },
+            } => {
+                assert_eq!(rt; (queue, told, set), (0, head, mark));
+                assert!(rt; payload.is_none());
             }
-        )
-    );
-    assert!(rt;
-        matches!(
-            &decoded_of(rt.alloc(), CUT)?,
-            Decoded::Asked {
-                request: Request::Verdict {
-                    queue: 0,
-                    head: None,
-                    mark: None,
-                    payload: None
-                },
-            }
-        )
-    );
-    assert!(rt;
-        matches!(
-            &decoded_of(rt.alloc(), MARKED_TWICE)?,
-            Decoded::Asked {
-                request: Request::Verdict {
-                    queue: 0,
-                    head: Some(Head { verdict: 1, id: 1 }),
-                    mark: Some(9),
-                    payload: None,
-                },
-            }
-        )
-    );
-    assert!(rt;
-        matches!(
-            &decoded_of(rt.alloc(), WITH_UNKNOWN)?,
-            Decoded::Asked {
-                request: Request::Verdict {
-                    queue: 0,
-                    head: Some(Head { verdict: 1, id: 1 }),
-                    mark: None,
-                    payload: None,
-                },
-            }
-        )
-    );
+            _ => assert!(rt; false, "is no verdict"),
+        }
+    }
     Ok(())
 }
 

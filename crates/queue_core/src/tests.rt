@@ -11,6 +11,11 @@ const BYTES: [u8; 20] = [
     0x45, 0, 0, 0x14, 0, 1, 0, 0, 0x40, 6, 0, 0, 10, 0, 0, 1, 10, 0, 0, 2,
 ];
 
+const TO_NINE: Decision = Decision::Queue {
+    number: 9,
+    bypass: true,
+};
+
 /// Offers a packet to queue 5: the port and the notice, or nothing, where the packet is destroyed.
 fn offered(alloc: Global, queue: &mut Queue, packet: Packet) -> Option<(u32, Letter)>
     requires copies { queue.old.state.mode ≡ PACKET }
@@ -81,16 +86,7 @@ fn a_packet_waits_until_its_verdict(rt: HostRuntime) -> Result<(), Fail> {
     );
     assert_eq!(rt; (id, waiting, last), (Some(1), 1, 1));
     assert_eq!(rt; other, None);
-    assert_eq!(rt;
-        taken,
-        Some((
-            9,
-            Decision::Queue {
-                number: 9,
-                bypass: true
-            }
-        ))
-    );
+    assert_eq!(rt; taken, Some((9, TO_NINE)));
     assert_eq!(rt; flushed, 0);
     Ok(())
 }
