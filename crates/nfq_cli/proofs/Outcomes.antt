@@ -51,7 +51,7 @@ not_refused_once_played old new o f named is_f is_named played =
     let same : named ≡ f = cc in
     let there = subst (λ n. IsPlayed n old new) same played in
     not_refused (old f.rules) (old f.script) (old f.input)
-    (in_form (old f.rules) (old f.script) (old f.input) there.port there.lines there.rest there.capture there.rules there.script there.input)
+    (in_form (old f.rules) (old f.script) (old f.input) there.port there.lines there.rest there.capture there.inputs.rules there.inputs.script there.inputs.input)
 
 -- A command that stops for no file outside its form stops for memory, or for a fault of the host.
 pub stops_for : (why : Stop) (Read Write : Type 0) → (why ≡ stop.ReadFault → Read) → (why ≡ stop.WriteFault → Write) → (why ≡ stop.NotInForm → ⊥)

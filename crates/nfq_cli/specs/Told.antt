@@ -48,6 +48,14 @@ ReadFaultRose f old new = Rises (old f.rules) (new f.rules) ⊎ Rises (old f.scr
 abbrev pub WriteFaultRose : PlayFiles → Counts → Counts → Type 0
 WriteFaultRose f old new = Rises (old f.output) (new f.output) ⊎ Rises (old f.ledger) (new f.ledger) ⊎ Rises (old f.journal) (new f.journal)
 
+-- The reading, in the order rules, script, capture, stopped at a file whose read count rose, and the files in
+-- front of it are in their forms.
+abbrev pub IsUnread : PlayFiles → Counts → Counts → Contents → Type 0
+IsUnread f old_count new_count old =
+    Rises (old_count f.rules) (new_count f.rules)
+    ⊎ (IsInside AreRules (old f.rules) × Rises (old_count f.script) (new_count f.script))
+    ⊎ (IsInside AreRules (old f.rules) × IsInside AScript (old f.script) × Rises (old_count f.input) (new_count f.input))
+
 -- The writing, in the order output, ledger, journal, stopped at a file whose write count rose, and the files
 -- behind it hold what they held.
 abbrev pub IsStopped : PlayFiles → Counts → Counts → Contents → Contents → Type 0
@@ -56,9 +64,22 @@ IsStopped f old_count new_count old new =
     ⊎ (Rises (old_count f.ledger) (new_count f.ledger) × (new f.journal ≡ old f.journal))
     ⊎ Rises (old_count f.journal) (new_count f.journal)
 
+-- The same where the contents are told, with the texts that the files in front of it hold.
+abbrev pub IsStoppedBehind : List ℕ → List ℕ → PlayFiles → Counts → Counts → Contents → Contents → Type 0
+IsStoppedBehind output ledger f old_count new_count old new =
+    (Rises (old_count f.output) (new_count f.output) × (new f.ledger ≡ old f.ledger) × (new f.journal ≡ old f.journal))
+    ⊎ ((new f.output ≡ Some output) × Rises (old_count f.ledger) (new_count f.ledger) × (new f.journal ≡ old f.journal))
+    ⊎ ((new f.output ≡ Some output) × (new f.ledger ≡ Some ledger) × Rises (old_count f.journal) (new_count f.journal))
+
 -- every name but the outputs holds what it held
 abbrev pub OthersStay : PlayFiles → Contents → Contents → Type 0
 OthersStay f old new = (name : List ℕ) → name ≢ f.output → name ≢ f.ledger → name ≢ f.journal → new name ≡ old name
+
+-- the three inputs, as they are read
+pub record AreRead (f : PlayFiles) (old : Contents) (port : ℕ) (lines : List OnId) (rest : Verdict) (capture : Capture) : Type 0 where
+  pub rules : old f.rules ≡ Some rules_text
+  pub script : IsSomeAnd (old f.script) (λ text. IsScript text port lines rest)
+  pub input : IsSomeAnd (old f.input) (λ text. IsInput text capture)
 
 -- The headline, for what one thread plays of the first form: the outputs are the texts of the schedule's run
 -- on the three inputs. Its history is legal: at every moment the queue's state is its replay. Each frame's
@@ -68,11 +89,19 @@ pub record IsPlayed (f : PlayFiles) (old new : Contents) : Type 0 where
   pub lines : List OnId
   pub rest : Verdict
   pub capture : Capture
-  pub rules : old f.rules ≡ Some rules_text
-  pub script : IsSomeAnd (old f.script) (λ text. IsScript text port lines rest)
-  pub input : IsSomeAnd (old f.input) (λ text. IsInput text capture)
+  pub inputs : AreRead f old port lines rest capture
   pub legal : IsLegal (solo_histories port lines rest capture.frames).entries
   pub fair : IsFair port lines rest capture.frames
   pub output_is : new f.output ≡ Some (output_text port lines rest capture)
   pub ledger_is : new f.ledger ≡ Some (ledger_text port lines rest capture)
   pub journal_is : new f.journal ≡ Some (journal_text port lines rest capture)
+
+-- What stands where the writing of that run stopped at a file that couldn't be written: what was written in
+-- front of it is whole.
+pub record IsCutShort (f : PlayFiles) (old_count new_count : Counts) (old new : Contents) : Type 0 where
+  pub port : ℕ
+  pub lines : List OnId
+  pub rest : Verdict
+  pub capture : Capture
+  pub inputs : AreRead f old port lines rest capture
+  pub stopped : IsStoppedBehind (output_text port lines rest capture) (ledger_text port lines rest capture) f old_count new_count old new

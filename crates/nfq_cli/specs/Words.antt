@@ -4,6 +4,7 @@ use Rattle.std.specs.Str.{bytes_eq}
 use Rattle.std.specs.Prelude.{String}
 use Rattle.std.specs.String.{string_bytes}
 use Rattle.std.specs.declared.alloc.Global.{Global}
+use Rattle.nfq_cli.specs.declared.words.Play.{Play}
 
 -- the names of the files that a command reads and writes
 pub record PlayFiles : Type 0 where
@@ -14,28 +15,29 @@ pub record PlayFiles : Type 0 where
   pub ledger : List ℕ
   pub journal : List ℕ
 
-abbrev pub names_of : List ℕ → List ℕ → List ℕ → List ℕ → List ℕ → List ℕ → PlayFiles
-names_of rules script input output ledger journal =
-    record { rules = rules; script = script; input = input; output = output; ledger = ledger; journal = journal }
+-- as the code holds them
+abbrev pub files_of : Play → PlayFiles
+files_of p =
+    record { rules = p.rules.now; script = p.script.now; input = p.input.now; output = p.output.now; ledger = p.ledger.now; journal = p.journal.now }
 
 -- a word names a file where it isn't empty and isn't `-`
 abbrev pub is_file : List ℕ → Bool
 is_file word = not (length word == 0) && not (bytes_eq word (codes "-"))
 
-abbrev pub are_files : List ℕ → List ℕ → List ℕ → List ℕ → List ℕ → List ℕ → Bool
-are_files rules script input output ledger journal =
-    is_file rules && is_file script && is_file input && is_file output && is_file ledger && is_file journal
+abbrev pub are_files : PlayFiles → Bool
+are_files f =
+    is_file f.rules && is_file f.script && is_file f.input && is_file f.output && is_file f.ledger && is_file f.journal
 
 -- the written files have names of their own; a file that is read may be named again
-abbrev pub are_apart : List ℕ → List ℕ → List ℕ → Bool
-are_apart output ledger journal = not (bytes_eq output ledger) && not (bytes_eq output journal) && not (bytes_eq ledger journal)
+abbrev pub are_apart : PlayFiles → Bool
+are_apart f =
+    not (bytes_eq f.output f.ledger) && not (bytes_eq f.output f.journal) && not (bytes_eq f.ledger f.journal)
 
 -- the files of a `play` command, where the words are one
 abbrev pub play_of : List (List ℕ) → Option PlayFiles
 play_of (verb ∷ rules ∷ script ∷ input ∷ output ∷ ledger ∷ journal ∷ []) =
-    if bytes_eq verb (codes "play") && are_files rules script input output ledger journal && are_apart output ledger journal
-    then Some (names_of rules script input output ledger journal)
-    else None
+    let f : PlayFiles = record { rules = rules; script = script; input = input; output = output; ledger = ledger; journal = journal } in
+    if bytes_eq verb (codes "play") && are_files f && are_apart f then Some f else None
 play_of words = None
 
 -- the files of a `play` command, from the words as the program is given them

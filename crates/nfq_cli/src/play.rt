@@ -6,8 +6,8 @@ ghost use Rattle.pcap_io.specs.Text.{IsHeld};
 ghost use Rattle.nfq_cli.specs.Rules.{rules_text};
 ghost use Rattle.nfq_cli.specs.Script.{IsScript};
 ghost use Rattle.nfq_cli.specs.Forms.{AreRules, AScript, AnInput, IsInput};
-ghost use Rattle.nfq_cli.specs.Told.{IsInside, IsOutside, IsRefused, AreInForm, IsPlayed, ReadFaultRose, WriteFaultRose, IsStopped, OthersStay};
-ghost use Rattle.nfq_cli.specs.Words.{are_apart, names_of, PlayFiles, words_of_play};
+ghost use Rattle.nfq_cli.specs.Told.{IsInside, IsOutside, IsRefused, AreInForm, IsPlayed, ReadFaultRose, WriteFaultRose, IsUnread, IsStopped, IsStoppedBehind, IsCutShort, OthersStay};
+ghost use Rattle.nfq_cli.specs.Words.{are_apart, files_of, PlayFiles, words_of_play};
 
 use crate::fault::FormFault;
 use crate::forms::is_first_form;
@@ -45,17 +45,24 @@ pub fn play<H: Host>(alloc: Global, words: &[String], host: &mut H) -> u8
         ReadFaultRose f (H.read_faults host.old) (H.read_faults host.new) }
     ensures write_fault { result ≡ 3 → (f : PlayFiles) → words_of_play words.now ≡ Some f →
         WriteFaultRose f (H.write_faults host.old) (H.write_faults host.new) }
-    // At 3 the outputs behind the one that failed hold what they held.
+    // At 2 the inputs in front of the one that failed are in their forms.
+    ensures unread { result ≡ 2 → (f : PlayFiles) → words_of_play words.now ≡ Some f → IsTrue (H.tells host.old) →
+        IsUnread f (H.read_faults host.old) (H.read_faults host.new) (H.content host.old) }
+    // At 3 the outputs behind the one that failed hold what they held ..
     ensures stopped { result ≡ 3 → (f : PlayFiles) → words_of_play words.now ≡ Some f →
         IsStopped f (H.write_faults host.old) (H.write_faults host.new) (H.content host.old) (H.content host.new) }
+    // .. and those in front of it their whole texts.
+    ensures cut_short { result ≡ 3 → (f : PlayFiles) → words_of_play words.now ≡ Some f → IsTrue (H.tells host.old) →
+        IsCutShort f (H.write_faults host.old) (H.write_faults host.new) (H.content host.old) (H.content host.new) }
 
     // 9 comes only where the order reaches a file outside its form ..
     ensures not_in_form { result ≡ 9 → (f : PlayFiles) → words_of_play words.now ≡ Some f → IsTrue (H.tells host.old) →
         IsRefused (H.content host.old f.rules) (H.content host.old f.script) (H.content host.old f.input) }
-    // .. and there it does come, unless memory ran out or a read failed.
+    // .. and there it does come, unless memory ran out, or a read of that file or of one in front of it failed.
     ensures exact { (f : PlayFiles) → words_of_play words.now ≡ Some f → IsTrue (H.tells host.old) →
         IsRefused (H.content host.old f.rules) (H.content host.old f.script) (H.content host.old f.input) →
-        (result ≡ 9) ⊎ (result ≡ 8) ⊎ ((result ≡ 2) × ReadFaultRose f (H.read_faults host.old) (H.read_faults host.new)) }
+        (result ≡ 9) ⊎ (result ≡ 8) ⊎
+        ((result ≡ 2) × IsUnread f (H.read_faults host.old) (H.read_faults host.new) (H.content host.old)) }
 
     // The headline: at 0 the outputs are the texts of the schedule's run on the inputs.
     ensures played { result ≡ 0 → (f : PlayFiles) → words_of_play words.now ≡ Some f → IsTrue (H.tells host.old) →
@@ -82,27 +89,25 @@ pub fn play<H: Host>(alloc: Global, words: &[String], host: &mut H) -> u8
 }
 
 fn carry_out<H: Host>(alloc: Global, files: &Play<'_>, host: &mut H) -> Result<(), Stop>
-    requires apart { are_apart files.now.output.now files.now.ledger.now files.now.journal.now ≡ true }
+    requires apart { are_apart (files_of files.now) ≡ true }
     ensures played { OnOk result (IsTrue (H.tells host.old) →
-        IsPlayed (names_of files.now.rules.now files.now.script.now files.now.input.now files.now.output.now files.now.ledger.now files.now.journal.now)
-        (H.content host.old) (H.content host.new)) }
+        IsPlayed (files_of files.now) (H.content host.old) (H.content host.new)) }
     ensures refused { IsErrOf result Stop.NotInForm → IsTrue (H.tells host.old) → IsRefused
         (H.content host.old files.now.rules.now) (H.content host.old files.now.script.now) (H.content host.old files.now.input.now) }
-    ensures read_fault { IsErrOf result Stop.ReadFault → ReadFaultRose
-        (names_of files.now.rules.now files.now.script.now files.now.input.now files.now.output.now files.now.ledger.now files.now.journal.now)
+    ensures read_fault { IsErrOf result Stop.ReadFault → ReadFaultRose (files_of files.now)
         (H.read_faults host.old) (H.read_faults host.new) }
-    ensures write_fault { IsErrOf result Stop.WriteFault → WriteFaultRose
-        (names_of files.now.rules.now files.now.script.now files.now.input.now files.now.output.now files.now.ledger.now files.now.journal.now)
+    ensures unread { IsErrOf result Stop.ReadFault → IsTrue (H.tells host.old) → IsUnread (files_of files.now)
+        (H.read_faults host.old) (H.read_faults host.new) (H.content host.old) }
+    ensures write_fault { IsErrOf result Stop.WriteFault → WriteFaultRose (files_of files.now)
         (H.write_faults host.old) (H.write_faults host.new) }
-    ensures stopped { IsErrOf result Stop.WriteFault → IsStopped
-        (names_of files.now.rules.now files.now.script.now files.now.input.now files.now.output.now files.now.ledger.now files.now.journal.now)
+    ensures stopped { IsErrOf result Stop.WriteFault → IsStopped (files_of files.now)
+        (H.write_faults host.old) (H.write_faults host.new) (H.content host.old) (H.content host.new) }
+    ensures cut_short { IsErrOf result Stop.WriteFault → IsTrue (H.tells host.old) → IsCutShort (files_of files.now)
         (H.write_faults host.old) (H.write_faults host.new) (H.content host.old) (H.content host.new) }
     ensures in_form { IsErrOf result Stop.WriteFault → IsTrue (H.tells host.old) → AreInForm
         (H.content host.old files.now.rules.now) (H.content host.old files.now.script.now) (H.content host.old files.now.input.now) }
     ensures untouched { IsErr result → ¬ IsErrOf result Stop.WriteFault → SameFiles (H.content host.old) (H.content host.new) }
-    ensures others { OthersStay
-        (names_of files.now.rules.now files.now.script.now files.now.input.now files.now.output.now files.now.ledger.now files.now.journal.now)
-        (H.content host.old) (H.content host.new) }
+    ensures others { OthersStay (files_of files.now) (H.content host.old) (H.content host.new) }
     ensures later { IsLater H.tells H.read_faults H.write_faults host.old host.new }
 {
     let Inputs { script, capture } = read_inputs(alloc, files, host)?;
@@ -127,9 +132,10 @@ fn read_inputs<H: Host>(alloc: Global, files: &Play<'_>, host: &mut H) -> Result
     ensures held { IfOk result (λ i. IsHeld i.capture) }
     ensures refused { IsErrOf result Stop.NotInForm → IsTrue (H.tells host.old) → IsRefused
         (H.content host.old files.now.rules.now) (H.content host.old files.now.script.now) (H.content host.old files.now.input.now) }
-    ensures read_fault { IsErrOf result Stop.ReadFault → ReadFaultRose
-        (names_of files.now.rules.now files.now.script.now files.now.input.now files.now.output.now files.now.ledger.now files.now.journal.now)
+    ensures read_fault { IsErrOf result Stop.ReadFault → ReadFaultRose (files_of files.now)
         (H.read_faults host.old) (H.read_faults host.new) }
+    ensures unread { IsErrOf result Stop.ReadFault → IsTrue (H.tells host.old) → IsUnread (files_of files.now)
+        (H.read_faults host.old) (H.read_faults host.new) (H.content host.old) }
     ensures no_write { IsErrOf result Stop.WriteFault → ⊥ }
     ensures files { SameFiles (H.content host.old) (H.content host.new) }
     ensures later { IsLater H.tells H.read_faults H.write_faults host.old host.new }
@@ -194,20 +200,19 @@ fn read_capture_file<H: Host>(alloc: Global, name: &str, host: &mut H) -> Result
 }
 
 fn write_outputs<H: Host>(files: &Play<'_>, outputs: &Outputs, host: &mut H) -> Result<(), Stop>
-    requires apart { are_apart files.now.output.now files.now.ledger.now files.now.journal.now ≡ true }
+    requires apart { are_apart (files_of files.now) ≡ true }
     ensures output { OnOk result (IsTrue (H.tells host.old) → H.content host.new files.now.output.now ≡ Some outputs.now.capture.items) }
     ensures ledger { OnOk result (IsTrue (H.tells host.old) → H.content host.new files.now.ledger.now ≡ Some (string_bytes outputs.now.ledger)) }
     ensures journal { OnOk result (IsTrue (H.tells host.old) → H.content host.new files.now.journal.now ≡ Some (string_bytes outputs.now.journal)) }
     ensures only { OnErr result (IsErrOf result Stop.WriteFault) }
-    ensures write_fault { OnErr result (WriteFaultRose
-        (names_of files.now.rules.now files.now.script.now files.now.input.now files.now.output.now files.now.ledger.now files.now.journal.now)
+    ensures write_fault { OnErr result (WriteFaultRose (files_of files.now)
         (H.write_faults host.old) (H.write_faults host.new)) }
-    ensures stopped { OnErr result (IsStopped
-        (names_of files.now.rules.now files.now.script.now files.now.input.now files.now.output.now files.now.ledger.now files.now.journal.now)
+    ensures stopped { OnErr result (IsStopped (files_of files.now)
         (H.write_faults host.old) (H.write_faults host.new) (H.content host.old) (H.content host.new)) }
-    ensures others { OthersStay
-        (names_of files.now.rules.now files.now.script.now files.now.input.now files.now.output.now files.now.ledger.now files.now.journal.now)
-        (H.content host.old) (H.content host.new) }
+    ensures cut_short { OnErr result (IsTrue (H.tells host.old) →
+        IsStoppedBehind outputs.now.capture.items (string_bytes outputs.now.ledger) (files_of files.now)
+        (H.write_faults host.old) (H.write_faults host.new) (H.content host.old) (H.content host.new)) }
+    ensures others { OthersStay (files_of files.now) (H.content host.old) (H.content host.new) }
     ensures later { IsLater H.tells H.read_faults H.write_faults host.old host.new }
 {
     write_whole(host, files.output, &outputs.capture)?;

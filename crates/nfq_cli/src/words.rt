@@ -17,15 +17,8 @@ pub struct Play<'a> {
 /// The files of a `play` command; `None` where the words aren't one.
 pub fn play_of(words: &[String]) -> Option<Play<'_>>
     ensures files { MatchOption result (named.play_of (map string_bytes words.now) ≡ None)
-        (λ p. named.play_of (map string_bytes words.now) ≡ Some (record {
-          rules = p.rules.now;
-          script = p.script.now;
-          input = p.input.now;
-          output = p.output.now;
-          ledger = p.ledger.now;
-          journal = p.journal.now;
-        })) }
-    ensures apart { IfSome result (λ p. named.are_apart p.output.now p.ledger.now p.journal.now ≡ true) }
+        (λ p. named.play_of (map string_bytes words.now) ≡ Some (named.files_of p)) }
+    ensures apart { IfSome result (λ p. named.are_apart (named.files_of p) ≡ true) }
 {
     let [verb, rules, script, input, output, ledger, journal] = words else {
         return None;
@@ -47,7 +40,7 @@ pub fn play_of(words: &[String]) -> Option<Play<'_>>
 
 /// Whether each word names a file.
 fn are_files(play: &Play<'_>) -> bool
-    ensures { result ≡ named.are_files play.now.rules.now play.now.script.now play.now.input.now play.now.output.now play.now.ledger.now play.now.journal.now }
+    ensures { result ≡ named.are_files (named.files_of play.now) }
 {
     is_file(play.rules)
         && is_file(play.script)
@@ -59,7 +52,7 @@ fn are_files(play: &Play<'_>) -> bool
 
 /// Whether the written files have names of their own.
 fn are_apart(play: &Play<'_>) -> bool
-    ensures { result ≡ named.are_apart play.now.output.now play.now.ledger.now play.now.journal.now }
+    ensures { result ≡ named.are_apart (named.files_of play.now) }
 {
     play.output != play.ledger && play.output != play.journal && play.ledger != play.journal
 }

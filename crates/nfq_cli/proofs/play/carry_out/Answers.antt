@@ -12,9 +12,7 @@ returns-clause-played g c =
       lines = c.in_ok-script.field-0.script.lines.items;
       rest = c.in_ok-script.field-0.script.rest;
       capture = c.in_ok-script.field-0.capture;
-      rules = c.in_ok-script.ensures.rules t;
-      script = c.in_ok-script.ensures.script t;
-      input = c.in_ok-script.ensures.input t;
+      inputs = record { rules = c.in_ok-script.ensures.rules t; script = c.in_ok-script.ensures.script t; input = c.in_ok-script.ensures.input t };
       legal = c.in_ok-outputs.ensures.legal;
       fair = c.in_ok-outputs.ensures.fair;
       output_is = w.0 tells ∙ ap (λ (xs : List ℕ). Some xs) c.in_ok-outputs.ensures.output;
