@@ -2,6 +2,9 @@
 //! through the queue on one thread, and writes the released frames, a ledger and a journal.
 #![tactic(auto)]
 
+ghost use Rattle.std.specs.Prelude.{◌≡◌, ◌⊎◌, drop, IfOk, IfErr};
+ghost use Rattle.std.specs.Vec.Iter.{into_iter_items};
+
 mod fault;
 mod forms;
 mod histories;
@@ -19,8 +22,8 @@ mod stop;
 mod words;
 
 use host_io::FileHost;
-use std::alloc::Global;
-use std::env;
+use std::alloc::{AllocError, Global};
+use std::env::{self, Args};
 use std::io::ErrorKind;
 use std::process::ExitCode;
 
@@ -39,17 +42,24 @@ fn main(rt: HostRuntime) -> ExitCode {
     ExitCode::from(status)
 }
 
-/// The words behind the program's name. Words that are no text are no command.
-fn words_of(rt: &HostRuntime, alloc: Global) -> Result<Vec<String>, u8> {
-    let args = env::args(rt).map_err(|error| match error.kind() {
-        ErrorKind::OutOfMemory => NO_MEMORY,
-        _ => play::USAGE,
-    })?;
-    let mut words = Vec::new(alloc);
-    for word in args.skip(1) {
-        if words.push(word).is_err() {
-            return Err(NO_MEMORY);
-        }
+/// The words behind the program's name. Where they are no text they are no command.
+fn words_of(rt: &HostRuntime, alloc: Global) -> Result<Vec<String>, u8>
+    ensures { IfErr result (λ status. (status ≡ 1) ⊎ (status ≡ 8)) }
+{
+    match env::args(rt) {
+        Ok(args) => words_behind_name(alloc, args).map_err(|_| NO_MEMORY),
+        Err(error) if error.kind() == ErrorKind::OutOfMemory => Err(NO_MEMORY),
+        Err(_) => Err(play::USAGE),
+    }
+}
+
+fn words_behind_name(alloc: Global, mut args: Args) -> Result<Vec<String>, AllocError>
+    ensures { IfOk result (λ words. words.items ≡ drop 1 (into_iter_items args)) }
+{
+    args.next();
+    let mut words = Vec::with_capacity(alloc, args.len())?;
+    while let Some(word) = args.next() {
+        words.push(word)?;
     }
     Ok(words)
 }
