@@ -32,6 +32,7 @@ impl<R: Files + Print + Drop> Model for FileHost<R> {
 }
 
 impl<R: Files + Print + Drop> FileHost<R> {
+    /// The files that this runtime reaches, with no failure counted yet. Opens none.
     pub fn new(runtime: R) -> FileHost<R>
         ensures { result ≡ 0 }
     {

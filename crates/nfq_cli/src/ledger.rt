@@ -55,6 +55,7 @@ impl Fate {
         }
     }
 
+    /// Whether a frame with this fate is in OUT.
     pub fn is_release(self) -> bool
         ensures { result ≡ text.is_release self }
     {

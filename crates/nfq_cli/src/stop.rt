@@ -6,6 +6,7 @@ use host_io::{ReadStop, WriteFault};
 use packet_entry::NoMemory;
 use pcap_io::CaptureFault;
 
+/// Why a command stops before its end, each with a status of its own.
 #[derive(Clone, Copy, Debug, PartialEq, Eq)]
 pub enum Stop {
     /// An input couldn't be read.

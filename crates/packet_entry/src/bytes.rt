@@ -49,6 +49,7 @@ impl Bytes {
         self.items
     }
 
+    /// The bytes, where they lie: nothing is copied.
     pub fn as_slice(&self) -> &[u8]
         ensures { result.now ≡ self.now }
     {
@@ -62,6 +63,7 @@ impl Bytes {
         self.items.len()
     }
 
+    /// Whether there are no bytes.
     pub fn is_empty(&self) -> bool
         ensures { IsTrue result ↔ (self.now ≡ []) }
     {

@@ -33,5 +33,6 @@ pub struct Capture {
     pub snap: u32,
     /// The link type: 1 for Ethernet, 101 for raw IP, 228 for IPv4, 229 for IPv6.
     pub link: u32,
+    /// The frames, in the order of the file.
     pub frames: Frames,
 }

@@ -26,6 +26,7 @@ pub enum Outcome {
 
 /// Want of memory: the packet comes back as it was.
 pub struct NoRoom {
+    /// Spend it, or try again.
     pub packet: Packet,
 }
 

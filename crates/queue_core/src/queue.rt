@@ -263,6 +263,7 @@ impl Queue {
         self.maximum
     }
 
+    /// The flags that are set: `FAIL_OPEN` has an effect, every other is only kept.
     pub fn flags(&self) -> u32
         ensures { result ≡ self.now.state.flags }
     {
