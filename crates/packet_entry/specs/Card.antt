@@ -1,16 +1,16 @@
 -- What a packet is, and what its calls make of it.
 use Rattle.std.specs.Prelude.{◌≤◌, ℕ, List, length, Option, unwrap_or}
 use Rattle.packet_entry.specs.declared.packet.Card.{Card}
-use Rattle.packet_entry.specs.declared.packet.TheConstants.{MAX_FRAME, MAX_VISITS}
+use Rattle.packet_entry.specs.Numbers.{longest_packet, last_visit}
 use Rattle.packet_entry.specs.Fields.{IsProtocol, IsLinkLength}
 
 -- what each packet keeps
 pub record IsCard (c : Card) : Type 0 where
   pub number : 1 ≤ c.number
-  pub visit : c.visit ≤ MAX_VISITS
+  pub visit : c.visit ≤ last_visit
   pub protocol : IsProtocol c.protocol
   pub link : IsLinkLength (length c.link)
-  pub bytes : length c.bytes ≤ MAX_FRAME
+  pub bytes : length c.bytes ≤ longest_packet
 
 -- a packet as it is read from its input, before it meets a queue
 abbrev pub opening_card : ℕ → ℕ → ℕ → ℕ → List ℕ → List ℕ → Card

@@ -1,5 +1,5 @@
 ghost use Rattle.std.specs.Prelude.{◌≡◌, ◌+◌, ◌<◌, ◌≤◌, length, IfOk, IfSome, unwrap_or};
-ghost use Rattle.packet_entry.specs.declared.packet.TheConstants.{MAX_FRAME, MAX_PAYLOAD, MAX_VISITS};
+ghost use Rattle.packet_entry.specs.Numbers.{longest_packet, longest_payload, last_visit};
 ghost use Rattle.packet_entry.specs.Fields.{IsProtocol, IsLinkLength};
 
 use crate::{Bytes, NoMemory};
@@ -83,7 +83,7 @@ impl Packet {
         requires number { 1 ≤ number }
         requires protocol { IsProtocol protocol }
         requires link { IsLinkLength (length link.now) }
-        requires bytes { length bytes.now ≤ MAX_FRAME }
+        requires bytes { length bytes.now ≤ longest_packet }
         ensures card { IfOk result (λ packet. packet ≡ opening_card number seconds micros protocol link.now bytes.now) }
     {
         Ok(Packet {
@@ -131,7 +131,7 @@ impl Packet {
     /// How often the packet has arrived at a queue.
     pub fn visit(&self) -> u32
         ensures value { result ≡ self.now.visit }
-        ensures limit { result ≤ MAX_VISITS }
+        ensures limit { result ≤ last_visit }
     {
         self.card.visit
     }
@@ -183,14 +183,14 @@ impl Packet {
     /// The IP packet.
     pub fn bytes(&self) -> &[u8]
         ensures value { result.now ≡ self.now.bytes }
-        ensures limit { length result.now ≤ MAX_FRAME }
+        ensures limit { length result.now ≤ longest_packet }
     {
         self.card.bytes.as_slice()
     }
 
     /// Counts one more arrival, at a queue that this table chose.
     pub fn queued(&mut self, table: u16)
-        requires { self.old.visit < MAX_VISITS }
+        requires { self.old.visit < last_visit }
         ensures { self.new ≡ record self.old { visit = self.old.visit + 1; table = table } }
     {
         self.card.visit += 1;
@@ -199,7 +199,7 @@ impl Packet {
 
     /// Sets the mark and the bytes, as far as they are given. All bytes are replaced.
     pub fn edit(&mut self, mark: Option<u32>, payload: Option<Bytes>)
-        requires { IfSome payload (λ bytes. length bytes ≤ MAX_PAYLOAD) }
+        requires { IfSome payload (λ bytes. length bytes ≤ longest_payload) }
         ensures { self.new ≡ edited self.old mark payload }
     {
         if let Some(mark) = mark {

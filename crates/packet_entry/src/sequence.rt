@@ -1,4 +1,6 @@
-ghost use Rattle.std.specs.Prelude.{◌≡◌, ◌<◌, ◌↔◌, List, [], ◌∷◌, ◌++◌, length, OnOk, IfErr, OnErr, IsSome, IsNone, IsTrue, slice_get, option_copied, option_to_list};
+ghost use Rattle.std.specs.Prelude.{◌≡◌, ◌<◌, ◌↔◌, List, [], ◌∷◌, ◌++◌, length, OnOk, IfErr, OnErr};
+ghost use Rattle.std.specs.Prelude.{IsSome, IsNone, IsTrue, slice_get, option_copied};
+ghost use Rattle.std.specs.Prelude.{option_to_list};
 ghost use Rattle.std.specs.Option.{option_copied_mut};
 
 use std::alloc::Global;
