@@ -1,4 +1,6 @@
 pub mod Numbers
 pub mod Fields
 pub mod Card
+pub mod Shared
 pub mod SequenceLends
+pub mod Stocked

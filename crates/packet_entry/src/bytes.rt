@@ -1,72 +1,149 @@
-ghost use Rattle.std.specs.Prelude.{◌≡◌, ℕ, List, [], length, IfOk, IsTrue, ◌↔◌};
+//! Bytes that are shared: copies and cuts of one buffer, which none of them can change.
+
+ghost use Rattle.std.specs.Prelude.{◌≡◌, ◌≤◌, ◌↔◌, List, [], length, slice_range, IfOk, IfErr, IsTrue};
+ghost use Rattle.std.specs.Prelude.{MatchResult};
 
 use crate::NoMemory;
-use std::alloc::Global;
+use std::alloc::{AllocFailed, Global};
 use std::marker::Model;
+use std::sync::Arc;
 
-/// A list of bytes of its own. It is made from a `Vec` and gives it back without taking memory.
+/// A list of bytes that can't be changed. Several lists may share one buffer: to [`share`](Bytes::share)
+/// bytes, or to [`cut`](Bytes::cut) a part out of them, copies nothing. The buffer ends with its last list.
+/// It may be used from several threads.
 #[derive(Debug, Drop)]
 pub struct Bytes {
-    items: Vec<u8>,
+    /// `None` for a list that was made without a buffer, and has no bytes.
+    buffer: Option<Arc<Vec<u8>, Global>>,
+    /// Where the bytes begin in the buffer, and where they end.
+    start: usize,
+    end: usize,
 }
 
 impl Model for Bytes {
+    ghost use Rattle.std.specs.Prelude.{List, ℕ};
+    ghost use Rattle.packet_entry.specs.Shared.{bytes_of, IsWithin};
+
     ghost Value = { List ℕ };
 
-    ghost view = { λ b. b.items.items };
+    ghost view = { λ b. bytes_of b.buffer b.start b.end };
+
+    ghost invariant = { λ b. IsWithin b.buffer b.start b.end };
 }
 
 impl Bytes {
     /// No bytes. Takes no memory.
-    pub fn new(alloc: Global) -> Bytes
+    pub fn new(_alloc: Global) -> Bytes
         ensures { result ≡ [] }
     {
         Bytes {
-            items: Vec::new(alloc),
+            buffer: None,
+            start: 0,
+            end: 0,
         }
     }
 
-    /// A copy of the bytes.
+    /// A copy of the bytes, in a buffer of their own.
     pub fn copy(alloc: Global, from: &[u8]) -> Result<Bytes, NoMemory>
         ensures { IfOk result (λ bytes. bytes ≡ from.now) }
     {
+        Ok(Bytes::from_vec(Vec::from_slice(alloc, from)?)?)
+    }
+
+    /// The bytes of the vector, which becomes the buffer as it is: no byte is copied. The memory that is
+    /// taken counts the lists that share the buffer. Where there is none the vector comes back.
+    pub fn from_vec(items: Vec<u8>) -> Result<Bytes, AllocFailed<Vec<u8>>>
+        ensures ok { IfOk result (λ bytes. bytes ≡ items.items) }
+        ensures returned { IfErr result (λ failed. failed.value ≡ items) }
+    {
+        let end = items.len();
         Ok(Bytes {
-            items: Vec::from_slice(alloc, from)?,
+            buffer: Some(Arc::new(*items.allocator(), items)?),
+            start: 0,
+            end,
         })
     }
 
-    /// The bytes of the vector, which is taken over as it is. Takes no memory.
-    pub fn from_vec(items: Vec<u8>) -> Bytes
-        ensures { result ≡ items.items }
+    /// The same bytes once more. Nothing is copied, and no memory is taken: `NoMemory` comes only where
+    /// 2^63 - 1 lists share the buffer already.
+    pub fn share(&self) -> Result<Bytes, NoMemory>
+        ensures { IfOk result (λ bytes. bytes ≡ self.now) }
     {
-        Bytes { items }
+        self.cut(0, self.len())
     }
 
-    /// The vector that holds the bytes. Takes no memory.
-    pub fn into_vec(self) -> Vec<u8>
-        ensures { result.items ≡ self }
+    /// The bytes from place `start` to before place `end`, counted from 0. Nothing is copied, and no memory
+    /// is taken: `NoMemory` comes only where 2^63 - 1 lists share the buffer already.
+    pub fn cut(&self, start: usize, end: usize) -> Result<Bytes, NoMemory>
+        requires order { start ≤ end }
+        requires within { end ≤ length self.now }
+        ensures { IfOk result (λ bytes. bytes ≡ slice_range self.now start end) }
     {
-        self.items
+        match &self.buffer {
+            Some(buffer) => Ok(Bytes {
+                buffer: Some(Arc::try_clone(buffer)?),
+                start: self.start + start,
+                end: self.start + end,
+            }),
+            None => Ok(Bytes {
+                buffer: None,
+                start: 0,
+                end: 0,
+            }),
+        }
+    }
+
+    /// The vector that was the buffer, where these are all of its bytes and no other list shares it.
+    /// Otherwise the bytes come back. Takes no memory.
+    pub fn into_vec(self) -> Result<Vec<u8>, Bytes>
+        ensures { MatchResult result (λ items. items.items ≡ self) (λ bytes. bytes ≡ self) }
+    {
+        let Bytes { buffer, start, end } = self;
+        let Some(buffer) = buffer else {
+            return Err(Bytes {
+                buffer: None,
+                start,
+                end,
+            });
+        };
+        if start != 0 || end != buffer.len() {
+            return Err(Bytes {
+                buffer: Some(buffer),
+                start,
+                end,
+            });
+        }
+        match Arc::try_unwrap(buffer) {
+            Ok(items) => Ok(items),
+            Err(buffer) => Err(Bytes {
+                buffer: Some(buffer),
+                start,
+                end,
+            }),
+        }
     }
 
     /// The bytes, where they lie: nothing is copied.
     pub fn as_slice(&self) -> &[u8]
         ensures { result.now ≡ self.now }
     {
-        &self.items
+        match &self.buffer {
+            Some(buffer) => &buffer[self.start..self.end],
+            None => &[],
+        }
     }
 
     /// How many bytes there are.
     pub fn len(&self) -> usize
         ensures { result ≡ length self.now }
     {
-        self.items.len()
+        self.end - self.start
     }
 
     /// Whether there are no bytes.
     pub fn is_empty(&self) -> bool
         ensures { IsTrue result ↔ (self.now ≡ []) }
     {
-        self.items.is_empty()
+        self.start == self.end
     }
 }

@@ -1,6 +1,8 @@
+//! Notices on their way to a port.
+
 use crate::Bytes;
 
-/// A notice on its way to a port: of which packet's stay in which queue it tells, and its text.
+/// A notice on its way to a port: which packet's stay in which queue it tells of, and its text.
 #[derive(Debug, Drop)]
 pub struct Letter {
     /// The number of the queue that the packet waits in.

@@ -1,21 +1,26 @@
-//! What travels through the machinery: packets, the notices that tell of them, and the lists that hold
-//! such things. A packet is a linear value: it can be read, changed and moved, but neither copied nor
-//! lost, and the two calls that spend it say whether it went on or was destroyed.
+//! What travels through the machinery: packets, the notices that tell of them, and the lists that
+//! hold such things. A packet is a linear value: it can be read, changed and moved, but neither
+//! copied nor lost, and the two calls that spend it say whether it went on or was destroyed. Its
+//! bytes are shared: whatever else knows them holds the same buffer, which nothing can change.
 #![tactic(auto)]
 
 mod bytes;
+mod laws;
 mod letter;
-mod memory;
+mod no_memory;
 mod packet;
 mod sequence;
+mod stock;
 
 pub use bytes::Bytes;
+pub use laws::public_numbers;
 pub use letter::Letter;
-pub use memory::NoMemory;
+pub use no_memory::NoMemory;
 pub use packet::{
     Card, ETHERNET_HEADER, IPV4, IPV6, MAX_FRAME, MAX_PAYLOAD, MAX_VISITS, Packet, VLAN_HEADER,
 };
-pub use sequence::Sequence;
+pub use sequence::{IntoIter, Iter, Sequence};
+pub use stock::Stock;
 
 #[cfg(test)]
 mod tests;

@@ -1,3 +1,5 @@
+//! Packets, and the cards that say what they are.
+
 ghost use Rattle.std.specs.Prelude.{◌≡◌, ◌+◌, ◌<◌, ◌≤◌, length, IfOk, IfSome, unwrap_or};
 ghost use Rattle.packet_entry.specs.Numbers.{longest_packet, longest_payload, last_visit};
 ghost use Rattle.packet_entry.specs.Fields.{IsProtocol, IsLinkLength};
@@ -84,9 +86,30 @@ impl Packet {
         requires protocol { IsProtocol protocol }
         requires link { IsLinkLength (length link.now) }
         requires bytes { length bytes.now ≤ longest_packet }
-        ensures card { IfOk result (λ packet. packet ≡ opening_card number seconds micros protocol link.now bytes.now) }
+        ensures card { IfOk result (λ packet.
+            packet ≡ opening_card number seconds micros protocol link.now bytes.now) }
     {
-        Ok(Packet {
+        let link = Bytes::copy(alloc, link)?;
+        let bytes = Bytes::copy(alloc, bytes)?;
+        Ok(Packet::from_shared(number, seconds, micros, protocol, link, bytes))
+    }
+
+    /// The same, of bytes that are shared: nothing is copied. Takes no memory.
+    pub fn from_shared(
+        number: u32,
+        seconds: u32,
+        micros: u32,
+        protocol: u16,
+        link: Bytes,
+        bytes: Bytes,
+    ) -> Packet
+        requires number { 1 ≤ number }
+        requires protocol { IsProtocol protocol }
+        requires link { IsLinkLength (length link) }
+        requires bytes { length bytes ≤ longest_packet }
+        ensures { result ≡ opening_card number seconds micros protocol link bytes }
+    {
+        Packet {
             card: Card {
                 number,
                 visit: 0,
@@ -95,14 +118,14 @@ impl Packet {
                 seconds,
                 micros,
                 protocol,
-                link: Bytes::copy(alloc, link)?,
-                bytes: Bytes::copy(alloc, bytes)?,
+                link,
+                bytes,
             },
-        })
+        }
     }
 
-    /// A copy of all that the packet is.
-    pub fn card(&self, alloc: Global) -> Result<Card, NoMemory>
+    /// All that the packet is. Its bytes are shared, not copied.
+    pub fn card(&self, _alloc: Global) -> Result<Card, NoMemory>
         ensures same { IfOk result (λ card. card ≡ self.now) }
         ensures facts { IsCard self.now }
     {
@@ -115,8 +138,8 @@ impl Packet {
             seconds: card.seconds,
             micros: card.micros,
             protocol: card.protocol,
-            link: Bytes::copy(alloc, card.link.as_slice())?,
-            bytes: Bytes::copy(alloc, card.bytes.as_slice())?,
+            link: card.link.share()?,
+            bytes: card.bytes.share()?,
         })
     }
 
@@ -186,6 +209,13 @@ impl Packet {
         ensures limit { length result.now ≤ longest_packet }
     {
         self.card.bytes.as_slice()
+    }
+
+    /// The IP packet once more. Nothing is copied.
+    pub fn share_bytes(&self) -> Result<Bytes, NoMemory>
+        ensures { IfOk result (λ bytes. bytes ≡ self.now.bytes) }
+    {
+        self.card.bytes.share()
     }
 
     /// Counts one more arrival, at a queue that this table chose.

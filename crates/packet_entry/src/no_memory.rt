@@ -1,8 +1,10 @@
+//! Out of memory, as one answer that all crates share.
+
 use std::alloc::{AllocError, AllocFailed};
 use std::error::Error;
 use std::fmt;
 
-/// Want of memory. What answers it has changed nothing, unless its own page says otherwise.
+/// Out of memory. The call that answers it has changed nothing, unless its own page says otherwise.
 #[derive(Clone, Copy, Debug, PartialEq, Eq)]
 pub struct NoMemory;
 
