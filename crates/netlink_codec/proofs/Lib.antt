@@ -1,3 +1,3 @@
-pub mod Numbers
-pub mod MessageLemmas
-pub mod AttributeLemmas
+pub mod Bytes
+pub mod Framing
+pub mod Rows

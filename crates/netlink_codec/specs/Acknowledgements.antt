@@ -1,29 +1,26 @@
 -- Acknowledgements: uapi linux/netlink.h, `struct nlmsgerr`, and the kernel's `netlink_ack` and
--- `netlink_rcv_skb`. That an acknowledgement has flags 0, and the request's own port, is this project's.
-use Rattle.std.specs.Prelude.{ℕ, ◌-◌, ◌^◌, Bool, ◌&&◌, ◌==◌, if◌then◌else◌, List, [], ◌++◌, take, bit_and}
+-- `netlink_rcv_skb`. That an acknowledgement has flags 0, and the request's own port, is this
+-- project's.
+use Rattle.std.specs.Prelude.{ℕ, ◌-◌, ◌^◌, Bool, ◌&&◌, ◌==◌, if◌then◌else◌, List, [], ◌++◌, take}
+use Rattle.std.specs.Prelude.{bit_and}
 use Rattle.byteorder.specs.Endian.{little_bytes}
-use Rattle.netlink_codec.specs.Messages.{NetlinkMessage, message_header_length, message_text}
+use Rattle.netlink_codec.specs.Numbers.{ack_flag, errno_length, error_kind, message_header_length}
+use Rattle.netlink_codec.specs.Messages.{NetlinkMessage, message_text}
 
--- the kind of an acknowledgement, `NLMSG_ERROR`
-abbrev pub error_kind : ℕ
-error_kind = 2
-
--- the flag by which a request asks for an acknowledgement of success, `NLM_F_ACK`
-abbrev pub ack_flag : ℕ
-ack_flag = 4
-
--- minus the errno, a signed number of 4 bytes in two's complement, lowest byte first
+-- minus the errno, a signed number in two's complement, lowest byte first
 abbrev pub negated_errno : ℕ → List ℕ
-negated_errno errno = little_bytes 4 (2 ^ 32 - errno)
+negated_errno errno = little_bytes errno_length (2 ^ 32 - errno)
 
 -- what of the request is sent back: at success its header, otherwise all of its own bytes
 abbrev pub quoted : NetlinkMessage → ℕ → List ℕ
-quoted request errno = if errno == 0 then take message_header_length request.whole else request.whole
+quoted request errno =
+    if errno == 0 then take message_header_length request.whole else request.whole
 
 -- the bytes of the acknowledgement of a request
 unfoldable pub acknowledgement : NetlinkMessage → ℕ → List ℕ
 acknowledgement request errno =
-    message_text error_kind 0 request.sequence request.port (negated_errno errno ++ quoted request errno)
+    message_text error_kind 0 request.sequence request.port
+    (negated_errno errno ++ quoted request errno)
 
 -- success is not acknowledged unless the request asks for it
 abbrev pub is_unanswered : NetlinkMessage → ℕ → Bool

@@ -1,3 +1,5 @@
+pub mod Fields
+pub mod Numbers
 pub mod Messages
 pub mod Attributes
 pub mod Acknowledgements

@@ -5,19 +5,19 @@
 #![tactic(auto)]
 
 mod acknowledgements;
+mod attribute_header;
 mod attributes;
 mod laws;
+mod message_header;
 mod messages;
-mod walk;
 
 pub use acknowledgements::ack;
-pub use attributes::{Attr, attrs, put_attr};
+pub use attributes::{Attr, Attrs, put_attr, walk_attrs as attrs};
 pub use laws::{
     one_message_in_front, one_row_is_held, walk_goes_on_or_ends, written_attributes_are_walked,
     written_message_is_in_front,
 };
 pub use messages::{Message, next_message, put_message};
-pub use walk::Attrs;
 
 #[cfg(test)]
 mod tests;

@@ -1,27 +1,21 @@
-//! Messages: `struct nlmsghdr` and the bytes behind it.
-ghost use Rattle.std.specs.Prelude.{◌≡◌, ℕ, ◌+◌, ◌^◌, ◌<◌, ◌≤◌, ◌↔◌, ◌++◌, length, min, drop, Some, OnOk, OnErr, IfSome, IsNone, IsOk, option_map};
-ghost use Rattle.std.specs.Vec.{vec_len, vec_capacity};
-ghost use Rattle.byteorder.specs.Endian.{little_bytes, little_number};
-ghost use Rattle.netlink_codec.specs.Messages.{NetlinkMessage, Front, HasNoMessage, message_of, framed_of, message_header_length, header_text, message_text, first_message, pad};
+//! Messages: a header, [`MessageHeader`], and a body.
 
-use byteorder::{ByteOrder, LittleEndian};
+ghost use Rattle.std.specs.Prelude.{◌≡◌, ℕ, ◌+◌, ◌^◌, ◌<◌, ◌≤◌, ◌↔◌, ◌++◌, length, Some, OnOk};
+ghost use Rattle.std.specs.Prelude.{OnErr, IfSome, IsNone, IsOk, option_map};
+ghost use Rattle.std.specs.Vec.{vec_len, vec_capacity};
+ghost use Rattle.netlink_codec.specs.Numbers.{message_header_length};
+ghost use Rattle.netlink_codec.specs.Messages.{NetlinkMessage, Front, HasNoMessage, message_of};
+ghost use Rattle.netlink_codec.specs.Messages.{framed_of, message_text, first_message, pad};
+
+use crate::message_header::{
+    MESSAGE_HEADER_LENGTH, MessageHeader, put_message_header, read_message_header,
+};
 use std::alloc::AllocError;
 
-/// The bytes of a message's header, with its length in front.
-pub(crate) const HEADER_LENGTH: usize = 16;
-/// Where the kind begins in the header, behind the length.
-const KIND: usize = 4;
-/// Where the flags begin.
-const FLAGS: usize = 6;
-/// Where the sequence begins.
-const SEQUENCE: usize = 8;
-/// Where the port begins.
-const PORT: usize = 12;
-
-/// Messages and attributes begin at multiples of this many bytes.
+/// Messages and attributes begin at multiples of this many bytes (`NLMSG_ALIGNTO`, `NLA_ALIGNTO`).
 pub(crate) const ALIGNMENT: usize = 4;
 
-/// A message that stands in front of some bytes, which it borrows.
+/// A message that some bytes begin with. It borrows them.
 #[derive(Clone, Copy, Debug, PartialEq, Eq)]
 pub struct Message<'a> {
     /// What the message is about; kinds below 16 are control messages.
@@ -32,13 +26,13 @@ pub struct Message<'a> {
     pub sequence: u32,
     /// The port of the sender.
     pub port: u32,
-    /// The bytes behind the header, without padding.
+    /// The bytes after the header, without padding.
     pub body: &'a [u8],
     /// Header and body, without padding.
     pub whole: &'a [u8],
 }
 
-/// `length` rounded up to a multiple of 4.
+/// `length` rounded up to a multiple of the alignment.
 pub(crate) fn padded(length: usize) -> usize
     requires { length < 2 ^ 63 }
     ensures { result ≡ pad length }
@@ -61,33 +55,35 @@ pub fn next_message(bytes: &[u8]) -> Option<(Message<'_>, usize)>
     read_message(bytes)
 }
 
+/// The message that the bytes begin with, by the three tests of `NLMSG_OK`.
 #[tactic(auto, unfolding(crate::specs::Messages::first_message))]
 fn read_message(bytes: &[u8]) -> Option<(Message<'_>, usize)>
     ensures { option_map framed_of result ≡ first_message bytes.now }
 {
-    if bytes.len() < HEADER_LENGTH {
+    if bytes.len() < MESSAGE_HEADER_LENGTH {
         return None;
     }
-    let length = LittleEndian::read_u32(bytes) as usize;
-    if length < HEADER_LENGTH || bytes.len() < length {
+    let header = read_message_header(bytes);
+    let length = header.length as usize;
+    if length < MESSAGE_HEADER_LENGTH || bytes.len() < length {
         return None;
     }
     let whole = &bytes[..length];
     let message = Message {
-        kind: LittleEndian::read_u16(&bytes[KIND..]),
-        flags: LittleEndian::read_u16(&bytes[FLAGS..]),
-        sequence: LittleEndian::read_u32(&bytes[SEQUENCE..]),
-        port: LittleEndian::read_u32(&bytes[PORT..]),
-        body: &whole[HEADER_LENGTH..],
+        kind: header.kind,
+        flags: header.flags,
+        sequence: header.sequence,
+        port: header.port,
+        body: &whole[MESSAGE_HEADER_LENGTH..],
         whole,
     };
     Some((message, padded(length).min(bytes.len())))
 }
 
 /// Appends a message to `out`: a header of 16 bytes, whose length counts itself and the body, and
-/// the body. No padding is written behind it.
+/// the body. No padding follows.
 ///
-/// `AllocError` is want of memory, and then `out` has what it had. It doesn't come where `out` has
+/// `AllocError` is out of memory, and then `out` has what it had. It doesn't come where `out` has
 /// room for the message.
 pub fn put_message(
     out: &mut Vec<u8>,
@@ -98,35 +94,23 @@ pub fn put_message(
     body: &[u8],
 ) -> Result<(), AllocError>
     requires { length body.now < 2 ^ 31 }
-    ensures ok { OnOk result (out.new.items ≡ out.old.items ++ message_text kind flags sequence port body.now) }
+    ensures ok { OnOk result (out.new.items
+        ≡ out.old.items ++ message_text kind flags sequence port body.now) }
     ensures err { OnErr result (out.new.items ≡ out.old.items) }
 
     // Where there is room it succeeds, and room is never lost.
-    ensures room { vec_len out.old + (message_header_length + length body.now) ≤ vec_capacity out.old → IsOk result }
+    ensures room { vec_len out.old + (message_header_length + length body.now)
+        ≤ vec_capacity out.old → IsOk result }
     ensures capacity { vec_capacity out.old ≤ vec_capacity out.new }
 {
-    let header = header_of(kind, flags, sequence, port, body.len());
+    let header = put_message_header(MessageHeader {
+        length: (MESSAGE_HEADER_LENGTH + body.len()) as u32,
+        kind,
+        flags,
+        sequence,
+        port,
+    });
     append_parts(out, &header, body, &[])
-}
-
-// The header of a message with these fields and so many bytes behind it.
-pub(crate) fn header_of(
-    kind: u16,
-    flags: u16,
-    sequence: u32,
-    port: u32,
-    body_length: usize,
-) -> [u8; HEADER_LENGTH]
-    requires { message_header_length + body_length < 2 ^ 32 }
-    ensures { result ≡ header_text kind flags sequence port (message_header_length + body_length) }
-{
-    let mut header = [0; HEADER_LENGTH];
-    LittleEndian::write_u32(&mut header, (HEADER_LENGTH + body_length) as u32);
-    LittleEndian::write_u16(&mut header[KIND..], kind);
-    LittleEndian::write_u16(&mut header[FLAGS..], flags);
-    LittleEndian::write_u32(&mut header[SEQUENCE..], sequence);
-    LittleEndian::write_u32(&mut header[PORT..], port);
-    header
 }
 
 /// Appends `head`, `middle` and `tail`, or nothing.
@@ -139,7 +123,8 @@ pub(crate) fn append_parts(
     requires { length head.now + length middle.now + length tail.now < 2 ^ 64 }
     ensures ok { OnOk result (out.new.items ≡ out.old.items ++ head.now ++ middle.now ++ tail.now) }
     ensures err { OnErr result (out.new.items ≡ out.old.items) }
-    ensures room { vec_len out.old + (length head.now + length middle.now + length tail.now) ≤ vec_capacity out.old → IsOk result }
+    ensures room { vec_len out.old + (length head.now + length middle.now + length tail.now)
+        ≤ vec_capacity out.old → IsOk result }
     ensures capacity { vec_capacity out.old ≤ vec_capacity out.new }
 {
     out.reserve(head.len() + middle.len() + tail.len())?;

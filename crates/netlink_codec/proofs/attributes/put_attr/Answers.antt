@@ -1,6 +1,8 @@
-use Rattle.std.proofs.Common.{◌≡◌, ◌≤◌, ℕ, List, ◌+◌, ◌-◌, ◌++◌, length, take, replicate, ap, ap₂, subst, ◌∙◌, append_assoc, arith}
+use Rattle.std.proofs.Common.{◌≡◌, ◌≤◌, ℕ, List, ◌+◌, ◌-◌, ◌++◌, length, take, replicate, ap, ap₂}
+use Rattle.std.proofs.Common.{subst, ◌∙◌, append_assoc, arith}
 use Rattle.std.proofs.lemmas.List.{take-replicate}
 use Rattle.std.specs.Prelude.{OnOk}
+use Rattle.netlink_codec.specs.Numbers.{alignment, attribute_header_length}
 use Rattle.netlink_codec.specs.Attributes.{attribute_text, zero_padding}
 use Rattle.netlink_codec.proofs.attributes.put_attr.Goals as goal
 
@@ -8,15 +10,20 @@ pub returns-clause-ok : goal.returns-clause-ok
 unfolding attribute_text
 returns-clause-ok c =
     let old : List ℕ = c.args.out.now.items in
-    let header : List ℕ = c.header_of-header.result in
+    let header : List ℕ = c.put_attribute_header-header.result in
     let body : List ℕ = c.args.body.now in
-    let total : ℕ = 4 + length body in
+    let total : ℕ = attribute_header_length + length body in
     let count : ℕ = c.padded.result - total in
-    let most : count ≤ 4 = omega (arith, c.padded.ensures) in
-    let padding : take count (replicate 4 0) ≡ zero_padding total =
-    take-replicate count 4 0 most ∙ ap (λ (n : ℕ). replicate (n - total) 0) c.padded.ensures in
-    let P : List ℕ → Type 0 = λ xs. OnOk c.append_parts.result (c.append_parts.new.out.items ≡ xs) in
+    let most : count ≤ alignment = omega (arith, c.padded.ensures) in
+    let zeros : List ℕ = take count (replicate alignment 0) in
+    let padding : zeros ≡ zero_padding total =
+    take-replicate count alignment 0 most
+    ∙ ap (λ (n : ℕ). replicate (n - total) 0) c.padded.ensures in
+    let P : List ℕ → Type 0 =
+    λ xs. OnOk c.append_parts.result (c.append_parts.new.out.items ≡ xs) in
     subst P
-    (ap (λ (xs : List ℕ). xs ++ take count (replicate 4 0)) (append_assoc old header body) ∙ append_assoc old (header ++ body) (take count (replicate 4 0))
-    ∙ ap₂ (λ (h p : List ℕ). old ++ ((h ++ body) ++ p)) c.header_of-header.ensures padding)
+    (ap (λ (xs : List ℕ). xs ++ zeros) (append_assoc old header body)
+    ∙ append_assoc old (header ++ body) zeros
+    ∙ ap₂ (λ (h p : List ℕ). old ++ ((h ++ body) ++ p)) c.put_attribute_header-header.ensures
+    padding)
     c.append_parts.ensures.ok

@@ -1,5 +1,5 @@
 use Rattle.std.proofs.Common.{sym}
-use Rattle.netlink_codec.proofs.MessageLemmas.{Front-first, first_message-Front}
+use Rattle.netlink_codec.proofs.Framing.{Front-first, first_message-Front}
 use Rattle.netlink_codec.proofs.laws.one_message_in_front.Goals as goal
 
 pub returns-clause-read : goal.returns-clause-read

@@ -1,4 +1,4 @@
-use Rattle.netlink_codec.proofs.AttributeLemmas.{Holds-attributes, attributes-Holds}
+use Rattle.netlink_codec.proofs.Rows.{Holds-attributes, attributes-Holds}
 use Rattle.netlink_codec.proofs.laws.one_row_is_held.Goals as goal
 
 pub returns-clause-walked : goal.returns-clause-walked

@@ -1,4 +1,4 @@
-use Rattle.netlink_codec.proofs.AttributeLemmas.{attributes-end, attributes-step}
+use Rattle.netlink_codec.proofs.Rows.{attributes-end, attributes-step}
 use Rattle.netlink_codec.proofs.laws.walk_goes_on_or_ends.Goals as goal
 
 pub returns-clause-goes_on : goal.returns-clause-goes_on

@@ -1,4 +1,4 @@
-use Rattle.netlink_codec.proofs.AttributeLemmas.{attributes-row, attributes-row_alone, length-attribute_text}
+use Rattle.netlink_codec.proofs.Rows.{attributes-row, attributes-row_alone, length-attribute_text}
 use Rattle.netlink_codec.proofs.laws.written_attributes_are_walked.Goals as goal
 
 pub returns-clause-row : goal.returns-clause-row

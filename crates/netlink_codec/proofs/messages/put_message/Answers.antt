@@ -7,9 +7,11 @@ pub returns-clause-ok : goal.returns-clause-ok
 unfolding message_text
 returns-clause-ok c =
     let old : List ℕ = c.args.out.now.items in
-    let header : List ℕ = c.header_of-header.result in
+    let header : List ℕ = c.put_message_header-header.result in
     let body : List ℕ = c.args.body.now in
-    let P : List ℕ → Type 0 = λ xs. OnOk c.append_parts.result (c.append_parts.new.out.items ≡ xs) in
+    let P : List ℕ → Type 0 =
+    λ xs. OnOk c.append_parts.result (c.append_parts.new.out.items ≡ xs) in
     subst P
-    (append-nil (old ++ header ++ body) ∙ append_assoc old header body ∙ ap (λ (xs : List ℕ). old ++ (xs ++ body)) c.header_of-header.ensures)
+    (append-nil (old ++ header ++ body) ∙ append_assoc old header body
+    ∙ ap (λ (xs : List ℕ). old ++ (xs ++ body)) c.put_message_header-header.ensures)
     c.append_parts.ensures.ok

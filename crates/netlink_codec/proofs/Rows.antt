@@ -1,20 +1,31 @@
 -- The walk over a body: its steps, and what it finds where attributes were written.
-use Rattle.std.proofs.Common.{◌≡◌, ℕ, zero, suc, ◌+◌, ◌-◌, ◌%◌, ◌^◌, ◌<◌, ◌≤◌, Bool, true, false, ◌&&◌, List, [], ◌∷◌, ◌++◌, length, take, drop, refl, sym, ap, ap₂, subst, ◌∙◌, append_assoc, append-nil, arith, inl, inr}
+use Rattle.std.proofs.Common.{◌≡◌, ℕ, zero, suc, ◌+◌, ◌-◌, ◌%◌, ◌^◌, ◌<◌, ◌≤◌, Bool, true, false}
+use Rattle.std.proofs.Common.{◌&&◌, List, [], ◌∷◌, ◌++◌, length, take, drop, refl, sym, ap, ap₂}
+use Rattle.std.proofs.Common.{subst, ◌∙◌, append_assoc, append-nil, arith, inl, inr}
 use Rattle.std.proofs.Math.Nat.{mod-eq_of_lt}
 use Rattle.std.proofs.lemmas.Bool.{le-leb, leb-true, cases_Bool, cases_lt}
-use Rattle.std.proofs.lemmas.List.{take-append-drop, take-take, take_at, drop_at, length-append, length-drop, length-replicate, length-take-le}
+use Rattle.std.proofs.lemmas.List.{take-append-drop, take-take, take_at, drop_at, length-append}
+use Rattle.std.proofs.lemmas.List.{length-drop, length-replicate, length-take-le}
 use Rattle.std.proofs.Math.Seq.{take-add}
 use Rattle.byteorder.specs.Endian.{little_bytes, little_number}
 use Rattle.byteorder.specs.Numbers.{little_from-lt, little_number-reads_back}
-use Rattle.netlink_codec.proofs.Numbers.{AreBytes-drop, little_bytes-number}
+use Rattle.netlink_codec.specs.Fields.{told}
+use Rattle.netlink_codec.specs.Numbers.{attribute_header_length, attribute_kind, kind_limit}
+use Rattle.netlink_codec.proofs.Bytes.{AreBytes-drop, little_bytes-number}
 use Rattle.netlink_codec.specs.Messages.{AreBytes, pad}
-use Rattle.netlink_codec.specs.Attributes.{Attribute, AttributeFront, HasNoAttribute, Holds, attribute_header_text, FitsAttribute, AllFit, attribute_header_length, kind_limit, zero_padding, attribute_text, attributes_text, attribute_length, has_attribute, first_attribute, after_attribute, attributes_up_to, attributes}
+use Rattle.netlink_codec.specs.Attributes.{Attribute, AttributeFront, HasNoAttribute, Holds}
+use Rattle.netlink_codec.specs.Attributes.{attribute_header_text, FitsAttribute, AllFit}
+use Rattle.netlink_codec.specs.Attributes.{zero_padding, attribute_text, attributes_text}
+use Rattle.netlink_codec.specs.Attributes.{attribute_length, has_attribute, first_attribute}
+use Rattle.netlink_codec.specs.Attributes.{after_attribute, attributes_up_to, attributes}
 
 abbrev pub attribute : ℕ → List ℕ → Attribute
 attribute kind content = record { kind = kind; content = content }
 
 -- the test, from its three parts
-pub has_attribute-true : (bytes : List ℕ) → attribute_header_length ≤ length bytes → attribute_header_length ≤ attribute_length bytes → attribute_length bytes ≤ length bytes → has_attribute bytes ≡ true
+pub has_attribute-true : (bytes : List ℕ) → attribute_header_length ≤ length bytes →
+    attribute_header_length ≤ attribute_length bytes → attribute_length bytes ≤ length bytes →
+    has_attribute bytes ≡ true
 has_attribute-true bytes a b c =
     let a' = le-leb attribute_header_length (length bytes) a in
     let b' = le-leb attribute_header_length (attribute_length bytes) b in
@@ -45,17 +56,23 @@ has_attribute-false bytes missing =
       | inr fails ↦ fails
       | inl stands ↦
           let parts = limits bytes stands in
-          elim missing [ inl short ↦ absurd (omega arith) | inr told ↦ elim told [ inl small ↦ absurd (omega arith) | inr cut ↦ absurd (omega arith) ] ]
+          elim missing [
+            | inl short ↦ absurd (omega arith)
+            | inr tells ↦ elim tells
+                [ inl small ↦ absurd (omega arith) | inr cut ↦ absurd (omega arith) ]
+          ]
     ]
 
--- where an attribute stands in front, fewer bytes are behind it
-after-shorter : (bytes : List ℕ) → has_attribute bytes ≡ true → length (after_attribute bytes) < length bytes
+-- where the bytes begin with an attribute, fewer bytes follow it
+after-shorter : (bytes : List ℕ) → has_attribute bytes ≡ true →
+    length (after_attribute bytes) < length bytes
 after-shorter bytes e =
     let known = limits bytes e in
     omega (arith, length-drop (pad (attribute_length bytes)) bytes)
 
 -- more steps than there are bytes change nothing
-up_to-more : (n m : ℕ) (bytes : List ℕ) → length bytes ≤ n → length bytes ≤ m → attributes_up_to n bytes ≡ attributes_up_to m bytes
+up_to-more : (n m : ℕ) (bytes : List ℕ) → length bytes ≤ n → length bytes ≤ m →
+    attributes_up_to n bytes ≡ attributes_up_to m bytes
 unfolding attributes_up_to
 up_to-more zero zero bytes a b = refl
 up_to-more zero (suc m) [] a b = refl
@@ -66,84 +83,110 @@ up_to-more (suc n) (suc m) bytes a b =
     elim (cases_Bool (has_attribute bytes)) [
       | inl stands ↦
           let shorter = after-shorter bytes stands in
-          rw stands (ap (λ (xs : List Attribute). first_attribute bytes ∷ xs) (up_to-more n m (after_attribute bytes) (omega arith) (omega arith)))
+          rw stands (ap (λ (xs : List Attribute). first_attribute bytes ∷ xs)
+          (up_to-more n m (after_attribute bytes) (omega arith) (omega arith)))
       | inr ends ↦ rw ends refl
     ]
 
 -- the walk at an attribute, and at its end
-pub attributes-step : (bytes : List ℕ) → has_attribute bytes ≡ true → attributes bytes ≡ first_attribute bytes ∷ attributes (after_attribute bytes)
+pub attributes-step : (bytes : List ℕ) → has_attribute bytes ≡ true →
+    attributes bytes ≡ first_attribute bytes ∷ attributes (after_attribute bytes)
 unfolding attributes attributes_up_to
 attributes-step [] e = absurd cc
 attributes-step (x ∷ bytes) e =
     let shorter = after-shorter (x ∷ bytes) e in
     rw e (ap (λ (xs : List Attribute). first_attribute (x ∷ bytes) ∷ xs)
-    (up_to-more (length bytes) (length (after_attribute (x ∷ bytes))) (after_attribute (x ∷ bytes)) (omega arith) (omega arith)))
+    (up_to-more (length bytes) (length (after_attribute (x ∷ bytes))) (after_attribute (x ∷ bytes))
+    (omega arith) (omega arith)))
 
 pub attributes-end : (bytes : List ℕ) → has_attribute bytes ≡ false → attributes bytes ≡ []
 unfolding attributes attributes_up_to
 attributes-end [] e = refl
 attributes-end (x ∷ bytes) e = rw e refl
 
--- the attribute that stands in front is the one that reading finds, with its length
+-- the attribute that the bytes begin with is the one that reading finds, with its length
 record ReadsFirst (bytes : List ℕ) (a : Attribute) : Type 0 where
   stands : has_attribute bytes ≡ true
   first : first_attribute bytes ≡ a
-  told : attribute_length bytes ≡ attribute_header_length + length a.content
+  total : attribute_length bytes ≡ attribute_header_length + length a.content
 
-AttributeFront-first : (bytes : List ℕ) (a : Attribute) → AttributeFront bytes a → ReadsFirst bytes a
+AttributeFront-first : (bytes : List ℕ) (a : Attribute) → AttributeFront bytes a →
+    ReadsFirst bytes a
 AttributeFront-first bytes a front =
     let total : ℕ = attribute_header_length + length a.content in
     let rest : List ℕ = front.behind.0 in
     let tail : List ℕ = a.content ++ rest in
     let head : List ℕ = attribute_header_text front.told_kind total ++ a.content in
     let is : bytes ≡ head ++ rest = front.behind.1 in
-    let told : attribute_length (head ++ rest) ≡ total = little_number-reads_back 2 total (little_bytes 2 front.told_kind ++ tail) front.fits_length in
-    let k : little_number 2 (drop 2 (head ++ rest)) ≡ front.told_kind = little_number-reads_back 2 front.told_kind tail front.fits_kind in
+    let tells : attribute_length (head ++ rest) ≡ total =
+    little_number-reads_back 2 total (little_bytes 2 front.told_kind ++ tail)
+    front.fits_length in
+    let k : little_number 2 (drop 2 (head ++ rest)) ≡ front.told_kind =
+    little_number-reads_back 2 front.told_kind tail front.fits_kind in
     let size : length head ≡ total = omega arith in
-    let content : drop 4 (take total (head ++ rest)) ≡ a.content = ap (drop 4) (take_at head rest total size) in
-    let room : length (head ++ rest) ≡ total + length rest = length-append head rest ∙ ap (λ (n : ℕ). n + length rest) size in
+    let content : drop 4 (take total (head ++ rest)) ≡ a.content =
+    ap (drop 4) (take_at head rest total size) in
+    let room : length (head ++ rest) ≡ total + length rest = length-append head rest
+    ∙ ap (λ (n : ℕ). n + length rest) size in
     let yes = has_attribute-true (head ++ rest) (omega arith) (omega arith) (omega arith) in
-    let parts = ap₂ attribute (ap (λ (n : ℕ). n % kind_limit) k ∙ front.kind) (ap (λ (n : ℕ). drop 4 (take n (head ++ rest))) told ∙ content) in
+    let parts =
+    ap₂ attribute (ap (λ (n : ℕ). n % kind_limit) k ∙ front.kind)
+    (ap (λ (n : ℕ). drop 4 (take n (head ++ rest))) tells ∙ content) in
     record {
       stands = ap has_attribute is ∙ yes;
       first = ap first_attribute is ∙ parts;
-      told = ap attribute_length is ∙ told;
+      total = ap attribute_length is ∙ tells;
     }
 
 -- the row that a body holds is the one that the walk gives
-pub Holds-attributes : (row : List Attribute) (body : List ℕ) → Holds body row → attributes body ≡ row
+pub Holds-attributes : (row : List Attribute) (body : List ℕ) → Holds body row →
+    attributes body ≡ row
 Holds-attributes [] body ends = attributes-end body (has_attribute-false body ends)
 Holds-attributes (a ∷ row) body held =
     let reads = AttributeFront-first body a held.0 in
     attributes-step body reads.stands
-    ∙ ap₂ ◌∷◌ reads.first (ap (λ (n : ℕ). attributes (drop (pad n) body)) reads.told ∙ Holds-attributes row _ held.1)
+    ∙ ap₂ ◌∷◌ reads.first (ap (λ (n : ℕ). attributes (drop (pad n) body)) reads.total
+    ∙ Holds-attributes row _ held.1)
 
-content-size : (bytes : List ℕ) → has_attribute bytes ≡ true → attribute_header_length + length (first_attribute bytes).content ≡ attribute_length bytes
+content-size : (bytes : List ℕ) → has_attribute bytes ≡ true →
+    attribute_header_length + length (first_attribute bytes).content ≡ attribute_length bytes
 content-size bytes stands =
     let known = limits bytes stands in
-    omega (arith, length-drop 4 (take (attribute_length bytes) bytes), length-take-le (attribute_length bytes) bytes known.most)
+    omega (
+      arith,
+      length-drop 4 (take (attribute_length bytes) bytes),
+      length-take-le (attribute_length bytes) bytes known.most,
+    )
 
--- where the test holds, the attribute that reading finds stands in front
-told-AttributeFront : (bytes : List ℕ) → AreBytes bytes → has_attribute bytes ≡ true → AttributeFront bytes (first_attribute bytes)
+-- where the test holds, the bytes begin with the attribute that reading finds
+told-AttributeFront : (bytes : List ℕ) → AreBytes bytes → has_attribute bytes ≡ true →
+    AttributeFront bytes (first_attribute bytes)
 told-AttributeFront bytes h stands =
     let known = limits bytes stands in
-    let told : ℕ = attribute_length bytes in
-    let told_kind : ℕ = little_number 2 (drop 2 bytes) in
-    let whole : List ℕ = take told bytes in
+    let total : ℕ = attribute_length bytes in
+    let told_kind : ℕ = told attribute_kind bytes in
+    let whole : List ℕ = take total bytes in
     let size = content-size bytes stands in
-    let below : told < 2 ^ 16 = little_from-lt 0 2 bytes h in
-    let a : little_bytes 2 told ≡ take 2 bytes = little_bytes-number 2 bytes h (omega arith) in
+    let below : total < 2 ^ 16 = little_from-lt 0 2 bytes h in
+    let a : little_bytes 2 total ≡ take 2 bytes = little_bytes-number 2 bytes h (omega arith) in
     let b : little_bytes 2 told_kind ≡ take 2 (drop 2 bytes) =
-    little_bytes-number 2 (drop 2 bytes) (AreBytes-drop 2 bytes h) (omega (arith, length-drop 2 bytes)) in
-    let fields : attribute_header_text told_kind told ≡ take 4 bytes = ap₂ (λ (x y : List ℕ). x ++ y) a b ∙ sym (take-add 2 2 bytes) in
-    let header = take-take 4 told bytes known.least ∙ sym fields ∙ ap (attribute_header_text told_kind) (sym size) in
+    little_bytes-number 2 (drop 2 bytes) (AreBytes-drop 2 bytes h)
+    (omega (arith, length-drop 2 bytes)) in
+    let fields : attribute_header_text told_kind total ≡ take 4 bytes =
+    ap₂ (λ (x y : List ℕ). x ++ y) a b ∙ sym (take-add 2 2 bytes) in
+    let header = take-take 4 total bytes known.least ∙ sym fields
+    ∙ ap (attribute_header_text told_kind) (sym size) in
     let parts = sym (take-append-drop 4 whole) ∙ ap (λ (x : List ℕ). x ++ drop 4 whole) header in
     record {
       told_kind = told_kind;
       fits_kind = little_from-lt 0 2 (drop 2 bytes) (AreBytes-drop 2 bytes h);
       fits_length = omega arith;
       kind = refl;
-      behind = (drop told bytes, sym (take-append-drop told bytes) ∙ ap (λ (x : List ℕ). x ++ drop told bytes) parts);
+      behind = (
+        drop total bytes,
+        sym (take-append-drop total bytes)
+            ∙ ap (λ (x : List ℕ). x ++ drop total bytes) parts,
+      );
     }
 
 -- where the test fails, one of the three reasons holds
@@ -161,7 +204,8 @@ fails-HasNoAttribute bytes fails =
     ]
 
 -- a body of bytes holds what the walk gives
-attributes-held : (n : ℕ) (body : List ℕ) → length body ≤ n → AreBytes body → Holds body (attributes body)
+attributes-held : (n : ℕ) (body : List ℕ) → length body ≤ n → AreBytes body →
+    Holds body (attributes body)
 attributes-held zero body most h =
     elim (cases_Bool (has_attribute body)) [
       | inl stands ↦ let known = limits body stands in absurd (omega arith)
@@ -174,7 +218,8 @@ attributes-held (suc n) body most h =
           let shorter = after-shorter body stands in
           let row : List Attribute = attributes (after_attribute body) in
           let others : Holds (after_attribute body) row =
-          attributes-held n (after_attribute body) (omega arith) (AreBytes-drop (pad (attribute_length body)) body h) in
+          attributes-held n (after_attribute body) (omega arith)
+          (AreBytes-drop (pad (attribute_length body)) body h) in
           let Q : ℕ → Type 0 = λ total. Holds (drop (pad total) body) row in
           let P : List Attribute → Type 0 = λ xs. Holds body xs in
           subst P (sym (attributes-step body stands))
@@ -186,8 +231,9 @@ attributes-held (suc n) body most h =
 pub attributes-Holds : (body : List ℕ) → AreBytes body → Holds body (attributes body)
 attributes-Holds body h = attributes-held (length body) body (omega arith) h
 
--- an attribute that was written stands in front of what is behind it
-attribute_text-front : (a : Attribute) (behind : List ℕ) → FitsAttribute a → AttributeFront (attribute_text a ++ behind) a
+-- what was written begins with the attribute, whatever follows
+attribute_text-front : (a : Attribute) (behind : List ℕ) → FitsAttribute a →
+    AttributeFront (attribute_text a ++ behind) a
 unfolding attribute_text
 attribute_text-front a behind fits = record {
   told_kind = a.kind;
@@ -196,30 +242,39 @@ attribute_text-front a behind fits = record {
   kind = mod-eq_of_lt fits.kind;
   behind = (
     zero_padding (attribute_header_length + length a.content) ++ behind,
-    append_assoc (attribute_header_text a.kind (attribute_header_length + length a.content) ++ a.content) (zero_padding (attribute_header_length + length a.content)) behind,
+    append_assoc (attribute_header_text a.kind (attribute_header_length + length a.content)
+        ++ a.content) (zero_padding (attribute_header_length + length a.content)) behind,
   );
 }
 
 -- the text of an attribute is its length rounded up
-pub length-attribute_text : (a : Attribute) → length (attribute_text a) ≡ pad (attribute_header_length + length a.content)
+pub length-attribute_text : (a : Attribute) →
+    length (attribute_text a) ≡ pad (attribute_header_length + length a.content)
 unfolding attribute_text
 length-attribute_text a =
     let total : ℕ = attribute_header_length + length a.content in
     let head : List ℕ = attribute_header_text a.kind total ++ a.content in
     let size : length head ≡ total = omega arith in
-    omega (arith, length-append head (zero_padding total), length-replicate {A = ℕ} (pad total - total) 0)
+    omega (
+      arith,
+      length-append head (zero_padding total),
+      length-replicate {A = ℕ} (pad total - total) 0,
+    )
 
--- an attribute that was written is the first that the walk finds, whatever stands behind it
-attributes-text : (a : Attribute) (behind : List ℕ) → FitsAttribute a → attributes (attribute_text a ++ behind) ≡ a ∷ attributes behind
+-- an attribute that was written is the first that the walk finds, whatever follows
+attributes-text : (a : Attribute) (behind : List ℕ) → FitsAttribute a →
+    attributes (attribute_text a ++ behind) ≡ a ∷ attributes behind
 attributes-text a behind fits =
     let bytes : List ℕ = attribute_text a ++ behind in
     let reads = AttributeFront-first bytes a (attribute_text-front a behind fits) in
-    let after = ap (λ (n : ℕ). drop (pad n) bytes) reads.told
-    ∙ drop_at (attribute_text a) behind (pad (attribute_header_length + length a.content)) (length-attribute_text a) in
+    let after = ap (λ (n : ℕ). drop (pad n) bytes) reads.total
+    ∙ drop_at (attribute_text a) behind (pad (attribute_header_length + length a.content))
+    (length-attribute_text a) in
     attributes-step bytes reads.stands ∙ ap₂ ◌∷◌ reads.first (ap attributes after)
 
--- the row that was written, and then what is behind it
-pub attributes-row : (row : List Attribute) (behind : List ℕ) → AllFit row → attributes (attributes_text row ++ behind) ≡ row ++ attributes behind
+-- the row that was written, and then what follows
+pub attributes-row : (row : List Attribute) (behind : List ℕ) → AllFit row →
+    attributes (attributes_text row ++ behind) ≡ row ++ attributes behind
 attributes-row [] behind fits = refl
 attributes-row (a ∷ row) behind fits =
     ap attributes (append_assoc (attribute_text a) (attributes_text row) behind)
@@ -227,7 +282,8 @@ attributes-row (a ∷ row) behind fits =
     ∙ ap (λ (xs : List Attribute). a ∷ xs) (attributes-row row behind fits.1)
 
 -- the row that was written, and nothing more
-pub attributes-row_alone : (row : List Attribute) → AllFit row → attributes (attributes_text row) ≡ row
+pub attributes-row_alone : (row : List Attribute) → AllFit row →
+    attributes (attributes_text row) ≡ row
 attributes-row_alone row fits =
     ap attributes (sym (append-nil (attributes_text row))) ∙ attributes-row row [] fits
     ∙ ap (λ (xs : List Attribute). row ++ xs) (attributes-end [] refl) ∙ append-nil row
