@@ -1,3 +1,4 @@
+pub mod Numbers
 pub mod Format
 pub mod Decoding
 pub mod Spelling
