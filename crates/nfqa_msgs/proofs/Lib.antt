@@ -1,4 +1,5 @@
-pub mod ContentLemmas
-pub mod TextLemmas
-pub mod DecodedLemmas
-pub mod NoticeLemmas
+pub mod LastContent
+pub mod Lengths
+pub mod RequestsBack
+pub mod NoticesBack
+pub mod PacketNotices

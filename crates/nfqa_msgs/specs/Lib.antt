@@ -1,8 +1,9 @@
 pub mod Numbers
-pub mod Format
-pub mod Decoding
-pub mod Spelling
-pub mod Notices
+pub mod Kinds
+pub mod Headers
+pub mod RequestReading
+pub mod RequestWriting
+pub mod NoticeWriting
 pub mod Telling
-pub mod Reading
+pub mod NoticeReading
 pub mod Read

@@ -1,7 +1,7 @@
 -- What the reader of a notice is told.
 use Rattle.std.specs.Prelude.{◌≡◌, ℕ, List, length, unwrap_or}
 use Rattle.nfqa_msgs.specs.declared.notice.Notice.{Notice}
-use Rattle.nfqa_msgs.specs.Notices.{Told, FitsTold, notice_text}
+use Rattle.nfqa_msgs.specs.NoticeWriting.{Told, FitsTold, notice_text}
 
 -- the length is the packet's where that is told, and else the payload's
 abbrev pub notice_of : Told → Notice

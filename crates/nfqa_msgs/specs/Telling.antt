@@ -1,7 +1,7 @@
 -- What the code's view of a notice tells.
 use Rattle.std.specs.Prelude.{option_map}
 use Rattle.nfqa_msgs.specs.declared.notice.Telling.{Telling}
-use Rattle.nfqa_msgs.specs.Notices.{Told}
+use Rattle.nfqa_msgs.specs.NoticeWriting.{Told}
 
 abbrev pub telling : Telling → Told
 telling t = record {

@@ -1,8 +1,9 @@
 //! The types of a request's numbers are as wide as their fields. Nothing runs here: each function reads
 //! its argument, so that its type's range is known.
+
 ghost use Rattle.std.specs.Prelude.{◌<◌, ◌^◌, IfSome};
-ghost use Rattle.nfqa_msgs.specs.Decoding.{PayloadFits};
-ghost use Rattle.nfqa_msgs.specs.Spelling.{FitsRequest, FitsHead, FitsParams};
+ghost use Rattle.nfqa_msgs.specs.RequestReading.{PayloadFits};
+ghost use Rattle.nfqa_msgs.specs.RequestWriting.{FitsRequest, FitsHead, FitsParams};
 
 use crate::{Head, Params, Request};
 
@@ -22,9 +23,9 @@ pub(crate) fn fits_its_fields(request: &Request)
             fits_queue(*queue);
             fits_byte(*command);
             fits_params(*params);
-            fits_number(*maxlen);
-            fits_number(*flags);
-            fits_number(*mask);
+            fits_value(*maxlen);
+            fits_value(*flags);
+            fits_value(*mask);
         }
         Request::Verdict {
             queue,
@@ -34,12 +35,12 @@ pub(crate) fn fits_its_fields(request: &Request)
         } => {
             fits_queue(*queue);
             fits_head(*head);
-            fits_number(*mark);
+            fits_value(*mark);
         }
         Request::Batch { queue, head, mark } => {
             fits_queue(*queue);
             fits_head(*head);
-            fits_number(*mark);
+            fits_value(*mark);
         }
     }
 }
@@ -56,10 +57,10 @@ fn fits_byte(byte: Option<u8>)
     if let Some(_byte) = byte {}
 }
 
-fn fits_number(number: Option<u32>)
-    ensures { IfSome number (λ n. n < 2 ^ 32) }
+fn fits_value(value: Option<u32>)
+    ensures { IfSome value (λ n. n < 2 ^ 32) }
 {
-    if let Some(_number) = number {}
+    if let Some(_value) = value {}
 }
 
 fn fits_params(params: Option<Params>)

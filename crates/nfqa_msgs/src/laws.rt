@@ -1,13 +1,22 @@
 //! Laws of the definitions, each the contract of a function that does nothing.
+
 ghost use Rattle.std.specs.Prelude.{◌≡◌, ℕ, ◌^◌, ◌<◌, List, [], ◌++◌, length, Some};
+ghost use Rattle.packet_entry.specs.declared.packet.Card.{Card};
 ghost use Rattle.netlink_codec.specs.Messages.{Front};
 ghost use Rattle.nfqa_msgs.specs.declared.request.Request.{Request};
 ghost use Rattle.nfqa_msgs.specs.declared.request.Decoded.TheVariants.{Asked};
-ghost use Rattle.nfqa_msgs.specs.Decoding.{decoded};
-ghost use Rattle.nfqa_msgs.specs.Notices.{Told, FitsTold, notice_text};
-ghost use Rattle.nfqa_msgs.specs.Reading.{told_by};
-ghost use Rattle.nfqa_msgs.specs.Spelling.{FitsRequest, spelling, spelled};
+ghost use Rattle.nfqa_msgs.specs.Numbers.{copy_none, copy_meta, copy_packet, longest_range};
+ghost use Rattle.nfqa_msgs.specs.Numbers.{command_bind, command_unbind, command_pf_bind};
+ghost use Rattle.nfqa_msgs.specs.Numbers.{command_pf_unbind, einval, erange, eopnotsupp};
+ghost use Rattle.nfqa_msgs.specs.RequestReading.{decoded};
+ghost use Rattle.nfqa_msgs.specs.RequestWriting.{FitsRequest, spelling, spelled};
+ghost use Rattle.nfqa_msgs.specs.NoticeWriting.{Told, FitsTold, IsNoticed, IsPacketNotice};
+ghost use Rattle.nfqa_msgs.specs.NoticeWriting.{notice_text, told_of};
+ghost use Rattle.nfqa_msgs.specs.NoticeReading.{told_by};
 
+use crate::{
+    BIND, EINVAL, EOPNOTSUPP, ERANGE, MAX_RANGE, META, NONE, PACKET, PF_BIND, PF_UNBIND, UNBIND,
+};
 use netlink_codec::{written_attributes_are_walked, written_message_is_in_front};
 
 /// A spelling with anything behind it has this message in front, uses the spelling's length, and
@@ -36,3 +45,26 @@ pub fn notices_are_told_apart()
     written_message_is_in_front();
     written_attributes_are_walked();
 }
+
+/// What is told of a waiting packet is what a notice can tell. So where bytes begin with the notice of
+/// one packet and with that of another, the two notices are the same, and neither is a proper prefix of
+/// the other.
+pub fn packet_notices_are_told_apart()
+    ensures fits { (queue mode range id : ℕ) (card : Card) → IsNoticed queue mode range id card →
+        FitsTold (told_of queue mode range id card) }
+    ensures apart { (text other behind rest : List ℕ) → IsPacketNotice text → IsPacketNotice other →
+        text ++ behind ≡ other ++ rest → text ≡ other }
+    ensures no_prefix { (text other behind : List ℕ) → IsPacketNotice text → IsPacketNotice other →
+        other ≡ text ++ behind → other ≡ text }
+{
+    written_message_is_in_front();
+}
+
+/// The public numbers are the format's: copy modes, commands, the longest range and errnos.
+pub fn public_numbers()
+    ensures modes { (NONE ≡ copy_none) × (META ≡ copy_meta) × (PACKET ≡ copy_packet) }
+    ensures range { MAX_RANGE ≡ longest_range }
+    ensures binding { (BIND ≡ command_bind) × (UNBIND ≡ command_unbind) }
+    ensures family { (PF_BIND ≡ command_pf_bind) × (PF_UNBIND ≡ command_pf_unbind) }
+    ensures errnos { (EINVAL ≡ einval) × (ERANGE ≡ erange) × (EOPNOTSUPP ≡ eopnotsupp) }
+{}

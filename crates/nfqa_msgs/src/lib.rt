@@ -3,31 +3,38 @@
 //!
 //! The sources are the kernel's uapi headers `linux/netlink.h`, `linux/netfilter/nfnetlink.h` and
 //! `linux/netfilter/nfnetlink_queue.h`, and `nfnetlink_queue.c`. Numbers in a message's header are
-//! little-endian, numbers behind it are big-endian.
+//! little-endian, numbers after it are big-endian.
 #![tactic(auto)]
 
-mod contents;
-mod decoding;
-mod encoding;
+mod attribute_reading;
+mod attribute_writing;
 mod fields;
-mod format;
+mod headers;
+mod kinds;
 mod laws;
 mod notice;
-mod parts;
+mod notice_reading;
+mod notice_writing;
+mod numbers;
 mod queue_flags;
-mod reading;
 mod request;
+mod request_reading;
+mod request_writing;
 
-pub use decoding::decode_request;
-pub use encoding::encode_request;
-pub use format::{
+pub use laws::{
+    notices_are_told_apart, packet_notices_are_told_apart, public_numbers,
+    spelling_decodes_to_its_request,
+};
+pub use notice::Notice;
+pub use notice_reading::decode_notice;
+pub use notice_writing::encode_notice;
+pub use numbers::{
     BIND, EINVAL, EOPNOTSUPP, ERANGE, MAX_RANGE, META, NONE, PACKET, PF_BIND, PF_UNBIND, UNBIND,
 };
-pub use laws::{notices_are_told_apart, spelling_decodes_to_its_request};
-pub use notice::{Notice, encode_notice};
 pub use queue_flags::QueueFlags;
-pub use reading::decode_notice;
 pub use request::{Decoded, Head, Params, Request};
+pub use request_reading::decode_request;
+pub use request_writing::encode_request;
 
 #[cfg(test)]
 mod tests;

@@ -1,3 +1,5 @@
+//! The flags of a queue.
+
 use bitflags::{Flag, Flags, bitflag_items};
 
 /// The flags of a queue (`enum nfqnl_attr_config`, `NFQA_CFG_F_*`).
@@ -21,12 +23,17 @@ bitflag_items! {
 
 impl Flags for QueueFlags {
     ghost use Rattle.std.specs.Prelude.{⊤, [], ◌∷◌, codes};
+    ghost use Rattle.nfqa_msgs.specs.Numbers.{flag_fail_open, flag_conntrack, flag_gso, flag_uid_gid};
+    ghost use Rattle.nfqa_msgs.specs.Numbers.{flag_secctx};
 
     type Bits = u32;
 
     ghost exact = { ⊤ };
 
-    ghost table = { (codes "FAIL_OPEN", 1) ∷ (codes "CONNTRACK", 2) ∷ (codes "GSO", 4) ∷ (codes "UID_GID", 8) ∷ (codes "SECCTX", 16) ∷ [] };
+    ghost table = {
+        (codes "FAIL_OPEN", flag_fail_open) ∷ (codes "CONNTRACK", flag_conntrack) ∷ (codes "GSO", flag_gso)
+        ∷ (codes "UID_GID", flag_uid_gid) ∷ (codes "SECCTX", flag_secctx) ∷ []
+    };
 
     ghost set_of = { λ flags. flags.0 };
 

@@ -1,3 +1,5 @@
+//! Requests, and what a message is decoded to.
+
 use packet_entry::Bytes;
 
 /// The verdict and the id that a verdict message names.

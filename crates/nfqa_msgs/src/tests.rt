@@ -1,6 +1,6 @@
 //! Messages by their bytes, as the kernel and its clients write them.
 ghost use Rattle.std.specs.Prelude.{◌≤◌, length};
-ghost use Rattle.nfqa_msgs.specs.Decoding.{PayloadFits};
+ghost use Rattle.nfqa_msgs.specs.RequestReading.{PayloadFits};
 
 use super::*;
 use netlink_codec::next_message;

@@ -1,6 +1,6 @@
 use Rattle.std.proofs.Common.{sym, subst}
-use Rattle.nfqa_msgs.specs.Decoding.{PayloadFits}
-use Rattle.nfqa_msgs.specs.Spelling.{FitsRequest}
+use Rattle.nfqa_msgs.specs.RequestReading.{PayloadFits}
+use Rattle.nfqa_msgs.specs.RequestWriting.{FitsRequest}
 use Rattle.nfqa_msgs.proofs.fields.fits_its_fields.Goals as goal
 
 pub returns-in-Config : goal.returns-in-Config
@@ -10,9 +10,9 @@ returns-in-Config c =
       queue_fits = c.fits_queue.ensures;
       command_fits = c.fits_byte.ensures;
       params_fit = c.fits_params.ensures;
-      maxlen_fits = c.fits_number.ensures;
-      flags_fit = c.fits_number-in-Config.ensures;
-      mask_fits = c.fits_number-in-Config-2.ensures;
+      maxlen_fits = c.fits_value.ensures;
+      flags_fit = c.fits_value-in-Config.ensures;
+      mask_fits = c.fits_value-in-Config-2.ensures;
     })
 
 pub returns-in-Verdict : goal.returns-in-Verdict
@@ -21,7 +21,7 @@ returns-in-Verdict c =
     (record {
       queue_fits = c.fits_queue-in-Verdict.ensures;
       head_fits = c.fits_head.ensures;
-      mark_fits = c.fits_number-in-Verdict.ensures;
+      mark_fits = c.fits_value-in-Verdict.ensures;
       payload_fits = subst PayloadFits c.in-Verdict.is c.requires;
     })
 
@@ -31,6 +31,6 @@ returns-in-Batch c =
     (record {
       queue_fits = c.fits_queue-in-Batch.ensures;
       head_fits = c.fits_head-in-Batch.ensures;
-      mark_fits = c.fits_number-in-Batch.ensures;
+      mark_fits = c.fits_value-in-Batch.ensures;
       payload_fits = tt;
     })

@@ -1,9 +1,0 @@
-use Rattle.std.proofs.Common.{◌≡◌}
-use Rattle.std.specs.List.{list_any}
-use Rattle.netlink_codec.specs.Attributes.{attributes}
-use Rattle.nfqa_msgs.specs.Decoding.{is_short}
-use Rattle.nfqa_msgs.proofs.contents.has_short.Given as goal
-
--- the attributes so far are long enough
-abbrev pub invariant-loop-attr : goal.invariant-loop-attr
-invariant-loop-attr l = list_any (is_short l.number) l.attr-iterator ≡ list_any (is_short l.number) (attributes l.row)

@@ -1,6 +1,0 @@
-use Rattle.std.proofs.Common.{length, ap, arith}
-use Rattle.nfqa_msgs.proofs.TextLemmas.{request_body-short}
-use Rattle.nfqa_msgs.proofs.encoding.encode_request.Goals as goal
-
-pub put_message-requires : goal.put_message-requires
-put_message-requires c = omega (arith, ap length c.in_ok-body.ensures, request_body-short c.args.request.now c.requires)

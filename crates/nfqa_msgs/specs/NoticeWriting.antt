@@ -1,0 +1,136 @@
+-- Notices: uapi linux/netfilter/nfnetlink_queue.h, and the kernel's `nfqnl_build_packet_message`. The
+-- order of the attributes, the two devices, and that there always is a timestamp are this project's.
+use Rattle.std.specs.Prelude.{◌≡◌, ℕ, ◌^◌, ◌<◌, ◌≤◌, Bool, ◌&&◌, ◌||◌, ◌==◌, nat_lt, IsTrue}
+use Rattle.std.specs.Prelude.{if◌then◌else◌, List, [], ◌∷◌, ◌++◌, length, take, drop}
+use Rattle.std.specs.Prelude.{Option, Some, None, IfSome, option_map}
+use Rattle.packet_entry.specs.declared.packet.Card.{Card}
+use Rattle.packet_entry.specs.Numbers.{longest_payload, ipv4_type}
+use Rattle.packet_entry.specs.Fields.{IsProtocol}
+use Rattle.packet_entry.specs.Card.{IsCard}
+use Rattle.netlink_codec.specs.Messages.{message_text}
+use Rattle.netlink_codec.specs.Attributes.{Attribute, attributes_text}
+use Rattle.nfqa_msgs.specs.Numbers.{notice_number, packet_header_kind, mark_kind, timestamp_kind}
+use Rattle.nfqa_msgs.specs.Numbers.{input_device_kind, output_device_kind, hardware_address_kind}
+use Rattle.nfqa_msgs.specs.Numbers.{payload_kind, full_length_kind, input_device, output_device}
+use Rattle.nfqa_msgs.specs.Numbers.{ipv4_family, ipv6_family, copy_meta, copy_packet, longest_range}
+use Rattle.nfqa_msgs.specs.Numbers.{hardware_address_length, source_address_at}
+use Rattle.nfqa_msgs.specs.Kinds.{queue_kind}
+use Rattle.nfqa_msgs.specs.Headers.{queue_header, packet_head_content, address_content}
+use Rattle.nfqa_msgs.specs.Headers.{stamp_content, value_content}
+use Rattle.nfqa_msgs.specs.RequestWriting.{part, value_part}
+
+-- what a notice tells
+pub record Told : Type 0 where
+  pub queue : ℕ
+  pub id : ℕ
+  pub protocol : ℕ
+  pub mark : ℕ
+  -- the sender's hardware address, where the packet came with an Ethernet header
+  pub source : Option (List ℕ)
+  pub seconds : ℕ
+  pub micros : ℕ
+  -- the packet's length, where it has more bytes than are told
+  pub cut_from : Option ℕ
+  pub payload : List ℕ
+
+-- the address family of a packet
+abbrev pub family_of : ℕ → ℕ
+family_of protocol = if protocol == ipv4_type then ipv4_family else ipv6_family
+
+-- a mark of 0 is not told
+abbrev pub mark_content : ℕ → Option (List ℕ)
+mark_content mark = if mark == 0 then None else Some (value_content mark)
+
+-- a payload without bytes is not told
+abbrev pub payload_content : List ℕ → Option (List ℕ)
+payload_content [] = None
+payload_content (x ∷ xs) = Some (x ∷ xs)
+
+-- the attributes of a notice, in order
+abbrev pub notice_parts : Told → List Attribute
+notice_parts told =
+    part packet_header_kind (Some (packet_head_content told.id told.protocol))
+    ++ part input_device_kind (Some (value_content input_device))
+    ++ part output_device_kind (Some (value_content output_device))
+    ++ part mark_kind (mark_content told.mark)
+    ++ part hardware_address_kind (option_map address_content told.source)
+    ++ part timestamp_kind (Some (stamp_content told.seconds told.micros))
+    ++ value_part full_length_kind told.cut_from
+    ++ part payload_kind (payload_content told.payload)
+
+abbrev pub notice_body : Told → List ℕ
+notice_body told =
+    queue_header (family_of told.protocol) told.queue ++ attributes_text (notice_parts told)
+
+-- the text of a notice: flags, sequence and port are 0
+unfoldable pub notice_text : Told → List ℕ
+notice_text told = message_text (queue_kind notice_number) 0 0 0 (notice_body told)
+
+-- the copy mode under which a packet's bytes are told
+abbrev pub tells_bytes : ℕ → Bool
+tells_bytes mode = mode == copy_packet
+
+-- the source address in an Ethernet header
+abbrev pub source_in : List ℕ → Option (List ℕ)
+source_in [] = None
+source_in (x ∷ link) = Some (take hardware_address_length (drop source_address_at (x ∷ link)))
+
+-- the packet's length, where it has more bytes than are told
+abbrev pub cut_of : ℕ → ℕ → List ℕ → Option ℕ
+cut_of mode range bytes =
+    if tells_bytes mode && nat_lt range (length bytes) then Some (length bytes) else None
+
+-- the bytes that are told
+abbrev pub told_bytes : ℕ → ℕ → List ℕ → List ℕ
+told_bytes mode range bytes = if tells_bytes mode then take range bytes else []
+
+-- what is told of a packet that waits under this id in a queue of this mode and range
+abbrev pub told_of : ℕ → ℕ → ℕ → ℕ → Card → Told
+told_of queue mode range id card = record {
+  queue = queue;
+  id = id;
+  protocol = card.protocol;
+  mark = card.mark;
+  source = source_in card.link;
+  seconds = card.seconds;
+  micros = card.micros;
+  cut_from = cut_of mode range card.bytes;
+  payload = told_bytes mode range card.bytes;
+}
+
+-- the notice of a packet that waits under this id in a queue of this mode and range
+abbrev pub notice : ℕ → ℕ → ℕ → ℕ → Card → List ℕ
+notice queue mode range id card = notice_text (told_of queue mode range id card)
+
+-- what a notice can tell
+pub record FitsTold (told : Told) : Type 0 where
+  pub queue_fits : told.queue < 2 ^ 16
+  pub id_fits : told.id < 2 ^ 32
+  pub protocol_fits : IsProtocol told.protocol
+  pub mark_fits : told.mark < 2 ^ 32
+  pub source_fits : IfSome told.source (λ source. length source ≡ hardware_address_length)
+  pub seconds_fit : told.seconds < 2 ^ 32
+  pub micros_fit : told.micros < 2 ^ 32
+  pub cut_fits : IfSome told.cut_from (λ n. (length told.payload < n) × (n < 2 ^ 32))
+  pub payload_fits : length told.payload ≤ longest_payload
+
+-- a packet that waits under this id in a queue of this mode and range, so that it has a notice
+pub record IsNoticed (queue mode range id : ℕ) (card : Card) : Type 0 where
+  pub queue_fits : queue < 2 ^ 16
+  pub mode_tells : IsTrue ((mode == copy_meta) || (mode == copy_packet))
+  pub range_fits : range ≤ longest_range
+  pub id_fits : id < 2 ^ 32
+  pub mark_fits : card.mark < 2 ^ 32
+  pub seconds_fit : card.seconds < 2 ^ 32
+  pub micros_fit : card.micros < 2 ^ 32
+  pub card_fits : IsCard card
+
+-- the text is the notice of a waiting packet
+pub record IsPacketNotice (text : List ℕ) : Type 0 where
+  pub queue : ℕ
+  pub mode : ℕ
+  pub range : ℕ
+  pub id : ℕ
+  pub card : Card
+  pub noticed : IsNoticed queue mode range id card
+  pub is : text ≡ notice queue mode range id card

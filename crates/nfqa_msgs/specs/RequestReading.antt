@@ -1,0 +1,133 @@
+-- What a message asks: uapi linux/netfilter/nfnetlink_queue.h, and the kernel's `nfnetlink_rcv_msg`,
+-- `nfqnl_recv_config`, `nfqnl_recv_verdict` and `nfqnl_recv_verdict_batch`. That a short attribute is
+-- ERANGE is this project's.
+use Rattle.std.specs.Prelude.{◌≤◌, ℕ, Bool, true, false, not, ◌||◌, ◌==◌, nat_lt, if◌then◌else◌}
+use Rattle.std.specs.Prelude.{List, [], ◌∷◌, length, drop, Option, Some, None, IfSome, option_map}
+use Rattle.std.specs.Prelude.{bit_and}
+use Rattle.std.specs.List.{list_any}
+use Rattle.packet_entry.specs.Numbers.{longest_payload}
+use Rattle.netlink_codec.specs.Messages.{NetlinkMessage}
+use Rattle.netlink_codec.specs.Attributes.{Attribute, attributes}
+use Rattle.nfqa_msgs.specs.declared.request.Head.{Head}
+use Rattle.nfqa_msgs.specs.declared.request.Request.{Request}
+use Rattle.nfqa_msgs.specs.declared.request.Request.TheVariants.{Config, Verdict, Batch}
+use Rattle.nfqa_msgs.specs.declared.request.Decoded.{Decoded}
+use Rattle.nfqa_msgs.specs.declared.request.Decoded.TheVariants.{Nothing, Refused, Asked}
+use Rattle.nfqa_msgs.specs.Numbers.{request_flag, least_kind, queue_subsystem, queue_header_length}
+use Rattle.nfqa_msgs.specs.Numbers.{notice_number, verdict_number, config_number, batch_number}
+use Rattle.nfqa_msgs.specs.Numbers.{command_kind, params_kind, maxlen_kind, mask_kind, flags_kind}
+use Rattle.nfqa_msgs.specs.Numbers.{verdict_header_kind, mark_kind, payload_kind}
+use Rattle.nfqa_msgs.specs.Numbers.{command_length, params_length, verdict_header_length}
+use Rattle.nfqa_msgs.specs.Numbers.{value_length, einval, erange, eopnotsupp}
+use Rattle.nfqa_msgs.specs.Kinds.{subsystem_of, number_of}
+use Rattle.nfqa_msgs.specs.Headers.{value_in, value_field, queue_in, command_in, params_in, head_in}
+
+-- how many bytes a known attribute of a config request needs, by its kind (`nfqa_cfg_policy`); an
+-- unknown one needs none
+abbrev pub config_least : ℕ → ℕ
+config_least kind =
+    if kind == command_kind then command_length
+    else if kind == params_kind then params_length
+    else if kind == maxlen_kind then value_length
+    else if kind == mask_kind then value_length
+    else if kind == flags_kind then value_length
+    else 0
+
+-- the same for a verdict and a batch (`nfqa_verdict_policy`, `nfqa_verdict_batch_policy`); a payload may
+-- have no bytes
+abbrev pub verdict_least : ℕ → ℕ
+verdict_least kind =
+    if kind == verdict_header_kind then verdict_header_length
+    else if kind == mark_kind then value_length
+    else 0
+
+abbrev pub least_content : ℕ → ℕ → ℕ
+least_content number kind =
+    if number == config_number then config_least kind else verdict_least kind
+
+-- the attribute has fewer bytes than its kind needs in a message of this number
+abbrev pub is_short : ℕ → Attribute → Bool
+is_short number a = nat_lt (length a.content) (least_content number a.kind)
+
+-- the later of two contents, where there are two
+abbrev pub later : Option (List ℕ) → Option (List ℕ) → Option (List ℕ)
+later None first = first
+later (Some second) first = Some second
+
+-- the content of this kind: of a kind that repeats, the last one counts
+abbrev pub last_content : ℕ → List Attribute → Option (List ℕ)
+last_content kind [] = None
+last_content kind (a ∷ row) =
+    later (last_content kind row) (if a.kind == kind then Some a.content else None)
+
+-- the number that an attribute of this kind says
+abbrev pub last_value : ℕ → List Attribute → Option ℕ
+last_value kind row = option_map (value_in value_field) (last_content kind row)
+
+-- verdict and id that a verdict or a batch says
+abbrev pub last_head : List Attribute → Option Head
+last_head row = option_map head_in (last_content verdict_header_kind row)
+
+-- the request of a message of this number for this queue, with this row of attributes
+abbrev pub config_in : ℕ → List Attribute → Request
+config_in queue row = Config queue
+    (option_map command_in (last_content command_kind row))
+    (option_map params_in (last_content params_kind row))
+    (last_value maxlen_kind row)
+    (last_value flags_kind row)
+    (last_value mask_kind row)
+
+abbrev pub verdict_in : ℕ → List Attribute → Request
+verdict_in queue row =
+    Verdict queue (last_head row) (last_value mark_kind row) (last_content payload_kind row)
+
+abbrev pub batch_in : ℕ → List Attribute → Request
+batch_in queue row = Batch queue (last_head row) (last_value mark_kind row)
+
+unfoldable pub request_in : ℕ → ℕ → List Attribute → Request
+request_in number queue row =
+    if number == config_number then config_in queue row
+    else if number == verdict_number then verdict_in queue row
+    else batch_in queue row
+
+-- the attributes in a message's body
+abbrev pub row_in : List ℕ → List Attribute
+row_in body = attributes (drop queue_header_length body)
+
+-- the message is of no number of the subsystem of queues
+abbrev pub is_foreign : NetlinkMessage → Bool
+is_foreign m = not (subsystem_of m.kind == queue_subsystem) || nat_lt batch_number (number_of m.kind)
+
+-- what a message is decoded to: the first line that applies decides
+unfoldable pub decoded : NetlinkMessage → Decoded
+decoded m =
+    if bit_and m.flags request_flag == 0 then Nothing
+    else if nat_lt m.kind least_kind then Nothing
+    else if nat_lt (length m.body) queue_header_length then Nothing
+    else if is_foreign m then Refused einval
+    else if number_of m.kind == notice_number then Refused eopnotsupp
+    else if list_any (is_short (number_of m.kind)) (row_in m.body) then Refused erange
+    else Asked (request_in (number_of m.kind) (queue_in m.body) (row_in m.body))
+
+-- a payload has no more bytes than one attribute holds
+abbrev pub PayloadFits : Request → Type 0
+PayloadFits (Config queue command params maxlen flags mask) = Unit {0}
+PayloadFits (Verdict queue head mark payload) = IfSome payload (λ bytes. length bytes ≤ longest_payload)
+PayloadFits (Batch queue head mark) = Unit {0}
+
+abbrev pub AskedFits : Decoded → Type 0
+AskedFits Nothing = Unit {0}
+AskedFits (Refused errno) = Unit {0}
+AskedFits (Asked request) = PayloadFits request
+
+-- the request has bytes for a packet's place
+abbrev pub has_payload : Request → Bool
+has_payload (Config queue command params maxlen flags mask) = false
+has_payload (Verdict queue head mark None) = false
+has_payload (Verdict queue head mark (Some bytes)) = true
+has_payload (Batch queue head mark) = false
+
+abbrev pub asks_with_payload : Decoded → Bool
+asks_with_payload Nothing = false
+asks_with_payload (Refused errno) = false
+asks_with_payload (Asked request) = has_payload request

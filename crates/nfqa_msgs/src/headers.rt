@@ -1,0 +1,10 @@
+//! The headers of queue messages and of their attributes, one module a header: its table of fields, its
+//! reader and its writer. Numbers have their highest byte first.
+
+pub(crate) mod command;
+pub(crate) mod packet_address;
+pub(crate) mod packet_header;
+pub(crate) mod params;
+pub(crate) mod queue_header;
+pub(crate) mod timestamp;
+pub(crate) mod verdict_header;

@@ -1,0 +1,46 @@
+//! The header before the attributes, `struct nfgenmsg`:
+//!
+//! | Place | Width | Field |
+//! |---|---|---|
+//! | 0 | 1 | address family; nobody reads a request's |
+//! | 1 | 1 | version, 0; nobody reads it |
+//! | 2 | 2 | number of the queue |
+
+ghost use Rattle.std.specs.Prelude.{◌≡◌, ◌≤◌, length, IfOk};
+ghost use Rattle.nfqa_msgs.specs.Numbers.{queue_header_length};
+ghost use Rattle.nfqa_msgs.specs.Headers.{queue_header, queue_in};
+
+use byteorder::{BigEndian, ByteOrder};
+use std::alloc::{AllocError, Global};
+
+/// The header's bytes.
+pub(crate) const QUEUE_HEADER_LENGTH: usize = 4;
+/// Where the address family stands.
+const FAMILY_AT: usize = 0;
+/// Where the queue's number begins.
+const QUEUE_AT: usize = 2;
+
+/// The address family of a request. (`AF_UNSPEC`)
+pub(crate) const ANY_FAMILY: u8 = 0;
+/// The address family of an IPv4 packet. (`AF_INET`)
+pub(crate) const IPV4_FAMILY: u8 = 2;
+/// The address family of an IPv6 packet. (`AF_INET6`)
+pub(crate) const IPV6_FAMILY: u8 = 10;
+
+/// The number of the queue in a message's body.
+pub(crate) fn read_queue(body: &[u8]) -> u16
+    requires { queue_header_length ≤ length body.now }
+    ensures { result ≡ queue_in body.now }
+{
+    BigEndian::read_u16(&body[QUEUE_AT..])
+}
+
+/// A body that has its header alone.
+pub(crate) fn begin_body(alloc: Global, family: u8, queue: u16) -> Result<Vec<u8>, AllocError>
+    ensures { IfOk result (λ body. body.items ≡ queue_header family queue) }
+{
+    let mut header = [0; QUEUE_HEADER_LENGTH];
+    header[FAMILY_AT] = family;
+    BigEndian::write_u16(&mut header[QUEUE_AT..], queue);
+    Vec::from_slice(alloc, &header)
+}

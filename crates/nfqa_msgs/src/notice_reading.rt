@@ -1,0 +1,195 @@
+//! Notices, read from messages.
+
+ghost use Rattle.std.specs.Prelude.{◌≡◌, ◌≤◌, ◌+◌, ◌↔◌, ℕ, length, option_map, unwrap_or};
+ghost use Rattle.std.specs.Prelude.{IfSome, IfOk, IsNone, Some};
+ghost use Rattle.packet_entry.specs.Numbers.{longest_payload};
+ghost use Rattle.packet_entry.specs.Fields.{IsProtocol};
+ghost use Rattle.netlink_codec.specs.Attributes.{attributes};
+ghost use Rattle.nfqa_msgs.specs.Numbers.{hardware_address_length};
+ghost use Rattle.nfqa_msgs.specs.Headers.{field};
+ghost use Rattle.nfqa_msgs.specs.NoticeWriting.{Told, FitsTold, notice_text};
+ghost use Rattle.nfqa_msgs.specs.Telling.{telling};
+ghost use Rattle.nfqa_msgs.specs.NoticeReading as read;
+ghost use Rattle.nfqa_msgs.specs.Read.{notice_of, IsNoNotice};
+
+use crate::attribute_reading::last_of;
+use crate::headers::packet_address::{ADDRESS_AT, ADDRESS_LENGTH, PACKET_ADDRESS_LENGTH};
+use crate::headers::packet_header::{ID_AT, PACKET_HEADER_LENGTH, PROTOCOL_AT};
+use crate::headers::queue_header::{QUEUE_HEADER_LENGTH, read_queue};
+use crate::headers::timestamp::{LOW_HALF_AT, MICROS_AT, SECONDS_AT, TIMESTAMP_LENGTH};
+use crate::kinds::{
+    FULL_LENGTH, HARDWARE_ADDRESS, MARK, PACKET_HEADER, PAYLOAD, TIMESTAMP, VALUE_LENGTH,
+};
+use crate::laws::notices_are_told_apart;
+use crate::notice::{Notice, Telling};
+use crate::notice_writing::put_notice;
+use byteorder::{BigEndian, ByteOrder};
+use netlink_codec::next_message;
+use packet_entry::{Bytes, IPV4, IPV6, NoMemory};
+use std::alloc::Global;
+
+/// What a notice tells, where the bytes are one: exactly the text that a queue writes for some id, packet
+/// and copy mode, without a byte more or less. `None` for all other bytes.
+pub fn decode_notice(alloc: Global, bytes: &[u8]) -> Result<Option<Notice>, NoMemory>
+    ensures found { IfOk result (λ answer. IfSome answer (λ notice.
+        (told : Told) × FitsTold told × (bytes.now ≡ notice_text told) × (notice ≡ notice_of told))) }
+    ensures only { (told : Told) → FitsTold told → bytes.now ≡ notice_text told →
+        IfOk result (λ answer. answer ≡ Some (notice_of told)) }
+    ensures none { IfOk result (λ answer. IsNone answer ↔ IsNoNotice bytes.now) }
+{
+    match told_exactly(alloc, bytes)? {
+        None => Ok(None),
+        Some(told) => Ok(Some(owned(alloc, &told)?)),
+    }
+}
+
+fn owned(alloc: Global, told: &Telling<'_>) -> Result<Notice, NoMemory>
+    requires { FitsTold (telling told.now) }
+    ensures { IfOk result (λ notice. notice ≡ notice_of (telling told.now)) }
+{
+    Ok(Notice {
+        queue: told.queue,
+        id: told.id,
+        protocol: told.protocol,
+        mark: told.mark,
+        length: match told.cut_from {
+            None => told.payload.len() as u32,
+            Some(length) => length,
+        },
+        payload: Bytes::copy(alloc, told.payload)?,
+    })
+}
+
+/// What the bytes tell, where they are the text of that: what is read is written again, and compared.
+fn told_exactly(alloc: Global, bytes: &[u8]) -> Result<Option<Telling<'_>>, NoMemory>
+    ensures found { IfOk result (λ answer. IfSome answer (λ told.
+        FitsTold (telling told) × (bytes.now ≡ notice_text (telling told)))) }
+    ensures only { (told : Told) → FitsTold told → bytes.now ≡ notice_text told →
+        IfOk result (λ answer. option_map telling answer ≡ Some told) }
+{
+    // By this law what a notice tells is what is read from its text.
+    notices_are_told_apart();
+    match told_by(bytes) {
+        None => Ok(None),
+        Some(told) => {
+            let mut text = Vec::new(alloc);
+            put_notice(&mut text, &told)?;
+            if text.as_slice() == bytes {
+                Ok(Some(told))
+            } else {
+                Ok(None)
+            }
+        }
+    }
+}
+
+#[tactic(auto, unfolding(crate::specs::NoticeReading::told_by))]
+fn told_by(bytes: &[u8]) -> Option<Telling<'_>>
+    ensures value { option_map telling result ≡ read.told_by bytes.now }
+    ensures fits { IfSome result (λ told. FitsTold (telling told)) }
+{
+    let (message, _) = next_message(bytes)?;
+    if message.body.len() < QUEUE_HEADER_LENGTH {
+        return None;
+    }
+    let queue = read_queue(message.body);
+    Some(told_in(queue, &message.body[QUEUE_HEADER_LENGTH..]))
+}
+
+#[tactic(auto, unfolding(crate::specs::NoticeReading::told_in))]
+fn told_in(queue: u16, row: &[u8]) -> Telling<'_>
+    ensures value { telling result ≡ read.told_in queue (attributes row.now) }
+    ensures fits { FitsTold (telling result) }
+{
+    let payload = payload_at(row);
+    Telling {
+        queue,
+        id: value_at(row, PACKET_HEADER, PACKET_HEADER_LENGTH, ID_AT),
+        protocol: protocol_at(row),
+        mark: value_at(row, MARK, VALUE_LENGTH, 0),
+        source: source_at(row),
+        seconds: value_at(row, TIMESTAMP, TIMESTAMP_LENGTH, SECONDS_AT + LOW_HALF_AT),
+        micros: value_at(row, TIMESTAMP, TIMESTAMP_LENGTH, MICROS_AT + LOW_HALF_AT),
+        cut_from: above(payload.len(), value_at(row, FULL_LENGTH, VALUE_LENGTH, 0)),
+        payload,
+    }
+}
+
+fn long_of(row: &[u8], kind: u16, least: usize) -> Option<&[u8]>
+    ensures value { option_map (λ content. content.now) result ≡ read.long_content kind least (attributes row.now) }
+    ensures long { IfSome result (λ content. least ≤ length content.now) }
+{
+    match last_of(row, kind) {
+        None => None,
+        Some(content) => at_least(content, least),
+    }
+}
+
+fn at_least(content: &[u8], least: usize) -> Option<&[u8]>
+    ensures value { option_map (λ content. content.now) result ≡ read.at_least least (Some content.now) }
+    ensures long { IfSome result (λ content. least ≤ length content.now) }
+{
+    if content.len() < least {
+        None
+    } else {
+        Some(content)
+    }
+}
+
+/// The number at this place of the content of this kind, which has at least `least` bytes; else 0.
+fn value_at(row: &[u8], kind: u16, least: usize, place: usize) -> u32
+    requires { place + 4 ≤ least }
+    ensures { result ≡ read.value_at kind least (field place 4) (attributes row.now) }
+{
+    match long_of(row, kind, least) {
+        None => 0,
+        Some(content) => BigEndian::read_u32(&content[place..]),
+    }
+}
+
+fn protocol_at(row: &[u8]) -> u16
+    ensures value { result ≡ read.protocol_at (attributes row.now) }
+    ensures one_of_two { IsProtocol result }
+{
+    match long_of(row, PACKET_HEADER, PACKET_HEADER_LENGTH) {
+        None => nearest_protocol(0),
+        Some(content) => nearest_protocol(BigEndian::read_u16(&content[PROTOCOL_AT..])),
+    }
+}
+
+fn nearest_protocol(protocol: u16) -> u16
+    ensures value { result ≡ read.nearest_protocol protocol }
+    ensures one_of_two { IsProtocol result }
+{
+    if protocol == IPV6 { IPV6 } else { IPV4 }
+}
+
+fn source_at(row: &[u8]) -> Option<&[u8]>
+    ensures value { option_map (λ source. source.now) result ≡ read.source_at (attributes row.now) }
+    ensures length { IfSome result (λ source. length source.now ≡ hardware_address_length) }
+{
+    match long_of(row, HARDWARE_ADDRESS, PACKET_ADDRESS_LENGTH) {
+        None => None,
+        Some(content) => Some(&content[ADDRESS_AT..ADDRESS_AT + ADDRESS_LENGTH]),
+    }
+}
+
+fn payload_at(row: &[u8]) -> &[u8]
+    ensures value { result.now ≡ read.payload_at (attributes row.now) }
+    ensures limit { length result.now ≤ longest_payload }
+{
+    match last_of(row, PAYLOAD) {
+        None => &[],
+        Some(content) => content,
+    }
+}
+
+fn above(length: usize, number: u32) -> Option<u32>
+    ensures { result ≡ read.above length number }
+{
+    if length < number as usize {
+        Some(number)
+    } else {
+        None
+    }
+}

@@ -1,0 +1,172 @@
+//! Notices, written as messages.
+
+ghost use Rattle.std.specs.Prelude.{◌≡◌, ◌≤◌, ◌++◌, ◌||◌, ◌==◌, length, option_map, OnOk, OnErr};
+ghost use Rattle.std.specs.Prelude.{IfSome, IfOk, IsTrue};
+ghost use Rattle.packet_entry.specs.Numbers.{longest_packet, longest_payload};
+ghost use Rattle.packet_entry.specs.Fields.{IsLinkLength};
+ghost use Rattle.netlink_codec.specs.Attributes.{attributes_text};
+ghost use Rattle.nfqa_msgs.specs.Numbers.{copy_meta, copy_packet, longest_range, mark_kind};
+ghost use Rattle.nfqa_msgs.specs.Numbers.{payload_kind, hardware_address_length};
+ghost use Rattle.nfqa_msgs.specs.RequestWriting.{part};
+ghost use Rattle.nfqa_msgs.specs.NoticeWriting.{FitsTold, notice, notice_text, notice_body, told_of};
+ghost use Rattle.nfqa_msgs.specs.NoticeWriting.{source_in, cut_of, told_bytes, family_of};
+ghost use Rattle.nfqa_msgs.specs.NoticeWriting.{mark_content, payload_content};
+ghost use Rattle.nfqa_msgs.specs.Telling.{telling};
+
+use crate::PACKET;
+use crate::attribute_writing::{put_part, put_value};
+use crate::headers::packet_address::{ADDRESS_LENGTH, put_address};
+use crate::headers::packet_header::put_packet_header;
+use crate::headers::queue_header::{IPV4_FAMILY, IPV6_FAMILY, begin_body};
+use crate::headers::timestamp::put_stamp;
+use crate::kinds::{
+    FULL_LENGTH, INPUT_DEVICE, MARK, NOTICE, NUMBERS, OUTPUT_DEVICE, PAYLOAD, QUEUE_SUBSYSTEM,
+};
+use crate::notice::Telling;
+use netlink_codec::put_message;
+use packet_entry::{IPV4, NoMemory, Packet};
+use std::alloc::{AllocError, Global};
+
+/// The index of the device by which every packet comes in.
+const INPUT: u32 = 1;
+/// The index of the device by which every packet goes out.
+const OUTPUT: u32 = 2;
+
+/// Where the source address begins in an Ethernet header, after the destination's 6 bytes.
+const LINK_SOURCE_AT: usize = 6;
+
+/// Appends the notice of a packet that waits in `queue` under `id`: of all packets the id, the Ethernet
+/// type, the devices, the mark unless it is 0, the source address of an Ethernet header and the time of
+/// capture; under the mode `PACKET` its first `range` bytes, and its length where that is more.
+///
+/// `NoMemory` leaves `out` as it was.
+pub fn encode_notice(
+    queue: u16,
+    id: u32,
+    mode: u8,
+    range: u32,
+    packet: &Packet,
+    out: &mut Vec<u8>,
+) -> Result<(), NoMemory>
+    requires mode { IsTrue ((mode == copy_meta) || (mode == copy_packet)) }
+    requires range { range ≤ longest_range }
+    ensures ok { OnOk result (out.new.items ≡ out.old.items ++ notice queue mode range id packet.now) }
+    ensures err { OnErr result (out.new.items ≡ out.old.items) }
+    // What is told is what a notice can tell, so that it is read back.
+    ensures fits { FitsTold (told_of queue mode range id packet.now) }
+{
+    let told = telling_of(queue, id, mode, range, packet);
+    put_notice(out, &told)?;
+    Ok(())
+}
+
+/// What is told of a packet.
+fn telling_of(queue: u16, id: u32, mode: u8, range: u32, packet: &Packet) -> Telling<'_>
+    requires { range ≤ longest_range }
+    ensures value { telling result ≡ told_of queue mode range id packet.now }
+    ensures fits { FitsTold (telling result) }
+{
+    let bytes = packet.bytes();
+    Telling {
+        queue,
+        id,
+        protocol: packet.protocol(),
+        mark: packet.mark(),
+        source: source_address(packet.link()),
+        seconds: packet.seconds(),
+        micros: packet.micros(),
+        cut_from: cut_length(mode, range, bytes),
+        payload: first_bytes(mode, range, bytes),
+    }
+}
+
+/// The source address in an Ethernet header.
+fn source_address(link: &[u8]) -> Option<&[u8]>
+    requires { IsLinkLength (length link.now) }
+    ensures value { option_map (λ source. source.now) result ≡ source_in link.now }
+    ensures length { IfSome result (λ source. length source.now ≡ hardware_address_length) }
+{
+    if link.is_empty() {
+        return None;
+    }
+    Some(&link[LINK_SOURCE_AT..LINK_SOURCE_AT + ADDRESS_LENGTH])
+}
+
+/// The packet's length, where it is told.
+fn cut_length(mode: u8, range: u32, bytes: &[u8]) -> Option<u32>
+    requires { length bytes.now ≤ longest_packet }
+    ensures { result ≡ cut_of mode range bytes.now }
+{
+    if mode == PACKET && (range as usize) < bytes.len() {
+        Some(bytes.len() as u32)
+    } else {
+        None
+    }
+}
+
+/// The bytes that are told.
+fn first_bytes(mode: u8, range: u32, bytes: &[u8]) -> &[u8]
+    ensures { result.now ≡ told_bytes mode range bytes.now }
+{
+    if mode == PACKET {
+        &bytes[..bytes.len().min(range as usize)]
+    } else {
+        &[]
+    }
+}
+
+/// Appends a notice, or nothing.
+pub(crate) fn put_notice(out: &mut Vec<u8>, told: &Telling<'_>) -> Result<(), AllocError>
+    requires { FitsTold (telling told.now) }
+    ensures ok { OnOk result (out.new.items ≡ out.old.items ++ notice_text (telling told.now)) }
+    ensures err { OnErr result (out.new.items ≡ out.old.items) }
+{
+    let body = body_of(*out.allocator(), told)?;
+    put_message(out, QUEUE_SUBSYSTEM * NUMBERS + NOTICE, 0, 0, 0, &body)
+}
+
+/// The bytes after the message's header.
+fn body_of(alloc: Global, told: &Telling<'_>) -> Result<Vec<u8>, AllocError>
+    requires { FitsTold (telling told.now) }
+    ensures { IfOk result (λ body. body.items ≡ notice_body (telling told.now)) }
+{
+    let mut body = begin_body(alloc, family(told.protocol), told.queue)?;
+    put_packet_header(&mut body, told.id, told.protocol)?;
+    put_value(&mut body, INPUT_DEVICE, Some(INPUT))?;
+    put_value(&mut body, OUTPUT_DEVICE, Some(OUTPUT))?;
+    put_mark(&mut body, told.mark)?;
+    put_address(&mut body, told.source)?;
+    put_stamp(&mut body, told.seconds, told.micros)?;
+    put_value(&mut body, FULL_LENGTH, told.cut_from)?;
+    put_payload(&mut body, told.payload)?;
+    Ok(body)
+}
+
+fn family(protocol: u16) -> u8
+    ensures { result ≡ family_of protocol }
+{
+    if protocol == IPV4 {
+        IPV4_FAMILY
+    } else {
+        IPV6_FAMILY
+    }
+}
+
+fn put_mark(body: &mut Vec<u8>, mark: u32) -> Result<(), AllocError>
+    ensures { OnOk result (body.new.items ≡ body.old.items ++ attributes_text (part mark_kind (mark_content mark))) }
+{
+    if mark == 0 {
+        return Ok(());
+    }
+    put_value(body, MARK, Some(mark))
+}
+
+fn put_payload(body: &mut Vec<u8>, payload: &[u8]) -> Result<(), AllocError>
+    requires { length payload.now ≤ longest_payload }
+    ensures { OnOk result (body.new.items ≡ body.old.items ++ attributes_text (part payload_kind (payload_content payload.now))) }
+{
+    if payload.is_empty() {
+        return Ok(());
+    }
+    put_part(body, PAYLOAD, payload)
+}

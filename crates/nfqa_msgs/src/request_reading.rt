@@ -1,0 +1,119 @@
+//! Requests, read from messages.
+
+ghost use Rattle.std.specs.Prelude.{◌≡◌, ◌≤◌, IfOk, IsOk, false};
+ghost use Rattle.std.specs.List.{list_any};
+ghost use Rattle.netlink_codec.specs.Messages.{message_of};
+ghost use Rattle.netlink_codec.specs.Attributes.{attributes};
+ghost use Rattle.nfqa_msgs.specs.Numbers.{verdict_number, config_number, batch_number};
+ghost use Rattle.nfqa_msgs.specs.RequestReading.{decoded, request_in, config_in, verdict_in, batch_in};
+ghost use Rattle.nfqa_msgs.specs.RequestReading.{is_short, AskedFits, PayloadFits, has_payload};
+ghost use Rattle.nfqa_msgs.specs.RequestReading.{asks_with_payload};
+
+use crate::attribute_reading::{command_of, has_short, head_of, params_of, payload_of, read_value};
+use crate::headers::queue_header::{QUEUE_HEADER_LENGTH, read_queue};
+use crate::kinds::{
+    BATCH, CONFIG, FLAGS, LEAST_KIND, MARK, MASK, MAXLEN, NOTICE, NUMBERS, QUEUE_SUBSYSTEM,
+    REQUEST_FLAG, VERDICT,
+};
+use crate::{Decoded, EINVAL, EOPNOTSUPP, ERANGE, Request};
+use netlink_codec::Message;
+use packet_entry::NoMemory;
+use std::alloc::Global;
+
+/// What a message asks. Known attributes are checked in the order in which they stand, each
+/// occurrence; of a kind that repeats the last counts, a longer content is taken by its first bytes,
+/// and other kinds are passed over.
+///
+/// `Nothing` is for a message without the flag `NLM_F_REQUEST`, of a kind below 16, or with fewer
+/// than 4 bytes after its header; then `Refused` with `EINVAL` for one of another subsystem or an
+/// unknown number, with `EOPNOTSUPP` for one of a notice's number, and with `ERANGE` where a known
+/// attribute is too short.
+#[tactic(auto, unfolding(crate::specs::RequestReading::decoded))]
+pub fn decode_request(alloc: Global, message: &Message<'_>) -> Result<Decoded, NoMemory>
+    ensures value { IfOk result (λ answer. answer ≡ decoded (message_of message.now)) }
+    // A payload has at most 65,531 bytes.
+    ensures payload { IfOk result AskedFits }
+    // Memory is taken for a payload alone.
+    ensures no_memory { asks_with_payload (decoded (message_of message.now)) ≡ false → IsOk result }
+{
+    if message.flags & REQUEST_FLAG == 0 {
+        return Ok(Decoded::Nothing);
+    }
+    if message.kind < LEAST_KIND {
+        return Ok(Decoded::Nothing);
+    }
+    if message.body.len() < QUEUE_HEADER_LENGTH {
+        return Ok(Decoded::Nothing);
+    }
+    let number = message.kind % NUMBERS;
+    if message.kind / NUMBERS != QUEUE_SUBSYSTEM || BATCH < number {
+        return Ok(Decoded::Refused { errno: EINVAL });
+    }
+    if number == NOTICE {
+        return Ok(Decoded::Refused { errno: EOPNOTSUPP });
+    }
+    let queue = read_queue(message.body);
+    let row = &message.body[QUEUE_HEADER_LENGTH..];
+    if has_short(number, row) {
+        return Ok(Decoded::Refused { errno: ERANGE });
+    }
+    let request = request_of(alloc, number, queue, row)?;
+    Ok(Decoded::Asked { request })
+}
+
+/// The request of a message of this number.
+#[tactic(auto, unfolding(crate::specs::RequestReading::request_in))]
+fn request_of(alloc: Global, number: u16, queue: u16, row: &[u8]) -> Result<Request, NoMemory>
+    requires number { (verdict_number ≤ number) × (number ≤ batch_number) }
+    requires whole { list_any (is_short number) (attributes row.now) ≡ false }
+    ensures value { IfOk result (λ request. request ≡ request_in number queue (attributes row.now)) }
+    ensures payload { IfOk result PayloadFits }
+    ensures no_memory { has_payload (request_in number queue (attributes row.now)) ≡ false → IsOk result }
+{
+    match number {
+        CONFIG => Ok(config_of(queue, row)),
+        VERDICT => verdict_of(alloc, queue, row),
+        _ => Ok(batch_of(queue, row)),
+    }
+}
+
+fn config_of(queue: u16, row: &[u8]) -> Request
+    requires { list_any (is_short config_number) (attributes row.now) ≡ false }
+    ensures value { result ≡ config_in queue (attributes row.now) }
+    ensures payload { PayloadFits result }
+{
+    Request::Config {
+        queue,
+        command: command_of(row),
+        params: params_of(row),
+        maxlen: read_value(CONFIG, row, MAXLEN),
+        flags: read_value(CONFIG, row, FLAGS),
+        mask: read_value(CONFIG, row, MASK),
+    }
+}
+
+fn verdict_of(alloc: Global, queue: u16, row: &[u8]) -> Result<Request, NoMemory>
+    requires { list_any (is_short verdict_number) (attributes row.now) ≡ false }
+    ensures value { IfOk result (λ request. request ≡ verdict_in queue (attributes row.now)) }
+    ensures payload { IfOk result PayloadFits }
+    ensures no_memory { has_payload (verdict_in queue (attributes row.now)) ≡ false → IsOk result }
+{
+    Ok(Request::Verdict {
+        queue,
+        head: head_of(VERDICT, row),
+        mark: read_value(VERDICT, row, MARK),
+        payload: payload_of(alloc, row)?,
+    })
+}
+
+fn batch_of(queue: u16, row: &[u8]) -> Request
+    requires { list_any (is_short batch_number) (attributes row.now) ≡ false }
+    ensures value { result ≡ batch_in queue (attributes row.now) }
+    ensures payload { PayloadFits result }
+{
+    Request::Batch {
+        queue,
+        head: head_of(BATCH, row),
+        mark: read_value(BATCH, row, MARK),
+    }
+}
