@@ -1,7 +1,9 @@
 //! One name of the machine in memory: its file, its room and its faults.
-ghost use Rattle.std.specs.Prelude.{◌≡◌, ◌-◌, ◌≤◌, ◌⊎◌, ◌++◌, length, take, drop, unwrap_or, option_copied, is_none, IfOk, OnOk, OnErr, IsErr, IsTrue, ◌↔◌, None};
+
+ghost use Rattle.std.specs.Prelude.{◌≡◌, ◌-◌, ◌≤◌, ◌⊎◌, length, take, unwrap_or, option_copied};
+ghost use Rattle.std.specs.Prelude.{IfOk, OnOk, OnErr, None};
 ghost use Rattle.host_io.specs.Host.{bytes_of};
-ghost use Rattle.host_io.specs.Machine.{is_named, raised, stored};
+ghost use Rattle.host_io.specs.Machine.{bare_entry, is_named, with_fault, stored};
 
 use crate::Failed;
 use std::alloc::{AllocError, Global};
@@ -14,7 +16,14 @@ pub(crate) struct Faults {
     pub(crate) write: u64,
 }
 
-/// The vector keeps memory for the room, so that no write takes any.
+/// The calls whose failures a name counts apart.
+#[derive(Clone, Copy)]
+pub(crate) enum Call {
+    Read,
+    Write,
+}
+
+/// What a name has. The vector keeps memory for the room, so that no write takes any.
 #[derive(Drop)]
 pub(crate) struct Entry {
     name: String,
@@ -25,7 +34,8 @@ pub(crate) struct Entry {
 }
 
 impl Model for Entry {
-    ghost use Rattle.std.specs.Prelude.{◌≡◌, ◌≤◌, [], if◌then◌else◌, unwrap_or, IsFalse, Some, None};
+    ghost use Rattle.std.specs.Prelude.{◌≡◌, ◌≤◌, [], if◌then◌else◌, unwrap_or, IsFalse, Some};
+    ghost use Rattle.std.specs.Prelude.{None};
     ghost use Rattle.std.specs.String.{string_bytes};
     ghost use Rattle.std.specs.Vec.{vec_capacity};
     ghost use Rattle.host_io.specs.Machine as machine;
@@ -47,13 +57,7 @@ impl Model for Entry {
 impl Entry {
     /// A name with neither file nor room.
     pub(crate) fn new(alloc: Global, name: &str, faults: Faults) -> Result<Entry, AllocError>
-        ensures { IfOk result (λ entry. entry ≡ record {
-          name = name.now;
-          content = None;
-          room = None;
-          read_faults = faults.read;
-          write_faults = faults.write;
-        }) }
+        ensures { IfOk result (λ entry. entry ≡ bare_entry name.now faults.read faults.write) }
     {
         Ok(Entry {
             name: String::from_str(alloc, name)?,
@@ -86,6 +90,7 @@ impl Entry {
         self.room
     }
 
+    /// Makes a file of these bytes, in place of the one that is there.
     pub(crate) fn put(&mut self, bytes: &[u8]) -> Result<(), AllocError>
         ensures ok { OnOk result (self.new ≡ record self.old { content = Some bytes.now }) }
         ensures err { OnErr result (self.new ≡ self.old) }
@@ -98,6 +103,7 @@ impl Entry {
         Ok(())
     }
 
+    /// Sets the room, and keeps the file.
     pub(crate) fn give_room(&mut self, bytes: u64) -> Result<(), AllocError>
         ensures ok { OnOk result (self.new ≡ record self.old { room = Some bytes }) }
         ensures err { OnErr result (self.new ≡ self.old) }
@@ -108,16 +114,14 @@ impl Entry {
         Ok(())
     }
 
-    pub(crate) fn count_read_fault(&mut self)
-        ensures { self.new ≡ record self.old { read_faults = raised self.old.read_faults } }
+    /// Counts one more failed call.
+    pub(crate) fn count_fault(&mut self, call: Call)
+        ensures { self.new ≡ with_fault call self.old }
     {
-        self.faults.read = self.faults.read.saturating_add(1);
-    }
-
-    pub(crate) fn count_write_fault(&mut self)
-        ensures { self.new ≡ record self.old { write_faults = raised self.old.write_faults } }
-    {
-        self.faults.write = self.faults.write.saturating_add(1);
+        match call {
+            Call::Read => self.faults.read = self.faults.read.saturating_add(1),
+            Call::Write => self.faults.write = self.faults.write.saturating_add(1),
+        }
     }
 
     /// Stores the first `count` bytes of the piece at place `at`, which is 0 or the file's length.
@@ -131,7 +135,7 @@ impl Entry {
         self.bytes.extend_from_slice(&piece[..count]).unwrap();
         self.is_present = true;
         if count == 0 && !piece.is_empty() {
-            self.faults.write = self.faults.write.saturating_add(1);
+            self.count_fault(Call::Write);
         }
     }
 }

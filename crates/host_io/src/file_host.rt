@@ -1,5 +1,7 @@
 //! The thin edge to real files.
-ghost use Rattle.std.specs.Prelude.{◌≡◌, ◌+◌, ◌<◌, ◌≤◌, ◌==◌, ◌&&◌, not, false, length, None, if◌then◌else◌, IfOk, MatchResult};
+
+ghost use Rattle.std.specs.Prelude.{◌≡◌, ◌+◌, ◌<◌, ◌≤◌, ◌==◌, ◌&&◌, not, false, length, None};
+ghost use Rattle.std.specs.Prelude.{if◌then◌else◌, IfOk, MatchResult};
 ghost use Rattle.host_io.specs.Machine.{raised};
 
 use crate::{Failed, Host};
@@ -9,14 +11,16 @@ use std::marker::Model;
 use std::rt::Files;
 use std::{fs, io};
 
+/// The name that stands for standard output.
 const STANDARD_OUTPUT: &str = "-";
 
-/// The files of the system, by their paths, and standard output as `-`. It doesn't tell what they hold.
+/// The files of the system, by their paths, and standard output as `-`. It doesn't tell what they
+/// hold.
 ///
-/// Contracts see it as its one counter, which stands for both counts of every name: it rises at each
-/// failure and at each write that takes nothing of a piece that isn't empty. A file is opened anew for
-/// each call, so calls with large pieces are the fast ones. Beside what the system takes to open a file
-/// no call takes memory.
+/// Contracts see it as its one counter, which stands for both counts of every name: it rises at
+/// each failure and at each write that takes nothing of a piece that isn't empty. A file is opened
+/// anew for each call, so few calls with large pieces are the fast way. No call takes memory beyond
+/// what the system takes to open a file.
 #[derive(Drop)]
 pub struct FileHost<R: Files + Print + Drop> {
     runtime: R,
@@ -39,6 +43,7 @@ impl<R: Files + Print + Drop> FileHost<R> {
         FileHost { runtime, faults: 0 }
     }
 
+    /// Raises the counter, which stands still at its last value.
     fn count_fault(&mut self)
         ensures { self.new ≡ raised self.old }
     {
@@ -61,7 +66,9 @@ impl<R: Files + Print + Drop> Host for FileHost<R> {
 
     fn read(&mut self, name: &str, at: u64, out: &mut [u8]) -> Result<usize, Failed>
         ensures within { IfOk result (λ n. n ≤ length out.old) }
-        ensures counter { MatchResult result (λ _. self.new ≡ self.old) (λ _. self.new ≡ raised self.old) }
+        ensures counter { MatchResult result
+            (λ _. self.new ≡ self.old)
+            (λ _. self.new ≡ raised self.old) }
     {
         match read_from(&self.runtime, name, at, out) {
             Ok(n) => Ok(n),
@@ -75,7 +82,8 @@ impl<R: Files + Print + Drop> Host for FileHost<R> {
     fn write(&mut self, name: &str, at: u64, piece: &[u8]) -> Result<usize, Failed>
         ensures within { IfOk result (λ n. n ≤ length piece.now) }
         ensures counter { MatchResult result
-            (λ n. self.new ≡ (if n == 0 && not (length piece.now == 0) then raised self.old else self.old))
+            (λ n. self.new ≡
+            (if n == 0 && not (length piece.now == 0) then raised self.old else self.old))
             (λ _. self.new ≡ raised self.old) }
     {
         match write_to(&self.runtime, name, at, piece) {
@@ -93,6 +101,7 @@ impl<R: Files + Print + Drop> Host for FileHost<R> {
     }
 }
 
+/// Reads from place `at` on.
 fn read_from<R: Files>(files: &R, path: &str, at: u64, out: &mut [u8]) -> io::Result<usize>
     ensures { IfOk result (λ n. n ≤ length out.old) }
 {
@@ -101,7 +110,8 @@ fn read_from<R: Files>(files: &R, path: &str, at: u64, out: &mut [u8]) -> io::Re
     file.read(out)
 }
 
-// At place 0 the file is made anew, and what standard output has got stays.
+/// Stores a prefix of the piece. At place 0 the file is made anew, and what standard output has got
+/// stays.
 fn write_to<R: Files + Print>(runtime: &R, path: &str, at: u64, piece: &[u8]) -> io::Result<usize>
     ensures { IfOk result (λ n. n ≤ length piece.now) }
 {
@@ -116,3 +126,6 @@ fn write_to<R: Files + Print>(runtime: &R, path: &str, at: u64, piece: &[u8]) ->
     file.seek(SeekFrom::Start(at))?;
     file.write(piece)
 }
+
+#[cfg(test)]
+mod tests;

@@ -1,5 +1,7 @@
 //! Whole files, over any host.
-ghost use Rattle.std.specs.Prelude.{◌≡◌, ◌⊎◌, ◌+◌, ◌<◌, ◌≤◌, max, length, take, IsTrue, IfOk, OnOk, OnErr, IsErrOf, None};
+
+ghost use Rattle.std.specs.Prelude.{◌≡◌, ◌⊎◌, ◌+◌, ◌<◌, ◌≤◌, max, length, take, IsTrue, IfOk, OnOk};
+ghost use Rattle.std.specs.Prelude.{OnErr, IsErrOf, None};
 ghost use Rattle.host_io.specs.declared.whole.ReadStop.TheVariants.{NoMemory, ReadFault};
 ghost use Rattle.host_io.specs.Host.{Rises, IsLater, SameFiles, ChangesOnly, bytes_of};
 ghost use Rattle.std.specs.Io.{StartsWith};
@@ -9,7 +11,7 @@ use std::alloc::{AllocError, Global};
 use std::error::Error;
 use std::fmt;
 
-/// How many bytes a read of a whole file has room for.
+/// How many bytes one read of a whole file asks for: this crate's own choice, 64 KiB.
 const PIECE: usize = 1 << 16;
 
 /// Why a file wasn't read whole.
@@ -19,7 +21,7 @@ pub enum ReadStop {
     ReadFault,
     /// The file has more bytes than the limit.
     TooLarge,
-    /// There was no memory for its bytes.
+    /// Out of memory.
     NoMemory,
 }
 
@@ -64,8 +66,8 @@ impl fmt::Display for WriteFault {
 impl Error for WriteFault {}
 
 /// Reads the named file from its start to its end, if it has at most `limit` bytes.
-/// It comes in pieces of 64 KiB into a vector that grows, so the memory taken is a small multiple of the
-/// file's size.
+/// Takes a buffer of 64 KiB, also for an empty file and for one that isn't there, and a vector that
+/// doubles as it fills, so the memory taken is a small multiple of the file's size.
 pub fn read_whole<H: Host>(
     alloc: Global,
     host: &mut H,
@@ -107,13 +109,15 @@ pub fn read_whole<H: Host>(
 
 /// Writes these bytes as the whole of the named file, which is made anew. Takes no memory.
 pub fn write_whole<H: Host>(host: &mut H, name: &str, bytes: &[u8]) -> Result<(), WriteFault>
-    ensures bytes { OnOk result (IsTrue (H.tells host.old) → H.content host.new name.now ≡ Some bytes.now) }
+    ensures bytes { OnOk result (IsTrue (H.tells host.old) →
+        H.content host.new name.now ≡ Some bytes.now) }
     ensures write_fault { OnErr result
         (Rises (H.write_faults host.old name.now) (H.write_faults host.new name.now)) }
     ensures files { ChangesOnly name.now (H.content host.old) (H.content host.new) }
     ensures later { IsLater H.tells H.read_faults H.write_faults host.old host.new }
     ensures reads { H.reads host.new ≡ H.reads host.old }
-    // Each write but the last takes at least one byte, so there are no more writes than bytes, and one at least.
+    // Each write but the last takes at least one byte, so there are no more writes than bytes, and
+    // one at least.
     ensures writes { H.writes host.new ≤ H.writes host.old + max 1 (length bytes.now) }
 {
     let mut at = 0usize;
@@ -131,7 +135,7 @@ pub fn write_whole<H: Host>(host: &mut H, name: &str, bytes: &[u8]) -> Result<()
     }
 }
 
-// Reads the file's next piece behind the bytes that are there, and answers its length.
+/// Appends the file's next piece to the bytes that are there, and answers its length.
 fn read_on<H: Host>(
     host: &mut H,
     name: &str,
@@ -161,7 +165,7 @@ fn read_on<H: Host>(
     Ok(n)
 }
 
-// Writes the bytes from place `at` on behind those that the file has got.
+/// Writes the bytes from place `at` on, after those that the file has got.
 fn write_on<H: Host>(host: &mut H, name: &str, bytes: &[u8], at: usize) -> Result<usize, Failed>
     requires at { at ≤ length bytes.now }
     requires stored { 0 < at → IsTrue (H.tells host.old) →
@@ -170,7 +174,8 @@ fn write_on<H: Host>(host: &mut H, name: &str, bytes: &[u8], at: usize) -> Resul
     ensures within { IfOk result (λ n. at + n ≤ length bytes.now) }
     ensures stored { IfOk result (λ n. IsTrue (H.tells host.old) →
         H.content host.new name.now ≡ Some (take (at + n) bytes.now)) }
-    ensures failed { OnErr result (Rises (H.write_faults host.old name.now) (H.write_faults host.new name.now)) }
+    ensures failed { OnErr result
+        (Rises (H.write_faults host.old name.now) (H.write_faults host.new name.now)) }
     ensures nothing { IfOk result (λ n. n ≡ 0 → at < length bytes.now →
         Rises (H.write_faults host.old name.now) (H.write_faults host.new name.now)) }
     ensures files { ChangesOnly name.now (H.content host.old) (H.content host.new) }

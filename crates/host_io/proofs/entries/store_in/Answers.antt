@@ -3,10 +3,12 @@ use Rattle.host_io.proofs.Places.{find-at, changed-here, changed-nowhere}
 use Rattle.host_io.proofs.entries.store_in.Goals as goal
 
 pub store-requires-clause-at : goal.store-requires-clause-at
-store-requires-clause-at c = rw (find-at _ _ _ c.index-entries-i.result (sym c.in-Some.ensures)) at c.requires.at
+store-requires-clause-at c =
+    rw (find-at _ _ _ c.index-entries-i.result (sym c.in-Some.ensures)) at c.requires.at
 
 pub store-requires-clause-room : goal.store-requires-clause-room
-store-requires-clause-room c = rw (find-at _ _ _ c.index-entries-i.result (sym c.in-Some.ensures)) at c.requires.room
+store-requires-clause-room c =
+    rw (find-at _ _ _ c.index-entries-i.result (sym c.in-Some.ensures)) at c.requires.room
 
 pub returns-in-Some : goal.returns-in-Some
 returns-in-Some c = changed-here _ _ _ _ c.in-Some.ensures c.index-entries-i.is _ _ c.store.ensures

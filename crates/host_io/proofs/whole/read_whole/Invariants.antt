@@ -6,7 +6,8 @@ use Rattle.host_io.proofs.whole.read_whole.Given as goal
 abbrev pub invariant-loop-host : goal.invariant-loop-host
 invariant-loop-host g l = record {
   room : 0 < length l.piece.items;
-  prefix : IsTrue (g.H.Host.tells l.fn.host) → StartsWith (bytes_of (g.H.Host.content l.fn.host l.name)) l.bytes.items;
+  prefix : IsTrue (g.H.Host.tells l.fn.host) →
+      StartsWith (bytes_of (g.H.Host.content l.fn.host l.name)) l.bytes.items;
   files : SameFiles (g.H.Host.content l.fn.host) (g.H.Host.content l.host);
   later : IsLater g.H.Host.tells g.H.Host.read_faults g.H.Host.write_faults l.fn.host l.host;
   reads : g.H.Host.reads l.host ≤ g.H.Host.reads l.fn.host + length l.bytes.items;

@@ -8,4 +8,6 @@ pub returns-clause-stored : goal.returns-clause-stored
 returns-clause-stored g c =
     IfOk-weaker c.write.result _ _ (λ n stored told.
     rw take_rest at (stored told)
-    ∙ ap Some (written_on (g.H.Host.content c.args.host.now c.args.name.now) c.args.bytes.now c.args.at n (λ later. c.requires.stored later told))) c.write.ensures.bytes
+    ∙ ap Some (written_on
+    (g.H.Host.content c.args.host.now c.args.name.now) c.args.bytes.now c.args.at n
+    (λ later. c.requires.stored later told))) c.write.ensures.bytes

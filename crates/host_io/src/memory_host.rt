@@ -1,13 +1,17 @@
 //! A machine in memory that fails where it is told to.
-ghost use Rattle.std.specs.Prelude.{◌≡◌, ◌⊎◌, ◌+◌, ◌-◌, ◌<◌, ◌≤◌, ◌++◌, ◌↔◌, [], ◌∷◌, List, ℕ, true, length, take, drop, option_copied, unwrap_or, IsTrue, IsSome, IsErr, IfOk, OnOk, OnErr, if◌then◌else◌, ◌==◌};
-ghost use Rattle.std.specs.List.{list_any};
-ghost use Rattle.host_io.specs.Host.{Rises, IsLater, SameFiles, ChangesOnly, IsRead, bytes_of, written};
-ghost use Rattle.host_io.specs.Machine.{new_machine, put, give_room, content_of, read_faults_of, write_faults_of, read_fails, after_read, write_fails, taken, after_write};
 
-use crate::entries::{
-    content_in, count_read_fault, count_write_fault, give_room_in, put_in, room_in, store_in,
-};
-use crate::entry::{Entry, Faults};
+ghost use Rattle.std.specs.Prelude.{◌≡◌, ◌⊎◌, ◌+◌, ◌-◌, ◌<◌, ◌≤◌, ◌++◌, ◌↔◌, [], ◌∷◌, true, length};
+ghost use Rattle.std.specs.Prelude.{take, drop, option_copied, IsTrue, IsSome, IsErr, IfOk, OnOk};
+ghost use Rattle.std.specs.Prelude.{OnErr, if◌then◌else◌, ◌==◌};
+ghost use Rattle.std.specs.List.{list_any};
+ghost use Rattle.host_io.specs.Host.{Rises, IsLater, SameFiles, ChangesOnly, IsRead, bytes_of};
+ghost use Rattle.host_io.specs.Host.{written};
+ghost use Rattle.host_io.specs.Machine.{new_machine, put, give_room, content_of, read_faults_of};
+ghost use Rattle.host_io.specs.Machine.{write_faults_of, read_fails, after_read, write_fails};
+ghost use Rattle.host_io.specs.Machine.{taken, after_write};
+
+use crate::entries::{content_in, count_fault, give_room_in, put_in, room_in, store_in};
+use crate::entry::{Call, Entry, Faults};
 use crate::{Failed, Host};
 use packet_entry::NoMemory;
 use std::alloc::Global;
@@ -17,9 +21,9 @@ use std::marker::Model;
 ///
 /// Its calls of `read` and `write` count from 1, and take no memory. A read fails where `fail_call`
 /// names it or the file isn't there. A write fails where `fail_call` names it or its name was never
-/// given room. A write that doesn't fail takes nothing where `short_call` names it, and otherwise what
-/// fits into the room behind its place. All names with neither file nor room share one count of failed
-/// reads and one of failed writes.
+/// given room. A write that doesn't fail takes nothing where `short_call` names it, and otherwise
+/// what fits into the room from its place on. All names with neither file nor room share one count
+/// of failed reads and one of failed writes.
 #[derive(Drop)]
 pub struct MemoryHost {
     entries: Vec<Entry>,
@@ -81,7 +85,8 @@ impl MemoryHost {
 
     /// The n-th call of `read` or `write` fails, counted from 1 and from the machine's beginning.
     pub fn fail_call(&mut self, n: u64) -> Result<(), NoMemory>
-        ensures ok { OnOk result (self.new ≡ record self.old { failing = self.old.failing ++ n ∷ [] }) }
+        ensures ok { OnOk result
+            (self.new ≡ record self.old { failing = self.old.failing ++ n ∷ [] }) }
         ensures err { OnErr result (self.new ≡ self.old) }
     {
         Ok(self.failing.push(n)?)
@@ -89,7 +94,8 @@ impl MemoryHost {
 
     /// The n-th call of `read` or `write`, if it is a write that doesn't fail, takes nothing.
     pub fn short_call(&mut self, n: u64) -> Result<(), NoMemory>
-        ensures ok { OnOk result (self.new ≡ record self.old { short = self.old.short ++ n ∷ [] }) }
+        ensures ok { OnOk result
+            (self.new ≡ record self.old { short = self.old.short ++ n ∷ [] }) }
         ensures err { OnErr result (self.new ≡ self.old) }
     {
         Ok(self.short.push(n)?)
@@ -103,10 +109,11 @@ impl MemoryHost {
         Ok(give_room_in(alloc, &mut self.entries, name, self.others, bytes)?)
     }
 
-    // A read, in the machine's own words.
+    /// A read, as the definitions of the machine have it.
     fn read_step(&mut self, name: &str, at: u64, out: &mut [u8]) -> Result<usize, Failed>
         ensures fails { IsErr result ↔ IsTrue (read_fails self.old name.now) }
-        ensures copied { IfOk result (λ n. let bytes = take (length out.old) (drop at (bytes_of (content_of self.old name.now))) in
+        ensures copied { IfOk result (λ n.
+            let bytes = take (length out.old) (drop at (bytes_of (content_of self.old name.now))) in
             (n ≡ length bytes) × (out.new ≡ bytes ++ drop n out.old)) }
         ensures machine { self.new ≡ after_read self.old name.now }
     {
@@ -116,13 +123,13 @@ impl MemoryHost {
         match content_in(&self.entries, name) {
             Some(bytes) if !self.failing.contains(&call) => Ok(copy_part(bytes, at, out)),
             _ => {
-                count_read_fault(&mut self.entries, name, &mut self.others.read);
+                count_fault(&mut self.entries, name, &mut self.others.read, Call::Read);
                 Err(Failed)
             }
         }
     }
 
-    // A write, in the machine's own words.
+    /// A write, as the definitions of the machine have it.
     fn write_step(&mut self, name: &str, at: u64, piece: &[u8]) -> Result<usize, Failed>
         requires { (at ≡ 0) ⊎ (at ≡ length (bytes_of (content_of self.old name.now))) }
         ensures fails { IsErr result ↔ IsTrue (write_fails self.old name.now) }
@@ -139,7 +146,7 @@ impl MemoryHost {
                 Ok(count)
             }
             _ => {
-                count_write_fault(&mut self.entries, name, &mut self.others.write);
+                count_fault(&mut self.entries, name, &mut self.others.write, Call::Write);
                 Err(Failed)
             }
         }
@@ -161,14 +168,17 @@ impl Host for MemoryHost {
 
     fn read(&mut self, name: &str, at: u64, out: &mut [u8]) -> Result<usize, Failed>
         ensures fails { IsErr result ↔ IsTrue (read_fails self.old name.now) }
-        ensures copied { IfOk result (λ n. let bytes = take (length out.old) (drop at (bytes_of (content_of self.old name.now))) in
+        ensures copied { IfOk result (λ n.
+            let bytes = take (length out.old) (drop at (bytes_of (content_of self.old name.now))) in
             (n ≡ length bytes) × (out.new ≡ bytes ++ drop n out.old)) }
         ensures machine { self.new ≡ after_read self.old name.now }
 
         ensures within { IfOk result (λ n. n ≤ length out.old) }
         ensures present { OnOk result (IsSome (content_of self.old name.now)) }
-        ensures bytes { IfOk result (λ n. IsRead (bytes_of (content_of self.old name.now)) at n out.old out.new) }
-        ensures failed { OnErr result (Rises (read_faults_of self.old name.now) (read_faults_of self.new name.now)) }
+        ensures bytes { IfOk result (λ n.
+            IsRead (bytes_of (content_of self.old name.now)) at n out.old out.new) }
+        ensures failed { OnErr result
+            (Rises (read_faults_of self.old name.now) (read_faults_of self.new name.now)) }
         ensures files { SameFiles (content_of self.old) (content_of self.new) }
         ensures later { IsLater (λ _. true) read_faults_of write_faults_of self.old self.new }
         ensures reads { (self.old.reads ≤ self.new.reads) × (self.new.reads ≤ self.old.reads + 1) }
@@ -185,21 +195,23 @@ impl Host for MemoryHost {
         ensures machine { self.new ≡ after_write self.old name.now at piece.now }
 
         ensures within { IfOk result (λ n. n ≤ length piece.now) }
-        ensures bytes { IfOk result (λ n.
-            content_of self.new name.now ≡ Some (written (content_of self.old name.now) at (take n piece.now))) }
-        ensures failed { OnErr result (Rises (write_faults_of self.old name.now) (write_faults_of self.new name.now)) }
+        ensures bytes { IfOk result (λ n. content_of self.new name.now ≡
+            Some (written (content_of self.old name.now) at (take n piece.now))) }
+        ensures failed { OnErr result
+            (Rises (write_faults_of self.old name.now) (write_faults_of self.new name.now)) }
         ensures nothing { IfOk result (λ n. n ≡ 0 → 0 < length piece.now →
             Rises (write_faults_of self.old name.now) (write_faults_of self.new name.now)) }
         ensures files { ChangesOnly name.now (content_of self.old) (content_of self.new) }
         ensures later { IsLater (λ _. true) read_faults_of write_faults_of self.old self.new }
         ensures reads { self.new.reads ≡ self.old.reads }
-        ensures writes { (self.old.writes ≤ self.new.writes) × (self.new.writes ≤ self.old.writes + 1) }
+        ensures writes { (self.old.writes ≤ self.new.writes) ×
+            (self.new.writes ≤ self.old.writes + 1) }
     {
         self.write_step(name, at, piece)
     }
 }
 
-// Copies the bytes from place `at` on to the front of the buffer, as many as it has room for.
+/// Copies the bytes from place `at` on to the start of the buffer, as many as it has room for.
 fn copy_part(bytes: &[u8], at: u64, out: &mut [u8]) -> usize
     ensures count { result ≡ length (take (length out.old) (drop at bytes.now)) }
     ensures copied { out.new ≡ take (length out.old) (drop at bytes.now) ++ drop result out.old }
@@ -210,11 +222,12 @@ fn copy_part(bytes: &[u8], at: u64, out: &mut [u8]) -> usize
     count
 }
 
-// How many bytes of the piece a write takes that doesn't fail.
+/// How many bytes of the piece a write takes that doesn't fail.
 fn taken_count(short: &[u64], call: u64, room: u64, at: u64, piece: &[u8]) -> usize
     ensures within { result ≤ length piece.now }
     ensures room { result ≤ room - at }
-    ensures taken { take result piece.now ≡ (if list_any (λ n. n == call) short.now then [] else take (room - at) piece.now) }
+    ensures taken { take result piece.now ≡
+        (if list_any (λ n. n == call) short.now then [] else take (room - at) piece.now) }
 {
     if short.contains(&call) {
         return 0;
