@@ -1,5 +1,7 @@
 -- Where what waits stands, and what the list of it keeps.
-use Rattle.std.proofs.Common.{◌≡◌, ◌≤◌, ◌<◌, ℕ, suc, ◌+◌, ◌^◌, List, [], ◌∷◌, ◌++◌, length, get_or, take, drop, Option, Some, None, IfSome, Bool, true, false, cond, refl, sym, subst, ap, ◌∙◌, arith, inl, inr}
+use Rattle.std.proofs.Common.{◌≡◌, ◌≤◌, ◌<◌, ℕ, suc, ◌+◌, ◌^◌, List, [], ◌∷◌, ◌++◌, length, get_or}
+use Rattle.std.proofs.Common.{take, drop, Some, None, true, false, cond, refl, sym, subst, ap, ◌∙◌}
+use Rattle.std.proofs.Common.{arith, inl, inr}
 use Rattle.std.proofs.Math.Seq.{drop-cons}
 use Rattle.std.proofs.lemmas.Option.{slice_get-get_or}
 use Rattle.std.proofs.lemmas.Bool.{eq-eqb, cases_Bool}
@@ -8,25 +10,31 @@ use Rattle.std.proofs.lemmas.Map.Keys.{IsDistinct-push}
 use Rattle.std.proofs.lemmas.Map.Entries.{length-keys_of}
 use Rattle.std.specs.Cmp.{nat_eq_equiv}
 use Rattle.std.specs.Map.{lookup, remove_entry, keys_of}
-use Rattle.std.specs.List.{IsDistinct, AllByRecursion, remove}
+use Rattle.std.specs.List.{IsDistinct, AllByRecursion}
 use Rattle.std.specs.Prelude.{nat_eq, slice_get, option_map}
 use Rattle.packet_entry.specs.declared.packet.Card.{Card}
-use Rattle.queue_core.specs.Ids.{is_id, is_among, fresh, IDS}
+use Rattle.queue_core.specs.Numbers.{id_count}
+use Rattle.queue_core.specs.Ids.{is_id, is_among}
 use Rattle.queue_core.specs.Place.{IsPlace}
 use Rattle.queue_core.specs.State.{Bound}
 use Rattle.queue_core.specs.Step.{taken, without, next_id}
-use Rattle.queue_core.specs.Held.{Held, IsHeld, offers, is_decided_early}
+use Rattle.queue_core.specs.Held.{Held, IsHeld, is_decided_early}
 use Rattle.queue_core.proofs.FreeIds.{fresh_is_free}
 
 -- the first under the id, where what stands before it has other ids
-pub place_found : (xs : List (ℕ × Card)) (id place : ℕ) (w : ℕ × Card) → place < length xs → w ≡ get_or xs place w → w.0 ≡ id
+pub place_found : (xs : List (ℕ × Card)) (id place : ℕ) (w : ℕ × Card) → place < length xs →
+    w ≡ get_or xs place w → w.0 ≡ id
     → lookup (is_id id) xs ≡ lookup (is_id id) (drop place xs)
     → remove_entry (is_id id) xs ≡ take place xs ++ remove_entry (is_id id) (drop place xs)
     → IsPlace xs id place
 place_found xs id place w within at_place same passed_lookup passed_remove = record {
   within = within;
-  found = passed_lookup ∙ ap (lookup (is_id id)) front ∙ ap (λ b. cond b (Some w.1) (lookup (is_id id) (drop (suc place) xs))) test ∙ ap (option_map (λ (v : ℕ × Card). v.1)) (sym there);
-  others = passed_remove ∙ ap (λ ys. take place xs ++ remove_entry (is_id id) ys) front ∙ ap (λ b. take place xs ++ cond b (drop (suc place) xs) (w ∷ remove_entry (is_id id) (drop (suc place) xs))) test;
+  found = passed_lookup ∙ ap (lookup (is_id id)) front
+      ∙ ap (λ b. cond b (Some w.1) (lookup (is_id id) (drop (suc place) xs))) test
+      ∙ ap (option_map (λ (v : ℕ × Card). v.1)) (sym there);
+  others = passed_remove ∙ ap (λ ys. take place xs ++ remove_entry (is_id id) ys) front
+      ∙ ap (λ b. take place xs ++ cond b (drop (suc place) xs)
+      (w ∷ remove_entry (is_id id) (drop (suc place) xs))) test;
 }
   where
     front : drop place xs ≡ w ∷ drop (suc place) xs
@@ -39,14 +47,17 @@ place_found xs id place w within at_place same passed_lookup passed_remove = rec
     there = slice_get-get_or xs place w within ∙ ap Some (sym at_place)
 
 -- keys that differ stay so when one leaves
-apart_from : (id k : ℕ) (es : List (ℕ × Card)) → AllByRecursion (λ y. nat_eq k y ≡ false) (keys_of es) → AllByRecursion (λ y. nat_eq k y ≡ false) (keys_of (remove_entry (is_id id) es))
+apart_from : (id k : ℕ) (es : List (ℕ × Card)) →
+    AllByRecursion (λ y. nat_eq k y ≡ false) (keys_of es) →
+    AllByRecursion (λ y. nat_eq k y ≡ false) (keys_of (remove_entry (is_id id) es))
 apart_from id k [] h = tt
 apart_from id k (e ∷ es) h = elim (cases_Bool (is_id id e.0)) [
   | inl same ↦ rw same h.1
   | inr other ↦ rw other (h.0, apart_from id k es h.1)
 ]
 
-apart_without : (id : ℕ) (es : List (ℕ × Card)) → IsDistinct nat_eq (keys_of es) → IsDistinct nat_eq (keys_of (remove_entry (is_id id) es))
+apart_without : (id : ℕ) (es : List (ℕ × Card)) → IsDistinct nat_eq (keys_of es) →
+    IsDistinct nat_eq (keys_of (remove_entry (is_id id) es))
 unfolding IsDistinct
 apart_without id [] h = tt
 apart_without id (e ∷ es) h = elim (cases_Bool (is_id id e.0)) [
@@ -62,7 +73,8 @@ fewer id (e ∷ es) = elim (cases_Bool (is_id id e.0)) [
 ]
 
 -- a queue keeps what it keeps when a packet leaves
-pub held_without : (h : Held) (id : ℕ) → IsHeld h → h.offer ≡ None → IsHeld (record { state = without h.state id; offer = None })
+pub held_without : (h : Held) (id : ℕ) → IsHeld h → h.offer ≡ None →
+    IsHeld (record { state = without h.state id; offer = None })
 held_without h id is none = record {
   apart = apart_without id h.state.waiting is.apart;
   next = tt;
@@ -71,7 +83,9 @@ held_without h id is none = record {
 }
 
 -- when an arrival begins
-pub held_begun : (q : Bound) (card : Card) → IsHeld (record { state = q; offer = None }) → is_decided_early q ≡ false → length q.waiting + 1 < 2 ^ 32 → IsHeld (record { state = q; offer = Some (next_id q, card) })
+pub held_begun : (q : Bound) (card : Card) → IsHeld (record { state = q; offer = None }) →
+    is_decided_early q ≡ false → length q.waiting + 1 < 2 ^ 32 →
+    IsHeld (record { state = q; offer = Some (next_id q, card) })
 held_begun q card is undecided few = record {
   apart = is.apart;
   next = refl;
@@ -80,16 +94,21 @@ held_begun q card is undecided few = record {
 }
 
 -- and when it is settled
-pub held_taken : (q : Bound) (id : ℕ) (card : Card) → q.last < IDS → IsHeld (record { state = q; offer = Some (id, card) }) → IsHeld (record { state = taken q id card; offer = None })
+pub held_taken : (q : Bound) (id : ℕ) (card : Card) → q.last < id_count →
+    IsHeld (record { state = q; offer = Some (id, card) }) →
+    IsHeld (record { state = taken q id card; offer = None })
 held_taken q id card last is = record {
-  apart = rw (map_push (λ (w : ℕ × Card). w.0) q.waiting (id, card)) (IsDistinct-push nat_eq_equiv (keys_of q.waiting) id is.apart free);
+  apart = rw (map_push (λ (w : ℕ × Card). w.0) q.waiting (id, card))
+      (IsDistinct-push nat_eq_equiv (keys_of q.waiting) id is.apart free);
   next = tt;
   undecided = tt;
   few = omega (arith, length_push q.waiting (id, card), is.few);
 }
   where
     free : is_among (keys_of q.waiting) id ≡ false
-    free = ap (is_among (keys_of q.waiting)) is.next ∙ fresh_is_free q.last (keys_of q.waiting) last (omega (arith, length-keys_of q.waiting, is.few))
+    free = ap (is_among (keys_of q.waiting)) is.next
+        ∙ fresh_is_free q.last (keys_of q.waiting) last
+        (omega (arith, length-keys_of q.waiting, is.few))
 
 -- a queue where nothing waits keeps it
 pub held_empty : (q : Bound) → q.waiting ≡ [] → IsHeld (record { state = q; offer = None })
@@ -102,6 +121,8 @@ held_empty q none = record {
 }
 
 -- what is taken out of an id's place is what waits under the id
-pub leaves : (waiting : List (ℕ × Card)) (id place : ℕ) (w : ℕ × Card) → IsPlace waiting id place → w ≡ get_or waiting place w → lookup (is_id id) waiting ≡ Some w.1
+pub leaves : (waiting : List (ℕ × Card)) (id place : ℕ) (w : ℕ × Card) → IsPlace waiting id place →
+    w ≡ get_or waiting place w → lookup (is_id id) waiting ≡ Some w.1
 leaves waiting id place w at_place taken_out =
-    at_place.found ∙ ap (option_map (λ (v : ℕ × Card). v.1)) (slice_get-get_or waiting place w at_place.within ∙ ap Some (sym taken_out))
+    at_place.found ∙ ap (option_map (λ (v : ℕ × Card). v.1))
+    (slice_get-get_or waiting place w at_place.within ∙ ap Some (sym taken_out))

@@ -1,26 +1,31 @@
 -- What a verdict decides (uapi netfilter.h: NF_DROP .. NF_STOP, NF_VERDICT_MASK, NF_VERDICT_QBITS).
-use Rattle.std.specs.Prelude.{◌≡◌, ℕ, ◌%◌, ◌/◌, ◌&&◌, not, Bool, ◌==◌, nat_le, IsTrue, if◌then◌else◌}
+use Rattle.std.specs.Prelude.{ℕ, ◌+◌, ◌%◌, ◌/◌, ◌&&◌, not, Bool, ◌==◌, nat_le, IsTrue}
+use Rattle.std.specs.Prelude.{if◌then◌else◌}
 use Rattle.queue_core.specs.declared.decision.Decision.{Decision}
 use Rattle.queue_core.specs.declared.decision.Decision.TheVariants as way
-use Rattle.queue_core.specs.declared.decision.TheConstants.{DROP, ACCEPT, STOLEN, QUEUE, REPEAT, STOP}
+use Rattle.queue_core.specs.Numbers.{verdict_mask, verdict_drop, verdict_accept, verdict_stolen}
+use Rattle.queue_core.specs.Numbers.{verdict_queue, verdict_repeat, verdict_stop, bypass_bit}
+use Rattle.queue_core.specs.Numbers.{queue_number_place}
 
--- the low 8 bits of a verdict
+-- which verdict it is, by its low 8 bits
 abbrev pub kind_of : ℕ → ℕ
-kind_of verdict = verdict % 256
+kind_of verdict = verdict % (verdict_mask + 1)
 
 -- whether a verdict isn't refused: its kind is known, and isn't STOLEN
 abbrev pub is_verdict : ℕ → Bool
-is_verdict verdict = nat_le (kind_of verdict) STOP && not (kind_of verdict == STOLEN)
+is_verdict verdict = nat_le (kind_of verdict) verdict_stop
+    && not (kind_of verdict == verdict_stolen)
 
 abbrev pub IsVerdict : ℕ → Type 0
 IsVerdict verdict = IsTrue (is_verdict verdict)
 
--- the decision of a verdict that isn't refused: for QUEUE, the queue's number stands in the high 16 bits,
--- and bit 15 lets the packet go on where that queue is absent
+-- the decision of a verdict that isn't refused; a queue verdict has the queue's number and the
+-- bypass
 abbrev pub decision_of : ℕ → Decision
 decision_of verdict =
-    if kind_of verdict == DROP then way.Drop
-    else if kind_of verdict == ACCEPT then way.Accept
-    else if kind_of verdict == QUEUE then way.Queue (verdict / 65536) ((verdict / 32768) % 2 == 1)
-    else if kind_of verdict == REPEAT then way.Repeat
+    if kind_of verdict == verdict_drop then way.Drop
+    else if kind_of verdict == verdict_accept then way.Accept
+    else if kind_of verdict == verdict_queue
+    then way.Queue (verdict / queue_number_place) (verdict / bypass_bit % 2 == 1)
+    else if kind_of verdict == verdict_repeat then way.Repeat
     else way.Stop

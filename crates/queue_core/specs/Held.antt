@@ -1,14 +1,13 @@
 -- A queue between its calls, and the two calls that make one arrival.
-use Rattle.std.specs.Prelude.{◌≡◌, ◌≤◌, ◌<◌, ◌+◌, ◌^◌, ◌||◌, ℕ, List, [], ◌∷◌, length, Option, Some, None, Bool, true, false, nat_eq, nat_le, ◌==◌, IfSome}
+use Rattle.std.specs.Prelude.{◌≡◌, ◌<◌, ◌+◌, ◌^◌, ◌||◌, ℕ, [], length, Option, Some, None, Bool}
+use Rattle.std.specs.Prelude.{false, nat_eq, ◌==◌, IfSome}
 use Rattle.std.specs.List.{IsDistinct}
 use Rattle.std.specs.Map.{keys_of}
 use Rattle.packet_entry.specs.declared.packet.Card.{Card}
 use Rattle.packet_entry.specs.declared.letter.Letter.{Letter}
-use Rattle.queue_core.specs.declared.offers.Outcome.TheVariants as outcome
-use Rattle.queue_core.specs.declared.request.TheConstants.{NONE}
-use Rattle.queue_core.specs.Ids.{is_among}
+use Rattle.nfqa_msgs.specs.Numbers.{copy_none}
 use Rattle.queue_core.specs.State.{Bound}
-use Rattle.queue_core.specs.Step.{Way, Gone, Open, Stepped, arrive_bound, next_id}
+use Rattle.queue_core.specs.Step.{is_full, next_id}
 
 -- A queue, and the arrival whose notice was handed out and that isn't settled yet, with its id.
 pub record Held : Type 0 where
@@ -22,7 +21,7 @@ offers (Some o) = 1
 
 -- whether an arrival is decided before a notice is sent
 abbrev pub is_decided_early : Bound → Bool
-is_decided_early q = (q.mode == NONE) || nat_le q.maximum (length q.waiting)
+is_decided_early q = (q.mode == copy_none) || is_full q
 
 -- what each queue keeps
 pub record IsHeld (h : Held) : Type 0 where
@@ -36,4 +35,5 @@ pub record IsHeld (h : Held) : Type 0 where
 
 -- the notice of a packet that gets this id here
 abbrev pub letter_of : ℕ → Card → Letter
-letter_of queue card = record { queue = queue; number = card.number; visit = card.visit; bytes = [] }
+letter_of queue card =
+    record { queue = queue; number = card.number; visit = card.visit; bytes = [] }

@@ -1,3 +1,4 @@
+pub mod Numbers
 pub mod Ids
 pub mod Decision
 pub mod Range

@@ -1,5 +1,5 @@
 -- Places in the list of what waits.
-use Rattle.std.specs.Prelude.{◌≡◌, ◌<◌, ℕ, List, length, Option, Some, slice_get, option_map, remove}
+use Rattle.std.specs.Prelude.{◌≡◌, ◌<◌, ℕ, List, length, slice_get, option_map, remove}
 use Rattle.std.specs.Map.{lookup, remove_entry}
 use Rattle.packet_entry.specs.declared.packet.Card.{Card}
 use Rattle.queue_core.specs.Ids.{is_id}

@@ -1,9 +1,11 @@
 -- The state of a queue.
-use Rattle.std.specs.Prelude.{◌≡◌, ℕ, ◌-◌, ◌<◌, ◌||◌, List, [], Option, Some, None, Bool, nat_lt, ◌==◌, bit_and, bit_or, unwrap_or, if◌then◌else◌}
+use Rattle.std.specs.Prelude.{ℕ, ◌||◌, List, [], Option, Some, None, Bool, ◌==◌, bit_and, bit_or}
+use Rattle.std.specs.Prelude.{unwrap_or, if◌then◌else◌}
 use Rattle.packet_entry.specs.declared.packet.Card.{Card}
-use Rattle.queue_core.specs.declared.request.Params.{Params}
-use Rattle.queue_core.specs.declared.request.TheConstants.{NONE, META, PACKET, MAX_RANGE, FAIL_OPEN}
-use Rattle.queue_core.specs.declared.queue.TheConstants.{DEFAULT_MAXIMUM}
+use Rattle.nfqa_msgs.specs.declared.request.Params.{Params}
+use Rattle.nfqa_msgs.specs.Numbers.{copy_none, copy_meta, copy_packet, longest_range}
+use Rattle.nfqa_msgs.specs.Numbers.{flag_fail_open}
+use Rattle.queue_core.specs.Numbers.{default_maximum}
 use Rattle.std.specs.Int.{bit_not, w32}
 use Rattle.queue_core.specs.Range.{range_of}
 
@@ -27,13 +29,24 @@ pub record Bound : Type 0 where
 
 -- a queue as a port binds it (instance_create)
 abbrev pub bound_to : ℕ → Bound
-bound_to port = record { port = port; mode = NONE; range = MAX_RANGE; maximum = DEFAULT_MAXIMUM; flags = 0; last = 0; dropped = 0; user_dropped = 0; waiting = [] }
+bound_to port =
+    record {
+      port = port;
+      mode = copy_none;
+      range = longest_range;
+      maximum = default_maximum;
+      flags = 0;
+      last = 0;
+      dropped = 0;
+      user_dropped = 0;
+      waiting = [];
+    }
 
 -- copy mode and range are set; an unknown mode changes neither (nfqnl_set_mode)
 abbrev pub with_params : Params → Bound → Bound
 with_params p q =
-    if (p.mode == NONE) || (p.mode == META) then record q { mode = p.mode; range = 0 }
-    else if p.mode == PACKET then record q { mode = PACKET; range = range_of p.range }
+    if (p.mode == copy_none) || (p.mode == copy_meta) then record q { mode = p.mode; range = 0 }
+    else if p.mode == copy_packet then record q { mode = copy_packet; range = range_of p.range }
     else q
 
 -- the flags that the mask names are set or cleared (nfqnl_recv_config)
@@ -56,8 +69,9 @@ flags_set None mask q = q
 
 -- the last line of a config request: params, maximum and flags apply, in this order
 abbrev pub configured : Option Params → Option ℕ → Option ℕ → Option ℕ → Bound → Bound
-configured params maximum flags mask q = flags_set flags mask (maximum_set maximum (params_set params q))
+configured params maximum flags mask q =
+    flags_set flags mask (maximum_set maximum (params_set params q))
 
 -- whether a full queue lets packets go on
 abbrev pub fails_open : Bound → Bool
-fails_open q = bit_and q.flags FAIL_OPEN == FAIL_OPEN
+fails_open q = bit_and q.flags flag_fail_open == flag_fail_open

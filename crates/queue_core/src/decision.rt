@@ -1,3 +1,5 @@
+//! Verdicts, and where a packet goes after one. The numbers are those of uapi linux/netfilter.h.
+
 ghost use Rattle.std.specs.Prelude.{◌≡◌};
 ghost use Rattle.queue_core.specs.Decision.{IsVerdict, decision_of};
 
@@ -12,8 +14,8 @@ pub enum Decision {
     Repeat,
     /// It is released.
     Stop,
-    /// It arrives at another queue, in the table that queued it. Where that queue is absent, `bypass` lets
-    /// it go on.
+    /// It arrives at another queue, in the table that queued it. Where that queue is absent,
+    /// `bypass` lets it go on.
     Queue { number: u16, bypass: bool },
 }
 
@@ -42,8 +44,11 @@ pub const STOP: u32 = 5;
 /// (`NF_VERDICT_FLAG_QUEUE_BYPASS`)
 pub const QUEUE_BYPASS: u32 = 0x8000;
 
+/// The place of the queue's number in a `QUEUE` verdict: its high 16 bits. (`NF_VERDICT_QBITS`)
+const QUEUE_NUMBER_PLACE: u32 = 65_536;
+
 impl Decision {
-    /// What a verdict that isn't refused decides. The queue's number is in its high 16 bits.
+    /// What a verdict decides that isn't refused.
     pub(crate) fn of(verdict: u32) -> Decision
         requires { IsVerdict verdict }
         ensures { result ≡ decision_of verdict }
@@ -52,7 +57,7 @@ impl Decision {
             DROP => Decision::Drop,
             ACCEPT => Decision::Accept,
             QUEUE => Decision::Queue {
-                number: (verdict / 65_536) as u16,
+                number: (verdict / QUEUE_NUMBER_PLACE) as u16,
                 bypass: verdict / QUEUE_BYPASS % 2 == 1,
             },
             REPEAT => Decision::Repeat,

@@ -1,4 +1,5 @@
-// The errors that an acknowledgement carries, by the numbers of errno.h.
+//! The errors that an acknowledgement carries, by their numbers in asm-generic/errno-base.h.
+//! `EINVAL` and `EOPNOTSUPP` stand in `nfqa_msgs`.
 
 /// The queue belongs to another port.
 pub const EPERM: u16 = 1;
@@ -11,9 +12,3 @@ pub const EBUSY: u16 = 16;
 
 /// There is no such queue.
 pub const ENODEV: u16 = 19;
-
-/// The request makes no sense.
-pub const EINVAL: u16 = 22;
-
-/// The request isn't supported.
-pub const EOPNOTSUPP: u16 = 95;

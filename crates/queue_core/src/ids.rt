@@ -1,15 +1,11 @@
-ghost use Rattle.std.specs.Prelude.{◌≡◌, ◌+◌, ◌<◌, ◌^◌, ℕ, List, length, MatchOption, None};
+//! The ids of what waits: the next one, and the place of one.
+
+ghost use Rattle.std.specs.Prelude.{◌≡◌, ◌<◌, ◌^◌, length, MatchOption, None};
 ghost use Rattle.std.specs.Map.{lookup, keys_of};
-ghost use Rattle.queue_core.specs.Ids.{fresh, IsFirstFree, is_id, is_among};
+ghost use Rattle.queue_core.specs.Ids.{fresh, is_id, is_among};
 ghost use Rattle.queue_core.specs.Place.{IsPlace};
 
 use packet_entry::Packet;
-
-/// Of the ids behind the last one, counted on modulo 2^32, the fresh id is the first under which nothing
-/// waits, as long as fewer than 2^32 packets wait.
-pub fn first_free_id()
-    ensures { (last : ℕ) (ids : List ℕ) → last < 2 ^ 32 → length ids < 2 ^ 32 → IsFirstFree last ids (fresh last ids) }
-{}
 
 /// The id that the next arrival gets.
 pub(crate) fn fresh_id(last: u32, waiting: &[(u32, Packet)]) -> u32

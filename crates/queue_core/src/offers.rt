@@ -1,4 +1,5 @@
-use crate::Decision;
+//! How an arrival begins, and how it ends.
+
 use packet_entry::{Letter, Packet};
 
 /// What an arrival came to.
@@ -12,7 +13,8 @@ pub enum Outcome {
     OverflowOpen,
     /// The port's mailbox was full: destroyed, counted as user dropped. The id is used.
     UserFull { id: u32 },
-    /// The port's mailbox was full, and the queue fails open: it goes on with the next table. The id is used.
+    /// The port's mailbox was full, and the queue fails open: it goes on with the next table. The
+    /// id is used.
     UserFullOpen { id: u32 },
     /// The queue is absent: destroyed.
     NoQueue,
@@ -24,7 +26,7 @@ pub enum Outcome {
     Loop,
 }
 
-/// Want of memory: the packet comes back as it was.
+/// Out of memory: the packet comes back as it was.
 pub struct NoRoom {
     /// Spend it, or try again.
     pub packet: Packet,

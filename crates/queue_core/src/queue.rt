@@ -1,19 +1,22 @@
-ghost use Rattle.std.specs.Prelude.{◌≡◌, ◌≢◌, ◌≤◌, ◌<◌, ◌+◌, ◌^◌, ◌↔◌, [], length, vec_len, vec_capacity, Some, None, IsTrue, IfOk, IfErr, IfSome, IfNone, OnSome, OnErr, IsNone, MatchOption, option_map, false, true};
-ghost use Rattle.queue_core.specs.declared.request.TheConstants.{PACKET};
+//! The queue, and its calls.
+
+ghost use Rattle.std.specs.Prelude.{◌≡◌, ◌≢◌, ◌≤◌, ◌<◌, [], length, vec_len, vec_capacity, Some};
+ghost use Rattle.std.specs.Prelude.{None, IfOk, IfErr, IfSome, IfNone, OnSome, OnErr, option_map};
+ghost use Rattle.std.specs.Prelude.{false, true};
+ghost use Rattle.packet_entry.specs.Numbers.{longest_payload};
+ghost use Rattle.nfqa_msgs.specs.Numbers.{copy_packet};
 ghost use Rattle.queue_core.specs.Decision.{IsVerdict, decision_of};
 ghost use Rattle.queue_core.specs.Range as state;
-ghost use Rattle.queue_core.specs.Ids.{is_id, is_among, fresh};
 ghost use Rattle.packet_entry.specs.Card.{edited};
 
-use crate::{
-    Begun, Decision, FAIL_OPEN, Head, MAX_RANGE, META, NONE, NoRoom, PACKET, Params, Settled, ids,
-};
-use packet_entry::{Bytes, Letter, MAX_PAYLOAD, Packet};
+use crate::{Begun, Decision, NoRoom, Settled, ids};
+use nfqa_msgs::{Head, MAX_RANGE, META, NONE, PACKET, Params};
+use packet_entry::{Bytes, Letter, Packet};
 use std::alloc::Global;
 use std::marker::Model;
 use std::mem;
 
-/// How many packets may wait in a queue that was never told otherwise.
+/// How many packets may wait in a queue that was never told otherwise. (`NFQNL_QMAX_DEFAULT`)
 pub const DEFAULT_MAXIMUM: u32 = 1024;
 
 /// A queue that is bound to a port. It is no `Drop`: it ends by `finish`, once nothing waits.
@@ -73,11 +76,11 @@ impl Model for Queue {
 
 impl Queue {
     ghost use Rattle.queue_core.specs.State.{bound_to, configured};
-    ghost use Rattle.queue_core.specs.Step.{are_flags_refused, card_under, without, next_id};
-    ghost use Rattle.queue_core.specs.Held.{letter_of};
+    ghost use Rattle.queue_core.specs.Step.{are_flags_refused, card_under, without};
     ghost use Rattle.queue_core.specs.Calls.{BeginsArrival, SettlesArrival};
 
-    /// The new queue of a port: mode `NONE`, range 65,531, maximum 1024, nothing else set, nothing waiting.
+    /// The new queue of a port: mode `NONE`, range 65,531, maximum 1024, nothing else set, nothing
+    /// waiting. Takes no memory.
     pub fn bind(alloc: Global, port: u32) -> Queue
         ensures state { result.state ≡ bound_to port }
         ensures no_offer { result.offer ≡ None }
@@ -96,7 +99,8 @@ impl Queue {
         }
     }
 
-    /// Applies what a config request that isn't refused asks for: params, maximum and flags, in this order.
+    /// Applies what a config request that isn't refused asks for: params, maximum and flags, in
+    /// this order. Takes no memory.
     pub fn configure(
         &mut self,
         params: Option<Params>,
@@ -130,11 +134,11 @@ impl Queue {
         }
     }
 
-    /// Begins the arrival of a packet: it stands offered under its id, and this is its notice, with `queue`
-    /// as the queue's number. The memory for settling it is taken too. For want of it the packet comes
-    /// back, and nothing has changed.
+    /// Begins the arrival of a packet: it stands offered under its id, and this is its notice, with
+    /// `queue` as the queue's number. The memory for settling it is taken too. Where there is none,
+    /// the packet comes back, and nothing has changed.
     pub fn begin(&mut self, alloc: Global, queue: u16, packet: Packet) -> Result<Begun, NoRoom>
-        requires copies { self.old.state.mode ≡ PACKET }
+        requires copies { self.old.state.mode ≡ copy_packet }
         requires room { length self.old.state.waiting < self.old.state.maximum }
         requires no_offer { self.old.offer ≡ None }
         ensures begun { IfOk result (λ begun. BeginsArrival begun queue packet self.old self.new) }
@@ -160,7 +164,8 @@ impl Queue {
         }
     }
 
-    /// Settles what was begun. `room` says whether the port's mailbox took the notice. Takes no memory.
+    /// Settles what was begun. `room` says whether the port's mailbox took the notice. Takes no
+    /// memory.
     pub fn settle(&mut self, room: bool) -> Settled
         requires offered { self.old.offer ≢ None }
         requires room { room ≡ true }
@@ -176,9 +181,9 @@ impl Queue {
         }
     }
 
-    /// Carries out a verdict that isn't refused: what waits under its id leaves, with the mark and the bytes
-    /// that are given, and goes where the verdict says. `None` where nothing waits under this id; then
-    /// nothing has changed. Takes no memory.
+    /// Carries out a verdict that isn't refused: what waits under its id leaves, with the mark and
+    /// the bytes that are given, and goes where the verdict says. `None` where nothing waits under
+    /// this id; then nothing has changed. Takes no memory.
     pub fn verdict(
         &mut self,
         head: Head,
@@ -186,9 +191,11 @@ impl Queue {
         payload: Option<Bytes>,
     ) -> Option<(Packet, Decision)>
         requires known { IsVerdict head.verdict }
-        requires payload { IfSome payload (λ bytes. length bytes ≤ MAX_PAYLOAD) }
+        requires payload { IfSome payload (λ bytes. length bytes ≤ longest_payload) }
         requires no_offer { self.old.offer ≡ None }
-        ensures packet { result ≡ option_map (λ card. (edited card mark payload, decision_of head.verdict)) (card_under self.old.state head.id) }
+        ensures packet { result ≡
+            option_map (λ card. (edited card mark payload, decision_of head.verdict))
+            (card_under self.old.state head.id) }
         ensures state { OnSome result (self.new.state ≡ without self.old.state head.id) }
         ensures unchanged { IfNone result (self.new.state ≡ self.old.state) }
         ensures no_offer { self.new.offer ≡ None }
@@ -263,7 +270,8 @@ impl Queue {
         self.maximum
     }
 
-    /// The flags that are set: `FAIL_OPEN` has an effect, every other is only kept.
+    /// The bits of [`QueueFlags`](nfqa_msgs::QueueFlags) that are set: `FAIL_OPEN` has an effect,
+    /// every other is only kept.
     pub fn flags(&self) -> u32
         ensures { result ≡ self.now.state.flags }
     {
@@ -310,6 +318,7 @@ fn range_of(range: u32) -> u32
     }
 }
 
+/// Destroys all that waits.
 fn destroy_all(waiting: &mut Vec<(u32, Packet)>)
     ensures { waiting.new.items ≡ [] }
 {

@@ -1,9 +1,11 @@
-use Rattle.std.proofs.Common.{length, sym, ◌∙◌, arith, ap}
+use Rattle.std.proofs.Common.{length, sym, ◌∙◌, arith}
 use Rattle.std.specs.Map.{keys_of}
 use Rattle.queue_core.proofs.FreeIds.{look_on}
 use Rattle.queue_core.proofs.ids.fresh_id.Goals as goal
 
 pub loop-look-preserved : goal.loop-look-preserved
 loop-look-preserved c =
-    sym (look_on (length c.args.waiting.now) c.loop-look.look c.loop-look.id (keys_of c.args.waiting.now) (omega arith) (sym c.is_waiting.ensures ∙ c.if-not-is_waiting.false))
+    sym (look_on (length c.args.waiting.now) c.loop-look.look c.loop-look.id
+    (keys_of c.args.waiting.now) (omega arith) (sym c.is_waiting.ensures
+    ∙ c.if-not-is_waiting.false))
     ∙ c.loop-look.invariant

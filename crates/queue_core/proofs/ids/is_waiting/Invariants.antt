@@ -5,4 +5,5 @@ use Rattle.queue_core.proofs.ids.is_waiting.Given as goal
 
 -- whether the id is among what is left
 abbrev pub invariant-loop-w : goal.invariant-loop-w
-invariant-loop-w l = is_among (keys_of l.waiting) l.id ≡ is_among (keys_of (drop l.w-index l.waiting)) l.id
+invariant-loop-w l = is_among (keys_of l.waiting) l.id
+    ≡ is_among (keys_of (drop l.w-index l.waiting)) l.id

@@ -7,4 +7,5 @@ use Rattle.queue_core.proofs.ids.place_of.Given as goal
 abbrev pub invariant-loop-place : goal.invariant-loop-place
 invariant-loop-place l =
     (lookup (is_id l.id) l.waiting ≡ lookup (is_id l.id) (drop l.place l.waiting))
-    × (remove_entry (is_id l.id) l.waiting ≡ take l.place l.waiting ++ remove_entry (is_id l.id) (drop l.place l.waiting))
+    × (remove_entry (is_id l.id) l.waiting ≡ take l.place l.waiting
+    ++ remove_entry (is_id l.id) (drop l.place l.waiting))

@@ -5,5 +5,6 @@ use Rattle.queue_core.proofs.queue.Queue.flush.Goals as goal
 
 pub invariant_of-self : goal.invariant_of-self
 invariant_of-self c =
-    let none : c.self.inside.offer ≡ None = ap (λ (h : Held). h.offer) c.self.view_is ∙ c.requires.no_offer in
+    let none : c.self.inside.offer ≡ None = ap (λ (h : Held). h.offer) c.self.view_is
+    ∙ c.requires.no_offer in
     rw (c.destroy_all.ensures, none) (held_empty _ refl, tt)

@@ -1,5 +1,5 @@
 use Rattle.queue_core.proofs.FreeIds.{first_free}
-use Rattle.queue_core.proofs.ids.first_free_id.Goals as goal
+use Rattle.queue_core.proofs.laws.first_free_id.Goals as goal
 
 pub returns : goal.returns
 returns c = first_free
