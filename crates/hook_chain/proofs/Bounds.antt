@@ -6,6 +6,7 @@ use Rattle.std.proofs.lemmas.Bool.{ltb-true, and_parts}
 use Rattle.std.proofs.lemmas.List.Elements.{All-nil, All-push}
 use Rattle.hook_chain.specs.declared.rule.Rule.{Rule}
 use Rattle.hook_chain.specs.Words.{◌>>=◌}
+use Rattle.hook_chain.specs.Numbers.{most_tables, most_rules}
 use Rattle.hook_chain.specs.Rules.{IsPick, IsTable}
 use Rattle.hook_chain.specs.Line.{Says, Nothing, Opens, Policy, Adds, Closes, says}
 use Rattle.hook_chain.specs.declared.reader.Stop.{Stop}
@@ -33,7 +34,7 @@ no_rules = record { length = omega arith; picks = All-nil (λ r. IsPick r.pick) 
 pub sound_start : IsSound start
 sound_start = record { tables = record { length = omega arith; each = All-nil IsTable }; table = tt; room = tt }
 
-one_more : (rules : List Rule) (rule : Rule) → IsTable rules → IsPick rule.pick → length rules < 1000 → IsTable (rules ++ rule ∷ [])
+one_more : (rules : List Rule) (rule : Rule) → IsTable rules → IsPick rule.pick → length rules < most_rules → IsTable (rules ++ rule ∷ [])
 one_more rules rule t p room = record {
   length = omega (arith, length-append rules (rule ∷ []));
   picks = All-push (λ r. IsPick r.pick) rules rule t.picks p;
@@ -45,21 +46,21 @@ unfolding after
 sound_opens p name s =
     elim (may_open p name) as (λ b. b ≡ may_open p name → IfSome (cond b (Some (record p { names = p.names ++ name ∷ []; inside = Some [] })) None) IsSound) [
       | true ↦ λ e.
-          let first = and_parts (is_none p.inside && ltb (length p.closed) 16) _ (sym e) in
-          let second = and_parts (is_none p.inside) (ltb (length p.closed) 16) first.0 in
-          record { tables = s.tables; table = no_rules; room = ltb-true (length p.closed) 16 second.1 }
+          let first = and_parts (is_none p.inside && ltb (length p.closed) most_tables) _ (sym e) in
+          let second = and_parts (is_none p.inside) (ltb (length p.closed) most_tables) first.0 in
+          record { tables = s.tables; table = no_rules; room = ltb-true (length p.closed) most_tables second.1 }
       | false ↦ λ e. tt
     ] refl
 
-sound_adds : (p : Place) (rule : Rule) (inside : Option (List Rule)) → IsSound p → IfSome inside IsTable → IfSome inside (λ _. length p.closed < 16) → IsPick rule.pick → IfSome (inside >>= λ rules. cond (ltb (length rules) 1000) (Some (record p { inside = Some (rules ++ rule ∷ []) })) None) IsSound
+sound_adds : (p : Place) (rule : Rule) (inside : Option (List Rule)) → IsSound p → IfSome inside IsTable → IfSome inside (λ _. length p.closed < most_tables) → IsPick rule.pick → IfSome (inside >>= λ rules. cond (ltb (length rules) most_rules) (Some (record p { inside = Some (rules ++ rule ∷ []) })) None) IsSound
 sound_adds p rule None s table room pick = tt
 sound_adds p rule (Some rules) s table room pick =
-    elim (ltb (length rules) 1000) as (λ b. b ≡ ltb (length rules) 1000 → IfSome (cond b (Some (record p { inside = Some (rules ++ rule ∷ []) })) None) IsSound) [
-      | true ↦ λ e. record { tables = s.tables; table = one_more rules rule table pick (ltb-true (length rules) 1000 (sym e)); room = room }
+    elim (ltb (length rules) most_rules) as (λ b. b ≡ ltb (length rules) most_rules → IfSome (cond b (Some (record p { inside = Some (rules ++ rule ∷ []) })) None) IsSound) [
+      | true ↦ λ e. record { tables = s.tables; table = one_more rules rule table pick (ltb-true (length rules) most_rules (sym e)); room = room }
       | false ↦ λ e. tt
     ] refl
 
-sound_closes : (p : Place) (inside : Option (List Rule)) → IsSound p → IfSome inside IsTable → IfSome inside (λ _. length p.closed < 16) → IfSome (inside >>= λ rules. Some (record p { closed = p.closed ++ rules ∷ []; inside = None })) IsSound
+sound_closes : (p : Place) (inside : Option (List Rule)) → IsSound p → IfSome inside IsTable → IfSome inside (λ _. length p.closed < most_tables) → IfSome (inside >>= λ rules. Some (record p { closed = p.closed ++ rules ∷ []; inside = None })) IsSound
 sound_closes p None s table room = tt
 sound_closes p (Some rules) s table room = record {
   tables = record { length = omega (arith, length-append p.closed (rules ∷ [])); each = All-push IsTable p.closed rules s.tables.each table };

@@ -6,7 +6,7 @@ use Rattle.std.proofs.lemmas.Bool.Decides.{nat_tests}
 use Rattle.std.proofs.lemmas.Option.{cond_some}
 use Rattle.std.proofs.lemmas.List.{drop_all}
 use Rattle.hook_chain.specs.Words.{◌>>=◌}
-use Rattle.hook_chain.specs.Numbers.{below, digit_in, digits_onto}
+use Rattle.hook_chain.specs.Digits.{below, digit_in, digits_onto}
 
 -- the number that digits make of what stands before them, if it is below 2 ^ 32
 abbrev pub onto : ℕ → ℕ → List ℕ → Option ℕ

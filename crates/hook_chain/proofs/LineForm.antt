@@ -1,12 +1,12 @@
 -- A line says exactly what the grammar has for it.
-use Rattle.std.proofs.Common.{◌≡◌, ℕ, true, false, cond, ◌&&◌, inl, inr, List, [], ◌∷◌, length, drop, get_or, eqb, Option, Some, None, ◌∙◌, refl, sym, ap, subst, arith}
+use Rattle.std.proofs.Common.{◌≡◌, ℕ, true, false, cond, ◌&&◌, inl, inr, List, [], ◌∷◌, ◌++◌, length, drop, get_or, eqb, Option, Some, None, ◌∙◌, refl, sym, ap, subst, arith}
 use Rattle.std.specs.Prelude.{option_map, bytes_eq, codes}
 use Rattle.std.specs.List.{list_all}
 use Rattle.std.specs.Option.{option_map_or}
 use Rattle.std.proofs.lemmas.Option.{cond_some, same_Some}
 use Rattle.std.proofs.lemmas.Bool.{and_parts, eqb-true, false≢true}
 use Rattle.hook_chain.specs.declared.rule.Rule.{Rule}
-use Rattle.hook_chain.specs.Words.{first_word, behind, is_printable, words_of}
+use Rattle.hook_chain.specs.Words.{byte, first_word, behind, is_printable, words_of}
 use Rattle.hook_chain.specs.RuleLine.{rule_of}
 use Rattle.hook_chain.specs.Line.{Says, Nothing, Opens, Policy, Adds, Closes, is_table_name, is_chain_name, is_counters, opening, policy, says_by, says}
 use Rattle.hook_chain.specs.Grammar.{IsForm, IsLine}
@@ -23,14 +23,14 @@ none_left : (words : List (List ℕ)) → eqb (length words) 0 ≡ true → word
 none_left [] e = refl
 none_left (w ∷ ws) e = let never : length (w ∷ ws) ≡ 0 = eqb-true (length (w ∷ ws)) 0 e in absurd (omega arith)
 
-opening_some : (word : List ℕ) (words : List (List ℕ)) (said : Says) → word ≡ 42 ∷ drop 1 word → opening (drop 1 word) words ≡ Some said → IsForm (word ∷ words) said
+opening_some : (word : List ℕ) (words : List (List ℕ)) (said : Says) → word ≡ codes "*" ++ drop 1 word → opening (drop 1 word) words ≡ Some said → IsForm (word ∷ words) said
 unfolding opening
 opening_some word words said is e =
     let parts = cond_some (is_table_name (drop 1 word) && eqb (length words) 0) (Opens (drop 1 word)) said e in
     let tests = and_parts (is_table_name (drop 1 word)) (eqb (length words) 0) parts.0 in
     subst (IsForm (word ∷ words)) parts.1 (rw (none_left words tests.1) (ap (λ w. w ∷ []) is), tests.0)
 
-policy_some : (word : List ℕ) (words : List (List ℕ)) (said : Says) → word ≡ 58 ∷ drop 1 word → policy (drop 1 word) words ≡ Some said → IsForm (word ∷ words) said
+policy_some : (word : List ℕ) (words : List (List ℕ)) (said : Says) → word ≡ codes ":" ++ drop 1 word → policy (drop 1 word) words ≡ Some said → IsForm (word ∷ words) said
 unfolding policy
 policy_some word words said is e =
     let rest = bind_some (behind (codes "ACCEPT") words) _ said e in
@@ -43,7 +43,7 @@ policy_some word words said is e =
     ∙ ap (λ ws. codes "ACCEPT" ∷ ws) (first_word_some rest.0 counters.0 counters.1 ∙ ap (λ ws. (counters.0).0 ∷ ws) (none_left (counters.0).1 both.1))
     in
     subst (IsForm (word ∷ words)) parts.1
-    (drop 1 word, (counters.0).0, ap (λ w. w ∷ words) is ∙ ap (λ ws. (58 ∷ drop 1 word) ∷ ws) words_are, tests.0, tests.1)
+    (drop 1 word, (counters.0).0, ap (λ w. w ∷ words) is ∙ ap (λ ws. (codes ":" ++ drop 1 word) ∷ ws) words_are, tests.0, tests.1)
 
 adds_some : (words : List (List ℕ)) (o : Option Rule) (said : Says) → rule_of words ≡ o → option_map Adds o ≡ Some said → (r : Rule) × (rule_of words ≡ Some r) × (Adds r ≡ said)
 adds_some words None said is e = absurd (no_value said e)
@@ -64,12 +64,12 @@ form_some : (words : List (List ℕ)) (said : Says) → option_map_or (λ w. say
 unfolding says_by
 form_some [] said e = subst (IsForm []) (same_Some Nothing said e) (inl refl)
 form_some (word ∷ words) said e =
-    elim (chosen (eqb (get_or word 0 0) 35) (Some Nothing) _ (Some said) e) [
-      | inl h ↦ subst (IsForm (word ∷ words)) (same_Some Nothing said h.1) (inr (drop 1 word, words, ap (λ w. w ∷ words) (byte_and_rest 35 word refl h.0)))
-      | inr h ↦ elim (chosen (eqb (get_or word 0 0) 42) (opening (drop 1 word) words) _ (Some said) h.1) [
-        | inl g ↦ opening_some word words said (byte_and_rest 42 word refl g.0) g.1
-        | inr g ↦ elim (chosen (eqb (get_or word 0 0) 58) (policy (drop 1 word) words) _ (Some said) g.1) [
-          | inl f ↦ policy_some word words said (byte_and_rest 58 word refl f.0) f.1
+    elim (chosen (eqb (get_or word 0 0) (byte "#")) (Some Nothing) _ (Some said) e) [
+      | inl h ↦ subst (IsForm (word ∷ words)) (same_Some Nothing said h.1) (inr (drop 1 word, words, ap (λ w. w ∷ words) (byte_and_rest (byte "#") word refl h.0)))
+      | inr h ↦ elim (chosen (eqb (get_or word 0 0) (byte "*")) (opening (drop 1 word) words) _ (Some said) h.1) [
+        | inl g ↦ opening_some word words said (byte_and_rest (byte "*") word refl g.0) g.1
+        | inr g ↦ elim (chosen (eqb (get_or word 0 0) (byte ":")) (policy (drop 1 word) words) _ (Some said) g.1) [
+          | inl f ↦ policy_some word words said (byte_and_rest (byte ":") word refl f.0) f.1
           | inr f ↦ elim (chosen (bytes_eq word (codes "-A")) (option_map Adds (rule_of words)) _ (Some said) f.1) [
             | inl d ↦ rule_form word words said (same_word word (codes "-A") d.0) d.1
             | inr d ↦ commit_form word words said d.1

@@ -1,14 +1,15 @@
 -- A rule that was read picks queues that there are.
-use Rattle.std.proofs.Common.{◌≡◌, ℕ, ◌+◌, ◌-◌, ◌^◌, ◌<◌, Bool, true, false, cond, not, ◌&&◌, ltb, List, [], ◌∷◌, Option, Some, None, refl, arith, lit<}
-use Rattle.std.proofs.lemmas.Bool.{ltb-true, and_parts}
+use Rattle.std.proofs.Common.{◌≡◌, ℕ, ◌+◌, ◌-◌, ◌^◌, ◌<◌, ◌≤◌, Bool, true, false, cond, not, ◌&&◌, ltb, leb, List, [], ◌∷◌, Option, Some, None, refl, arith, lit<}
+use Rattle.std.proofs.lemmas.Bool.{ltb-true, leb-true, and_parts}
 use Rattle.std.specs.Prelude.{IfSome, option_map, unwrap_or, is_none, bytes_eq, codes, slice_index, ◌==◌, length, drop}
 use Rattle.std.specs.List.{list_all}
 use Rattle.std.specs.Option.{option_map_or}
 use Rattle.hook_chain.specs.declared.rule.Rule.{Rule}
 use Rattle.hook_chain.specs.declared.rule.Pick.{Pick}
 use Rattle.hook_chain.specs.declared.rule.Pick.TheVariants.{Number, Balance}
-use Rattle.hook_chain.specs.Words.{◌>>=◌, first_word, behind, cut_at, words_of, is_printable}
-use Rattle.hook_chain.specs.Numbers.{below, decimal, decimal_below}
+use Rattle.hook_chain.specs.Words.{◌>>=◌, byte, first_word, behind, cut_at, words_of, is_printable}
+use Rattle.hook_chain.specs.Digits.{below, decimal, decimal_below}
+use Rattle.hook_chain.specs.Numbers.{most_queues}
 use Rattle.hook_chain.specs.Rules.{IsPick}
 use Rattle.hook_chain.specs.RuleLine.{range_of, pick_of, options_after, rule_of, protocol_match, mark_match}
 use Rattle.hook_chain.specs.Line.{Says, Nothing, Opens, Policy, Adds, Closes, opening, policy, says_by, says, is_table_name, is_chain_name, is_counters}
@@ -32,20 +33,20 @@ below_if limit n = cond_if (ltb n limit) (Some n) None (λ m. m < limit) (λ e. 
 decimal_if : (limit : ℕ) (word : List ℕ) → IfSome (decimal_below limit word) (λ m. m < limit)
 decimal_if limit word = bind_if (decimal word) (below limit) (λ m. m < limit) (λ n. below_if limit n)
 
-range_ends : (first last : ℕ) → first < 2 ^ 16 → last < 2 ^ 16 → IfSome (cond (ltb first last && ltb (last - first + 1) (2 ^ 16)) (Some (Balance first (last - first + 1))) None) IsPick
+range_ends : (first last : ℕ) → first < 2 ^ 16 → last < 2 ^ 16 → IfSome (cond (ltb first last && leb (last - first + 1) most_queues) (Some (Balance first (last - first + 1))) None) IsPick
 range_ends first last f l =
-    cond_if (ltb first last && ltb (last - first + 1) (2 ^ 16)) (Some (Balance first (last - first + 1))) None IsPick
+    cond_if (ltb first last && leb (last - first + 1) most_queues) (Some (Balance first (last - first + 1))) None IsPick
     (λ e.
-    let parts = and_parts (ltb first last) (ltb (last - first + 1) (2 ^ 16)) e in
+    let parts = and_parts (ltb first last) (leb (last - first + 1) most_queues) e in
     let order : first < last = ltb-true first last parts.0 in
-    let few : last - first + 1 < 2 ^ 16 = ltb-true (last - first + 1) (2 ^ 16) parts.1 in
+    let few : last - first + 1 ≤ most_queues = leb-true (last - first + 1) most_queues parts.1 in
     (omega arith, few, omega arith))
     (λ e. tt)
 
 range_if : (word : List ℕ) → IfSome (range_of word) IsPick
 unfolding range_of
 range_if word =
-    bind_if (cut_at 58 word) _ IsPick
+    bind_if (cut_at (byte ":") word) _ IsPick
     (λ parts. bind_from (decimal_below (2 ^ 16) parts.0) _ (λ m. m < 2 ^ 16) IsPick (decimal_if (2 ^ 16) parts.0)
     (λ first f. bind_from (decimal_below (2 ^ 16) parts.1) _ (λ m. m < 2 ^ 16) IsPick (decimal_if (2 ^ 16) parts.1) (λ last l. range_ends first last f l)))
 
@@ -111,9 +112,9 @@ policy_if name words =
 says_by_if : (word : List ℕ) (words : List (List ℕ)) → IfSome (says_by word words) SaysPick
 unfolding says_by
 says_by_if word words =
-    cond_if (slice_index word 0 == 35) (Some Nothing) _ SaysPick (λ e. tt)
-    (λ e. cond_if (slice_index word 0 == 42) (opening (drop 1 word) words) _ SaysPick (λ f. opening_if (drop 1 word) words)
-    (λ f. cond_if (slice_index word 0 == 58) (policy (drop 1 word) words) _ SaysPick (λ g. policy_if (drop 1 word) words)
+    cond_if (slice_index word 0 == byte "#") (Some Nothing) _ SaysPick (λ e. tt)
+    (λ e. cond_if (slice_index word 0 == byte "*") (opening (drop 1 word) words) _ SaysPick (λ f. opening_if (drop 1 word) words)
+    (λ f. cond_if (slice_index word 0 == byte ":") (policy (drop 1 word) words) _ SaysPick (λ g. policy_if (drop 1 word) words)
     (λ g. cond_if (bytes_eq word (codes "-A")) (option_map Adds (rule_of words)) _ SaysPick (λ h. adds_if (rule_of words) (rule_if words))
     (λ h. cond_if (bytes_eq word (codes "COMMIT") && (length words == 0)) (Some Closes) None SaysPick (λ k. tt) (λ k. tt)))))
 

@@ -2,6 +2,7 @@
 -- as hash_v4 and hash_v6 of include/net/netfilter/nf_queue.h give them, and reciprocal_scale of
 -- include/linux/kernel.h. All numbers are whole numbers, and a word is one below 2 ^ 32.
 use Rattle.std.specs.Prelude.{ℕ, ◌+◌, ◌-◌, ◌*◌, ◌/◌, ◌%◌, ◌^◌, ◌==◌, min, max, bit_xor, Option, Some, None, if◌then◌else◌}
+use Rattle.hook_chain.specs.Numbers.{ipv4_family, hash_start, hashed_bytes}
 use Rattle.ip_fields.specs.declared.packet.IpFields.{IpFields}
 
 -- sum and difference modulo 2 ^ 32
@@ -33,13 +34,13 @@ final_mix a b c =
 -- an IPv4 address is its word; of an IPv6 address it is the exclusive or of its four words
 unfoldable pub address_word : ℕ → ℕ → ℕ
 address_word family address =
-    if family == 4 then address
+    if family == ipv4_family then address
     else bit_xor (bit_xor (bit_xor (address / 2 ^ 96) (address / 2 ^ 64 % 2 ^ 32)) (address / 2 ^ 32 % 2 ^ 32)) (address % 2 ^ 32)
 
 -- the smaller address word first, so that both directions of a flow have one hash
 unfoldable pub flow_hash : ℕ → ℕ → ℕ → ℕ → ℕ
 flow_hash key x y protocol =
-    let seed = (key + 0xdeadbeef + 12) % 2 ^ 32 in
+    let seed = (key + hash_start + hashed_bytes) % 2 ^ 32 in
     final_mix (word_sum (min x y) seed) (word_sum (max x y) seed) (word_sum protocol seed)
 
 -- without fields all three words are 0

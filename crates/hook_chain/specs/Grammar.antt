@@ -56,10 +56,10 @@ pub record IsRuleLine (words : List (List ℕ)) (r : Rule) : Type 0 where
 
 -- An empty line or a comment; *NAME; :NAME ACCEPT [N:N], where the brackets are written; a rule; COMMIT.
 abbrev pub IsForm : List (List ℕ) → Says → Type 0
-IsForm words Nothing = (words ≡ []) ⊎ ((comment : List ℕ) × (more : List (List ℕ)) × (words ≡ (35 ∷ comment) ∷ more))
-IsForm words (Opens name) = (words ≡ (42 ∷ name) ∷ []) × (is_table_name name ≡ true)
+IsForm words Nothing = (words ≡ []) ⊎ ((comment : List ℕ) × (more : List (List ℕ)) × (words ≡ (codes "#" ++ comment) ∷ more))
+IsForm words (Opens name) = (words ≡ (codes "*" ++ name) ∷ []) × (is_table_name name ≡ true)
 IsForm words Policy =
-    (chain : List ℕ) × (counters : List ℕ) × (words ≡ (58 ∷ chain) ∷ codes "ACCEPT" ∷ counters ∷ [])
+    (chain : List ℕ) × (counters : List ℕ) × (words ≡ (codes ":" ++ chain) ∷ codes "ACCEPT" ∷ counters ∷ [])
     × (is_chain_name chain ≡ true) × (is_counters counters ≡ true)
 IsForm words (Adds rule) = IsRuleLine words rule
 IsForm words Closes = words ≡ codes "COMMIT" ∷ []

@@ -1,7 +1,8 @@
 pub mod Balance
+pub mod Digits
+pub mod Grammar
 pub mod Line
 pub mod Numbers
-pub mod Grammar
 pub mod Reader
 pub mod Route
 pub mod RuleLine

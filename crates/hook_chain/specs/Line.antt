@@ -5,7 +5,8 @@ use Rattle.std.specs.Option.{option_map_or}
 use Rattle.hook_chain.specs.declared.rule.Rule.{Rule}
 use Rattle.hook_chain.specs.declared.line.Line.{Line}
 use Rattle.hook_chain.specs.declared.line.Line.TheVariants as read
-use Rattle.hook_chain.specs.Words.{◌>>=◌, is_printable, words_of, first_word, behind, cut_at}
+use Rattle.hook_chain.specs.Words.{◌>>=◌, byte, is_printable, is_digit, is_lower, is_upper, words_of, first_word, behind, cut_at}
+use Rattle.hook_chain.specs.Numbers.{longest_name}
 use Rattle.hook_chain.specs.RuleLine.{rule_of}
 
 -- What a line says: nothing (it is empty or a comment); that a table of this name begins; a chain's
@@ -17,25 +18,15 @@ pub data Says : Type 0 where
   Adds : (rule : Rule) → Says
   Closes : Says
 
-abbrev pub is_digit : ℕ → Bool
-is_digit b = nat_le 48 b && nat_le b 57
-
-abbrev pub is_lower : ℕ → Bool
-is_lower b = nat_le 97 b && nat_le b 122
-
-abbrev pub is_upper : ℕ → Bool
-is_upper b = nat_le 65 b && nat_le b 90
-
 -- lower-case letters, digits, `-` and `_`
 abbrev pub is_table_byte : ℕ → Bool
-is_table_byte b = is_lower b || is_digit b || (b == 45) || (b == 95)
+is_table_byte b = is_lower b || is_digit b || (b == byte "-") || (b == byte "_")
 
 abbrev pub is_letter : ℕ → Bool
 is_letter b = is_lower b || is_upper b
 
--- a name has 1 to 31 bytes
 abbrev pub has_name_length : List ℕ → Bool
-has_name_length name = nat_le 1 (length name) && nat_le (length name) 31
+has_name_length name = nat_le 1 (length name) && nat_le (length name) longest_name
 
 abbrev pub is_table_name : List ℕ → Bool
 is_table_name name = has_name_length name && list_all is_table_byte name
@@ -50,8 +41,8 @@ are_digits word = nat_le 1 (length word) && list_all is_digit word
 -- [N:N]
 unfoldable pub is_counters : List ℕ → Bool
 is_counters word =
-    nat_le 2 (length word) && (slice_index word 0 == 91) && (slice_index word (length word - 1) == 93)
-    && option_map_or (λ parts. are_digits parts.0 && are_digits parts.1) (cut_at 58 (take (length word - 2) (drop 1 word))) false
+    nat_le 2 (length word) && (slice_index word 0 == byte "[") && (slice_index word (length word - 1) == byte "]")
+    && option_map_or (λ parts. are_digits parts.0 && are_digits parts.1) (cut_at (byte ":") (take (length word - 2) (drop 1 word))) false
 
 -- `*NAME` alone
 unfoldable pub opening : List ℕ → List (List ℕ) → Option Says
@@ -67,9 +58,9 @@ policy name words = do
 -- a line by its first word, and the words behind it
 unfoldable pub says_by : List ℕ → List (List ℕ) → Option Says
 says_by word words =
-    if slice_index word 0 == 35 then Some Nothing
-    else if slice_index word 0 == 42 then opening (drop 1 word) words
-    else if slice_index word 0 == 58 then policy (drop 1 word) words
+    if slice_index word 0 == byte "#" then Some Nothing
+    else if slice_index word 0 == byte "*" then opening (drop 1 word) words
+    else if slice_index word 0 == byte ":" then policy (drop 1 word) words
     else if bytes_eq word (codes "-A") then option_map Adds (rule_of words)
     else if bytes_eq word (codes "COMMIT") && (length words == 0) then Some Closes
     else None

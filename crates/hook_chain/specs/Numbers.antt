@@ -1,44 +1,59 @@
--- The numbers of a rules file, from their digits. All are below 2 ^ 32.
-use Rattle.std.specs.Prelude.{ℕ, ◌+◌, ◌-◌, ◌*◌, ◌^◌, ◌&&◌, ◌==◌, nat_lt, nat_le, List, [], ◌∷◌, length, take, drop, slice_index, Option, Some, None, bytes_eq, codes, if◌then◌else◌}
-use Rattle.hook_chain.specs.Words.{◌>>=◌}
+-- The numbers of rules files and of the flow hash, each once.
+use Rattle.std.specs.Prelude.{ℕ}
 
-abbrev pub below : ℕ → ℕ → Option ℕ
-below limit n = if nat_lt n limit then Some n else None
+-- the most tables of a rules file, of this reader
+abbrev pub most_tables : ℕ
+most_tables = 16
 
--- what a digit stands for: 0 to 9, then a to f in either case
-abbrev pub digit_of : ℕ → Option ℕ
-digit_of b =
-    if nat_le 48 b && nat_le b 57 then Some (b - 48)
-    else if nat_le 97 b && nat_le b 102 then Some (b - 97 + 10)
-    else if nat_le 65 b && nat_le b 70 then Some (b - 65 + 10)
-    else None
+-- the most rules of a table, of this reader
+abbrev pub most_rules : ℕ
+most_rules = 1000
 
--- a digit of this radix
-abbrev pub digit_in : ℕ → ℕ → Option ℕ
-digit_in radix b = digit_of b >>= below radix
+-- the most bytes of the name of a table or a chain: XT_TABLE_MAXNAMELEN of the kernel's x_tables.h
+-- is 32, with the zero byte at the end
+abbrev pub longest_name : ℕ
+longest_name = 31
 
--- the number that these digits of a radix make of what stands before them
-unfoldable pub digits_onto : ℕ → ℕ → List ℕ → Option ℕ
-digits_onto radix n [] = Some n
-digits_onto radix n (b ∷ bs) = do
-  d ← digit_in radix b
-  digits_onto radix (n * radix + d) bs
+-- the most queues of `--queue-balance`: their number has 16 bits (queues_total of xt_NFQUEUE.h)
+abbrev pub most_queues : ℕ
+most_queues = 65535
 
--- one digit or more of a radix, below 2 ^ 32
-unfoldable pub number : ℕ → List ℕ → Option ℕ
-number radix word = do
-  n ← (if length word == 0 then None else digits_onto radix 0 word)
-  below (2 ^ 32) n
+-- the protocols that a rule can name: IANA's Assigned Internet Protocol Numbers
+abbrev pub icmp : ℕ
+icmp = 1
 
--- no leading zero but in `0` itself
-unfoldable pub decimal : List ℕ → Option ℕ
-decimal word = if nat_lt 1 (length word) && (slice_index word 0 == 48) then None else number 10 word
+abbrev pub tcp : ℕ
+tcp = 6
 
-abbrev pub decimal_below : ℕ → List ℕ → Option ℕ
-decimal_below limit word = do
-  n ← decimal word
-  below limit n
+abbrev pub udp : ℕ
+udp = 17
 
--- decimal, or 0x and hexadecimal digits
-unfoldable pub wide : List ℕ → Option ℕ
-wide word = if bytes_eq (take 2 word) (codes "0x") then number 16 (drop 2 word) else decimal word
+abbrev pub ipv6_icmp : ℕ
+ipv6_icmp = 58
+
+-- the mask of a mark test that names none: all 32 bits (iptables-extensions(8), mark)
+abbrev pub all_bits : ℕ
+all_bits = 0xffffffff
+
+-- the radix of numbers without a prefix, and of those with `0x`
+abbrev pub decimal_radix : ℕ
+decimal_radix = 10
+
+abbrev pub hexadecimal_radix : ℕ
+hexadecimal_radix = 16
+
+-- what the digits `a` and `A` stand for
+abbrev pub first_letter_digit : ℕ
+first_letter_digit = 10
+
+-- JHASH_INITVAL of the kernel's jhash.h
+abbrev pub hash_start : ℕ
+hash_start = 0xdeadbeef
+
+-- the bytes that are hashed: three words of 4 bytes (jhash_3words of jhash.h)
+abbrev pub hashed_bytes : ℕ
+hashed_bytes = 12
+
+-- the address family of IPv4 in a packet's fields
+abbrev pub ipv4_family : ℕ
+ipv4_family = 4

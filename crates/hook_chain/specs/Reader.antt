@@ -7,6 +7,7 @@ use Rattle.hook_chain.specs.declared.fault.LineFault.{LineFault}
 use Rattle.hook_chain.specs.declared.fault.LineFault.TheVariants.{Bad}
 use Rattle.hook_chain.specs.declared.fault.LineFault.TheVariants as fault
 use Rattle.hook_chain.specs.Rules.{IsTable, AreTables}
+use Rattle.hook_chain.specs.Numbers.{most_tables}
 use Rattle.hook_chain.specs.RulesFile.{Place}
 
 abbrev pub place_of : Reader → Place
@@ -28,4 +29,4 @@ fault_of NoMemory number = fault.NoMemory
 pub record IsSound (p : Place) : Type 0 where
   pub tables : AreTables p.closed
   pub table : IfSome p.inside IsTable
-  pub room : IfSome p.inside (λ _. length p.closed < 16)
+  pub room : IfSome p.inside (λ _. length p.closed < most_tables)

@@ -1,21 +1,22 @@
 -- The line `-A FORWARD MATCHES -j NFQUEUE OPTIONS`, by its words: iptables-extensions(8), the matches
 -- `-p` and `mark` and the target NFQUEUE, as iptables-save(8) writes them.
-use Rattle.std.specs.Prelude.{ℕ, ◌+◌, ◌-◌, ◌^◌, ◌&&◌, nat_lt, not, Bool, true, false, List, [], ◌∷◌, Option, Some, None, is_some, is_none, unwrap_or, option_map, bytes_eq, codes, if◌then◌else◌}
+use Rattle.std.specs.Prelude.{ℕ, ◌+◌, ◌-◌, ◌^◌, ◌&&◌, nat_lt, nat_le, not, Bool, true, false, List, [], ◌∷◌, Option, Some, None, is_some, is_none, unwrap_or, option_map, bytes_eq, codes, if◌then◌else◌}
 use Rattle.std.specs.Option.{option_map_or}
 use Rattle.hook_chain.specs.declared.rule.Rule.{Rule}
 use Rattle.hook_chain.specs.declared.rule.MarkTest.{MarkTest}
 use Rattle.hook_chain.specs.declared.rule.Pick.{Pick}
 use Rattle.hook_chain.specs.declared.rule.Pick.TheVariants.{Number, Balance}
-use Rattle.hook_chain.specs.Words.{◌>>=◌, first_word, behind, cut_at}
-use Rattle.hook_chain.specs.Numbers.{decimal_below, wide}
+use Rattle.hook_chain.specs.Words.{◌>>=◌, byte, first_word, behind, cut_at}
+use Rattle.hook_chain.specs.Numbers.{tcp, udp, icmp, ipv6_icmp, all_bits, most_queues}
+use Rattle.hook_chain.specs.Digits.{decimal_below, wide}
 
 -- a protocol by its name or its number
 unfoldable pub protocol_of : List ℕ → Option ℕ
 protocol_of word =
-    if bytes_eq word (codes "tcp") then Some 6
-    else if bytes_eq word (codes "udp") then Some 17
-    else if bytes_eq word (codes "icmp") then Some 1
-    else if bytes_eq word (codes "ipv6-icmp") then Some 58
+    if bytes_eq word (codes "tcp") then Some tcp
+    else if bytes_eq word (codes "udp") then Some udp
+    else if bytes_eq word (codes "icmp") then Some icmp
+    else if bytes_eq word (codes "ipv6-icmp") then Some ipv6_icmp
     else decimal_below (2 ^ 8) word
 
 -- at most one `-p PROTO`, and the words behind it
@@ -30,7 +31,7 @@ unfoldable pub value_and_mask : List ℕ → Option (ℕ × ℕ)
 value_and_mask word = option_map_or (λ parts. do
   value ← wide parts.0
   mask ← wide parts.1
-  Some (value, mask)) (cut_at 47 word) (option_map (λ value. (value, 2 ^ 32 - 1)) (wide word))
+  Some (value, mask)) (cut_at (byte "/") word) (option_map (λ value. (value, all_bits)) (wide word))
 
 -- at most one `-m mark [!] --mark VALUE[/MASK]`, and the words behind it
 unfoldable pub mark_match : List (List ℕ) → Option (Option MarkTest × List (List ℕ))
@@ -41,13 +42,13 @@ mark_match words = option_map_or (λ rest. do
   Some (Some (record { value = bits.0; mask = bits.1; negated = is_some (behind (codes "!") test) }), word.1))
     (behind (codes "-m") words) (Some (None, words))
 
--- A:B, with A below B, which are at most 65,535 queues
+-- A:B, with A below B, which are not more than the most queues
 unfoldable pub range_of : List ℕ → Option Pick
 range_of word = do
-  parts ← cut_at 58 word
+  parts ← cut_at (byte ":") word
   first ← decimal_below (2 ^ 16) parts.0
   last ← decimal_below (2 ^ 16) parts.1
-  if nat_lt first last && nat_lt (last - first + 1) (2 ^ 16) then Some (Balance first (last - first + 1)) else None
+  if nat_lt first last && nat_le (last - first + 1) most_queues then Some (Balance first (last - first + 1)) else None
 
 -- `--queue-num N` or `--queue-balance A:B`
 unfoldable pub pick_of : List ℕ → List ℕ → Option Pick

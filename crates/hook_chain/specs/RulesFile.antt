@@ -6,6 +6,7 @@ use Rattle.std.specs.Str.Lines.{lines}
 use Rattle.hook_chain.specs.declared.rule.Rule.{Rule}
 use Rattle.hook_chain.specs.declared.fault.LineFault.{LineFault}
 use Rattle.hook_chain.specs.declared.fault.LineFault.TheVariants.{Bad, NoMemory}
+use Rattle.hook_chain.specs.Numbers.{most_tables, most_rules}
 use Rattle.hook_chain.specs.Words.{◌>>=◌}
 use Rattle.hook_chain.specs.Line.{Says, Nothing, Opens, Policy, Adds, Closes, says}
 
@@ -20,17 +21,17 @@ pub record Place : Type 0 where
 abbrev pub start : Place
 start = record { names = []; closed = []; inside = None }
 
--- a table may be opened outside of tables, under a new name, and is one of 16 at most
+-- a table may be opened outside of tables, under a new name, and is one of the most tables
 abbrev pub may_open : Place → List ℕ → Bool
-may_open p name = is_none p.inside && nat_lt (length p.closed) 16 && not (list_any (λ known. bytes_eq known name) p.names)
+may_open p name = is_none p.inside && nat_lt (length p.closed) most_tables && not (list_any (λ known. bytes_eq known name) p.names)
 
 -- The place behind a line that says this; none where it may not stand here. A table's policies have no
--- effect, and it has at most 1,000 rules.
+-- effect.
 unfoldable pub after : Place → Says → Option Place
 after p Nothing = Some p
 after p (Opens name) = if may_open p name then Some (record p { names = p.names ++ name ∷ []; inside = Some [] }) else None
 after p Policy = if is_none p.inside then None else Some p
-after p (Adds rule) = p.inside >>= λ rules. if nat_lt (length rules) 1000 then Some (record p { inside = Some (rules ++ rule ∷ []) }) else None
+after p (Adds rule) = p.inside >>= λ rules. if nat_lt (length rules) most_rules then Some (record p { inside = Some (rules ++ rule ∷ []) }) else None
 after p Closes = p.inside >>= λ rules. Some (record p { closed = p.closed ++ rules ∷ []; inside = None })
 
 -- the place behind a line; none where no form allows it here

@@ -1,5 +1,6 @@
--- The words of a line. Bytes are ASCII codes.
-use Rattle.std.specs.Prelude.{ℕ, ◌||◌, ◌&&◌, ◌==◌, not, nat_le, Bool, List, [], ◌∷◌, length, filter, Option, Some, None, bytes_eq, option_map, if◌then◌else◌}
+-- The bytes of a line, and its words. Bytes are ASCII codes.
+use Prim.Native.String.{String}
+use Rattle.std.specs.Prelude.{ℕ, ◌||◌, ◌&&◌, ◌==◌, not, nat_le, Bool, List, [], ◌∷◌, length, slice_index, filter, Option, Some, None, bytes_eq, codes, option_map, if◌then◌else◌}
 use Rattle.std.specs.List.{slice_split}
 
 infixl 10 ◌>>=◌
@@ -7,13 +8,37 @@ abbrev pub ◌>>=◌ : {A B : Type 0} → Option A → (A → Option B) → Opti
 None >>= f = None
 (Some x) >>= f = f x
 
+-- the byte of this text of one byte
+abbrev pub byte : String → ℕ
+byte text = slice_index (codes text) 0
+
+-- the bytes from one to another
+abbrev pub is_from_to : String → String → ℕ → Bool
+is_from_to first last b = nat_le (byte first) b && nat_le b (byte last)
+
+-- the bytes that have no sign: the horizontal tab, and LF, which ends a line
+abbrev pub tab : ℕ
+tab = 9
+
+abbrev pub line_feed : ℕ
+line_feed = 10
+
 -- a space or a tab
 abbrev pub is_blank : ℕ → Bool
-is_blank b = (b == 32) || (b == 9)
+is_blank b = (b == byte " ") || (b == tab)
 
--- printable ASCII, 0x20 to 0x7e, and the tab
+-- printable ASCII and the tab
 abbrev pub is_printable : ℕ → Bool
-is_printable b = (b == 9) || (nat_le 0x20 b && nat_le b 0x7e)
+is_printable b = (b == tab) || is_from_to " " "~" b
+
+abbrev pub is_digit : ℕ → Bool
+is_digit b = is_from_to "0" "9" b
+
+abbrev pub is_lower : ℕ → Bool
+is_lower b = is_from_to "a" "z" b
+
+abbrev pub is_upper : ℕ → Bool
+is_upper b = is_from_to "A" "Z" b
 
 -- what stands between blanks, as far as it isn't empty
 unfoldable pub words_of : List ℕ → List (List ℕ)

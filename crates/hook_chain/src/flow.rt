@@ -2,6 +2,7 @@
 
 ghost use Rattle.std.specs.Prelude.{◌≡◌, ◌+◌, ◌/◌, ◌%◌, ◌^◌, ◌<◌, ◌≤◌, IfSome, option_copied};
 ghost use Rattle.ip_fields.specs.Packet.{IsAddressed};
+ghost use Rattle.hook_chain.specs.Numbers.{ipv4_family};
 ghost use Rattle.hook_chain.specs.Balance.{address_word, balanced, final_mix, flow_hash, mixed, packet_hash};
 
 use ip_fields::IpFields;
@@ -10,6 +11,8 @@ use ip_fields::IpFields;
 const INITIAL_VALUE: u32 = 0xdead_beef;
 /// Three words of 4 bytes are hashed.
 const HASHED_BYTES: u32 = 12;
+/// The family of a packet's fields whose addresses have 32 bits.
+const IPV4_FAMILY: u8 = 4;
 /// How many values a word has.
 const WORDS: u128 = 1 << 32;
 
@@ -48,10 +51,10 @@ fn hash_of(key: u32, fields: Option<&IpFields>) -> u32
 
 #[tactic(auto, unfolding(crate::specs::Balance::address_word))]
 fn word_of(family: u8, address: u128) -> u32
-    requires { family ≡ 4 → address < 2 ^ 32 }
+    requires { family ≡ ipv4_family → address < 2 ^ 32 }
     ensures { result ≡ address_word family address }
 {
-    if family == 4 {
+    if family == IPV4_FAMILY {
         address as u32
     } else {
         word(address >> 96) ^ word(address >> 64) ^ word(address >> 32) ^ word(address)

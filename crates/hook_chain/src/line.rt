@@ -2,8 +2,8 @@
 
 ghost use Rattle.std.specs.Prelude.{◌≡◌, option_map};
 ghost use Rattle.std.specs.List.{list_all};
-ghost use Rattle.hook_chain.specs.Words.{is_printable, words_of};
-ghost use Rattle.hook_chain.specs.Line.{are_digits, has_name_length, is_chain_name, is_counters, is_digit, is_letter, is_table_byte, is_table_name, opening, policy, said, says, says_by};
+ghost use Rattle.hook_chain.specs.Words.{is_digit, is_printable, words_of};
+ghost use Rattle.hook_chain.specs.Line.{are_digits, has_name_length, is_chain_name, is_counters, is_letter, is_table_byte, is_table_name, opening, policy, said, says, says_by};
 
 use crate::rule::Rule;
 use crate::rule_line::rule;

@@ -1,11 +1,18 @@
 //! The numbers of a rules file.
 
 ghost use Rattle.std.specs.Prelude.{◌≡◌, ◌+◌, ◌*◌, ◌-◌, ◌<◌, ◌≤◌, ◌^◌};
-ghost use Rattle.hook_chain.specs.Numbers.{below, decimal, decimal_below, digit_in, number, wide};
+ghost use Rattle.hook_chain.specs.Digits.{below, decimal, decimal_below, digit_in, number, wide};
+
+/// The radix of a number without a prefix.
+const DECIMAL: u32 = 10;
+/// The radix of a number behind `0x`.
+const HEXADECIMAL: u32 = 16;
+/// What the digits `a` and `A` stand for.
+const FIRST_LETTER_DIGIT: u8 = 10;
 
 /// The number that the digits of this radix spell. `None` where there is no digit, where a byte is no
 /// digit of the radix, and where the number doesn't fit 32 bits.
-#[tactic(auto, unfolding(crate::specs::Numbers::number))]
+#[tactic(auto, unfolding(crate::specs::Digits::number))]
 fn number(word: &[u8], radix: u32) -> Option<u32>
     requires { 1 ≤ radix }
     ensures { result ≡ number radix word.now }
@@ -34,8 +41,8 @@ fn digit(byte: u8, radix: u32) -> Option<u32>
 {
     let value = match byte {
         b'0'..=b'9' => byte - b'0',
-        b'a'..=b'f' => byte - b'a' + 10,
-        b'A'..=b'F' => byte - b'A' + 10,
+        b'a'..=b'f' => byte - b'a' + FIRST_LETTER_DIGIT,
+        b'A'..=b'F' => byte - b'A' + FIRST_LETTER_DIGIT,
         _ => return None,
     };
     let value = u32::from(value);
@@ -43,14 +50,14 @@ fn digit(byte: u8, radix: u32) -> Option<u32>
 }
 
 /// A decimal number below 2^32, without a leading zero.
-#[tactic(auto, unfolding(crate::specs::Numbers::decimal))]
+#[tactic(auto, unfolding(crate::specs::Digits::decimal))]
 fn decimal(word: &[u8]) -> Option<u32>
     ensures { result ≡ decimal word.now }
 {
     if word.len() > 1 && word[0] == b'0' {
         return None;
     }
-    number(word, 10)
+    number(word, DECIMAL)
 }
 
 /// A decimal number of 16 bits.
@@ -69,12 +76,12 @@ pub(crate) fn decimal_8(word: &[u8]) -> Option<u8>
 
 /// A number of 32 bits: decimal, or `0x` and hexadecimal digits in either case, with leading zeros as
 /// they come.
-#[tactic(auto, unfolding(crate::specs::Numbers::wide))]
+#[tactic(auto, unfolding(crate::specs::Digits::wide))]
 pub(crate) fn wide(word: &[u8]) -> Option<u32>
     ensures { result ≡ wide word.now }
 {
     match word.strip_prefix(b"0x") {
-        Some(digits) => number(digits, 16),
+        Some(digits) => number(digits, HEXADECIMAL),
         None => decimal(word),
     }
 }

@@ -2,7 +2,7 @@
 
 ghost use Rattle.std.specs.Prelude.{◌≡◌, bytes_eq, ℕ, ◌+◌, ◌<◌, ◌≤◌, true, false, length, slice_index, IfSome, IsTrue, ◌==◌, ◌↔◌, option_map, IsNone, MatchOption, ◌∷◌, []};
 ghost use Rattle.std.specs.Str.Lines.{lines, strip_carriage_return};
-ghost use Rattle.hook_chain.specs.Words.{behind, cut_at, first_word, is_blank, words_of};
+ghost use Rattle.hook_chain.specs.Words.{behind, cut_at, first_word, is_blank, line_feed, words_of};
 
 /// The byte that ends a line.
 const LINE_FEED: u8 = b'\n';
@@ -30,8 +30,8 @@ pub(crate) fn next_line(text: &[u8]) -> Option<(&[u8], &[u8])>
 /// The bytes before the first LF, or all.
 fn line_length(text: &[u8]) -> usize
     ensures within { result ≤ length text.now }
-    ensures before { (k : ℕ) → k < result → (slice_index text.now k == 10) ≡ false }
-    ensures at { result < length text.now → slice_index text.now result ≡ 10 }
+    ensures before { (k : ℕ) → k < result → (slice_index text.now k == line_feed) ≡ false }
+    ensures at { result < length text.now → slice_index text.now result ≡ line_feed }
 {
     for (at, byte) in text.iter().enumerate() {
         if *byte == LINE_FEED {

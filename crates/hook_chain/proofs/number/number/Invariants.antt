@@ -1,5 +1,5 @@
 use Rattle.std.proofs.Common.{◌≡◌, drop, ◌<◌, ◌^◌}
-use Rattle.hook_chain.specs.Numbers.{number}
+use Rattle.hook_chain.specs.Digits.{number}
 use Rattle.hook_chain.proofs.Digits.{onto}
 use Rattle.hook_chain.proofs.number.number.Given as goal
 
