@@ -1,6 +1,9 @@
+pub mod Blocks
+pub mod BlocksFound
 pub mod Bounds
 pub mod Digits
 pub mod FileForm
+pub mod Leads
 pub mod LineForm
 pub mod Names
 pub mod OptionForm

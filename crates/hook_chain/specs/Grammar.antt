@@ -1,17 +1,17 @@
 -- The grammar of a rules file: what is written, production by production, as iptables-save(8) writes it
 -- and iptables-extensions(8) names its parts. The square brackets of these comments say that a part may
 -- be missing. Nothing here reads: a production says which words stand for a value.
-use Rattle.std.specs.Prelude.{ℕ, ◌≡◌, ◌+◌, ◌⊎◌, Bool, true, false, IsTrue, List, [], ◌∷◌, ◌++◌, length, Option, Some, None, is_some, codes}
+use Rattle.std.specs.Prelude.{ℕ, ◌≡◌, ◌≢◌, ◌+◌, ◌≤◌, ◌⊎◌, Bool, true, false, IsTrue, List, [], ◌∷◌, ◌++◌, length, map, flat_map, All, AllPairs, Option, Some, None, codes}
 use Rattle.std.specs.List.{list_all}
 use Rattle.std.specs.Str.Lines.{lines}
 use Rattle.hook_chain.specs.declared.rule.Rule.{Rule}
 use Rattle.hook_chain.specs.declared.rule.MarkTest.{MarkTest}
 use Rattle.hook_chain.specs.declared.rule.Pick.{Pick}
 use Rattle.hook_chain.specs.declared.rule.Pick.TheVariants.{Number}
+use Rattle.hook_chain.specs.Numbers.{most_tables, most_rules}
 use Rattle.hook_chain.specs.Words.{is_printable, words_of}
 use Rattle.hook_chain.specs.RuleLine.{protocol_of, value_and_mask, pick_of}
 use Rattle.hook_chain.specs.Line.{Says, Nothing, Opens, Policy, Adds, Closes, is_table_name, is_chain_name, is_counters}
-use Rattle.hook_chain.specs.RulesFile.{Place, start, after}
 
 -- [-p PROTO]
 abbrev pub IsProtocolMatch : List (List ℕ) → Option ℕ → Type 0
@@ -68,31 +68,78 @@ IsForm words Closes = words ≡ codes "COMMIT" ∷ []
 abbrev pub IsLine : List ℕ → Says → Type 0
 IsLine line said = IsTrue (list_all is_printable line) × IsForm (words_of line) said
 
--- these lines lead from one place to another: each has a form that is allowed in its place
-abbrev pub Leads : Place → List (List ℕ) → Place → Type 0
-Leads p [] q = p ≡ q
-Leads p (line ∷ rest) q = (said : Says) × (next : Place) × IsLine line said × (after p said ≡ Some next) × Leads next rest q
+-- lines that say nothing
+abbrev pub AreSilent : List (List ℕ) → Type 0
+AreSilent silent = All (λ line. IsLine line Nothing) silent
 
--- A rules file of these tables: its lines lead from its beginning to a place outside of tables.
+-- a line inside of a table: it says nothing, or is a policy, which has no effect, or is one rule
+abbrev pub IsTableLine : List ℕ → List Rule → Type 0
+IsTableLine line [] = IsLine line Nothing ⊎ IsLine line Policy
+IsTableLine line (rule ∷ []) = IsLine line (Adds rule)
+IsTableLine line (rule ∷ other ∷ rules) = ⊥
+
+-- the lines inside of a table, and its rules in their order
+abbrev pub AreTableLines : List (List ℕ) → List Rule → Type 0
+AreTableLines [] rules = rules ≡ []
+AreTableLines (line ∷ more) rules =
+    (own : List Rule) × (others : List Rule) × IsTableLine line own × AreTableLines more others × (rules ≡ own ++ others)
+
+-- A table as it is written: lines that say nothing, the line of its name, its lines, and the line that
+-- ends it.
+pub record Block : Type 0 where
+  pub silent : List (List ℕ)
+  pub opening : List ℕ
+  pub inside : List (List ℕ)
+  pub closing : List ℕ
+  pub name : List ℕ
+  pub rules : List Rule
+
+abbrev pub lines_of : Block → List (List ℕ)
+lines_of b = b.silent ++ b.opening ∷ (b.inside ++ b.closing ∷ [])
+
+pub record IsBlock (b : Block) : Type 0 where
+  pub silent : AreSilent b.silent
+  pub opening : IsLine b.opening (Opens b.name)
+  pub inside : AreTableLines b.inside b.rules
+  pub closing : IsLine b.closing Closes
+
+-- The lines of a rules file of these tables: blocks, one a table, and lines that say nothing. Of the
+-- whole it holds that the tables aren't too many, nor the rules of any, and that the names differ.
+pub record AreFileLines (text_lines : List (List ℕ)) (tables : List (List Rule)) : Type 0 where
+  pub blocks : List Block
+  pub last : List (List ℕ)
+  pub lines_are : text_lines ≡ flat_map lines_of blocks ++ last
+  pub blocks_are : All IsBlock blocks
+  pub last_are : AreSilent last
+  pub tables_are : tables ≡ map (λ b. b.rules) blocks
+  pub few_tables : length blocks ≤ most_tables
+  pub few_rules : All (λ b. length b.rules ≤ most_rules) blocks
+  pub names_differ : AllPairs (λ a b. a ≢ b) (map (λ b. b.name) blocks)
+
+-- a rules file of these tables
 abbrev pub IsRulesFile : List ℕ → List (List Rule) → Type 0
-IsRulesFile text tables = (names : List (List ℕ)) × Leads start (lines text) (record { names = names; closed = tables; inside = None })
+IsRulesFile text tables = AreFileLines (lines text) tables
 
--- no form of this line is allowed here
-abbrev pub IsRefused : Place → List ℕ → Type 0
-IsRefused p line = (said : Says) (next : Place) → IsLine line said → after p said ≡ Some next → ⊥
+-- some lines after these make a rules file of them
+abbrev pub BeginFile : List (List ℕ) → Type 0
+BeginFile front = (rest : List (List ℕ)) × (tables : List (List Rule)) × AreFileLines (front ++ rest) tables
 
--- the first of these lines may not stand here, or the file may not end here
-abbrev pub IsStuck : Place → List (List ℕ) → Type 0
-IsStuck p [] = IsTrue (is_some p.inside)
-IsStuck p (line ∷ rest) = IsRefused p line
-
--- The first line that is refused: those before it lead to a place where it may not stand, or, behind
--- the last line, where the file may not end.
-pub record IsFirstRefused (text : List ℕ) (number : ℕ) : Type 0 where
+-- a line that may not stand in its place: the lines before it begin a rules file, and with it they don't
+pub record IsBadLine (text : List ℕ) (number : ℕ) : Type 0 where
   pub front : List (List ℕ)
+  pub line : List ℕ
   pub rest : List (List ℕ)
-  pub place : Place
-  pub lines_are : lines text ≡ front ++ rest
+  pub lines_are : lines text ≡ front ++ line ∷ rest
   pub count : length front + 1 ≡ number
-  pub leads : Leads start front place
-  pub refused : IsStuck place rest
+  pub begin : BeginFile front
+  pub refused : BeginFile (front ++ line ∷ []) → ⊥
+
+-- a text that ends too early, inside of a table: its lines begin a rules file, and it is none itself
+pub record EndsEarly (text : List ℕ) (number : ℕ) : Type 0 where
+  pub count : length (lines text) + 1 ≡ number
+  pub begin : BeginFile (lines text)
+  pub unfinished : (tables : List (List Rule)) → IsRulesFile text tables → ⊥
+
+-- the number of the first line that is refused, or of the missing one behind the last
+abbrev pub IsFirstRefused : List ℕ → ℕ → Type 0
+IsFirstRefused text number = IsBadLine text number ⊎ EndsEarly text number

@@ -9,6 +9,7 @@
 mod chain;
 mod fault;
 mod flow;
+mod laws;
 mod line;
 mod number;
 mod reader;
@@ -20,6 +21,7 @@ mod word;
 pub use chain::{Decision, Next, onward, route};
 pub use fault::LineFault;
 pub use flow::balance;
+pub use laws::{one_refused_line, one_value, value_or_refused_line};
 pub use reader::read_tables;
 pub use rule::{MarkTest, Pick, Rule};
 pub use tables::Tables;

@@ -1,0 +1,22 @@
+//! Laws of rules files, each the contract of a function that does nothing. With the contract of
+//! `read_tables`, which speaks of the same definitions, they are laws of the reading.
+
+ghost use Rattle.std.specs.Prelude.{◌≡◌, ℕ, List, ◌⊎◌};
+ghost use Rattle.hook_chain.specs.declared.rule.Rule.{Rule};
+ghost use Rattle.hook_chain.specs.Grammar.{IsFirstRefused, IsRulesFile};
+
+/// A text is the rules file of one list of tables at most.
+pub fn one_value()
+    ensures { (text : List ℕ) (a b : List (List Rule)) → IsRulesFile text a → IsRulesFile text b → a ≡ b }
+{}
+
+/// A text has one first refused line at most.
+pub fn one_refused_line()
+    ensures { (text : List ℕ) (a b : ℕ) → IsFirstRefused text a → IsFirstRefused text b → a ≡ b }
+{}
+
+/// A text is a rules file or has a first refused line, and never both.
+pub fn value_or_refused_line()
+    ensures one { (text : List ℕ) → ((tables : List (List Rule)) × IsRulesFile text tables) ⊎ ((line : ℕ) × IsFirstRefused text line) }
+    ensures never_both { (text : List ℕ) (tables : List (List Rule)) (line : ℕ) → IsRulesFile text tables → IsFirstRefused text line → ⊥ }
+{}
