@@ -1,17 +1,23 @@
 -- What a reader has read: the answer that is left, the bounds, and how many lines.
-use Rattle.std.proofs.Common.{◌≡◌, ℕ, ◌+◌, ◌<◌, ◌≤◌, true, false, cond, ◌&&◌, ltb, List, [], ◌∷◌, ◌++◌, length, length-append, Option, Some, None, Err, refl, sym, subst, arith}
+use Rattle.std.proofs.Common.{◌≡◌, ℕ, ◌+◌, ◌<◌, ◌≤◌, true, false, cond, ◌&&◌, ltb, List, [], ◌∷◌, ◌++◌, length, length-append, Option, Some, None, Result, Err, ◌∙◌, refl, sym, ap, subst, arith}
 use Rattle.std.specs.Prelude.{IfSome, is_none}
+use Rattle.std.specs.List.{list_any}
+use Rattle.std.specs.Option.{option_map_or}
 use Rattle.std.specs.Str.Lines.{lines}
-use Rattle.std.proofs.lemmas.Bool.{ltb-true, and_parts}
+use Rattle.std.proofs.lemmas.Bool.{ltb-true, and_parts, or_parts, true≢false, true_from_ne_false}
 use Rattle.std.proofs.lemmas.List.Elements.{All-nil, All-push}
 use Rattle.hook_chain.specs.declared.rule.Rule.{Rule}
 use Rattle.hook_chain.specs.Words.{◌>>=◌}
 use Rattle.hook_chain.specs.Numbers.{most_tables, most_rules}
 use Rattle.hook_chain.specs.Rules.{IsPick, IsTable}
 use Rattle.hook_chain.specs.Line.{Says, Nothing, Opens, Policy, Adds, Closes, says}
+use Rattle.std.proofs.lemmas.Option.{none-some, same_Some}
+use Rattle.hook_chain.specs.declared.fault.LineFault.{LineFault}
+use Rattle.hook_chain.specs.declared.fault.LineFault.TheVariants.{Bad}
+use Rattle.hook_chain.specs.declared.fault.LineFault.TheVariants as fault
 use Rattle.hook_chain.specs.declared.reader.Stop.{Stop}
 use Rattle.hook_chain.specs.declared.reader.Stop.TheVariants.{Refused, NoMemory}
-use Rattle.hook_chain.specs.Reader.{IsSound, Moves, fault_of}
+use Rattle.hook_chain.specs.Reader.{IsSound, Moves, fault_of, opens, opens_table, takes_memory}
 use Rattle.hook_chain.specs.RulesFile.{Answers, Place, start, may_open, after, behind_line, tables_from, tables_of}
 use Rattle.hook_chain.proofs.Picks.{SaysPick, says_if}
 
@@ -19,6 +25,7 @@ pub record IsRead (text : List ℕ) (number : ℕ) (p : Place) (rest : List ℕ)
   pub answer : tables_of text ≡ tables_from number p (lines rest)
   pub sound : IsSound p
   pub count : number + length rest ≤ length text + 1
+  pub plain : list_any opens_table (lines text) ≡ false → (p.inside ≡ None) × (list_any opens_table (lines rest) ≡ false)
 
 pub tables_from-on : (number : ℕ) (p q : Place) (line : List ℕ) (rest : List (List ℕ)) → behind_line p line ≡ Some q → tables_from number p (line ∷ rest) ≡ tables_from (number + 1) q rest
 unfolding tables_from
@@ -85,18 +92,56 @@ sound_behind p q line s e = subst (λ (o : Option Place). IfSome o IsSound) e (s
 
 pub is_read_first : (text : List ℕ) (p : Place) → p ≡ start → IsRead text 1 p text
 unfolding tables_of
-is_read_first text p e = rw e (record { answer = refl; sound = sound_start; count = omega arith })
+is_read_first text p e = rw e (record { answer = refl; sound = sound_start; count = omega arith; plain = λ h. (refl, h) })
+
+plain_line : (p q : Place) (said : Says) → p.inside ≡ None → opens said ≡ false → after p said ≡ Some q → q.inside ≡ None
+unfolding after
+plain_line p q Nothing out plain e = ap (λ (s : Place). s.inside) (sym (same_Some p q e)) ∙ out
+plain_line p q (Opens name) out plain e = absurd (true≢false plain)
+plain_line p q Policy out plain e = absurd (none-some q (rw out at e))
+plain_line p q (Adds rule) out plain e = absurd (none-some q (rw out at e))
+plain_line p q Closes out plain e = absurd (none-some q (rw out at e))
+
+plain_by : (p q : Place) (said : Option Says) → p.inside ≡ None → option_map_or opens said false ≡ false → said >>= after p ≡ Some q → q.inside ≡ None
+plain_by p q None out plain e = absurd (none-some q e)
+plain_by p q (Some said) out plain e = plain_line p q said out plain e
+
+-- lines that begin no table leave no table open
+plain_next : (p q : Place) (rest line behind : List ℕ) → lines rest ≡ line ∷ lines behind → behind_line p line ≡ Some q → (p.inside ≡ None) × (list_any opens_table (lines rest) ≡ false) → (q.inside ≡ None) × (list_any opens_table (lines behind) ≡ false)
+plain_next p q rest line behind first e h =
+    let parts = or_parts (opens_table line) (list_any opens_table (lines behind)) (ap (list_any opens_table) (sym first) ∙ h.1) in
+    (plain_by p q (says line) h.0 parts.0 e, parts.1)
 
 pub is_read_next : (text : List ℕ) (number : ℕ) (p q : Place) (rest line behind : List ℕ) → IsRead text number p rest → lines rest ≡ line ∷ lines behind → length behind < length rest → behind_line p line ≡ Some q → IsRead text (number + 1) q behind
 is_read_next text number p q rest line behind r first shorter e = record {
   answer = rw (r.answer, first) (tables_from-on number p q line (lines behind) e);
   sound = sound_behind p q line r.sound e;
   count = omega (arith, r.count);
+  plain = λ h. plain_next p q rest line behind first e (r.plain h);
 }
 
 pub is_refused : (text : List ℕ) (number : ℕ) (p : Place) (rest line behind : List ℕ) → IsRead text number p rest → lines rest ≡ line ∷ lines behind → behind_line p line ≡ None → tables_of text ≡ Err number
 is_refused text number p rest line behind r first e = rw (r.answer, first) (tables_from-off number p line (lines behind) e)
 
-pub is_fault : (stop : Stop) (text : List ℕ) (number : ℕ) (p q : Place) (rest line behind : List ℕ) → IsRead text number p rest → lines rest ≡ line ∷ lines behind → Moves {A = Unit {0}} (Err stop) (behind_line p line) q → Answers (Err (fault_of stop number)) (tables_of text)
+pub is_fault : (stop : Stop) (text : List ℕ) (number : ℕ) (p q : Place) (rest line behind : List ℕ) → IsRead text number p rest → lines rest ≡ line ∷ lines behind → Moves {A = Unit {0}} (takes_memory p (says line)) (Err stop) (behind_line p line) q → Answers (Err (fault_of stop number)) (tables_of text)
 is_fault Refused text number p q rest line behind r first e = is_refused text number p rest line behind r first e
 is_fault NoMemory text number p q rest line behind r first e = tt
+
+pub same_fault : {T : Type 0} (x y : LineFault) → ◌≡◌ {A = Result T LineFault} (Err x) (Err y) → x ≡ y
+same_fault x y e = cc
+
+bad_is_no_memory : (number : ℕ) → ◌≡◌ {A = LineFault} (Bad number) fault.NoMemory → ⊥
+bad_is_no_memory number e = cc
+
+takes_none : (p : Place) (said : Option Says) → p.inside ≡ None → option_map_or opens said false ≡ false → takes_memory p said ≡ false
+takes_none p said out plain = rw (out, plain) refl
+
+-- memory ran out: some line begins a table
+pub is_taken : (stop : Stop) (text : List ℕ) (number : ℕ) (p q : Place) (rest line behind : List ℕ) → IsRead text number p rest → lines rest ≡ line ∷ lines behind → Moves {A = Unit {0}} (takes_memory p (says line)) (Err stop) (behind_line p line) q → fault_of stop number ≡ fault.NoMemory → list_any opens_table (lines text) ≡ true
+is_taken Refused text number p q rest line behind r first e is = absurd (bad_is_no_memory number is)
+is_taken NoMemory text number p q rest line behind r first e is =
+    true_from_ne_false (list_any opens_table (lines text))
+    (λ none.
+    let plain = r.plain none in
+    let parts = or_parts (opens_table line) (list_any opens_table (lines behind)) (ap (list_any opens_table) (sym first) ∙ plain.1) in
+    true≢false (sym e ∙ takes_none p (says line) plain.0 parts.0))

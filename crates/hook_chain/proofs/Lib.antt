@@ -13,3 +13,4 @@ pub mod Rotation
 pub mod RuleForm
 pub mod RuleLineForm
 pub mod Splitting
+pub mod TableLines

@@ -68,6 +68,10 @@ IsForm words Closes = words ≡ codes "COMMIT" ∷ []
 abbrev pub IsLine : List ℕ → Says → Type 0
 IsLine line said = IsTrue (list_all is_printable line) × IsForm (words_of line) said
 
+-- a line that begins a table
+abbrev pub BeginsTable : List ℕ → Type 0
+BeginsTable line = (name : List ℕ) × IsLine line (Opens name)
+
 -- lines that say nothing
 abbrev pub AreSilent : List (List ℕ) → Type 0
 AreSilent silent = All (λ line. IsLine line Nothing) silent

@@ -1,5 +1,6 @@
 -- A reader as a place in the file, and what one line does to it.
-use Rattle.std.specs.Prelude.{ℕ, ◌≡◌, map, Option, Some, None, Result, Ok, Err, ⊤, IfSome, length, ◌<◌}
+use Rattle.std.specs.Prelude.{ℕ, ◌≡◌, ◌||◌, Bool, true, false, IsTrue, List, map, Option, Some, None, is_some, Result, Ok, Err, IfSome, length, ◌<◌}
+use Rattle.std.specs.Option.{option_map_or}
 use Rattle.hook_chain.specs.declared.reader.Reader.{Reader}
 use Rattle.hook_chain.specs.declared.reader.Stop.{Stop}
 use Rattle.hook_chain.specs.declared.reader.Stop.TheVariants.{Refused, NoMemory}
@@ -8,16 +9,34 @@ use Rattle.hook_chain.specs.declared.fault.LineFault.TheVariants.{Bad}
 use Rattle.hook_chain.specs.declared.fault.LineFault.TheVariants as fault
 use Rattle.hook_chain.specs.Rules.{IsTable, AreTables}
 use Rattle.hook_chain.specs.Numbers.{most_tables}
+use Rattle.hook_chain.specs.Line.{Says, Nothing, Opens, Policy, Adds, Closes, says}
 use Rattle.hook_chain.specs.RulesFile.{Place}
 
 abbrev pub place_of : Reader → Place
 place_of r = record { names = map (λ name. name.now) r.names.items; closed = r.closed.items; inside = r.inside }
 
--- a call that goes on to the next place, or says that there is none, unless memory runs out
-abbrev pub Moves : {A : Type 0} → Result A Stop → Option Place → Place → Type 0
-Moves (Ok _) next new = next ≡ Some new
-Moves (Err Refused) next new = next ≡ None
-Moves (Err NoMemory) next new = ⊤
+-- whether a line that says this begins a table
+abbrev pub opens : Says → Bool
+opens Nothing = false
+opens (Opens name) = true
+opens Policy = false
+opens (Adds rule) = false
+opens Closes = false
+
+-- whether a line begins a table
+abbrev pub opens_table : List ℕ → Bool
+opens_table line = option_map_or opens (says line) false
+
+-- memory is taken to begin a table, and inside of one
+abbrev pub takes_memory : Place → Option Says → Bool
+takes_memory p said = is_some p.inside || option_map_or opens said false
+
+-- A call that goes on to the next place, or says that there is none, unless memory runs out where it is
+-- taken.
+abbrev pub Moves : {A : Type 0} → Bool → Result A Stop → Option Place → Place → Type 0
+Moves takes (Ok _) next new = next ≡ Some new
+Moves takes (Err Refused) next new = next ≡ None
+Moves takes (Err NoMemory) next new = IsTrue takes
 
 -- what a call's refusal means of the file
 abbrev pub fault_of : Stop → ℕ → LineFault

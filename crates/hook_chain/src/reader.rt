@@ -1,14 +1,15 @@
 //! The reading of a whole rules file, line by line.
 
-ghost use Rattle.std.specs.Prelude.{ℕ, List, ◌≡◌, IfOk, [], ◌+◌, ◌<◌, length, map, bytes_eq};
+ghost use Rattle.std.specs.Prelude.{ℕ, List, Any, true, false, is_some, Some, ◌≡◌, ◌≢◌, IfOk, IsOk, [], ◌+◌, ◌<◌, length, map, bytes_eq};
+ghost use Rattle.std.specs.Str.Lines.{lines};
 ghost use Rattle.std.specs.List.{list_any};
 ghost use Rattle.hook_chain.specs.declared.reader.Stop.TheVariants.{NoMemory};
 ghost use Rattle.hook_chain.specs.Rules.{AreTables};
-ghost use Rattle.hook_chain.specs.Grammar.{IsFirstRefused, IsRulesFile};
+ghost use Rattle.hook_chain.specs.Grammar.{BeginsTable, IsFirstRefused, IsRulesFile};
 ghost use Rattle.hook_chain.specs.declared.rule.Rule.{Rule};
-ghost use Rattle.hook_chain.specs.Line.{Adds, Closes, Opens, Policy, said};
+ghost use Rattle.hook_chain.specs.Line.{Adds, Closes, Opens, Policy, said, says};
 ghost use Rattle.hook_chain.specs.RulesFile.{Answers, after, behind_line, may_open, start, tables_from, tables_of};
-ghost use Rattle.hook_chain.specs.Reader.{IsSound, Moves, fault_of, place_of};
+ghost use Rattle.hook_chain.specs.Reader.{IsSound, Moves, fault_of, opens_table, place_of, takes_memory};
 
 use crate::fault::LineFault;
 use crate::line::{Line, parse_line};
@@ -48,6 +49,10 @@ pub fn read_tables(alloc: Global, bytes: &[u8]) -> Result<Tables, LineFault>
     ensures refused { (line : ℕ) → result ≡ Err (LineFault.Bad line) → IsFirstRefused bytes.now line }
     ensures stuck { (line : ℕ) → IsFirstRefused bytes.now line → Answers result (Err line) }
 
+    // Memory is taken from the first table on: a file without tables is always read.
+    ensures memory { result ≡ Err LineFault.NoMemory → Any BeginsTable (lines bytes.now) }
+    ensures without_tables { IsRulesFile bytes.now [] → IsOk result }
+
     // Both at once, as a function of the text.
     ensures exact { Answers result (tables_of bytes.now) }
     ensures bounds { IfOk result AreTables }
@@ -59,6 +64,7 @@ pub fn read_tables(alloc: Global, bytes: &[u8]) -> Result<Tables, LineFault>
 fn read_lines(alloc: Global, bytes: &[u8]) -> Result<Tables, LineFault>
     requires { length bytes.now < 4_294_967_295 }
     ensures exact { Answers result (tables_of bytes.now) }
+    ensures memory { result ≡ Err LineFault.NoMemory → list_any opens_table (lines bytes.now) ≡ true }
     ensures bounds { IfOk result AreTables }
 {
     let mut reader = Reader::new(alloc);
@@ -126,7 +132,7 @@ impl<'a> Reader<'a> {
 
     /// Goes on behind this line.
     fn read(&mut self, alloc: Global, line: &'a [u8]) -> Result<(), Stop>
-        ensures { Moves result (behind_line (place_of self.old) line.now) (place_of self.new) }
+        ensures { Moves (takes_memory (place_of self.old) (says line.now)) result (behind_line (place_of self.old) line.now) (place_of self.new) }
     {
         match parse_line(line) {
             Some(line) => self.take(alloc, line),
@@ -138,7 +144,8 @@ impl<'a> Reader<'a> {
     #[tactic(auto, unfolding(crate::specs::RulesFile::tables_from))]
     fn finish(self, number: u32) -> Result<Tables, LineFault>
         requires { IsSound (place_of self) }
-        ensures { Answers result (tables_from number (place_of self.entry) []) }
+        ensures exact { Answers result (tables_from number (place_of self.entry) []) }
+        ensures memory { result ≢ Err LineFault.NoMemory }
     {
         let Reader {
             names: _names,
@@ -154,7 +161,7 @@ impl<'a> Reader<'a> {
     /// Goes on behind a line that says this.
     #[tactic(auto, unfolding(crate::specs::RulesFile::after))]
     fn take(&mut self, alloc: Global, line: Line<'a>) -> Result<(), Stop>
-        ensures { Moves result (after (place_of self.old) (said line.entry)) (place_of self.new) }
+        ensures { Moves (takes_memory (place_of self.old) (Some (said line.entry))) result (after (place_of self.old) (said line.entry)) (place_of self.new) }
     {
         match line {
             Line::Nothing => Ok(()),
@@ -167,7 +174,7 @@ impl<'a> Reader<'a> {
 
     #[tactic(auto, unfolding(crate::specs::RulesFile::after))]
     fn open(&mut self, alloc: Global, name: &'a [u8]) -> Result<(), Stop>
-        ensures { Moves result (after (place_of self.old) (Opens name.now)) (place_of self.new) }
+        ensures { Moves true result (after (place_of self.old) (Opens name.now)) (place_of self.new) }
     {
         if !self.may_open(name) {
             return Err(Stop::Refused);
@@ -191,7 +198,7 @@ impl<'a> Reader<'a> {
 
     #[tactic(auto, unfolding(crate::specs::RulesFile::after))]
     fn policy(&mut self) -> Result<(), Stop>
-        ensures { Moves result (after (place_of self.old) Policy) (place_of self.new) }
+        ensures { Moves false result (after (place_of self.old) Policy) (place_of self.new) }
     {
         if self.inside.is_none() {
             return Err(Stop::Refused);
@@ -201,7 +208,7 @@ impl<'a> Reader<'a> {
 
     #[tactic(auto, unfolding(crate::specs::RulesFile::after))]
     fn add(&mut self, rule: Rule) -> Result<(), Stop>
-        ensures { Moves result (after (place_of self.old) (Adds rule)) (place_of self.new) }
+        ensures { Moves (is_some (place_of self.old).inside) result (after (place_of self.old) (Adds rule)) (place_of self.new) }
     {
         match &mut self.inside {
             Some(table) if table.len() < MAX_RULES => {
@@ -214,7 +221,7 @@ impl<'a> Reader<'a> {
 
     #[tactic(auto, unfolding(crate::specs::RulesFile::after))]
     fn close(&mut self) -> Result<(), Stop>
-        ensures { Moves result (after (place_of self.old) Closes) (place_of self.new) }
+        ensures { Moves (is_some (place_of self.old).inside) result (after (place_of self.old) Closes) (place_of self.new) }
     {
         let Some(table) = self.inside.take() else {
             return Err(Stop::Refused);
