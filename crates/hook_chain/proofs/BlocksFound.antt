@@ -22,7 +22,7 @@ pub record FromOutside (names : List (List ℕ)) (closed : List (List Rule)) (q 
   pub names_are : q.names ≡ names ++ names_of blocks
   pub tables_are : q.closed ≡ closed ++ tables_in blocks
 
--- the rest of an open table, and blocks behind it
+-- the rest of an open table, and blocks after it
 pub record FromInside (done : List Rule) (names : List (List ℕ)) (closed : List (List Rule)) (q : Place) (ls : List (List ℕ)) : Type 0 where
   pub inside : List (List ℕ)
   pub closing : List ℕ
@@ -40,7 +40,7 @@ From (Some done) names closed q ls = FromInside done names closed q ls
 abbrev pub FromPlace : Place → Place → List (List ℕ) → Type 0
 FromPlace p q ls = From p.inside p.names p.closed q ls
 
--- one more line that says nothing, before the first block or behind the last
+-- one more line that says nothing, before the first block or after the last
 silent_more : (names : List (List ℕ)) (closed : List (List Rule)) (q : Place) (line : List ℕ) (ls : List (List ℕ)) (blocks : List Block) (last : List (List ℕ)) → IsLine line Nothing → ls ≡ flat_map lines_of blocks ++ last → All IsBlock blocks → AreSilent last → q.names ≡ names ++ names_of blocks → q.closed ≡ closed ++ tables_in blocks → FromOutside names closed q (line ∷ ls)
 silent_more names closed q line ls [] last is e are silent ns ts = record {
   blocks = [];

@@ -18,7 +18,7 @@ use Rattle.hook_chain.specs.declared.fault.LineFault.TheVariants as fault
 use Rattle.hook_chain.specs.declared.reader.Stop.{Stop}
 use Rattle.hook_chain.specs.declared.reader.Stop.TheVariants.{Refused, NoMemory}
 use Rattle.hook_chain.specs.Reader.{IsSound, Moves, fault_of, opens, opens_table, takes_memory}
-use Rattle.hook_chain.specs.RulesFile.{Answers, Place, start, may_open, after, behind_line, tables_from, tables_of}
+use Rattle.hook_chain.specs.RulesFile.{Answers, Place, start, may_open, after, line_leads_to, tables_from, tables_of}
 use Rattle.hook_chain.proofs.Picks.{SaysPick, says_if}
 
 pub record IsRead (text : List ℕ) (number : ℕ) (p : Place) (rest : List ℕ) : Type 0 where
@@ -27,11 +27,11 @@ pub record IsRead (text : List ℕ) (number : ℕ) (p : Place) (rest : List ℕ)
   pub count : number + length rest ≤ length text + 1
   pub plain : list_any opens_table (lines text) ≡ false → (p.inside ≡ None) × (list_any opens_table (lines rest) ≡ false)
 
-pub tables_from-on : (number : ℕ) (p q : Place) (line : List ℕ) (rest : List (List ℕ)) → behind_line p line ≡ Some q → tables_from number p (line ∷ rest) ≡ tables_from (number + 1) q rest
+pub tables_from-on : (number : ℕ) (p q : Place) (line : List ℕ) (rest : List (List ℕ)) → line_leads_to p line ≡ Some q → tables_from number p (line ∷ rest) ≡ tables_from (number + 1) q rest
 unfolding tables_from
 tables_from-on number p q line rest e = rw e refl
 
-pub tables_from-off : (number : ℕ) (p : Place) (line : List ℕ) (rest : List (List ℕ)) → behind_line p line ≡ None → tables_from number p (line ∷ rest) ≡ Err number
+pub tables_from-off : (number : ℕ) (p : Place) (line : List ℕ) (rest : List (List ℕ)) → line_leads_to p line ≡ None → tables_from number p (line ∷ rest) ≡ Err number
 unfolding tables_from
 tables_from-off number p line rest e = rw e refl
 
@@ -87,8 +87,8 @@ sound_line : (p : Place) (said : Option Says) → IsSound p → IfSome said Says
 sound_line p None s pick = tt
 sound_line p (Some said) s pick = sound_after p said s pick
 
-pub sound_behind : (p q : Place) (line : List ℕ) → IsSound p → behind_line p line ≡ Some q → IsSound q
-sound_behind p q line s e = subst (λ (o : Option Place). IfSome o IsSound) e (sound_line p (says line) s (says_if line))
+pub sound_after_line : (p q : Place) (line : List ℕ) → IsSound p → line_leads_to p line ≡ Some q → IsSound q
+sound_after_line p q line s e = subst (λ (o : Option Place). IfSome o IsSound) e (sound_line p (says line) s (says_if line))
 
 pub is_read_first : (text : List ℕ) (p : Place) → p ≡ start → IsRead text 1 p text
 unfolding tables_of
@@ -107,25 +107,25 @@ plain_by p q None out plain e = absurd (none-some q e)
 plain_by p q (Some said) out plain e = plain_line p q said out plain e
 
 -- lines that begin no table leave no table open
-plain_next : (p q : Place) (rest line behind : List ℕ) → lines rest ≡ line ∷ lines behind → behind_line p line ≡ Some q → (p.inside ≡ None) × (list_any opens_table (lines rest) ≡ false) → (q.inside ≡ None) × (list_any opens_table (lines behind) ≡ false)
-plain_next p q rest line behind first e h =
-    let parts = or_parts (opens_table line) (list_any opens_table (lines behind)) (ap (list_any opens_table) (sym first) ∙ h.1) in
+plain_next : (p q : Place) (rest line later : List ℕ) → lines rest ≡ line ∷ lines later → line_leads_to p line ≡ Some q → (p.inside ≡ None) × (list_any opens_table (lines rest) ≡ false) → (q.inside ≡ None) × (list_any opens_table (lines later) ≡ false)
+plain_next p q rest line later first e h =
+    let parts = or_parts (opens_table line) (list_any opens_table (lines later)) (ap (list_any opens_table) (sym first) ∙ h.1) in
     (plain_by p q (says line) h.0 parts.0 e, parts.1)
 
-pub is_read_next : (text : List ℕ) (number : ℕ) (p q : Place) (rest line behind : List ℕ) → IsRead text number p rest → lines rest ≡ line ∷ lines behind → length behind < length rest → behind_line p line ≡ Some q → IsRead text (number + 1) q behind
-is_read_next text number p q rest line behind r first shorter e = record {
-  answer = rw (r.answer, first) (tables_from-on number p q line (lines behind) e);
-  sound = sound_behind p q line r.sound e;
+pub is_read_next : (text : List ℕ) (number : ℕ) (p q : Place) (rest line later : List ℕ) → IsRead text number p rest → lines rest ≡ line ∷ lines later → length later < length rest → line_leads_to p line ≡ Some q → IsRead text (number + 1) q later
+is_read_next text number p q rest line later r first shorter e = record {
+  answer = rw (r.answer, first) (tables_from-on number p q line (lines later) e);
+  sound = sound_after_line p q line r.sound e;
   count = omega (arith, r.count);
-  plain = λ h. plain_next p q rest line behind first e (r.plain h);
+  plain = λ h. plain_next p q rest line later first e (r.plain h);
 }
 
-pub is_refused : (text : List ℕ) (number : ℕ) (p : Place) (rest line behind : List ℕ) → IsRead text number p rest → lines rest ≡ line ∷ lines behind → behind_line p line ≡ None → tables_of text ≡ Err number
-is_refused text number p rest line behind r first e = rw (r.answer, first) (tables_from-off number p line (lines behind) e)
+pub is_refused : (text : List ℕ) (number : ℕ) (p : Place) (rest line later : List ℕ) → IsRead text number p rest → lines rest ≡ line ∷ lines later → line_leads_to p line ≡ None → tables_of text ≡ Err number
+is_refused text number p rest line later r first e = rw (r.answer, first) (tables_from-off number p line (lines later) e)
 
-pub is_fault : (stop : Stop) (text : List ℕ) (number : ℕ) (p q : Place) (rest line behind : List ℕ) → IsRead text number p rest → lines rest ≡ line ∷ lines behind → Moves {A = Unit {0}} (takes_memory p (says line)) (Err stop) (behind_line p line) q → Answers (Err (fault_of stop number)) (tables_of text)
-is_fault Refused text number p q rest line behind r first e = is_refused text number p rest line behind r first e
-is_fault NoMemory text number p q rest line behind r first e = tt
+pub is_fault : (stop : Stop) (text : List ℕ) (number : ℕ) (p q : Place) (rest line later : List ℕ) → IsRead text number p rest → lines rest ≡ line ∷ lines later → Moves {A = Unit {0}} (takes_memory p (says line)) (Err stop) (line_leads_to p line) q → Answers (Err (fault_of stop number)) (tables_of text)
+is_fault Refused text number p q rest line later r first e = is_refused text number p rest line later r first e
+is_fault NoMemory text number p q rest line later r first e = tt
 
 pub same_fault : {T : Type 0} (x y : LineFault) → ◌≡◌ {A = Result T LineFault} (Err x) (Err y) → x ≡ y
 same_fault x y e = cc
@@ -137,11 +137,11 @@ takes_none : (p : Place) (said : Option Says) → p.inside ≡ None → option_m
 takes_none p said out plain = rw (out, plain) refl
 
 -- memory ran out: some line begins a table
-pub is_taken : (stop : Stop) (text : List ℕ) (number : ℕ) (p q : Place) (rest line behind : List ℕ) → IsRead text number p rest → lines rest ≡ line ∷ lines behind → Moves {A = Unit {0}} (takes_memory p (says line)) (Err stop) (behind_line p line) q → fault_of stop number ≡ fault.NoMemory → list_any opens_table (lines text) ≡ true
-is_taken Refused text number p q rest line behind r first e is = absurd (bad_is_no_memory number is)
-is_taken NoMemory text number p q rest line behind r first e is =
+pub is_taken : (stop : Stop) (text : List ℕ) (number : ℕ) (p q : Place) (rest line later : List ℕ) → IsRead text number p rest → lines rest ≡ line ∷ lines later → Moves {A = Unit {0}} (takes_memory p (says line)) (Err stop) (line_leads_to p line) q → fault_of stop number ≡ fault.NoMemory → list_any opens_table (lines text) ≡ true
+is_taken Refused text number p q rest line later r first e is = absurd (bad_is_no_memory number is)
+is_taken NoMemory text number p q rest line later r first e is =
     true_from_ne_false (list_any opens_table (lines text))
     (λ none.
     let plain = r.plain none in
-    let parts = or_parts (opens_table line) (list_any opens_table (lines behind)) (ap (list_any opens_table) (sym first) ∙ plain.1) in
+    let parts = or_parts (opens_table line) (list_any opens_table (lines later)) (ap (list_any opens_table) (sym first) ∙ plain.1) in
     true≢false (sym e ∙ takes_none p (says line) plain.0 parts.0))

@@ -22,8 +22,8 @@ use Rattle.hook_chain.specs.RulesFile.{Answers, Place, start, may_open, after, t
 use Rattle.hook_chain.specs.Grammar.{IsLine, Block, AreFileLines, BeginFile, IsBadLine, EndsEarly, IsRulesFile, IsFirstRefused}
 use Rattle.hook_chain.proofs.RuleForm.{word_is}
 use Rattle.hook_chain.proofs.OptionForm.{no_value}
-use Rattle.hook_chain.proofs.Bounds.{sound_start, sound_behind}
-use Rattle.hook_chain.proofs.Leads.{Leads, IsStuck, IsRefused, behind_by, leads_append, leads_split, leads_same, leads_on, answer_of, stops_at, fault_of_front, two_answers}
+use Rattle.hook_chain.proofs.Bounds.{sound_start, sound_after_line}
+use Rattle.hook_chain.proofs.Leads.{Leads, IsStuck, IsRefused, leads_by, leads_append, leads_split, leads_same, leads_on, answer_of, stops_at, fault_of_front, two_answers}
 use Rattle.hook_chain.proofs.Blocks.{place, tables_in, leads_of_file}
 use Rattle.hook_chain.proofs.BlocksFound.{blocks_found}
 
@@ -74,7 +74,7 @@ reached : (p q : Place) (ls : List (List ℕ)) → IsReached p → Leads p ls q 
 reached p q [] r h = subst IsReached h r
 reached p q (line ∷ ls) r h =
     let next : IsReached h.1 = record {
-      sound = sound_behind p h.1 line r.sound (behind_by p h.1 line h.0 h.2 h.3);
+      sound = sound_after_line p h.1 line r.sound (leads_by p h.1 line h.0 h.2 h.3);
       differ = differ_after p h.1 h.0 r.differ h.3;
     } in reached h.1 q ls next h.4
 

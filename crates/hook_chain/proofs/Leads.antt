@@ -5,7 +5,7 @@ use Rattle.std.specs.Option.{option_map_or}
 use Rattle.std.proofs.lemmas.Option.{same_Some}
 use Rattle.hook_chain.specs.declared.rule.Rule.{Rule}
 use Rattle.hook_chain.specs.Line.{Says, says}
-use Rattle.hook_chain.specs.RulesFile.{Place, after, behind_line, tables_from}
+use Rattle.hook_chain.specs.RulesFile.{Place, after, line_leads_to, tables_from}
 use Rattle.hook_chain.specs.Grammar.{IsLine}
 use Rattle.hook_chain.proofs.RuleForm.{bind_some}
 use Rattle.hook_chain.proofs.LineForm.{says_some, says_again}
@@ -25,9 +25,9 @@ abbrev pub IsStuck : Place → List (List ℕ) → Type 0
 IsStuck p [] = IsTrue (is_some p.inside)
 IsStuck p (line ∷ rest) = IsRefused p line
 
--- the place behind a line, by the line's form
-pub behind_by : (p q : Place) (line : List ℕ) (said : Says) → IsLine line said → after p said ≡ Some q → behind_line p line ≡ Some q
-behind_by p q line said form e = rw (says_again line said form) e
+-- the place after a line, by the line's form
+pub leads_by : (p q : Place) (line : List ℕ) (said : Says) → IsLine line said → after p said ≡ Some q → line_leads_to p line ≡ Some q
+leads_by p q line said form e = rw (says_again line said form) e
 
 not_both : {A : Type 0} (o : Option A) (x : A) → o ≡ None → o ≡ Some x → ⊥
 not_both o x e f = cc
@@ -47,7 +47,7 @@ pub leads_on : (number : ℕ) (p : Place) (ls : List (List ℕ)) (tables : List 
 unfolding tables_from
 leads_on number p [] tables e = (p.names, ended p tables p.inside number refl e)
 leads_on number p (line ∷ ls) tables e =
-    elim (behind_line p line) as (λ o. behind_line p line ≡ o → option_map_or (λ q. tables_from (number + 1) q ls) o (Err number) ≡ Ok tables → (names : List (List ℕ)) × Leads p (line ∷ ls) (record { names = names; closed = tables; inside = None })) [
+    elim (line_leads_to p line) as (λ o. line_leads_to p line ≡ o → option_map_or (λ q. tables_from (number + 1) q ls) o (Err number) ≡ Ok tables → (names : List (List ℕ)) × Leads p (line ∷ ls) (record { names = names; closed = tables; inside = None })) [
       | None ↦ λ is f. absurd (two_answers tables number (sym f))
       | Some q ↦ λ is f.
           let said = bind_some (says line) (after p) q is in
@@ -60,9 +60,9 @@ pub answer_of : (number : ℕ) (p q : Place) (ls : List (List ℕ)) → Leads p 
 unfolding tables_from
 answer_of number p q [] e outside = rw (e, outside) refl
 answer_of number p q (line ∷ ls) h outside =
-    tables_from-on number p h.1 line ls (behind_by p h.1 line h.0 h.2 h.3) ∙ answer_of (number + 1) h.1 q ls h.4 outside
+    tables_from-on number p h.1 line ls (leads_by p h.1 line h.0 h.2 h.3) ∙ answer_of (number + 1) h.1 q ls h.4 outside
 
--- lines without an answer are stuck behind a front
+-- lines without an answer are stuck after a front
 abbrev pub Stops : Place → List (List ℕ) → ℕ → Type 0
 Stops p ls number =
     (front : List (List ℕ)) × (rest : List (List ℕ)) × (place : Place) × (ls ≡ front ++ rest) × (length front ≡ number) × Leads p front place × IsStuck place rest
@@ -71,8 +71,8 @@ inside_of : (o : Option (List Rule)) (tables : List (List Rule)) (number line : 
 inside_of None tables number line e = absurd (two_answers tables line e)
 inside_of (Some rules) tables number line e = (refl, let same : number ≡ line = cc in same)
 
-refused_if_none : (p : Place) (line : List ℕ) → behind_line p line ≡ None → IsRefused p line
-refused_if_none p line none said next form e = not_both (behind_line p line) next none (behind_by p next line said form e)
+refused_if_none : (p : Place) (line : List ℕ) → line_leads_to p line ≡ None → IsRefused p line
+refused_if_none p line none said next form e = not_both (line_leads_to p line) next none (leads_by p next line said form e)
 
 pub stops_at : (number line : ℕ) (p : Place) (ls : List (List ℕ)) → tables_from number p ls ≡ Err line → (count : ℕ) × (number + count ≡ line) × Stops p ls count
 unfolding tables_from
@@ -80,7 +80,7 @@ stops_at number line p [] e =
     let inside = inside_of p.inside p.closed number line e in
     (0, omega (arith, inside.1), ([], [], p, refl, refl, refl, inside.0))
 stops_at number line p (first ∷ ls) e =
-    elim (behind_line p first) as (λ o. behind_line p first ≡ o → option_map_or (λ q. tables_from (number + 1) q ls) o (Err number) ≡ Err line → (count : ℕ) × (number + count ≡ line) × Stops p (first ∷ ls) count) [
+    elim (line_leads_to p first) as (λ o. line_leads_to p first ≡ o → option_map_or (λ q. tables_from (number + 1) q ls) o (Err number) ≡ Err line → (count : ℕ) × (number + count ≡ line) × Stops p (first ∷ ls) count) [
       | None ↦ λ is f. let same : number ≡ line = cc in (0, omega arith, ([], first ∷ ls, p, refl, refl, refl, refused_if_none p first is))
       | Some q ↦ λ is f.
           let said = bind_some (says first) (after p) q is in
@@ -97,7 +97,7 @@ unfolding tables_from
 stuck_answer number p [] h =
     elim p.inside as (λ o. is_some o ≡ true → cond (is_none o) (Ok p.closed) (Err number) ≡ Err number) [ None ↦ λ e. absurd (let never : ⊥ = cc e in never) | Some rules ↦ λ e. refl ] h
 stuck_answer number p (line ∷ rest) h =
-    elim (behind_line p line) as (λ o. behind_line p line ≡ o → option_map_or (λ q. tables_from (number + 1) q rest) o (Err number) ≡ Err number) [
+    elim (line_leads_to p line) as (λ o. line_leads_to p line ≡ o → option_map_or (λ q. tables_from (number + 1) q rest) o (Err number) ≡ Err number) [
       | None ↦ λ is. refl
       | Some q ↦ λ is. let said = bind_some (says line) (after p) q is in absurd (h said.0 q (says_some line said.0 said.1) said.2)
     ] refl
@@ -105,7 +105,7 @@ stuck_answer number p (line ∷ rest) h =
 pub fault_of_front : (number : ℕ) (p place : Place) (front rest : List (List ℕ)) → Leads p front place → IsStuck place rest → tables_from number p (front ++ rest) ≡ Err (number + length front)
 fault_of_front number p place [] rest e h = rw e (stuck_answer number place rest h ∙ ap (λ n. Err n) (let same : number ≡ number + 0 = omega arith in same))
 fault_of_front number p place (line ∷ front) rest l h =
-    tables_from-on number p l.1 line (front ++ rest) (behind_by p l.1 line l.0 l.2 l.3)
+    tables_from-on number p l.1 line (front ++ rest) (leads_by p l.1 line l.0 l.2 l.3)
     ∙ fault_of_front (number + 1) l.1 place front rest l.4 h
     ∙ ap (λ n. Err n) (let same : number + 1 + length front ≡ number + length (line ∷ front) = omega arith in same)
 
@@ -123,5 +123,5 @@ leads_split p r (x ∷ xs) ys h =
 pub leads_same : (p q r : Place) (xs : List (List ℕ)) → Leads p xs q → Leads p xs r → q ≡ r
 leads_same p q r [] h g = sym h ∙ g
 leads_same p q r (x ∷ xs) h g =
-    let next : h.1 ≡ g.1 = same_Some h.1 g.1 (sym (behind_by p h.1 x h.0 h.2 h.3) ∙ behind_by p g.1 x g.0 g.2 g.3) in
+    let next : h.1 ≡ g.1 = same_Some h.1 g.1 (sym (leads_by p h.1 x h.0 h.2 h.3) ∙ leads_by p g.1 x g.0 g.2 g.3) in
     leads_same g.1 q r xs (subst (λ (s : Place). Leads s xs q) next h.4) g.4

@@ -6,11 +6,11 @@ use Rattle.std.specs.Option.{option_map_or}
 use Rattle.std.proofs.lemmas.Option.{cond_some, same_Some}
 use Rattle.std.proofs.lemmas.Bool.{and_parts, eqb-true, false≢true}
 use Rattle.hook_chain.specs.declared.rule.Rule.{Rule}
-use Rattle.hook_chain.specs.Words.{byte, first_word, behind, is_printable, words_of}
+use Rattle.hook_chain.specs.Words.{byte, first_word, words_after, is_printable, words_of}
 use Rattle.hook_chain.specs.RuleLine.{rule_of}
 use Rattle.hook_chain.specs.Line.{Says, Nothing, Opens, Policy, Adds, Closes, is_table_name, is_chain_name, is_counters, opening, policy, says_by, says}
 use Rattle.hook_chain.specs.Grammar.{IsForm, IsLine}
-use Rattle.hook_chain.proofs.RuleForm.{bind_some, behind_some, first_word_some, same_word}
+use Rattle.hook_chain.proofs.RuleForm.{bind_some, words_after_some, first_word_some, same_word}
 use Rattle.hook_chain.proofs.OptionForm.{chosen, no_value}
 use Rattle.hook_chain.proofs.RuleLineForm.{rule_some, rule_again}
 
@@ -33,13 +33,13 @@ opening_some word words said is e =
 policy_some : (word : List ℕ) (words : List (List ℕ)) (said : Says) → word ≡ codes ":" ++ drop 1 word → policy (drop 1 word) words ≡ Some said → IsForm (word ∷ words) said
 unfolding policy
 policy_some word words said is e =
-    let rest = bind_some (behind (codes "ACCEPT") words) _ said e in
+    let rest = bind_some (words_after (codes "ACCEPT") words) _ said e in
     let counters = bind_some (first_word rest.0) _ said rest.2 in
     let parts = cond_some (is_chain_name (drop 1 word) && is_counters (counters.0).0 && eqb (length (counters.0).1) 0) Policy said counters.2 in
     let both = and_parts (is_chain_name (drop 1 word) && is_counters (counters.0).0) (eqb (length (counters.0).1) 0) parts.0 in
     let tests = and_parts (is_chain_name (drop 1 word)) (is_counters (counters.0).0) both.0 in
     let words_are : words ≡ codes "ACCEPT" ∷ (counters.0).0 ∷ [] =
-    behind_some (codes "ACCEPT") words rest.0 rest.1
+    words_after_some (codes "ACCEPT") words rest.0 rest.1
     ∙ ap (λ ws. codes "ACCEPT" ∷ ws) (first_word_some rest.0 counters.0 counters.1 ∙ ap (λ ws. (counters.0).0 ∷ ws) (none_left (counters.0).1 both.1))
     in
     subst (IsForm (word ∷ words)) parts.1

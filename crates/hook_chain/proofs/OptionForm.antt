@@ -19,7 +19,7 @@ no_value x e = cc
 abbrev is_bypass : List ℕ → Bool
 is_bypass w = bytes_eq w (codes "--queue-bypass")
 
--- behind `--queue-bypass` no further one is read
+-- after `--queue-bypass` no further one is read
 not_again : (w : List ℕ) → (is_bypass w && not true) ≡ true → ⊥
 not_again w e = false≢true (and_parts (is_bypass w) (not true) e).1
 

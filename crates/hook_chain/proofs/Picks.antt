@@ -7,14 +7,14 @@ use Rattle.std.specs.Option.{option_map_or}
 use Rattle.hook_chain.specs.declared.rule.Rule.{Rule}
 use Rattle.hook_chain.specs.declared.rule.Pick.{Pick}
 use Rattle.hook_chain.specs.declared.rule.Pick.TheVariants.{Number, Balance}
-use Rattle.hook_chain.specs.Words.{◌>>=◌, byte, first_word, behind, cut_at, words_of, is_printable}
+use Rattle.hook_chain.specs.Words.{◌>>=◌, byte, first_word, words_after, cut_at, words_of, is_printable}
 use Rattle.hook_chain.specs.Digits.{below, decimal, decimal_below}
 use Rattle.hook_chain.specs.Numbers.{most_queues}
 use Rattle.hook_chain.specs.Rules.{IsPick}
 use Rattle.hook_chain.specs.RuleLine.{range_of, pick_of, options_after, rule_of, protocol_match, mark_match}
 use Rattle.hook_chain.specs.Line.{Says, Nothing, Opens, Policy, Adds, Closes, opening, policy, says_by, says, is_table_name, is_chain_name, is_counters}
 
--- what holds of all that a step gives holds behind it
+-- what holds of all that a step gives holds after it
 bind_if : {A B : Type 0} (o : Option A) (f : A → Option B) (P : B → Type 0) → ((x : A) → IfSome (f x) P) → IfSome (o >>= f) P
 bind_if None f P h = tt
 bind_if (Some x) f P h = h x
@@ -80,10 +80,10 @@ options_if pick bypass (w ∷ v ∷ ws) h =
 rule_if : (words : List (List ℕ)) → IfSome (rule_of words) (λ r. IsPick r.pick)
 unfolding rule_of
 rule_if words =
-    bind_if (behind (codes "FORWARD") words) _ _ (λ matches.
+    bind_if (words_after (codes "FORWARD") words) _ _ (λ matches.
     bind_if (protocol_match matches) _ _ (λ protocol.
     bind_if (mark_match protocol.1) _ _ (λ mark.
-    bind_if (behind (codes "-j") mark.1 >>= behind (codes "NFQUEUE")) _ _ (λ options.
+    bind_if (words_after (codes "-j") mark.1 >>= words_after (codes "NFQUEUE")) _ _ (λ options.
     bind_from (options_after None false options) _ Picked _ (options_if None false options tt) (λ option g. g)))))
 
 -- what a line says is a rule that picks queues that there are, if it is a rule
@@ -105,7 +105,7 @@ opening_if name words = cond_if (is_table_name name && (length words == 0)) (Som
 policy_if : (name : List ℕ) (words : List (List ℕ)) → IfSome (policy name words) SaysPick
 unfolding policy
 policy_if name words =
-    bind_if (behind (codes "ACCEPT") words) _ SaysPick
+    bind_if (words_after (codes "ACCEPT") words) _ SaysPick
     (λ rest. bind_if (first_word rest) _ SaysPick
     (λ counters. cond_if (is_chain_name name && is_counters counters.0 && (length counters.1 == 0)) (Some Policy) None SaysPick (λ g. tt) (λ g. tt)))
 

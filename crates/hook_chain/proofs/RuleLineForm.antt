@@ -4,29 +4,29 @@ use Rattle.std.specs.Prelude.{codes}
 use Rattle.std.proofs.lemmas.Option.{same_Some}
 use Rattle.hook_chain.specs.declared.rule.Rule.{Rule}
 use Rattle.hook_chain.specs.declared.rule.MarkTest.{MarkTest}
-use Rattle.hook_chain.specs.Words.{◌>>=◌, behind}
+use Rattle.hook_chain.specs.Words.{◌>>=◌, words_after}
 use Rattle.hook_chain.specs.RuleLine.{options_after, rule_of, protocol_match, value_and_mask, mark_match}
 use Rattle.hook_chain.specs.Grammar.{IsProtocolMatch, negation, IsMarkMatch, IsRuleLine}
-use Rattle.hook_chain.proofs.RuleForm.{bind_some, behind_some, protocol_match_some, mark_match_some}
+use Rattle.hook_chain.proofs.RuleForm.{bind_some, words_after_some, protocol_match_some, mark_match_some}
 use Rattle.hook_chain.proofs.OptionForm.{options_some, options_again}
 
 -- what is read of a rule is in the grammar
 pub rule_some : (words : List (List ℕ)) (r : Rule) → rule_of words ≡ Some r → IsRuleLine (codes "-A" ∷ words) r
 unfolding rule_of
 rule_some words r e =
-    let matches = bind_some (behind (codes "FORWARD") words) _ r e in
+    let matches = bind_some (words_after (codes "FORWARD") words) _ r e in
     let protocol = bind_some (protocol_match matches.0) _ r matches.2 in
     let mark = bind_some (mark_match (protocol.0).1) _ r protocol.2 in
-    let options = bind_some (behind (codes "-j") (mark.0).1 >>= behind (codes "NFQUEUE")) _ r mark.2 in
-    let jump = bind_some (behind (codes "-j") (mark.0).1) (behind (codes "NFQUEUE")) options.0 options.1 in
+    let options = bind_some (words_after (codes "-j") (mark.0).1 >>= words_after (codes "NFQUEUE")) _ r mark.2 in
+    let jump = bind_some (words_after (codes "-j") (mark.0).1) (words_after (codes "NFQUEUE")) options.0 options.1 in
     let option = bind_some (options_after None false options.0) _ r options.2 in
     let first = protocol_match_some matches.0 protocol.0 protocol.1 in
     let second = mark_match_some (protocol.0).1 mark.0 mark.1 in
     let target : (mark.0).1 ≡ codes "-j" ∷ codes "NFQUEUE" ∷ options.0 =
-    behind_some (codes "-j") (mark.0).1 jump.0 jump.1 ∙ ap (λ ws. codes "-j" ∷ ws) (behind_some (codes "NFQUEUE") jump.0 options.0 jump.2)
+    words_after_some (codes "-j") (mark.0).1 jump.0 jump.1 ∙ ap (λ ws. codes "-j" ∷ ws) (words_after_some (codes "NFQUEUE") jump.0 options.0 jump.2)
     in
     let line : words ≡ codes "FORWARD" ∷ (first.0 ++ (second.0 ++ codes "-j" ∷ codes "NFQUEUE" ∷ options.0)) =
-    behind_some (codes "FORWARD") words matches.0 matches.1
+    words_after_some (codes "FORWARD") words matches.0 matches.1
     ∙ ap (λ ws. codes "FORWARD" ∷ ws) (first.2 ∙ ap (λ ws. first.0 ++ ws) (second.2 ∙ ap (λ ws. second.0 ++ ws) target))
     in
     subst (IsRuleLine (codes "-A" ∷ words)) (same_Some _ r option.2)
@@ -40,7 +40,7 @@ rule_some words r e =
       line = ap (λ ws. codes "-A" ∷ ws) line;
     })
 
-protocol_again : (front rest : List (List ℕ)) (protocol : Option ℕ) → IsProtocolMatch front protocol → behind (codes "-p") rest ≡ None → protocol_match (front ++ rest) ≡ Some (protocol, rest)
+protocol_again : (front rest : List (List ℕ)) (protocol : Option ℕ) → IsProtocolMatch front protocol → words_after (codes "-p") rest ≡ None → protocol_match (front ++ rest) ≡ Some (protocol, rest)
 unfolding protocol_match
 protocol_again front rest None h other = rw (h, other) refl
 protocol_again front rest (Some protocol) h other = rw (h.1, h.2) refl
@@ -50,16 +50,16 @@ unfolding mark_match
 marked rest word value mask true h = rw h refl
 marked rest word value mask false h = rw h refl
 
-no_mark : (rest : List (List ℕ)) → behind (codes "-m") rest ≡ None → mark_match rest ≡ Some (None, rest)
+no_mark : (rest : List (List ℕ)) → words_after (codes "-m") rest ≡ None → mark_match rest ≡ Some (None, rest)
 unfolding mark_match
 no_mark rest other = rw other refl
 
-mark_again : (front rest : List (List ℕ)) (mark : Option MarkTest) → IsMarkMatch front mark → behind (codes "-m") rest ≡ None → mark_match (front ++ rest) ≡ Some (mark, rest)
+mark_again : (front rest : List (List ℕ)) (mark : Option MarkTest) → IsMarkMatch front mark → words_after (codes "-m") rest ≡ None → mark_match (front ++ rest) ≡ Some (mark, rest)
 mark_again front rest None h other = rw h (no_mark rest other)
 mark_again front rest (Some test) h other = rw h.1 (marked rest h.0 test.value test.mask test.negated h.2)
 
 -- the mark's words don't begin with `-p`
-no_protocol : (front rest : List (List ℕ)) (mark : Option MarkTest) → IsMarkMatch front mark → behind (codes "-p") rest ≡ None → behind (codes "-p") (front ++ rest) ≡ None
+no_protocol : (front rest : List (List ℕ)) (mark : Option MarkTest) → IsMarkMatch front mark → words_after (codes "-p") rest ≡ None → words_after (codes "-p") (front ++ rest) ≡ None
 no_protocol front rest None h other = rw h other
 no_protocol front rest (Some test) h other = rw h.1 refl
 

@@ -8,7 +8,7 @@ use Rattle.std.specs.Str.Lines.{lines, lines_of_parts, strip_carriage_return}
 use Rattle.std.proofs.lemmas.List.Splits.{slice_split-cons_yes, slice_split-cons_no}
 use Rattle.hook_chain.specs.Words.{words_of, is_blank, cut_at}
 
--- the parts behind the first one
+-- the parts after the first one
 abbrev pub later_parts : (ℕ → Bool) → List ℕ → List (List ℕ)
 later_parts p [] = []
 later_parts p (y ∷ ys) = slice_split p ys
@@ -49,7 +49,7 @@ filter_word zero xs rest h le = absurd (omega arith)
 filter_word (suc n) [] rest h le = absurd (omega arith)
 filter_word (suc n) (x ∷ xs) rest h le = rw (ne_eqb (suc (length (take n xs))) 0 (λ e. omega arith)) refl
 
--- a word ends at the first blank behind it
+-- a word ends at the first blank after it
 pub words_of-word : (n : ℕ) (xs : List ℕ) → ((k : ℕ) → k < n → is_blank (get_or xs k 0) ≡ false) → (n < length xs → is_blank (get_or xs n 0) ≡ true) → 0 < n → n ≤ length xs → words_of xs ≡ take n xs ∷ words_of (drop n xs)
 unfolding words_of
 words_of-word n xs before at some le =
@@ -116,7 +116,7 @@ unfolding words_of
 words_of-empty [] e = refl
 words_of-empty (x ∷ xs) e = absurd (omega arith)
 
--- what stands behind the blanks begins with none
+-- what comes after the blanks begins with none
 pub get_or-drop_first : (n : ℕ) (xs : List ℕ) → get_or (drop n xs) 0 0 ≡ get_or xs n 0
 get_or-drop_first zero xs = refl
 get_or-drop_first (suc n) [] = refl

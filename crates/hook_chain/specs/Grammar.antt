@@ -144,6 +144,6 @@ pub record EndsEarly (text : List ℕ) (number : ℕ) : Type 0 where
   pub begin : BeginFile (lines text)
   pub unfinished : (tables : List (List Rule)) → IsRulesFile text tables → ⊥
 
--- the number of the first line that is refused, or of the missing one behind the last
+-- the number of the first line that is refused, or of the one that is missing after the last
 abbrev pub IsFirstRefused : List ℕ → ℕ → Type 0
 IsFirstRefused text number = IsBadLine text number ⊎ EndsEarly text number

@@ -5,7 +5,7 @@ use Rattle.std.specs.Option.{option_map_or}
 use Rattle.hook_chain.specs.declared.rule.Rule.{Rule}
 use Rattle.hook_chain.specs.declared.line.Line.{Line}
 use Rattle.hook_chain.specs.declared.line.Line.TheVariants as read
-use Rattle.hook_chain.specs.Words.{◌>>=◌, byte, is_printable, is_digit, is_lower, is_upper, words_of, first_word, behind, cut_at}
+use Rattle.hook_chain.specs.Words.{◌>>=◌, byte, is_printable, is_digit, is_lower, is_upper, words_of, first_word, words_after, cut_at}
 use Rattle.hook_chain.specs.Numbers.{longest_name}
 use Rattle.hook_chain.specs.RuleLine.{rule_of}
 
@@ -51,11 +51,11 @@ opening name words = if is_table_name name && (length words == 0) then Some (Ope
 -- `:NAME ACCEPT [N:N]`
 unfoldable pub policy : List ℕ → List (List ℕ) → Option Says
 policy name words = do
-  rest ← behind (codes "ACCEPT") words
+  rest ← words_after (codes "ACCEPT") words
   counters ← first_word rest
   if is_chain_name name && is_counters counters.0 && (length counters.1 == 0) then Some Policy else None
 
--- a line by its first word, and the words behind it
+-- a line by its first word, and the words after it
 unfoldable pub says_by : List ℕ → List (List ℕ) → Option Says
 says_by word words =
     if slice_index word 0 == byte "#" then Some Nothing

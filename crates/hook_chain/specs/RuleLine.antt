@@ -6,7 +6,7 @@ use Rattle.hook_chain.specs.declared.rule.Rule.{Rule}
 use Rattle.hook_chain.specs.declared.rule.MarkTest.{MarkTest}
 use Rattle.hook_chain.specs.declared.rule.Pick.{Pick}
 use Rattle.hook_chain.specs.declared.rule.Pick.TheVariants.{Number, Balance}
-use Rattle.hook_chain.specs.Words.{◌>>=◌, byte, first_word, behind, cut_at}
+use Rattle.hook_chain.specs.Words.{◌>>=◌, byte, first_word, words_after, cut_at}
 use Rattle.hook_chain.specs.Numbers.{tcp, udp, icmp, ipv6_icmp, all_bits, most_queues}
 use Rattle.hook_chain.specs.Digits.{decimal_below, wide}
 
@@ -19,12 +19,12 @@ protocol_of word =
     else if bytes_eq word (codes "ipv6-icmp") then Some ipv6_icmp
     else decimal_below (2 ^ 8) word
 
--- at most one `-p PROTO`, and the words behind it
+-- at most one `-p PROTO`, and the words after it
 unfoldable pub protocol_match : List (List ℕ) → Option (Option ℕ × List (List ℕ))
 protocol_match words = option_map_or (λ rest. do
   word ← first_word rest
   protocol ← protocol_of word.0
-  Some (Some protocol, word.1)) (behind (codes "-p") words) (Some (None, words))
+  Some (Some protocol, word.1)) (words_after (codes "-p") words) (Some (None, words))
 
 -- VALUE/MASK, or VALUE with the mask of all bits
 unfoldable pub value_and_mask : List ℕ → Option (ℕ × ℕ)
@@ -33,14 +33,14 @@ value_and_mask word = option_map_or (λ parts. do
   mask ← wide parts.1
   Some (value, mask)) (cut_at (byte "/") word) (option_map (λ value. (value, all_bits)) (wide word))
 
--- at most one `-m mark [!] --mark VALUE[/MASK]`, and the words behind it
+-- at most one `-m mark [!] --mark VALUE[/MASK]`, and the words after it
 unfoldable pub mark_match : List (List ℕ) → Option (Option MarkTest × List (List ℕ))
 mark_match words = option_map_or (λ rest. do
-  test ← behind (codes "mark") rest
-  word ← (behind (codes "--mark") (unwrap_or (behind (codes "!") test) test) >>= first_word)
+  test ← words_after (codes "mark") rest
+  word ← (words_after (codes "--mark") (unwrap_or (words_after (codes "!") test) test) >>= first_word)
   bits ← value_and_mask word.0
-  Some (Some (record { value = bits.0; mask = bits.1; negated = is_some (behind (codes "!") test) }), word.1))
-    (behind (codes "-m") words) (Some (None, words))
+  Some (Some (record { value = bits.0; mask = bits.1; negated = is_some (words_after (codes "!") test) }), word.1))
+    (words_after (codes "-m") words) (Some (None, words))
 
 -- A:B, with A below B, which are not more than the most queues
 unfoldable pub range_of : List ℕ → Option Pick
@@ -68,12 +68,12 @@ options_after pick bypass (w ∷ v ∷ ws) =
     else if is_none pick then (pick_of w v >>= λ p. options_after (Some p) bypass ws)
     else None
 
--- the words behind `-A`
+-- the words after `-A`
 unfoldable pub rule_of : List (List ℕ) → Option Rule
 rule_of words = do
-  matches ← behind (codes "FORWARD") words
+  matches ← words_after (codes "FORWARD") words
   protocol ← protocol_match matches
   mark ← mark_match protocol.1
-  options ← (behind (codes "-j") mark.1 >>= behind (codes "NFQUEUE"))
+  options ← (words_after (codes "-j") mark.1 >>= words_after (codes "NFQUEUE"))
   option ← options_after None false options
   Some (record { protocol = protocol.0; mark = mark.0; pick = option.0; bypass = option.1 })

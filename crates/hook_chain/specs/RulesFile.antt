@@ -25,7 +25,7 @@ start = record { names = []; closed = []; inside = None }
 abbrev pub may_open : Place → List ℕ → Bool
 may_open p name = is_none p.inside && nat_lt (length p.closed) most_tables && not (list_any (λ known. bytes_eq known name) p.names)
 
--- The place behind a line that says this; none where it may not stand here. A table's policies have no
+-- The place after a line that says this; none where it may not stand here. A table's policies have no
 -- effect.
 unfoldable pub after : Place → Says → Option Place
 after p Nothing = Some p
@@ -34,18 +34,19 @@ after p Policy = if is_none p.inside then None else Some p
 after p (Adds rule) = p.inside >>= λ rules. if nat_lt (length rules) most_rules then Some (record p { inside = Some (rules ++ rule ∷ []) }) else None
 after p Closes = p.inside >>= λ rules. Some (record p { closed = p.closed ++ rules ∷ []; inside = None })
 
--- the place behind a line; none where no form allows it here
-abbrev pub behind_line : Place → List ℕ → Option Place
-behind_line p line = says line >>= after p
+-- where a line leads from a place; none where no form allows it here
+abbrev pub line_leads_to : Place → List ℕ → Option Place
+line_leads_to p line = says line >>= after p
 
 -- The tables that these lines make from a place on, or the number of the first line that no form allows
--- in its place; `number` is the first line's. A file that ends inside a table is refused behind its last
+-- in its place; `number` is the first line's. A file that ends inside a table is refused after its last
 -- line.
 unfoldable pub tables_from : ℕ → Place → List (List ℕ) → Result (List (List Rule)) ℕ
 tables_from number p [] = if is_none p.inside then Ok p.closed else Err number
-tables_from number p (line ∷ rest) = option_map_or (λ q. tables_from (number + 1) q rest) (behind_line p line) (Err number)
+tables_from number p (line ∷ rest) = option_map_or (λ q. tables_from (number + 1) q rest) (line_leads_to p line) (Err number)
 
--- The tables of a text, or its first line that is refused. Lines are ended by LF, which may be missing at the end; one CR in front of LF is dropped.
+-- The tables of a text, or its first line that is refused. Lines are ended by LF, which may be missing
+-- at the end; one CR before LF is dropped.
 unfoldable pub tables_of : List ℕ → Result (List (List Rule)) ℕ
 tables_of text = tables_from 1 start (lines text)
 

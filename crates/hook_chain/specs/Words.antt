@@ -44,15 +44,15 @@ is_upper b = is_from_to "A" "Z" b
 unfoldable pub words_of : List ℕ → List (List ℕ)
 words_of line = filter (λ w. not (length w == 0)) (slice_split is_blank line)
 
--- a word and the words behind it
+-- a word and the words after it
 abbrev pub first_word : List (List ℕ) → Option (List ℕ × List (List ℕ))
 first_word [] = None
 first_word (w ∷ ws) = Some (w, ws)
 
--- the words behind this one, where it is the first
-abbrev pub behind : List ℕ → List (List ℕ) → Option (List (List ℕ))
-behind word [] = None
-behind word (w ∷ ws) = if bytes_eq w word then Some ws else None
+-- the words after this one, where it is the first
+abbrev pub words_after : List ℕ → List (List ℕ) → Option (List (List ℕ))
+words_after word [] = None
+words_after word (w ∷ ws) = if bytes_eq w word then Some ws else None
 
 -- the two parts of a word round the first of these bytes in it
 abbrev pub cut_at : ℕ → List ℕ → Option (List ℕ × List ℕ)

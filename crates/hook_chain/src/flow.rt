@@ -9,7 +9,7 @@ use ip_fields::IpFields;
 
 /// `JHASH_INITVAL` of the kernel's jhash.h.
 const INITIAL_VALUE: u32 = 0xdead_beef;
-/// Three words of 4 bytes are hashed.
+/// The bytes that are hashed: three words of 4 (`jhash_3words` of jhash.h).
 const HASHED_BYTES: u32 = 12;
 /// The family of a packet's fields whose addresses have 32 bits.
 const IPV4_FAMILY: u8 = 4;
@@ -50,7 +50,7 @@ fn hash_of(key: u32, fields: Option<&IpFields>) -> u32
 }
 
 #[tactic(auto, unfolding(crate::specs::Balance::address_word))]
-fn word_of(family: u8, address: u128) -> u32
+pub(crate) fn word_of(family: u8, address: u128) -> u32
     requires { family ≡ ipv4_family → address < 2 ^ 32 }
     ensures { result ≡ address_word family address }
 {

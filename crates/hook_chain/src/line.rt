@@ -7,9 +7,10 @@ ghost use Rattle.hook_chain.specs.Line.{are_digits, has_name_length, is_chain_na
 
 use crate::rule::Rule;
 use crate::rule_line::rule;
-use crate::word::{behind, cut, is_end, is_word, next_word};
+use crate::word::{rest_after, cut, is_end, is_word, next_word};
 
-/// The most bytes of a table's or a chain's name.
+/// The most bytes of a table's or a chain's name: `XT_TABLE_MAXNAMELEN` of the kernel's x_tables.h,
+/// less the zero byte at the end.
 const LONGEST_NAME: usize = 31;
 
 /// What one line of a rules file says.
@@ -41,7 +42,7 @@ pub(crate) fn parse_line(text: &[u8]) -> Option<Line<'_>>
     }
 }
 
-/// What a line says by its first word and what stands behind it.
+/// What a line says by its first word and what comes after it.
 #[tactic(auto, unfolding(crate::specs::Line::says_by))]
 fn by_first_word<'a>(word: &'a [u8], rest: &[u8]) -> Option<Line<'a>>
     ensures { option_map said result ≡ says_by word.now (words_of rest.now) }
@@ -73,7 +74,7 @@ fn opening<'a>(name: &'a [u8], rest: &[u8]) -> Option<Line<'a>>
 fn policy<'a>(name: &'a [u8], rest: &[u8]) -> Option<Line<'a>>
     ensures { option_map said result ≡ policy name.now (words_of rest.now) }
 {
-    let rest = behind(rest, b"ACCEPT")?;
+    let rest = rest_after(rest, b"ACCEPT")?;
     let (counters, rest) = next_word(rest)?;
     if is_chain_name(name) && is_counters(counters) && is_end(rest) {
         Some(Line::Policy)

@@ -5,7 +5,7 @@ ghost use Rattle.hook_chain.specs.Digits.{below, decimal, decimal_below, digit_i
 
 /// The radix of a number without a prefix.
 const DECIMAL: u32 = 10;
-/// The radix of a number behind `0x`.
+/// The radix of a number after `0x`.
 const HEXADECIMAL: u32 = 16;
 /// What the digits `a` and `A` stand for.
 const FIRST_LETTER_DIGIT: u8 = 10;

@@ -8,7 +8,7 @@ ghost use Rattle.hook_chain.specs.Rules.{AreTables};
 ghost use Rattle.hook_chain.specs.Grammar.{BeginsTable, IsFirstRefused, IsRulesFile};
 ghost use Rattle.hook_chain.specs.declared.rule.Rule.{Rule};
 ghost use Rattle.hook_chain.specs.Line.{Adds, Closes, Opens, Policy, said, says};
-ghost use Rattle.hook_chain.specs.RulesFile.{Answers, after, behind_line, may_open, start, tables_from, tables_of};
+ghost use Rattle.hook_chain.specs.RulesFile.{Answers, after, line_leads_to, may_open, start, tables_from, tables_of};
 ghost use Rattle.hook_chain.specs.Reader.{IsSound, Moves, fault_of, opens_table, place_of, takes_memory};
 
 use crate::fault::LineFault;
@@ -18,9 +18,9 @@ use crate::tables::{Table, Tables};
 use crate::word::{is_word, next_line};
 use std::alloc::{AllocError, AllocFailed, Global};
 
-/// The most tables of a rules file.
+/// The most tables of a rules file, of this reader.
 const MAX_TABLES: usize = 16;
-/// The most rules of a table.
+/// The most rules of a table, of this reader.
 const MAX_RULES: usize = 1_000;
 
 /// Why a reader doesn't go on.
@@ -35,8 +35,8 @@ enum Stop {
 /// NFQUEUE and the matches of protocol and mark.
 ///
 /// `Bad` comes exactly where a line may not stand in its place or the file ends inside a table, with
-/// the first such line, and `NoMemory` only for want of memory. The bytes are gone over once, line by
-/// line.
+/// the first such line. `NoMemory` comes when out of memory, which is taken only from the first line
+/// on that begins a table. The bytes are gone over once, line by line.
 pub fn read_tables(alloc: Global, bytes: &[u8]) -> Result<Tables, LineFault>
     requires { length bytes.now < 4_294_967_295 }
 
@@ -70,11 +70,11 @@ fn read_lines(alloc: Global, bytes: &[u8]) -> Result<Tables, LineFault>
     let mut reader = Reader::new(alloc);
     let mut rest = bytes;
     let mut number = 1;
-    while let Some((line, behind)) = next_line(rest) {
+    while let Some((line, later)) = next_line(rest) {
         if let Err(stop) = reader.read(alloc, line) {
             return Err(stop.at(number));
         }
-        rest = behind;
+        rest = later;
         number += 1;
     }
     reader.finish(number)
@@ -130,9 +130,9 @@ impl<'a> Reader<'a> {
         }
     }
 
-    /// Goes on behind this line.
+    /// Goes on after this line. Memory is taken at most where it begins a table and inside of one.
     fn read(&mut self, alloc: Global, line: &'a [u8]) -> Result<(), Stop>
-        ensures { Moves (takes_memory (place_of self.old) (says line.now)) result (behind_line (place_of self.old) line.now) (place_of self.new) }
+        ensures { Moves (takes_memory (place_of self.old) (says line.now)) result (line_leads_to (place_of self.old) line.now) (place_of self.new) }
     {
         match parse_line(line) {
             Some(line) => self.take(alloc, line),
@@ -158,7 +158,7 @@ impl<'a> Reader<'a> {
         }
     }
 
-    /// Goes on behind a line that says this.
+    /// Goes on after a line that says this.
     #[tactic(auto, unfolding(crate::specs::RulesFile::after))]
     fn take(&mut self, alloc: Global, line: Line<'a>) -> Result<(), Stop>
         ensures { Moves (takes_memory (place_of self.old) (Some (said line.entry))) result (after (place_of self.old) (said line.entry)) (place_of self.new) }

@@ -6,33 +6,31 @@ ghost use Rattle.hook_chain.specs.RuleLine.{mark_match, options_after, pick_of, 
 
 use crate::number::{decimal_8, decimal_16, wide};
 use crate::rule::{MarkTest, Pick, Rule};
-use crate::word::{behind, cut, is_word, next_word};
+use crate::word::{rest_after, cut, is_word, next_word};
 
-/// Internet Protocol numbers (IANA) that a rule may name.
+/// Protocol number of `icmp` (IANA's Assigned Internet Protocol Numbers).
 const ICMP: u8 = 1;
-
+/// Protocol number of `tcp`.
 const TCP: u8 = 6;
-
+/// Protocol number of `udp`.
 const UDP: u8 = 17;
-
+/// Protocol number of `ipv6-icmp`.
 const IPV6_ICMP: u8 = 58;
-
 /// The mask of a mark test that names none.
 const ALL_BITS: u32 = u32::MAX;
-
-/// The most queues that a rule balances over, as its option keeps their number in 16 bits.
+/// The most queues that a rule balances over: `queues_total` of xt_NFQUEUE.h has 16 bits.
 const MOST_QUEUES: u32 = 65_535;
 
-/// The rule that stands behind `-A` in a line.
+/// The rule that comes after `-A` in a line.
 #[tactic(auto, unfolding(crate::specs::RuleLine::rule_of))]
 pub(crate) fn rule(line: &[u8]) -> Option<Rule>
     ensures { result ≡ rule_of (words_of line.now) }
 {
-    let rest = behind(line, b"FORWARD")?;
+    let rest = rest_after(line, b"FORWARD")?;
     let (protocol, rest) = protocol_test(rest)?;
     let (mark, rest) = mark_test(rest)?;
-    let rest = behind(rest, b"-j")?;
-    let rest = behind(rest, b"NFQUEUE")?;
+    let rest = rest_after(rest, b"-j")?;
+    let rest = rest_after(rest, b"NFQUEUE")?;
     let (pick, bypass) = options(rest)?;
     Some(Rule {
         protocol,
@@ -47,7 +45,7 @@ pub(crate) fn rule(line: &[u8]) -> Option<Rule>
 fn protocol_test(line: &[u8]) -> Option<(Option<u8>, &[u8])>
     ensures { option_map (λ x. (x.0, words_of x.1.now)) result ≡ protocol_match (words_of line.now) }
 {
-    let Some(rest) = behind(line, b"-p") else {
+    let Some(rest) = rest_after(line, b"-p") else {
         return Some((None, line));
     };
     let (word, rest) = next_word(rest)?;
@@ -77,15 +75,15 @@ fn protocol(word: &[u8]) -> Option<u8>
 fn mark_test(line: &[u8]) -> Option<(Option<MarkTest>, &[u8])>
     ensures { option_map (λ x. (x.0, words_of x.1.now)) result ≡ mark_match (words_of line.now) }
 {
-    let Some(rest) = behind(line, b"-m") else {
+    let Some(rest) = rest_after(line, b"-m") else {
         return Some((None, line));
     };
-    let test = behind(rest, b"mark")?;
-    let (negated, test) = match behind(test, b"!") {
+    let test = rest_after(rest, b"mark")?;
+    let (negated, test) = match rest_after(test, b"!") {
         Some(test) => (true, test),
         None => (false, test),
     };
-    let (word, rest) = next_word(behind(test, b"--mark")?)?;
+    let (word, rest) = next_word(rest_after(test, b"--mark")?)?;
     let (value, mask) = value_and_mask(word)?;
     let test = MarkTest {
         value,
@@ -106,7 +104,7 @@ fn value_and_mask(word: &[u8]) -> Option<(u32, u32)>
     }
 }
 
-/// The options behind `-j NFQUEUE`, to the end of the line.
+/// The options after `-j NFQUEUE`, to the end of the line.
 #[tactic(auto, unfolding(crate::specs::RuleLine::options_after))]
 fn options(line: &[u8]) -> Option<(Pick, bool)>
     ensures { result ≡ options_after None false (words_of line.now) }

@@ -2,16 +2,16 @@
 
 ghost use Rattle.std.specs.Prelude.{◌≡◌, bytes_eq, ℕ, ◌+◌, ◌<◌, ◌≤◌, true, false, length, slice_index, IfSome, IsTrue, ◌==◌, ◌↔◌, option_map, IsNone, MatchOption, ◌∷◌, []};
 ghost use Rattle.std.specs.Str.Lines.{lines, strip_carriage_return};
-ghost use Rattle.hook_chain.specs.Words.{behind, cut_at, first_word, is_blank, line_feed, words_of};
+ghost use Rattle.hook_chain.specs.Words.{words_after, cut_at, first_word, is_blank, line_feed, words_of};
 
 /// The byte that ends a line.
 const LINE_FEED: u8 = b'\n';
-/// The byte that may stand in front of a line's end.
+/// The byte that may come before a line's end.
 const CARRIAGE_RETURN: u8 = b'\r';
 
-/// The first line of a text and the text behind it, or `None` where there is no line.
+/// The first line of a text and the text after it, or `None` where there is no line.
 ///
-/// A line is ended by LF. One CR in front of it is dropped. A last piece without LF is a line as it
+/// A line is ended by LF. One CR before it is dropped. A last piece without LF is a line as it
 /// stands, unless it is empty.
 pub(crate) fn next_line(text: &[u8]) -> Option<(&[u8], &[u8])>
     ensures line { MatchOption result (lines text.now ≡ []) (λ x. lines text.now ≡ x.0.now ∷ lines x.1.now) }
@@ -57,19 +57,19 @@ pub(crate) fn is_blank(byte: u8) -> bool
     byte == b' ' || byte == b'\t'
 }
 
-/// The first word of a line and what stands behind it, or `None` where only blanks are left.
+/// The first word of a line and what comes after it, or `None` where only blanks are left.
 pub(crate) fn next_word(line: &[u8]) -> Option<(&[u8], &[u8])>
     ensures word { option_map (λ x. (x.0.now, words_of x.1.now)) result ≡ first_word (words_of line.now) }
     ensures shorter { IfSome result (λ x. length x.1.now < length line.now) }
 {
-    let line = behind_blanks(line);
+    let line = after_blanks(line);
     if line.is_empty() {
         return None;
     }
     Some(line.split_at(word_length(line)))
 }
 
-fn behind_blanks(line: &[u8]) -> &[u8]
+fn after_blanks(line: &[u8]) -> &[u8]
     ensures words { words_of result.now ≡ words_of line.now }
     ensures no_blank { 0 < length result.now → is_blank (slice_index result.now 0) ≡ false }
     ensures no_longer { length result.now ≤ length line.now }
@@ -105,9 +105,9 @@ fn word_length(line: &[u8]) -> usize
     line.len()
 }
 
-/// What stands behind this word, where it is the line's first.
-pub(crate) fn behind<'a>(line: &'a [u8], word: &[u8]) -> Option<&'a [u8]>
-    ensures { option_map (λ rest. words_of rest.now) result ≡ behind word.now (words_of line.now) }
+/// What comes after this word, where it is the line's first.
+pub(crate) fn rest_after<'a>(line: &'a [u8], word: &[u8]) -> Option<&'a [u8]>
+    ensures { option_map (λ rest. words_of rest.now) result ≡ words_after word.now (words_of line.now) }
 {
     let (first, rest) = next_word(line)?;
     if is_word(first, word) {

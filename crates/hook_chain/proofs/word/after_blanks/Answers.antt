@@ -1,7 +1,7 @@
 use Rattle.std.proofs.Common.{ℕ, length-drop, sym, arith}
 use Rattle.std.proofs.lemmas.List.{take_rest}
 use Rattle.hook_chain.proofs.Splitting.{words_of-blanks, get_or-drop_first}
-use Rattle.hook_chain.proofs.word.behind_blanks.Goals as goal
+use Rattle.hook_chain.proofs.word.after_blanks.Goals as goal
 
 pub returns-clause-words : goal.returns-clause-words
 returns-clause-words c =
