@@ -1,6 +1,8 @@
--- A file is read exactly where it is in the grammar, and else refused at the first line that may not
--- stand in its place.
-use Rattle.std.proofs.Common.{◌≡◌, ℕ, ◌+◌, ◌≤◌, inl, inr, true, cond, ltb, not, ◌&&◌, List, [], ◌∷◌, ◌++◌, length, get_or, append-nil, Some, None, Result, Ok, Err, ◌∙◌, refl, sym, ap, subst, arith}
+-- A file is read exactly where it is in the grammar, and else refused at the first line that may
+-- not stand in its place.
+use Rattle.std.proofs.Common.{◌≡◌, ℕ, ◌+◌, ◌≤◌, inl, inr, true, cond, ltb, not, ◌&&◌, List, [], ◌∷◌}
+use Rattle.std.proofs.Common.{◌++◌, length, get_or, append-nil, Some, None, Result, Ok, Err, ◌∙◌}
+use Rattle.std.proofs.Common.{refl, sym, ap, subst, arith}
 use Rattle.std.specs.Prelude.{◌≢◌, ◌⊎◌, All, AllPairs, bytes_eq, codes, is_none, is_some, IfOk}
 use Rattle.std.specs.List.{list_any}
 use Rattle.std.specs.Str.Lines.{lines}
@@ -17,13 +19,17 @@ use Rattle.hook_chain.specs.Numbers.{most_tables, most_rules}
 use Rattle.hook_chain.specs.Words.{◌>>=◌, words_of}
 use Rattle.hook_chain.specs.Line.{Says, Nothing, Opens, Policy, Adds, Closes}
 use Rattle.hook_chain.specs.Rules.{IsTable}
-use Rattle.hook_chain.specs.Reader.{IsSound}
-use Rattle.hook_chain.specs.RulesFile.{Answers, Place, start, may_open, after, tables_from, tables_of}
-use Rattle.hook_chain.specs.Grammar.{IsLine, Block, AreFileLines, BeginFile, IsBadLine, EndsEarly, IsRulesFile, IsFirstRefused}
+use Rattle.hook_chain.specs.Reading.{IsSound}
+use Rattle.hook_chain.specs.RulesFile.{Answers, Place, start, may_open, after, tables_from}
+use Rattle.hook_chain.specs.RulesFile.{tables_of}
+use Rattle.hook_chain.specs.Grammar.{IsLine, Block, AreFileLines, BeginFile, IsBadLine, EndsEarly}
+use Rattle.hook_chain.specs.Grammar.{IsRulesFile, IsFirstRefused}
 use Rattle.hook_chain.proofs.RuleForm.{word_is}
 use Rattle.hook_chain.proofs.OptionForm.{no_value}
 use Rattle.hook_chain.proofs.Bounds.{sound_start, sound_after_line}
-use Rattle.hook_chain.proofs.Leads.{Leads, IsStuck, IsRefused, leads_by, leads_append, leads_split, leads_same, leads_on, answer_of, stops_at, fault_of_front, two_answers}
+use Rattle.hook_chain.proofs.Leads.{Leads, IsStuck, IsRefused, leads_by, leads_append, leads_split}
+use Rattle.hook_chain.proofs.Leads.{leads_same, leads_on, answer_of, stops_at, fault_of_front}
+use Rattle.hook_chain.proofs.Leads.{two_answers}
 use Rattle.hook_chain.proofs.Blocks.{place, tables_in, leads_of_file}
 use Rattle.hook_chain.proofs.BlocksFound.{blocks_found}
 
@@ -35,35 +41,50 @@ pub record IsReached (p : Place) : Type 0 where
 reached_start : IsReached start
 reached_start = record { sound = sound_start; differ = λ i j d less within. absurd (omega arith) }
 
-other_name : (names : List (List ℕ)) (name : List ℕ) → AllPairs (λ a b. a ≢ b) names → not (list_any (λ known. bytes_eq known name) names) ≡ true → AllPairs (λ a b. a ≢ b) (names ++ name ∷ [])
+other_name : (names : List (List ℕ)) (name : List ℕ) → AllPairs (λ a b. a ≢ b) names →
+    not (list_any (λ known. bytes_eq known name) names) ≡ true →
+    AllPairs (λ a b. a ≢ b) (names ++ name ∷ [])
 other_name names name differ new =
     all_pairs_push (λ a b. a ≢ b) names name differ
     (λ k d h same.
-    let known : list_any (λ known. bytes_eq known name) names ≡ true = list_any_at (λ known. bytes_eq known name) names k d h (word_is (get_or names k d) name same) in
+    let known : list_any (λ known. bytes_eq known name) names ≡ true =
+    list_any_at (λ known. bytes_eq known name) names k d h
+    (word_is (get_or names k d) name same) in
     false≢true (ap not (sym known) ∙ new))
 
-differ_after : (p q : Place) (said : Says) → AllPairs (λ a b. a ≢ b) p.names → after p said ≡ Some q → AllPairs (λ a b. a ≢ b) q.names
+differ_after : (p q : Place) (said : Says) → AllPairs (λ a b. a ≢ b) p.names →
+    after p said ≡ Some q → AllPairs (λ a b. a ≢ b) q.names
 unfolding after
-differ_after p q Nothing h e = subst (λ (s : Place). AllPairs (λ a b. a ≢ b) s.names) (same_Some p q e) h
+differ_after p q Nothing h e =
+    subst (λ (s : Place). AllPairs (λ a b. a ≢ b) s.names) (same_Some p q e) h
 differ_after p q (Opens name) h e =
     let opened : Place = record p { names = p.names ++ name ∷ []; inside = Some [] } in
     let parts = cond_some (may_open p name) opened q e in
-    let new = and_parts (is_none p.inside && ltb (length p.closed) most_tables) (not (list_any (λ known. bytes_eq known name) p.names)) parts.0 in
+    let new =
+    and_parts (is_none p.inside && ltb (length p.closed) most_tables)
+    (not (list_any (λ known. bytes_eq known name) p.names)) parts.0 in
     subst (λ (s : Place). AllPairs (λ a b. a ≢ b) s.names) parts.1 (other_name p.names name h new.1)
 differ_after p q Policy h e =
-    elim p.inside as (λ o. cond (is_none o) None (Some p) ≡ Some q → AllPairs (λ a b. a ≢ b) q.names) [
+    elim p.inside as (λ o. cond (is_none o) None (Some p) ≡ Some q →
+    AllPairs (λ a b. a ≢ b) q.names) [
       | None ↦ λ f. absurd (no_value q f)
       | Some rules ↦ λ f. subst (λ (s : Place). AllPairs (λ a b. a ≢ b) s.names) (same_Some p q f) h
     ] e
 differ_after p q (Adds rule) h e =
-    elim p.inside as (λ o. (o >>= λ rules. cond (ltb (length rules) most_rules) (Some (record p { inside = Some (rules ++ rule ∷ []) })) None) ≡ Some q → AllPairs (λ a b. a ≢ b) q.names) [
+    elim p.inside as
+    (λ o. (o >>= λ rules. cond (ltb (length rules) most_rules)
+    (Some (record p { inside = Some (rules ++ rule ∷ []) })) None) ≡ Some q →
+    AllPairs (λ a b. a ≢ b) q.names) [
       | None ↦ λ f. absurd (no_value q f)
       | Some rules ↦ λ f.
           let added : Place = record p { inside = Some (rules ++ rule ∷ []) } in
-          subst (λ (s : Place). AllPairs (λ a b. a ≢ b) s.names) (cond_some (ltb (length rules) most_rules) added q f).1 h
+          subst (λ (s : Place). AllPairs (λ a b. a ≢ b) s.names)
+          (cond_some (ltb (length rules) most_rules) added q f).1 h
     ] e
 differ_after p q Closes h e =
-    elim p.inside as (λ o. (o >>= λ rules. Some (record p { closed = p.closed ++ rules ∷ []; inside = None })) ≡ Some q → AllPairs (λ a b. a ≢ b) q.names) [
+    elim p.inside as
+    (λ o. (o >>= λ rules. Some (record p { closed = p.closed ++ rules ∷ []; inside = None }))
+    ≡ Some q → AllPairs (λ a b. a ≢ b) q.names) [
       | None ↦ λ f. absurd (no_value q f)
       | Some rules ↦ λ f.
           let closed : Place = record p { closed = p.closed ++ rules ∷ []; inside = None } in
@@ -78,16 +99,21 @@ reached p q (line ∷ ls) r h =
       differ = differ_after p h.1 h.0 r.differ h.3;
     } in reached h.1 q ls next h.4
 
-few_of : (blocks : List Block) (tables : List (List Rule)) → tables ≡ tables_in blocks → length tables ≤ most_tables → length blocks ≤ most_tables
+few_of : (blocks : List Block) (tables : List (List Rule)) → tables ≡ tables_in blocks →
+    length tables ≤ most_tables → length blocks ≤ most_tables
 few_of blocks tables e few = omega (arith, ap length e, length-map blocks (λ (b : Block). b.rules))
 
-few_rules_of : (blocks : List Block) → All IsTable (tables_in blocks) → All (λ b. length b.rules ≤ most_rules) blocks
+few_rules_of : (blocks : List Block) → All IsTable (tables_in blocks) →
+    All (λ b. length b.rules ≤ most_rules) blocks
 few_rules_of [] h = All-nil (λ (b : Block). length b.rules ≤ most_rules)
 few_rules_of (b ∷ bs) h =
-    All-cons (λ (b : Block). length b.rules ≤ most_rules) b bs (All-head IsTable b.rules (tables_in bs) h).length (few_rules_of bs (All-tail IsTable b.rules (tables_in bs) h))
+    All-cons (λ (b : Block). length b.rules ≤ most_rules) b bs
+    (All-head IsTable b.rules (tables_in bs) h).length
+    (few_rules_of bs (All-tail IsTable b.rules (tables_in bs) h))
 
 -- lines that lead to a place outside of tables are those of a rules file of its tables
-file_of_leads : (ls : List (List ℕ)) (q : Place) → Leads start ls q → q.inside ≡ None → AreFileLines ls q.closed
+file_of_leads : (ls : List (List ℕ)) (q : Place) → Leads start ls q → q.inside ≡ None →
+    AreFileLines ls q.closed
 file_of_leads ls q h out =
     let found = blocks_found start q ls h out in
     let end = reached start q ls reached_start h in record {
@@ -98,19 +124,22 @@ file_of_leads ls q h out =
       last_are = found.last_are;
       tables_are = found.tables_are;
       few_tables = few_of found.blocks q.closed found.tables_are end.sound.tables.length;
-      few_rules = few_rules_of found.blocks (subst (All IsTable) found.tables_are end.sound.tables.each);
+      few_rules =
+          few_rules_of found.blocks (subst (All IsTable) found.tables_are end.sound.tables.each);
       names_differ = subst (AllPairs (λ a b. a ≢ b)) found.names_are end.differ;
     }
 
 -- what is read of a file is in the grammar
-pub file_found : (text : List ℕ) (tables : List (List Rule)) → tables_of text ≡ Ok tables → IsRulesFile text tables
+pub file_found : (text : List ℕ) (tables : List (List Rule)) → tables_of text ≡ Ok tables →
+    IsRulesFile text tables
 unfolding tables_of
 file_found text tables e =
     let led = leads_on 1 start (lines text) tables e in
     file_of_leads (lines text) (place led.0 tables None) led.1 refl
 
 -- what is in the grammar is read
-pub file_read : (text : List ℕ) (tables : List (List Rule)) → IsRulesFile text tables → tables_of text ≡ Ok tables
+pub file_read : (text : List ℕ) (tables : List (List Rule)) → IsRulesFile text tables →
+    tables_of text ≡ Ok tables
 unfolding tables_of
 file_read text tables h =
     let led = leads_of_file (lines text) tables h in
@@ -127,7 +156,8 @@ commit_line : IsLine (codes "COMMIT") Closes
 unfolding words_of
 commit_line = (refl, refl)
 
-commits : (p : Place) (rules : List Rule) → p.inside ≡ Some rules → after p Closes ≡ Some (place p.names (p.closed ++ rules ∷ []) None)
+commits : (p : Place) (rules : List Rule) → p.inside ≡ Some rules →
+    after p Closes ≡ Some (place p.names (p.closed ++ rules ∷ []) None)
 unfolding after
 commits p rules e = rw e refl
 
@@ -135,18 +165,32 @@ commits p rules e = rw e refl
 leads_begin : (ls : List (List ℕ)) (p : Place) → Leads start ls p → BeginFile ls
 leads_begin ls p h =
     elim p.inside as (λ o. p.inside ≡ o → BeginFile ls) [
-      | None ↦ λ out. ([], p.closed, subst (λ ms. AreFileLines ms p.closed) (sym (append-nil ls)) (file_of_leads ls p h out))
+      | None ↦ λ out. (
+        [],
+        p.closed,
+        subst (λ ms. AreFileLines ms p.closed) (sym (append-nil ls))
+            (file_of_leads ls p h out),
+      )
       | Some rules ↦ λ in_one.
           let end : Place = place p.names (p.closed ++ rules ∷ []) None in
-          let last : Leads p (codes "COMMIT" ∷ []) end = (Closes, end, commit_line, commits p rules in_one, refl) in
-          (codes "COMMIT" ∷ [], end.closed, file_of_leads (ls ++ codes "COMMIT" ∷ []) end (leads_append start p end ls (codes "COMMIT" ∷ []) h last) refl)
+          let last : Leads p (codes "COMMIT" ∷ []) end =
+          (Closes, end, commit_line, commits p rules in_one, refl) in (
+            codes "COMMIT" ∷ [],
+            end.closed,
+            file_of_leads (ls ++ codes "COMMIT" ∷ []) end
+                (leads_append start p end ls (codes "COMMIT" ∷ []) h last) refl,
+          )
     ] refl
 
-one_more_leads : (p next : Place) (front : List (List ℕ)) (line : List ℕ) (said : Says) → Leads start front p → IsLine line said → after p said ≡ Some next → BeginFile (front ++ line ∷ [])
+one_more_leads : (p next : Place) (front : List (List ℕ)) (line : List ℕ) (said : Says) →
+    Leads start front p → IsLine line said → after p said ≡ Some next →
+    BeginFile (front ++ line ∷ [])
 one_more_leads p next front line said h is e =
-    leads_begin (front ++ line ∷ []) next (leads_append start p next front (line ∷ []) h (said, next, is, e, refl))
+    leads_begin (front ++ line ∷ []) next
+    (leads_append start p next front (line ∷ []) h (said, next, is, e, refl))
 
-not_begun : (p : Place) (front : List (List ℕ)) (line : List ℕ) → Leads start front p → IsRefused p line → BeginFile (front ++ line ∷ []) → ⊥
+not_begun : (p : Place) (front : List (List ℕ)) (line : List ℕ) → Leads start front p →
+    IsRefused p line → BeginFile (front ++ line ∷ []) → ⊥
 not_begun p front line h refused begin =
     let all = begin_leads (front ++ line ∷ []) begin in
     let parts = leads_split start all.0 front (line ∷ []) all.1 in
@@ -154,13 +198,16 @@ not_begun p front line h refused begin =
     let last = subst (λ (s : Place). Leads s (line ∷ []) all.0) same parts.2 in
     refused last.0 last.1 last.2 last.3
 
-refused_where : (text : List ℕ) (number : ℕ) (front rest : List (List ℕ)) (p : Place) → tables_of text ≡ Err number → lines text ≡ front ++ rest → length front + 1 ≡ number → Leads start front p → IsStuck p rest → IsFirstRefused text number
+refused_where : (text : List ℕ) (number : ℕ) (front rest : List (List ℕ)) (p : Place) →
+    tables_of text ≡ Err number → lines text ≡ front ++ rest → length front + 1 ≡ number →
+    Leads start front p → IsStuck p rest → IsFirstRefused text number
 refused_where text number front [] p answer e count h stuck =
     let whole : lines text ≡ front = e ∙ append-nil front in
     inr (record {
       count = omega (arith, ap length whole, count);
       begin = subst BeginFile (sym whole) (leads_begin front p h);
-      unfinished = λ tables file. two_answers tables number (sym (file_read text tables file) ∙ answer);
+      unfinished =
+          λ tables file. two_answers tables number (sym (file_read text tables file) ∙ answer);
     })
 refused_where text number front (line ∷ rest) p answer e count h stuck =
     inl (record {
@@ -179,17 +226,21 @@ unfolding tables_of
 file_refused text line e =
     let found = stops_at 1 line start (lines text) e in
     let stop = found.2 in
-    refused_where text line stop.0 stop.1 stop.2 e stop.3 (omega (arith, found.1, stop.4)) stop.5 stop.6
+    refused_where text line stop.0 stop.1 stop.2 e stop.3 (omega (arith, found.1, stop.4)) stop.5
+    stop.6
 
 bad_line : (text : List ℕ) (number : ℕ) → IsBadLine text number → tables_of text ≡ Err number
 unfolding tables_of
 bad_line text number h =
     let led = begin_leads h.front h.begin in
-    let stuck : IsStuck led.0 (h.line ∷ h.rest) = λ said next is e. h.refused (one_more_leads led.0 next h.front h.line said led.1 is e) in
+    let stuck : IsStuck led.0 (h.line ∷ h.rest) =
+    λ said next is e. h.refused (one_more_leads led.0 next h.front h.line said led.1 is e) in
     let same : 1 + length h.front ≡ number = omega (arith, h.count) in
-    rw h.lines_are (fault_of_front 1 start led.0 h.front (h.line ∷ h.rest) led.1 stuck ∙ ap (λ n. Err n) same)
+    rw h.lines_are (fault_of_front 1 start led.0 h.front (h.line ∷ h.rest) led.1 stuck
+    ∙ ap (λ n. Err n) same)
 
-stuck_inside : (text : List ℕ) (number : ℕ) (p : Place) → EndsEarly text number → Leads start (lines text) p → IsStuck p []
+stuck_inside : (text : List ℕ) (number : ℕ) (p : Place) → EndsEarly text number →
+    Leads start (lines text) p → IsStuck p []
 stuck_inside text number p h led =
     elim p.inside as (λ o. p.inside ≡ o → is_some o ≡ true) [
       | None ↦ λ out. absurd (h.unfinished p.closed (file_of_leads (lines text) p led out))
@@ -201,7 +252,9 @@ unfolding tables_of
 ends_early text number h =
     let led = begin_leads (lines text) h.begin in
     let same : 1 + length (lines text) ≡ number = omega (arith, h.count) in
-    let all = fault_of_front 1 start led.0 (lines text) [] led.1 (stuck_inside text number led.0 h led.1) ∙ ap (λ n. Err n) same in
+    let all =
+    fault_of_front 1 start led.0 (lines text) [] led.1 (stuck_inside text number led.0 h led.1)
+    ∙ ap (λ n. Err n) same in
     subst (λ ls. tables_from 1 start ls ≡ Err number) (append-nil (lines text)) all
 
 -- what has such a line is refused there
@@ -210,32 +263,47 @@ file_stuck text line (inl h) = bad_line text line h
 file_stuck text line (inr h) = ends_early text line h
 
 -- the same of an answer
-pub found_by : (r : Result (List (List Rule)) LineFault) (text : List ℕ) → Answers r (tables_of text) → IfOk r (IsRulesFile text)
+pub found_by : (r : Result (List (List Rule)) LineFault) (text : List ℕ) →
+    Answers r (tables_of text) → IfOk r (IsRulesFile text)
 found_by (Ok tables) text h = file_found text tables h
 found_by (Err fault) text h = tt
 
-pub refused_by : (r : Result (List (List Rule)) LineFault) (text : List ℕ) (line : ℕ) → Answers r (tables_of text) → r ≡ Err (Bad line) → IsFirstRefused text line
-refused_by r text line h e = file_refused text line (subst (λ (s : Result (List (List Rule)) LineFault). Answers s (tables_of text)) e h)
+pub refused_by : (r : Result (List (List Rule)) LineFault) (text : List ℕ) (line : ℕ) →
+    Answers r (tables_of text) → r ≡ Err (Bad line) → IsFirstRefused text line
+refused_by r text line h e =
+    file_refused text line
+    (subst (λ (s : Result (List (List Rule)) LineFault). Answers s (tables_of text)) e h)
 
-pub answered_by : (r : Result (List (List Rule)) LineFault) (text : List ℕ) (read : Result (List (List Rule)) ℕ) → tables_of text ≡ read → Answers r (tables_of text) → Answers r read
+pub answered_by : (r : Result (List (List Rule)) LineFault) (text : List ℕ)
+    (read : Result (List (List Rule)) ℕ) → tables_of text ≡ read → Answers r (tables_of text) →
+    Answers r read
 answered_by r text read e h = subst (Answers r) e h
 
-pub same_tables : (text : List ℕ) (a b : List (List Rule)) → IsRulesFile text a → IsRulesFile text b → a ≡ b
+pub same_tables : (text : List ℕ) (a b : List (List Rule)) → IsRulesFile text a →
+    IsRulesFile text b → a ≡ b
 same_tables text a b h g =
-    let both : ◌≡◌ {A = Result (List (List Rule)) ℕ} (Ok a) (Ok b) = sym (file_read text a h) ∙ file_read text b g in
+    let both : ◌≡◌ {A = Result (List (List Rule)) ℕ} (Ok a) (Ok b) =
+    sym (file_read text a h) ∙ file_read text b g in
     cc
 
 pub same_line : (text : List ℕ) (a b : ℕ) → IsFirstRefused text a → IsFirstRefused text b → a ≡ b
 same_line text a b h g =
-    let both : ◌≡◌ {A = Result (List (List Rule)) ℕ} (Err a) (Err b) = sym (file_stuck text a h) ∙ file_stuck text b g in
+    let both : ◌≡◌ {A = Result (List (List Rule)) ℕ} (Err a) (Err b) =
+    sym (file_stuck text a h) ∙ file_stuck text b g in
     cc
 
-pub never_both : (text : List ℕ) (tables : List (List Rule)) (line : ℕ) → IsRulesFile text tables → IsFirstRefused text line → ⊥
-never_both text tables line h g = two_answers tables line (sym (file_read text tables h) ∙ file_stuck text line g)
+pub never_both : (text : List ℕ) (tables : List (List Rule)) (line : ℕ) → IsRulesFile text tables →
+    IsFirstRefused text line → ⊥
+never_both text tables line h g =
+    two_answers tables line (sym (file_read text tables h) ∙ file_stuck text line g)
 
-pub one_of_two : (text : List ℕ) → ((tables : List (List Rule)) × IsRulesFile text tables) ⊎ ((line : ℕ) × IsFirstRefused text line)
+pub one_of_two : (text : List ℕ) →
+    ((tables : List (List Rule)) × IsRulesFile text tables)
+    ⊎ ((line : ℕ) × IsFirstRefused text line)
 one_of_two text =
-    elim (tables_of text) as (λ r. tables_of text ≡ r → ((tables : List (List Rule)) × IsRulesFile text tables) ⊎ ((line : ℕ) × IsFirstRefused text line)) [
+    elim (tables_of text) as (λ r. tables_of text ≡ r →
+    ((tables : List (List Rule)) × IsRulesFile text tables)
+    ⊎ ((line : ℕ) × IsFirstRefused text line)) [
       | Ok tables ↦ λ e. inl (tables, file_found text tables e)
       | Err line ↦ λ e. inr (line, file_refused text line e)
     ] refl

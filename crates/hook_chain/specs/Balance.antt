@@ -1,7 +1,8 @@
--- The flow hash, and the queue that it picks: `__jhash_final` of include/linux/jhash.h over three words,
--- as hash_v4 and hash_v6 of include/net/netfilter/nf_queue.h give them, and reciprocal_scale of
--- include/linux/kernel.h. All numbers are whole numbers, and a word is one below 2 ^ 32.
-use Rattle.std.specs.Prelude.{ℕ, ◌+◌, ◌-◌, ◌*◌, ◌/◌, ◌%◌, ◌^◌, ◌==◌, min, max, bit_xor, Option, Some, None, if◌then◌else◌}
+-- The flow hash, and the queue that it picks: `__jhash_final` of include/linux/jhash.h over three
+-- words, as hash_v4 and hash_v6 of include/net/netfilter/nf_queue.h give them, and reciprocal_scale
+-- of include/linux/kernel.h. All numbers are whole numbers, and a word is one below 2 ^ 32.
+use Rattle.std.specs.Prelude.{ℕ, ◌+◌, ◌-◌, ◌*◌, ◌/◌, ◌%◌, ◌^◌, ◌==◌, min, max, bit_xor, Option}
+use Rattle.std.specs.Prelude.{Some, None, if◌then◌else◌}
 use Rattle.hook_chain.specs.Numbers.{ipv4_family, hash_start, hashed_bytes}
 use Rattle.ip_fields.specs.declared.packet.IpFields.{IpFields}
 
@@ -12,7 +13,8 @@ word_sum x y = (x + y) % 2 ^ 32
 abbrev pub word_difference : ℕ → ℕ → ℕ
 word_difference x y = (x + (2 ^ 32 - y)) % 2 ^ 32
 
--- the bits of a word, moved to the left by so many places; those that leave at the top come in below
+-- the bits of a word, moved to the left by so many places; those that leave at the top come in
+-- below
 abbrev pub rotated : ℕ → ℕ → ℕ
 rotated x by = (x * 2 ^ by) % 2 ^ 32 + x / 2 ^ (32 - by)
 
@@ -35,7 +37,8 @@ final_mix a b c =
 unfoldable pub address_word : ℕ → ℕ → ℕ
 address_word family address =
     if family == ipv4_family then address
-    else bit_xor (bit_xor (bit_xor (address / 2 ^ 96) (address / 2 ^ 64 % 2 ^ 32)) (address / 2 ^ 32 % 2 ^ 32)) (address % 2 ^ 32)
+    else bit_xor (bit_xor (bit_xor (address / 2 ^ 96) (address / 2 ^ 64 % 2 ^ 32))
+    (address / 2 ^ 32 % 2 ^ 32)) (address % 2 ^ 32)
 
 -- the smaller address word first, so that both directions of a flow have one hash
 unfoldable pub flow_hash : ℕ → ℕ → ℕ → ℕ → ℕ
@@ -46,7 +49,8 @@ flow_hash key x y protocol =
 -- without fields all three words are 0
 abbrev pub packet_hash : ℕ → Option IpFields → ℕ
 packet_hash key None = flow_hash key 0 0 0
-packet_hash key (Some f) = flow_hash key (address_word f.family f.source) (address_word f.family f.destination) f.protocol
+packet_hash key (Some f) =
+    flow_hash key (address_word f.family f.source) (address_word f.family f.destination) f.protocol
 
 -- the queue, of `total` from `first` on
 unfoldable pub balanced : ℕ → Option IpFields → ℕ → ℕ → ℕ

@@ -1,5 +1,7 @@
 -- The numbers of a rules file, from their digits. All are below 2 ^ 32.
-use Rattle.std.specs.Prelude.{ℕ, ◌+◌, ◌-◌, ◌*◌, ◌^◌, ◌&&◌, ◌==◌, nat_lt, List, [], ◌∷◌, length, take, drop, slice_index, Option, Some, None, bytes_eq, codes, if◌then◌else◌}
+use Rattle.std.specs.Prelude.{ℕ, ◌+◌, ◌-◌, ◌*◌, ◌^◌, ◌&&◌, ◌==◌, nat_lt, List, [], ◌∷◌, length}
+use Rattle.std.specs.Prelude.{take, drop, slice_index, Option, Some, None, bytes_eq, codes}
+use Rattle.std.specs.Prelude.{if◌then◌else◌}
 use Rattle.hook_chain.specs.Words.{◌>>=◌, byte, is_digit, is_from_to}
 use Rattle.hook_chain.specs.Numbers.{decimal_radix, hexadecimal_radix, first_letter_digit}
 
@@ -33,7 +35,9 @@ number radix word = do
 
 -- no leading zero but in `0` itself
 unfoldable pub decimal : List ℕ → Option ℕ
-decimal word = if nat_lt 1 (length word) && (slice_index word 0 == byte "0") then None else number decimal_radix word
+decimal word =
+    if nat_lt 1 (length word) && (slice_index word 0 == byte "0") then None
+    else number decimal_radix word
 
 abbrev pub decimal_below : ℕ → List ℕ → Option ℕ
 decimal_below limit word = do
@@ -42,4 +46,6 @@ decimal_below limit word = do
 
 -- decimal, or 0x and hexadecimal digits
 unfoldable pub wide : List ℕ → Option ℕ
-wide word = if bytes_eq (take 2 word) (codes "0x") then number hexadecimal_radix (drop 2 word) else decimal word
+wide word =
+    if bytes_eq (take 2 word) (codes "0x") then number hexadecimal_radix (drop 2 word)
+    else decimal word

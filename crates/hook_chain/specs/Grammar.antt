@@ -1,7 +1,8 @@
--- The grammar of a rules file: what is written, production by production, as iptables-save(8) writes it
--- and iptables-extensions(8) names its parts. The square brackets of these comments say that a part may
--- be missing. Nothing here reads: a production says which words stand for a value.
-use Rattle.std.specs.Prelude.{ℕ, ◌≡◌, ◌≢◌, ◌+◌, ◌≤◌, ◌⊎◌, Bool, true, false, IsTrue, List, [], ◌∷◌, ◌++◌, length, map, flat_map, All, AllPairs, Option, Some, None, codes}
+-- The grammar of a rules file: what is written, production by production, as iptables-save(8)
+-- writes it and iptables-extensions(8) names its parts. The square brackets of these comments say
+-- that a part may be missing. Nothing here reads: a production says which words stand for a value.
+use Rattle.std.specs.Prelude.{ℕ, ◌≡◌, ◌≢◌, ◌+◌, ◌≤◌, ◌⊎◌, Bool, true, false, IsTrue, List, [], ◌∷◌}
+use Rattle.std.specs.Prelude.{◌++◌, length, map, flat_map, All, AllPairs, Option, Some, None, codes}
 use Rattle.std.specs.List.{list_all}
 use Rattle.std.specs.Str.Lines.{lines}
 use Rattle.hook_chain.specs.declared.rule.Rule.{Rule}
@@ -11,12 +12,14 @@ use Rattle.hook_chain.specs.declared.rule.Pick.TheVariants.{Number}
 use Rattle.hook_chain.specs.Numbers.{most_tables, most_rules}
 use Rattle.hook_chain.specs.Words.{is_printable, words_of}
 use Rattle.hook_chain.specs.RuleLine.{protocol_of, value_and_mask, pick_of}
-use Rattle.hook_chain.specs.Line.{Says, Nothing, Opens, Policy, Adds, Closes, is_table_name, is_chain_name, is_counters}
+use Rattle.hook_chain.specs.Line.{Says, Nothing, Opens, Policy, Adds, Closes, is_table_name}
+use Rattle.hook_chain.specs.Line.{is_chain_name, is_counters}
 
 -- [-p PROTO]
 abbrev pub IsProtocolMatch : List (List ℕ) → Option ℕ → Type 0
 IsProtocolMatch words None = words ≡ []
-IsProtocolMatch words (Some protocol) = (word : List ℕ) × (words ≡ codes "-p" ∷ word ∷ []) × (protocol_of word ≡ Some protocol)
+IsProtocolMatch words (Some protocol) =
+    (word : List ℕ) × (words ≡ codes "-p" ∷ word ∷ []) × (protocol_of word ≡ Some protocol)
 
 -- [!]
 abbrev pub negation : Bool → List (List ℕ)
@@ -27,7 +30,8 @@ negation false = []
 abbrev pub IsMarkMatch : List (List ℕ) → Option MarkTest → Type 0
 IsMarkMatch words None = words ≡ []
 IsMarkMatch words (Some test) =
-    (word : List ℕ) × (words ≡ codes "-m" ∷ codes "mark" ∷ (negation test.negated ++ codes "--mark" ∷ word ∷ []))
+    (word : List ℕ) × (words ≡ codes "-m" ∷ codes "mark"
+    ∷ (negation test.negated ++ codes "--mark" ∷ word ∷ []))
     × (value_and_mask word ≡ Some (test.value, test.mask))
 
 -- [--queue-num N] or [--queue-balance A:B]; without both the queue is 0
@@ -52,14 +56,19 @@ pub record IsRuleLine (words : List (List ℕ)) (r : Rule) : Type 0 where
   pub protocol_is : IsProtocolMatch protocol r.protocol
   pub mark_is : IsMarkMatch mark r.mark
   pub options_are : AreOptions options r.pick r.bypass
-  pub line : words ≡ codes "-A" ∷ codes "FORWARD" ∷ (protocol ++ (mark ++ codes "-j" ∷ codes "NFQUEUE" ∷ options))
+  pub line : words ≡ codes "-A" ∷ codes "FORWARD"
+      ∷ (protocol ++ (mark ++ codes "-j" ∷ codes "NFQUEUE" ∷ options))
 
--- An empty line or a comment; *NAME; :NAME ACCEPT [N:N], where the brackets are written; a rule; COMMIT.
+-- An empty line or a comment; *NAME; :NAME ACCEPT [N:N], where the brackets are written; a rule;
+-- COMMIT.
 abbrev pub IsForm : List (List ℕ) → Says → Type 0
-IsForm words Nothing = (words ≡ []) ⊎ ((comment : List ℕ) × (more : List (List ℕ)) × (words ≡ (codes "#" ++ comment) ∷ more))
+IsForm words Nothing =
+    (words ≡ []) ⊎ ((comment : List ℕ) × (more : List (List ℕ))
+    × (words ≡ (codes "#" ++ comment) ∷ more))
 IsForm words (Opens name) = (words ≡ (codes "*" ++ name) ∷ []) × (is_table_name name ≡ true)
 IsForm words Policy =
-    (chain : List ℕ) × (counters : List ℕ) × (words ≡ (codes ":" ++ chain) ∷ codes "ACCEPT" ∷ counters ∷ [])
+    (chain : List ℕ) × (counters : List ℕ)
+    × (words ≡ (codes ":" ++ chain) ∷ codes "ACCEPT" ∷ counters ∷ [])
     × (is_chain_name chain ≡ true) × (is_counters counters ≡ true)
 IsForm words (Adds rule) = IsRuleLine words rule
 IsForm words Closes = words ≡ codes "COMMIT" ∷ []
@@ -86,10 +95,11 @@ IsTableLine line (rule ∷ other ∷ rules) = ⊥
 abbrev pub AreTableLines : List (List ℕ) → List Rule → Type 0
 AreTableLines [] rules = rules ≡ []
 AreTableLines (line ∷ more) rules =
-    (own : List Rule) × (others : List Rule) × IsTableLine line own × AreTableLines more others × (rules ≡ own ++ others)
+    (own : List Rule) × (others : List Rule) × IsTableLine line own × AreTableLines more others
+    × (rules ≡ own ++ others)
 
--- A table as it is written: lines that say nothing, the line of its name, its lines, and the line that
--- ends it.
+-- A table as it is written: lines that say nothing, the line of its name, its lines, and the line
+-- that ends it.
 pub record Block : Type 0 where
   pub silent : List (List ℕ)
   pub opening : List ℕ
@@ -107,8 +117,9 @@ pub record IsBlock (b : Block) : Type 0 where
   pub inside : AreTableLines b.inside b.rules
   pub closing : IsLine b.closing Closes
 
--- The lines of a rules file of these tables: blocks, one a table, and lines that say nothing. Of the
--- whole it holds that the tables aren't too many, nor the rules of any, and that the names differ.
+-- The lines of a rules file of these tables: blocks, one a table, and lines that say nothing. Of
+-- the whole it holds that the tables aren't too many, nor the rules of any, and that the names
+-- differ.
 pub record AreFileLines (text_lines : List (List ℕ)) (tables : List (List Rule)) : Type 0 where
   pub blocks : List Block
   pub last : List (List ℕ)
@@ -126,9 +137,11 @@ IsRulesFile text tables = AreFileLines (lines text) tables
 
 -- some lines after these make a rules file of them
 abbrev pub BeginFile : List (List ℕ) → Type 0
-BeginFile front = (rest : List (List ℕ)) × (tables : List (List Rule)) × AreFileLines (front ++ rest) tables
+BeginFile front =
+    (rest : List (List ℕ)) × (tables : List (List Rule)) × AreFileLines (front ++ rest) tables
 
--- a line that may not stand in its place: the lines before it begin a rules file, and with it they don't
+-- a line that may not stand in its place: the lines before it begin a rules file, and with it they
+-- don't
 pub record IsBadLine (text : List ℕ) (number : ℕ) : Type 0 where
   pub front : List (List ℕ)
   pub line : List ℕ
@@ -138,7 +151,8 @@ pub record IsBadLine (text : List ℕ) (number : ℕ) : Type 0 where
   pub begin : BeginFile front
   pub refused : BeginFile (front ++ line ∷ []) → ⊥
 
--- a text that ends too early, inside of a table: its lines begin a rules file, and it is none itself
+-- a text that ends too early, inside of a table: its lines begin a rules file, and it is none
+-- itself
 pub record EndsEarly (text : List ℕ) (number : ℕ) : Type 0 where
   pub count : length (lines text) + 1 ≡ number
   pub begin : BeginFile (lines text)

@@ -3,7 +3,7 @@ pub mod Digits
 pub mod Grammar
 pub mod Line
 pub mod Numbers
-pub mod Reader
+pub mod Reading
 pub mod Route
 pub mod RuleLine
 pub mod Rules

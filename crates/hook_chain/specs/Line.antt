@@ -1,11 +1,14 @@
 -- What one line of a rules file says: iptables-save(8).
-use Rattle.std.specs.Prelude.{ℕ, ◌||◌, ◌&&◌, ◌==◌, ◌-◌, false, nat_le, Bool, List, length, take, drop, slice_index, Option, Some, None, option_map, bytes_eq, codes, if◌then◌else◌}
+use Rattle.std.specs.Prelude.{ℕ, ◌||◌, ◌&&◌, ◌==◌, ◌-◌, false, nat_le, Bool, List, length, take}
+use Rattle.std.specs.Prelude.{drop, slice_index, Option, Some, None, option_map, bytes_eq, codes}
+use Rattle.std.specs.Prelude.{if◌then◌else◌}
 use Rattle.std.specs.List.{list_all}
 use Rattle.std.specs.Option.{option_map_or}
 use Rattle.hook_chain.specs.declared.rule.Rule.{Rule}
 use Rattle.hook_chain.specs.declared.line.Line.{Line}
 use Rattle.hook_chain.specs.declared.line.Line.TheVariants as read
-use Rattle.hook_chain.specs.Words.{◌>>=◌, byte, is_printable, is_digit, is_lower, is_upper, words_of, first_word, words_after, cut_at}
+use Rattle.hook_chain.specs.Words.{◌>>=◌, byte, is_printable, is_digit, is_lower, is_upper}
+use Rattle.hook_chain.specs.Words.{words_of, first_word, words_after, cut_at}
 use Rattle.hook_chain.specs.Numbers.{longest_name}
 use Rattle.hook_chain.specs.RuleLine.{rule_of}
 
@@ -41,8 +44,10 @@ are_digits word = nat_le 1 (length word) && list_all is_digit word
 -- [N:N]
 unfoldable pub is_counters : List ℕ → Bool
 is_counters word =
-    nat_le 2 (length word) && (slice_index word 0 == byte "[") && (slice_index word (length word - 1) == byte "]")
-    && option_map_or (λ parts. are_digits parts.0 && are_digits parts.1) (cut_at (byte ":") (take (length word - 2) (drop 1 word))) false
+    nat_le 2 (length word) && (slice_index word 0 == byte "[")
+    && (slice_index word (length word - 1) == byte "]")
+    && option_map_or (λ parts. are_digits parts.0 && are_digits parts.1)
+    (cut_at (byte ":") (take (length word - 2) (drop 1 word))) false
 
 -- `*NAME` alone
 unfoldable pub opening : List ℕ → List (List ℕ) → Option Says
@@ -53,7 +58,8 @@ unfoldable pub policy : List ℕ → List (List ℕ) → Option Says
 policy name words = do
   rest ← words_after (codes "ACCEPT") words
   counters ← first_word rest
-  if is_chain_name name && is_counters counters.0 && (length counters.1 == 0) then Some Policy else None
+  if is_chain_name name && is_counters counters.0 && (length counters.1 == 0) then Some Policy
+      else None
 
 -- a line by its first word, and the words after it
 unfoldable pub says_by : List ℕ → List (List ℕ) → Option Says
@@ -68,7 +74,8 @@ says_by word words =
 -- what a line says; none where no form allows it
 unfoldable pub says : List ℕ → Option Says
 says line =
-    if list_all is_printable line then option_map_or (λ w. says_by w.0 w.1) (first_word (words_of line)) (Some Nothing)
+    if list_all is_printable line
+    then option_map_or (λ w. says_by w.0 w.1) (first_word (words_of line)) (Some Nothing)
     else None
 
 -- a line as the reader has it, which points into the text

@@ -1,6 +1,8 @@
 -- Where a packet goes next: nf_hook_slow and nf_reinject of the kernel's netfilter core.c and
--- nf_queue.c over the tables of one hook, and the matches of iptables-extensions(8): protocol and mark.
-use Rattle.std.specs.Prelude.{ℕ, ◌+◌, ◌-◌, ◌==◌, max, Bool, true, false, not, ◌&&◌, bit_and, List, [], ◌∷◌, drop, find, Option, Some, None, if◌then◌else◌}
+-- nf_queue.c over the tables of one hook, and the matches of iptables-extensions(8): protocol and
+-- mark.
+use Rattle.std.specs.Prelude.{ℕ, ◌+◌, ◌-◌, ◌==◌, max, Bool, true, false, not, ◌&&◌, bit_and, List}
+use Rattle.std.specs.Prelude.{[], ◌∷◌, drop, find, Option, Some, None, if◌then◌else◌}
 use Rattle.std.specs.Option.{option_map_or}
 use Rattle.packet_entry.specs.declared.packet.Card.{Card}
 use Rattle.ip_fields.specs.declared.packet.IpFields.{IpFields}
@@ -19,7 +21,7 @@ use Rattle.hook_chain.specs.Balance.{balanced}
 abbrev pub has_protocol : Option IpFields → ℕ → Bool
 has_protocol fields protocol = option_map_or (λ f. f.protocol == protocol) fields false
 
--- -m mark --mark value/mask: the mask is laid on the packet's mark alone, and `!` turns the test round
+-- -m mark --mark value/mask: the mask is laid on the packet's mark alone; `!` turns the test round
 abbrev pub has_mark : ℕ → MarkTest → Bool
 has_mark mark test =
     if test.negated then not (bit_and mark test.mask == test.value)
@@ -27,7 +29,8 @@ has_mark mark test =
 
 -- a rule matches a packet of this mark and these fields where each test that it has holds
 abbrev pub matches : ℕ → Option IpFields → Rule → Bool
-matches mark fields r = option_map_or (has_protocol fields) r.protocol true && option_map_or (has_mark mark) r.mark true
+matches mark fields r =
+    option_map_or (has_protocol fields) r.protocol true && option_map_or (has_mark mark) r.mark true
 
 abbrev pub queue_of : ℕ → Option IpFields → Pick → ℕ
 queue_of key fields (Number queue) = queue
@@ -38,11 +41,13 @@ queue_of key fields (Balance first total) = balanced key fields first total
 unfoldable pub next_of : ℕ → ℕ → Option IpFields → ℕ → List (List Rule) → Next
 next_of key mark fields number [] = Released
 next_of key mark fields number (rules ∷ tables) =
-    option_map_or (λ r. To (queue_of key fields r.pick) r.bypass number) (find (matches mark fields) rules) (next_of key mark fields (number + 1) tables)
+    option_map_or (λ r. To (queue_of key fields r.pick) r.bypass number)
+    (find (matches mark fields) rules) (next_of key mark fields (number + 1) tables)
 
 -- the tables from number `from` on; they count from 1, and 0 takes all as well
 unfoldable pub next : List (List Rule) → ℕ → Card → ℕ → Next
-next tables key c from = next_of key c.mark (fields_of c.bytes) (max from 1) (drop (max from 1 - 1) tables)
+next tables key c from =
+    next_of key c.mark (fields_of c.bytes) (max from 1) (drop (max from 1 - 1) tables)
 
 -- what a verdict's decision means for a packet that its table had queued
 abbrev pub onward_of : List (List Rule) → ℕ → Card → Decision → Option Next

@@ -1,6 +1,8 @@
--- The line `-A FORWARD MATCHES -j NFQUEUE OPTIONS`, by its words: iptables-extensions(8), the matches
--- `-p` and `mark` and the target NFQUEUE, as iptables-save(8) writes them.
-use Rattle.std.specs.Prelude.{ℕ, ◌+◌, ◌-◌, ◌^◌, ◌&&◌, nat_lt, nat_le, not, Bool, true, false, List, [], ◌∷◌, Option, Some, None, is_some, is_none, unwrap_or, option_map, bytes_eq, codes, if◌then◌else◌}
+-- The line `-A FORWARD MATCHES -j NFQUEUE OPTIONS`, by its words: iptables-extensions(8), the
+-- matches `-p` and `mark` and the target NFQUEUE, as iptables-save(8) writes them.
+use Rattle.std.specs.Prelude.{ℕ, ◌+◌, ◌-◌, ◌^◌, ◌&&◌, nat_lt, nat_le, not, Bool, true, false, List}
+use Rattle.std.specs.Prelude.{[], ◌∷◌, Option, Some, None, is_some, is_none, unwrap_or, option_map}
+use Rattle.std.specs.Prelude.{bytes_eq, codes, if◌then◌else◌}
 use Rattle.std.specs.Option.{option_map_or}
 use Rattle.hook_chain.specs.declared.rule.Rule.{Rule}
 use Rattle.hook_chain.specs.declared.rule.MarkTest.{MarkTest}
@@ -37,9 +39,17 @@ value_and_mask word = option_map_or (λ parts. do
 unfoldable pub mark_match : List (List ℕ) → Option (Option MarkTest × List (List ℕ))
 mark_match words = option_map_or (λ rest. do
   test ← words_after (codes "mark") rest
-  word ← (words_after (codes "--mark") (unwrap_or (words_after (codes "!") test) test) >>= first_word)
+  word ← (words_after (codes "--mark") (unwrap_or (words_after (codes "!") test) test) >>=
+      first_word)
   bits ← value_and_mask word.0
-  Some (Some (record { value = bits.0; mask = bits.1; negated = is_some (words_after (codes "!") test) }), word.1))
+  Some (
+    Some (record {
+      value = bits.0;
+      mask = bits.1;
+      negated = is_some (words_after (codes "!") test);
+    }),
+    word.1,
+  ))
     (words_after (codes "-m") words) (Some (None, words))
 
 -- A:B, with A below B, which are not more than the most queues
@@ -48,7 +58,8 @@ range_of word = do
   parts ← cut_at (byte ":") word
   first ← decimal_below (2 ^ 16) parts.0
   last ← decimal_below (2 ^ 16) parts.1
-  if nat_lt first last && nat_le (last - first + 1) most_queues then Some (Balance first (last - first + 1)) else None
+  if nat_lt first last && nat_le (last - first + 1) most_queues
+      then Some (Balance first (last - first + 1)) else None
 
 -- `--queue-num N` or `--queue-balance A:B`
 unfoldable pub pick_of : List ℕ → List ℕ → Option Pick
@@ -57,12 +68,13 @@ pick_of option value =
     else if bytes_eq option (codes "--queue-balance") then range_of value
     else None
 
--- The options in any order, each at most once, and at most one that picks the queue, which else is 0.
--- `pick` and `bypass` were said before these words.
+-- The options in any order, each at most once, and at most one that picks the queue, which else is
+-- 0. `pick` and `bypass` were said before these words.
 unfoldable pub options_after : Option Pick → Bool → List (List ℕ) → Option (Pick × Bool)
 options_after pick bypass [] = Some (unwrap_or pick (Number 0), bypass)
 options_after pick bypass (w ∷ []) =
-    if bytes_eq w (codes "--queue-bypass") && not bypass then Some (unwrap_or pick (Number 0), true) else None
+    if bytes_eq w (codes "--queue-bypass") && not bypass then Some (unwrap_or pick (Number 0), true)
+    else None
 options_after pick bypass (w ∷ v ∷ ws) =
     if bytes_eq w (codes "--queue-bypass") && not bypass then options_after pick true (v ∷ ws)
     else if is_none pick then (pick_of w v >>= λ p. options_after (Some p) bypass ws)

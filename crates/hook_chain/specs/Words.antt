@@ -1,6 +1,8 @@
 -- The bytes of a line, and its words. Bytes are ASCII codes.
 use Prim.Native.String.{String}
-use Rattle.std.specs.Prelude.{ℕ, ◌||◌, ◌&&◌, ◌==◌, not, nat_le, Bool, List, [], ◌∷◌, length, slice_index, filter, Option, Some, None, bytes_eq, codes, option_map, if◌then◌else◌}
+use Rattle.std.specs.Prelude.{ℕ, ◌||◌, ◌&&◌, ◌==◌, not, nat_le, Bool, List, [], ◌∷◌, length}
+use Rattle.std.specs.Prelude.{slice_index, filter, Option, Some, None, bytes_eq, codes, option_map}
+use Rattle.std.specs.Prelude.{if◌then◌else◌}
 use Rattle.std.specs.List.{slice_split}
 
 infixl 10 ◌>>=◌
@@ -57,4 +59,5 @@ words_after word (w ∷ ws) = if bytes_eq w word then Some ws else None
 -- the two parts of a word round the first of these bytes in it
 abbrev pub cut_at : ℕ → List ℕ → Option (List ℕ × List ℕ)
 cut_at c [] = None
-cut_at c (b ∷ bs) = if b == c then Some ([], bs) else option_map (λ parts. (b ∷ parts.0, parts.1)) (cut_at c bs)
+cut_at c (b ∷ bs) =
+    if b == c then Some ([], bs) else option_map (λ parts. (b ∷ parts.0, parts.1)) (cut_at c bs)

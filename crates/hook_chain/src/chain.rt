@@ -1,9 +1,11 @@
 //! Where a packet goes next.
 
-ghost use Rattle.std.specs.Prelude.{◌≡◌, ◌+◌, ◌^◌, ◌<◌, ◌≤◌, length, IfSome, All, find, drop, max, slice_index_or, option_map, option_copied};
+ghost use Rattle.std.specs.Prelude.{◌≡◌, ◌+◌, ◌^◌, ◌<◌, ◌≤◌, length, IfSome, All, find, drop, max};
+ghost use Rattle.std.specs.Prelude.{slice_index_or, option_map, option_copied};
 ghost use Rattle.ip_fields.specs.Packet.{IsAddressed, fields_of};
 ghost use Rattle.hook_chain.specs.Rules.{IsPick, AreTables};
-ghost use Rattle.hook_chain.specs.Route.{has_mark, has_protocol, matches, next, onward_of, queue_of};
+ghost use Rattle.hook_chain.specs.Route.{has_mark, has_protocol, matches, next, onward_of};
+ghost use Rattle.hook_chain.specs.Route.{queue_of};
 
 use crate::flow::balance;
 use crate::rule::{MarkTest, Pick, Rule};
@@ -48,9 +50,9 @@ struct Look {
 
 /// Where a packet goes that enters the tables at number `from`.
 ///
-/// The tables count from 1, and 0 takes all of them as well. In each table the first rule that matches
-/// queues the packet; past the last table it is released. `key` is the flow hash's. No memory is taken,
-/// and each rule is looked at once.
+/// The tables count from 1, and 0 takes all of them as well. In each table the first rule that
+/// matches queues the packet; past the last table it is released. `key` is the flow hash's. No
+/// memory is taken, and each rule is looked at once.
 pub fn route(tables: &Tables, key: u32, packet: &Packet, from: u16) -> Next
     ensures exact { result ≡ next tables.now key packet.now from }
 {
@@ -66,8 +68,8 @@ fn first_number(from: u16) -> usize
 
 /// Where a packet goes after this decision, from the table that queued it last.
 ///
-/// Accept goes on with the next table and Repeat with the same one; Stop releases. Queue sends it to
-/// that queue, in its table. `None` comes exactly for Drop.
+/// Accept goes on with the next table and Repeat with the same one; Stop releases. Queue sends it
+/// to that queue, in its table. `None` comes exactly for Drop.
 pub fn onward(tables: &Tables, key: u32, packet: &Packet, decision: &Decision) -> Option<Next>
     ensures exact { result ≡ onward_of tables.now key packet.now decision.now }
 {
@@ -120,7 +122,8 @@ impl Look {
     /// The first rule that matches.
     fn first_match<'a>(&self, rules: &'a [Rule]) -> Option<&'a Rule>
         requires { All (λ r. IsPick r.pick) rules.now }
-        ensures first { option_copied result ≡ find (matches self.now.mark self.now.fields) rules.now }
+        ensures first { option_copied result
+            ≡ find (matches self.now.mark self.now.fields) rules.now }
         ensures pick { IfSome result (λ r. IsPick r.now.pick) }
     {
         rules.iter().find(|rule| self.matches(rule))

@@ -3,7 +3,8 @@
 ghost use Rattle.std.specs.Prelude.{◌≡◌, ◌+◌, ◌/◌, ◌%◌, ◌^◌, ◌<◌, ◌≤◌, IfSome, option_copied};
 ghost use Rattle.ip_fields.specs.Packet.{IsAddressed};
 ghost use Rattle.hook_chain.specs.Numbers.{ipv4_family};
-ghost use Rattle.hook_chain.specs.Balance.{address_word, balanced, final_mix, flow_hash, mixed, packet_hash};
+ghost use Rattle.hook_chain.specs.Balance.{address_word, balanced, final_mix, flow_hash, mixed};
+ghost use Rattle.hook_chain.specs.Balance.{packet_hash};
 
 use ip_fields::IpFields;
 

@@ -7,7 +7,8 @@ ghost use Rattle.hook_chain.specs.Grammar.{IsFirstRefused, IsRulesFile};
 
 /// A text is the rules file of one list of tables at most.
 pub fn one_value()
-    ensures { (text : List ℕ) (a b : List (List Rule)) → IsRulesFile text a → IsRulesFile text b → a ≡ b }
+    ensures { (text : List ℕ) (a b : List (List Rule)) → IsRulesFile text a → IsRulesFile text b →
+        a ≡ b }
 {}
 
 /// A text has one first refused line at most.
@@ -17,6 +18,9 @@ pub fn one_refused_line()
 
 /// A text is a rules file or has a first refused line, and never both.
 pub fn value_or_refused_line()
-    ensures one { (text : List ℕ) → ((tables : List (List Rule)) × IsRulesFile text tables) ⊎ ((line : ℕ) × IsFirstRefused text line) }
-    ensures never_both { (text : List ℕ) (tables : List (List Rule)) (line : ℕ) → IsRulesFile text tables → IsFirstRefused text line → ⊥ }
+    ensures one { (text : List ℕ) →
+        ((tables : List (List Rule)) × IsRulesFile text tables)
+        ⊎ ((line : ℕ) × IsFirstRefused text line) }
+    ensures never_both { (text : List ℕ) (tables : List (List Rule)) (line : ℕ) →
+        IsRulesFile text tables → IsFirstRefused text line → ⊥ }
 {}

@@ -1,9 +1,9 @@
 //! The tables of the FORWARD hook, and where a packet goes next.
 //!
-//! [`read_tables`] reads the text that iptables-save(8) writes, reduced to rules with the target NFQUEUE.
-//! [`route`] takes a packet through the tables: in each the first rule that matches queues it.
-//! [`onward`] says where it goes after a verdict. [`balance`] picks one of several queues by the packet's
-//! flow, the same for both directions. Only `read_tables` takes memory.
+//! [`read_tables`] reads the text that iptables-save(8) writes, reduced to rules with the target
+//! NFQUEUE. [`route`] takes a packet through the tables: in each the first rule that matches queues
+//! it. [`onward`] says where it goes after a verdict. [`balance`] picks one of several queues by
+//! the packet's flow, the same for both directions. Only `read_tables` takes memory.
 #![tactic(auto)]
 
 mod chain;
@@ -12,7 +12,7 @@ mod flow;
 mod laws;
 mod line;
 mod number;
-mod reader;
+mod reading;
 mod rule;
 mod rule_line;
 mod tables;
@@ -22,7 +22,7 @@ pub use chain::{Decision, Next, onward, route};
 pub use fault::LineFault;
 pub use flow::balance;
 pub use laws::{one_refused_line, one_value, value_or_refused_line};
-pub use reader::read_tables;
+pub use reading::read_tables;
 pub use rule::{MarkTest, Pick, Rule};
 pub use tables::Tables;
 

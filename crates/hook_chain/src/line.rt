@@ -3,11 +3,13 @@
 ghost use Rattle.std.specs.Prelude.{◌≡◌, option_map};
 ghost use Rattle.std.specs.List.{list_all};
 ghost use Rattle.hook_chain.specs.Words.{is_digit, is_printable, words_of};
-ghost use Rattle.hook_chain.specs.Line.{are_digits, has_name_length, is_chain_name, is_counters, is_letter, is_table_byte, is_table_name, opening, policy, said, says, says_by};
+ghost use Rattle.hook_chain.specs.Line.{are_digits, has_name_length, is_chain_name, is_counters};
+ghost use Rattle.hook_chain.specs.Line.{is_letter, is_table_byte, is_table_name, opening, policy};
+ghost use Rattle.hook_chain.specs.Line.{said, says, says_by};
 
 use crate::rule::Rule;
 use crate::rule_line::rule;
-use crate::word::{rest_after, cut, is_end, is_word, next_word};
+use crate::word::{cut, is_end, is_word, next_word, rest_after};
 
 /// The most bytes of a table's or a chain's name: `XT_TABLE_MAXNAMELEN` of the kernel's x_tables.h,
 /// less the zero byte at the end.
@@ -30,7 +32,7 @@ pub(crate) enum Line<'a> {
 
 /// What a line says, or `None` where no form allows it.
 #[tactic(auto, unfolding(crate::specs::Line::says))]
-pub(crate) fn parse_line(text: &[u8]) -> Option<Line<'_>>
+pub(crate) fn read_line(text: &[u8]) -> Option<Line<'_>>
     ensures { option_map said result ≡ says text.now }
 {
     if !are_printable(text) {

@@ -10,8 +10,8 @@ const HEXADECIMAL: u32 = 16;
 /// What the digits `a` and `A` stand for.
 const FIRST_LETTER_DIGIT: u8 = 10;
 
-/// The number that the digits of this radix spell. `None` where there is no digit, where a byte is no
-/// digit of the radix, and where the number doesn't fit 32 bits.
+/// The number that the digits of this radix spell. `None` where there is no digit, where a byte is
+/// no digit of the radix, and where the number doesn't fit 32 bits.
 #[tactic(auto, unfolding(crate::specs::Digits::number))]
 fn number(word: &[u8], radix: u32) -> Option<u32>
     requires { 1 ≤ radix }
@@ -74,8 +74,8 @@ pub(crate) fn decimal_8(word: &[u8]) -> Option<u8>
     u8::try_from(decimal(word)?).ok()
 }
 
-/// A number of 32 bits: decimal, or `0x` and hexadecimal digits in either case, with leading zeros as
-/// they come.
+/// A number of 32 bits: decimal, or `0x` and hexadecimal digits in either case, with leading zeros
+/// as they come.
 #[tactic(auto, unfolding(crate::specs::Digits::wide))]
 pub(crate) fn wide(word: &[u8]) -> Option<u32>
     ensures { result ≡ wide word.now }

@@ -2,11 +2,12 @@
 
 ghost use Rattle.std.specs.Prelude.{◌≡◌, false, ◌+◌, ◌-◌, ◌<◌, ◌≤◌, ◌^◌, option_map};
 ghost use Rattle.hook_chain.specs.Words.{words_of};
-ghost use Rattle.hook_chain.specs.RuleLine.{mark_match, options_after, pick_of, protocol_match, protocol_of, range_of, rule_of, value_and_mask};
+ghost use Rattle.hook_chain.specs.RuleLine.{mark_match, options_after, pick_of, protocol_match};
+ghost use Rattle.hook_chain.specs.RuleLine.{protocol_of, range_of, rule_of, value_and_mask};
 
 use crate::number::{decimal_8, decimal_16, wide};
 use crate::rule::{MarkTest, Pick, Rule};
-use crate::word::{rest_after, cut, is_word, next_word};
+use crate::word::{cut, is_word, next_word, rest_after};
 
 /// Protocol number of `icmp` (IANA's Assigned Internet Protocol Numbers).
 const ICMP: u8 = 1;
@@ -43,7 +44,8 @@ pub(crate) fn rule(line: &[u8]) -> Option<Rule>
 /// `-p PROTO`, if it is there.
 #[tactic(auto, unfolding(crate::specs::RuleLine::protocol_match))]
 fn protocol_test(line: &[u8]) -> Option<(Option<u8>, &[u8])>
-    ensures { option_map (λ x. (x.0, words_of x.1.now)) result ≡ protocol_match (words_of line.now) }
+    ensures { option_map (λ x. (x.0, words_of x.1.now)) result
+        ≡ protocol_match (words_of line.now) }
 {
     let Some(rest) = rest_after(line, b"-p") else {
         return Some((None, line));

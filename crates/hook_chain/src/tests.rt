@@ -75,19 +75,58 @@ fn each_kind_of_rule_is_read(rt: HostRuntime) -> Result<(), Fail> {
         (b"-p tcp -j NFQUEUE", rule(Some(6), None, number(0), false)),
         (b"-p udp -j NFQUEUE", rule(Some(17), None, number(0), false)),
         (b"-p icmp -j NFQUEUE", rule(Some(1), None, number(0), false)),
-        (b"-p ipv6-icmp -j NFQUEUE", rule(Some(58), None, number(0), false)),
-        (b"-p 255 -j NFQUEUE", rule(Some(255), None, number(0), false)),
-        (b"-j NFQUEUE --queue-num 65535", rule(None, None, number(65_535), false)),
-        (b"-j NFQUEUE --queue-balance 2:5", rule(None, None, among(2, 4), false)),
-        (b"-j NFQUEUE --queue-balance 0:65534", rule(None, None, among(0, 65_535), false)),
-        (b"-j NFQUEUE --queue-balance 1:65535", rule(None, None, among(1, 65_535), false)),
-        (b"-j NFQUEUE --queue-bypass", rule(None, None, number(0), true)),
-        (b"-j NFQUEUE --queue-num 3 --queue-bypass", rule(None, None, number(3), true)),
-        (b"-j NFQUEUE --queue-bypass --queue-num 3", rule(None, None, number(3), true)),
-        (b"-m mark --mark 7 -j NFQUEUE", rule(None, mark(7, u32::MAX, false), number(0), false)),
-        (b"-m mark --mark 0xAb/0x0F -j NFQUEUE", rule(None, mark(171, 15, false), number(0), false)),
-        (b"-m mark ! --mark 1/1 -j NFQUEUE", rule(None, mark(1, 1, true), number(0), false)),
-        (b"-p 6 -m mark --mark 1/0 -j NFQUEUE", rule(Some(6), mark(1, 0, false), number(0), false)),
+        (
+            b"-p ipv6-icmp -j NFQUEUE",
+            rule(Some(58), None, number(0), false),
+        ),
+        (
+            b"-p 255 -j NFQUEUE",
+            rule(Some(255), None, number(0), false),
+        ),
+        (
+            b"-j NFQUEUE --queue-num 65535",
+            rule(None, None, number(65_535), false),
+        ),
+        (
+            b"-j NFQUEUE --queue-balance 2:5",
+            rule(None, None, among(2, 4), false),
+        ),
+        (
+            b"-j NFQUEUE --queue-balance 0:65534",
+            rule(None, None, among(0, 65_535), false),
+        ),
+        (
+            b"-j NFQUEUE --queue-balance 1:65535",
+            rule(None, None, among(1, 65_535), false),
+        ),
+        (
+            b"-j NFQUEUE --queue-bypass",
+            rule(None, None, number(0), true),
+        ),
+        (
+            b"-j NFQUEUE --queue-num 3 --queue-bypass",
+            rule(None, None, number(3), true),
+        ),
+        (
+            b"-j NFQUEUE --queue-bypass --queue-num 3",
+            rule(None, None, number(3), true),
+        ),
+        (
+            b"-m mark --mark 7 -j NFQUEUE",
+            rule(None, mark(7, u32::MAX, false), number(0), false),
+        ),
+        (
+            b"-m mark --mark 0xAb/0x0F -j NFQUEUE",
+            rule(None, mark(171, 15, false), number(0), false),
+        ),
+        (
+            b"-m mark ! --mark 1/1 -j NFQUEUE",
+            rule(None, mark(1, 1, true), number(0), false),
+        ),
+        (
+            b"-p 6 -m mark --mark 1/0 -j NFQUEUE",
+            rule(Some(6), mark(1, 0, false), number(0), false),
+        ),
     ];
     for (text, wanted) in rows {
         let file = file_of(alloc, text)?;
@@ -115,13 +154,25 @@ const BAD_RULES: [(&[u8], &str); 21] = [
     (b"-p 256 -j NFQUEUE", "a protocol above 255"),
     (b"-p TCP -j NFQUEUE", "a protocol in capitals"),
     (b"-p tcp -p udp -j NFQUEUE", "two protocols"),
-    (b"-m mark --mark 1 -p tcp -j NFQUEUE", "the mark before the protocol"),
+    (
+        b"-m mark --mark 1 -p tcp -j NFQUEUE",
+        "the mark before the protocol",
+    ),
     (b"-m mark --mark 0x -j NFQUEUE", "no hexadecimal digit"),
     (b"-m mark --mark 0X1 -j NFQUEUE", "a capital X"),
-    (b"-m mark --mark 4294967296 -j NFQUEUE", "a value of 33 bits"),
-    (b"-m mark --mark 0x100000000 -j NFQUEUE", "a hexadecimal value of 33 bits"),
+    (
+        b"-m mark --mark 4294967296 -j NFQUEUE",
+        "a value of 33 bits",
+    ),
+    (
+        b"-m mark --mark 0x100000000 -j NFQUEUE",
+        "a hexadecimal value of 33 bits",
+    ),
     (b"-m mark --mark 1/2/3 -j NFQUEUE", "two masks"),
-    (b"-m mark !--mark 1 -j NFQUEUE", "no blank rest_after the mark of negation"),
+    (
+        b"-m mark !--mark 1 -j NFQUEUE",
+        "no blank rest_after the mark of negation",
+    ),
     (b"-j ACCEPT", "another target"),
 ];
 
@@ -129,11 +180,23 @@ const BAD_RULES: [(&[u8], &str); 21] = [
 const BAD_FILES: [(&[u8], u32, &str); 21] = [
     (b"*filter\n", 2, "the end inside a table"),
     (b"*filter", 2, "the end inside a table without LF"),
-    (b"*filter\n-A INPUT -j NFQUEUE\nCOMMIT\n", 2, "another chain"),
+    (
+        b"*filter\n-A INPUT -j NFQUEUE\nCOMMIT\n",
+        2,
+        "another chain",
+    ),
     (b"*filter\n:INPUT DROP [0:0]\nCOMMIT\n", 2, "another policy"),
     (b"*filter\n:INPUT ACCEPT\nCOMMIT\n", 2, "no counters"),
-    (b"*filter\n:INPUT ACCEPT [0:]\nCOMMIT\n", 2, "a counter without digits"),
-    (b"*filter\n:IN1 ACCEPT [0:0]\nCOMMIT\n", 2, "a chain's name with a digit"),
+    (
+        b"*filter\n:INPUT ACCEPT [0:]\nCOMMIT\n",
+        2,
+        "a counter without digits",
+    ),
+    (
+        b"*filter\n:IN1 ACCEPT [0:0]\nCOMMIT\n",
+        2,
+        "a chain's name with a digit",
+    ),
     (b"-A FORWARD -j NFQUEUE\n", 1, "a rule outside a table"),
     (b":INPUT ACCEPT [0:0]\n", 1, "a policy outside a table"),
     (b"\n\nCOMMIT\n", 3, "an end outside a table"),
@@ -141,7 +204,11 @@ const BAD_FILES: [(&[u8], u32, &str); 21] = [
     (b"*filter\nCOMMIT\n*filter\nCOMMIT\n", 3, "a name twice"),
     (b"*Filter\nCOMMIT\n", 1, "a table's name in capitals"),
     (b"* filter\nCOMMIT\n", 1, "a table without a name"),
-    (b"*a-name-of-32-letters-01234567890\nCOMMIT\n", 1, "a name of 32 bytes"),
+    (
+        b"*a-name-of-32-letters-01234567890\nCOMMIT\n",
+        1,
+        "a name of 32 bytes",
+    ),
     (b"*filter\nCOMMIT now\n", 2, "a word rest_after COMMIT"),
     (b"# \x01\n", 1, "a bad byte rest_after #"),
     (b"#\n# \x7f\n", 2, "a bad byte rest_after #"),
@@ -281,28 +348,80 @@ fn a_table_has_1000_rules_and_a_file_16_tables(rt: HostRuntime) -> Result<(), Fa
 fn ipv4(protocol: u8, source: u8, destination: u8) -> [u8; 20] {
     let ttl = 64;
     [
-        0x45, 0, 0, 20, // version, words of the header, type of service, total length
-        0, 1, 0, 0, // id, fragment
-        ttl, protocol, 0, 0, // time to live, protocol, checksum
-        10, 0, 0, source, // source address
-        10, 0, 0, destination, // destination address
+        0x45,
+        0,
+        0,
+        20, // version, words of the header, type of service, total length
+        0,
+        1,
+        0,
+        0, // id, fragment
+        ttl,
+        protocol,
+        0,
+        0, // time to live, protocol, checksum
+        10,
+        0,
+        0,
+        source, // source address
+        10,
+        0,
+        0,
+        destination, // destination address
     ]
 }
 
 /// An IPv6 packet of UDP, from one address of 2001:db8::/64 to another.
 fn ipv6(source: u8, destination: u8) -> [u8; 40] {
     [
-        0x60, 0, 0, 0, // version, traffic class, flow label
-        0, 0, 17, 64, // payload length, next header, hop limit
-        0x20, 1, 0xd, 0xb8, 0, 0, 0, 0, 0, 0, 0, 0, 0, 0, 0, source, // source address
-        0x20, 1, 0xd, 0xb8, 0, 0, 0, 0, 0, 0, 0, 0, 0, 0, 0, destination, // destination address
+        0x60,
+        0,
+        0,
+        0, // version, traffic class, flow label
+        0,
+        0,
+        17,
+        64, // payload length, next header, hop limit
+        0x20,
+        1,
+        0xd,
+        0xb8,
+        0,
+        0,
+        0,
+        0,
+        0,
+        0,
+        0,
+        0,
+        0,
+        0,
+        0,
+        source, // source address
+        0x20,
+        1,
+        0xd,
+        0xb8,
+        0,
+        0,
+        0,
+        0,
+        0,
+        0,
+        0,
+        0,
+        0,
+        0,
+        0,
+        destination, // destination address
     ]
 }
 
 /// A rule for all packets.
 const ONE_RULE: &[u8] = b"*filter\n-A FORWARD -j NFQUEUE\nCOMMIT\n";
 
-/// TCP goes to queue 1 in the first table, and everything to queue 2, with the bypass, in the second.
+/// TCP goes to queue 1 in the first table, and everything to queue 2, with the bypass, in the
+/// second.
 const TWO_TABLES: &[u8] = b"*filter
 -A FORWARD -p tcp -j NFQUEUE --queue-num 1
 COMMIT
@@ -354,12 +473,16 @@ fn packets_are_routed_from_a_table_on(rt: HostRuntime) -> Result<(), Fail> {
     ];
     for (rules, from, wanted) in rows {
         assert!(rt; rules.len() < 200);
-        assert_eq!(rt; routed(alloc, rules, 0, IPV4, &ipv4(6, 1, 2), from)?, wanted);
+        assert_eq!(rt;
+            routed(alloc, rules, 0, IPV4, &ipv4(6, 1, 2), from)?,
+            wanted
+        );
     }
     Ok(())
 }
 
-/// Where these rules send a packet that the first table queued, once this mark is set, after a decision.
+/// Where these rules send a packet that the first table queued, once this mark is set, after a
+/// decision.
 fn sent_on(
     alloc: Global,
     rules: &[u8],
@@ -403,12 +526,24 @@ fn both_directions_of_a_flow_go_to_one_queue(rt: HostRuntime) -> Result<(), Fail
     let alloc = rt.alloc();
     // The queues are those of the kernel's jhash.h at these keys.
     for (key, queue) in [(0, 2), (3, 1), (559_038_725, 0)] {
-        assert_eq!(rt; routed(alloc, FLOWS, key, IPV4, &ipv4(6, 1, 2), 1)?, to(queue, false, 1));
-        assert_eq!(rt; routed(alloc, FLOWS, key, IPV4, &ipv4(6, 2, 1), 1)?, to(queue, false, 1));
+        assert_eq!(rt;
+            routed(alloc, FLOWS, key, IPV4, &ipv4(6, 1, 2), 1)?,
+            to(queue, false, 1)
+        );
+        assert_eq!(rt;
+            routed(alloc, FLOWS, key, IPV4, &ipv4(6, 2, 1), 1)?,
+            to(queue, false, 1)
+        );
     }
     for (key, queue) in [(0, 3), (3, 1), (559_038_725, 3)] {
-        assert_eq!(rt; routed(alloc, FLOWS, key, IPV6, &ipv6(1, 2), 1)?, to(queue, false, 1));
-        assert_eq!(rt; routed(alloc, FLOWS, key, IPV6, &ipv6(2, 1), 1)?, to(queue, false, 1));
+        assert_eq!(rt;
+            routed(alloc, FLOWS, key, IPV6, &ipv6(1, 2), 1)?,
+            to(queue, false, 1)
+        );
+        assert_eq!(rt;
+            routed(alloc, FLOWS, key, IPV6, &ipv6(2, 1), 1)?,
+            to(queue, false, 1)
+        );
     }
     Ok(())
 }
@@ -418,6 +553,7 @@ const KEY: u32 = 559_038_725;
 
 /// 2001:db8::1 and 2001:db8::2.
 const FIRST: u128 = 0x2001_0db8_0000_0000_0000_0000_0000_0001;
+
 const SECOND: u128 = 0x2001_0db8_0000_0000_0000_0000_0000_0002;
 
 /// What each of the seven lines of the hash gives, with a seed of 0.
@@ -428,7 +564,15 @@ fn seven_lines(a: u32, b: u32, c: u32) -> [u32; 7] {
     let fourth = mix(first, third, 16);
     let fifth = mix(second, fourth, 4);
     let sixth = mix(third, fifth, 14);
-    [first, second, third, fourth, fifth, sixth, mix(fourth, sixth, 24)]
+    [
+        first,
+        second,
+        third,
+        fourth,
+        fifth,
+        sixth,
+        mix(fourth, sixth, 24),
+    ]
 }
 
 /// The lines of a flow of protocol 6 between the addresses 0.
@@ -442,7 +586,12 @@ const IPV6_LINES: [u32; 7] = [
 ];
 
 fn flow(protocol: u8, source: u128, destination: u128) -> IpFields
-    ensures { result ≡ record { family = 6; protocol = protocol; source = source; destination = destination } }
+    ensures { result ≡ record {
+      family = 6;
+      protocol = protocol;
+      source = source;
+      destination = destination;
+    } }
 {
     IpFields {
         family: 6,
@@ -462,7 +611,13 @@ fn the_flow_hash_line_by_line(rt: HostRuntime) {
     // The upper 16 bits of the hash, or the upper two.
     assert_eq!(rt; balance(KEY, Some(&flow(6, 0, 0)), 0, 65_536), 0xcc9e);
     assert_eq!(rt; balance(KEY, Some(&flow(6, 0, 0)), 10, 4), 13);
-    assert_eq!(rt; balance(KEY, Some(&flow(17, FIRST, SECOND)), 0, 65_536), 0xcc5b);
-    assert_eq!(rt; balance(KEY, Some(&flow(17, SECOND, FIRST)), 0, 65_536), 0xcc5b);
+    assert_eq!(rt;
+        balance(KEY, Some(&flow(17, FIRST, SECOND)), 0, 65_536),
+        0xcc5b
+    );
+    assert_eq!(rt;
+        balance(KEY, Some(&flow(17, SECOND, FIRST)), 0, 65_536),
+        0xcc5b
+    );
     assert_eq!(rt; balance(7, None, 5, 1), 5);
 }

@@ -1,8 +1,11 @@
 //! The lines of a file, and the words of a line.
 
-ghost use Rattle.std.specs.Prelude.{◌≡◌, bytes_eq, ℕ, ◌+◌, ◌<◌, ◌≤◌, true, false, length, slice_index, IfSome, IsTrue, ◌==◌, ◌↔◌, option_map, IsNone, MatchOption, ◌∷◌, []};
+ghost use Rattle.std.specs.Prelude.{◌≡◌, bytes_eq, ℕ, ◌+◌, ◌<◌, ◌≤◌, true, false, length};
+ghost use Rattle.std.specs.Prelude.{slice_index, IfSome, IsTrue, ◌==◌, ◌↔◌, option_map, IsNone};
+ghost use Rattle.std.specs.Prelude.{MatchOption, ◌∷◌, []};
 ghost use Rattle.std.specs.Str.Lines.{lines, strip_carriage_return};
-ghost use Rattle.hook_chain.specs.Words.{words_after, cut_at, first_word, is_blank, line_feed, words_of};
+ghost use Rattle.hook_chain.specs.Words.{words_after, cut_at, first_word, is_blank, line_feed};
+ghost use Rattle.hook_chain.specs.Words.{words_of};
 
 /// The byte that ends a line.
 const LINE_FEED: u8 = b'\n';
@@ -14,7 +17,8 @@ const CARRIAGE_RETURN: u8 = b'\r';
 /// A line is ended by LF. One CR before it is dropped. A last piece without LF is a line as it
 /// stands, unless it is empty.
 pub(crate) fn next_line(text: &[u8]) -> Option<(&[u8], &[u8])>
-    ensures line { MatchOption result (lines text.now ≡ []) (λ x. lines text.now ≡ x.0.now ∷ lines x.1.now) }
+    ensures line { MatchOption result (lines text.now ≡ [])
+        (λ x. lines text.now ≡ x.0.now ∷ lines x.1.now) }
     ensures shorter { IfSome result (λ x. length x.1.now < length text.now) }
 {
     if text.is_empty() {
@@ -59,7 +63,8 @@ pub(crate) fn is_blank(byte: u8) -> bool
 
 /// The first word of a line and what comes after it, or `None` where only blanks are left.
 pub(crate) fn next_word(line: &[u8]) -> Option<(&[u8], &[u8])>
-    ensures word { option_map (λ x. (x.0.now, words_of x.1.now)) result ≡ first_word (words_of line.now) }
+    ensures word { option_map (λ x. (x.0.now, words_of x.1.now)) result
+        ≡ first_word (words_of line.now) }
     ensures shorter { IfSome result (λ x. length x.1.now < length line.now) }
 {
     let line = after_blanks(line);
@@ -107,7 +112,8 @@ fn word_length(line: &[u8]) -> usize
 
 /// What comes after this word, where it is the line's first.
 pub(crate) fn rest_after<'a>(line: &'a [u8], word: &[u8]) -> Option<&'a [u8]>
-    ensures { option_map (λ rest. words_of rest.now) result ≡ words_after word.now (words_of line.now) }
+    ensures { option_map (λ rest. words_of rest.now) result
+        ≡ words_after word.now (words_of line.now) }
 {
     let (first, rest) = next_word(line)?;
     if is_word(first, word) {

@@ -5,4 +5,5 @@ use Rattle.hook_chain.proofs.number.number.Given as goal
 
 -- the digits that are left make the number of what was read
 abbrev pub invariant-loop-byte : goal.invariant-loop-byte
-invariant-loop-byte l = (number l.radix l.word ≡ onto l.radix l.number (drop l.byte-index l.word)) × (l.number < 2 ^ 32)
+invariant-loop-byte l =
+    (number l.radix l.word ≡ onto l.radix l.number (drop l.byte-index l.word)) × (l.number < 2 ^ 32)

@@ -6,9 +6,13 @@ use Rattle.hook_chain.proofs.word.after_blanks.Goals as goal
 pub returns-clause-words : goal.returns-clause-words
 returns-clause-words c =
     rw (take_rest c.args.line.now c.blanks.result)
-    (sym (words_of-blanks c.blanks.result c.args.line.now c.blanks.ensures.before c.blanks.ensures.within))
+    (sym (words_of-blanks c.blanks.result c.args.line.now c.blanks.ensures.before
+    c.blanks.ensures.within))
 
 pub returns-clause-no_blank : goal.returns-clause-no_blank
 returns-clause-no_blank c =
-    rw (take_rest c.args.line.now c.blanks.result, get_or-drop_first c.blanks.result c.args.line.now)
+    rw (
+      take_rest c.args.line.now c.blanks.result,
+      get_or-drop_first c.blanks.result c.args.line.now,
+    )
     (λ h. c.blanks.ensures.at (omega (arith, length-drop {A = ℕ})))

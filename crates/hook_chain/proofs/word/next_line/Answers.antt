@@ -17,5 +17,11 @@ returns-in-len1-up-clause-line c =
     let text = c.args.text.now in
     let n = c.line_length.result in
     let more : 1 ≤ length (drop n text) = omega (arith, ap length c.split_at.ensures.back) in
-    rw (c.without_carriage_return.ensures, take_rest c.split_at.result.1.now 1, c.split_at.ensures.front, c.split_at.ensures.back)
-    (lines-ended n text c.line_length.ensures.before c.line_length.ensures.at c.line_length.ensures.within more)
+    rw (
+      c.without_carriage_return.ensures,
+      take_rest c.split_at.result.1.now 1,
+      c.split_at.ensures.front,
+      c.split_at.ensures.back,
+    )
+    (lines-ended n text c.line_length.ensures.before c.line_length.ensures.at
+    c.line_length.ensures.within more)

@@ -14,6 +14,9 @@ returns-clause-word c =
     let line = c.after_blanks-line.result.now in
     let n = c.word_length.result in
     let some : 0 < length line = grind arith in
-    let first : 0 < n = grind (arith, c.word_length.ensures.at, c.after_blanks-line.ensures.no_blank) in
+    let first : 0 < n =
+    grind (arith, c.word_length.ensures.at, c.after_blanks-line.ensures.no_blank) in
     rw (c.split_at.ensures.front, c.split_at.ensures.back, ← c.after_blanks-line.ensures.words)
-    (ap first_word (sym (words_of-word n line c.word_length.ensures.before c.word_length.ensures.at first c.word_length.ensures.within)))
+    (ap first_word
+    (sym (words_of-word n line c.word_length.ensures.before c.word_length.ensures.at first
+    c.word_length.ensures.within)))

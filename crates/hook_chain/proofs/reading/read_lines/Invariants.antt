@@ -1,6 +1,6 @@
 use Rattle.std.proofs.Common.{length}
-use Rattle.hook_chain.specs.Reader.{place_of}
-use Rattle.hook_chain.proofs.reader.read_lines.Given as goal
+use Rattle.hook_chain.specs.Reading.{place_of}
+use Rattle.hook_chain.proofs.reading.read_lines.Given as goal
 use Rattle.hook_chain.proofs.Bounds.{IsRead}
 
 -- the lines that are left give the answer of all

@@ -1,9 +1,10 @@
 -- A reader as a place in the file, and what one line does to it.
-use Rattle.std.specs.Prelude.{ℕ, ◌≡◌, ◌||◌, Bool, true, false, IsTrue, List, map, Option, Some, None, is_some, Result, Ok, Err, IfSome, length, ◌<◌}
+use Rattle.std.specs.Prelude.{ℕ, ◌≡◌, ◌||◌, Bool, true, false, IsTrue, List, map, Option, Some}
+use Rattle.std.specs.Prelude.{None, is_some, Result, Ok, Err, IfSome, length, ◌<◌}
 use Rattle.std.specs.Option.{option_map_or}
-use Rattle.hook_chain.specs.declared.reader.Reader.{Reader}
-use Rattle.hook_chain.specs.declared.reader.Stop.{Stop}
-use Rattle.hook_chain.specs.declared.reader.Stop.TheVariants.{Refused, NoMemory}
+use Rattle.hook_chain.specs.declared.reading.Reader.{Reader}
+use Rattle.hook_chain.specs.declared.reading.Stop.{Stop}
+use Rattle.hook_chain.specs.declared.reading.Stop.TheVariants.{Refused, NoMemory}
 use Rattle.hook_chain.specs.declared.fault.LineFault.{LineFault}
 use Rattle.hook_chain.specs.declared.fault.LineFault.TheVariants.{Bad}
 use Rattle.hook_chain.specs.declared.fault.LineFault.TheVariants as fault
@@ -13,7 +14,12 @@ use Rattle.hook_chain.specs.Line.{Says, Nothing, Opens, Policy, Adds, Closes, sa
 use Rattle.hook_chain.specs.RulesFile.{Place}
 
 abbrev pub place_of : Reader → Place
-place_of r = record { names = map (λ name. name.now) r.names.items; closed = r.closed.items; inside = r.inside }
+place_of r =
+    record {
+      names = map (λ name. name.now) r.names.items;
+      closed = r.closed.items;
+      inside = r.inside;
+    }
 
 -- whether a line that says this begins a table
 abbrev pub opens : Says → Bool
@@ -31,8 +37,8 @@ opens_table line = option_map_or opens (says line) false
 abbrev pub takes_memory : Place → Option Says → Bool
 takes_memory p said = is_some p.inside || option_map_or opens said false
 
--- A call that goes on to the next place, or says that there is none, unless memory runs out where it is
--- taken.
+-- A call that goes on to the next place, or says that there is none, unless memory runs out where
+-- it is taken.
 abbrev pub Moves : {A : Type 0} → Bool → Result A Stop → Option Place → Place → Type 0
 Moves takes (Ok _) next new = next ≡ Some new
 Moves takes (Err Refused) next new = next ≡ None
@@ -43,8 +49,8 @@ abbrev pub fault_of : Stop → ℕ → LineFault
 fault_of Refused number = Bad number
 fault_of NoMemory number = fault.NoMemory
 
--- The bounds that a reader keeps: those of the closed tables and of the open one, which has room among
--- them.
+-- The bounds that a reader keeps: those of the closed tables and of the open one, which has room
+-- among them.
 pub record IsSound (p : Place) : Type 0 where
   pub tables : AreTables p.closed
   pub table : IfSome p.inside IsTable

@@ -1,18 +1,21 @@
 //! The reading of a whole rules file, line by line.
 
-ghost use Rattle.std.specs.Prelude.{ℕ, List, Any, true, false, is_some, Some, ◌≡◌, ◌≢◌, IfOk, IsOk, [], ◌+◌, ◌<◌, length, map, bytes_eq};
+ghost use Rattle.std.specs.Prelude.{ℕ, List, Any, true, false, is_some, Some, ◌≡◌, ◌≢◌, IfOk, IsOk};
+ghost use Rattle.std.specs.Prelude.{[], ◌+◌, ◌<◌, length, map, bytes_eq};
 ghost use Rattle.std.specs.Str.Lines.{lines};
 ghost use Rattle.std.specs.List.{list_any};
-ghost use Rattle.hook_chain.specs.declared.reader.Stop.TheVariants.{NoMemory};
+ghost use Rattle.hook_chain.specs.declared.reading.Stop.TheVariants.{NoMemory};
 ghost use Rattle.hook_chain.specs.Rules.{AreTables};
 ghost use Rattle.hook_chain.specs.Grammar.{BeginsTable, IsFirstRefused, IsRulesFile};
 ghost use Rattle.hook_chain.specs.declared.rule.Rule.{Rule};
 ghost use Rattle.hook_chain.specs.Line.{Adds, Closes, Opens, Policy, said, says};
-ghost use Rattle.hook_chain.specs.RulesFile.{Answers, after, line_leads_to, may_open, start, tables_from, tables_of};
-ghost use Rattle.hook_chain.specs.Reader.{IsSound, Moves, fault_of, opens_table, place_of, takes_memory};
+ghost use Rattle.hook_chain.specs.RulesFile.{Answers, after, line_leads_to, may_open, start};
+ghost use Rattle.hook_chain.specs.RulesFile.{tables_from, tables_of};
+ghost use Rattle.hook_chain.specs.Reading.{IsSound, Moves, fault_of, opens_table, place_of};
+ghost use Rattle.hook_chain.specs.Reading.{takes_memory};
 
 use crate::fault::LineFault;
-use crate::line::{Line, parse_line};
+use crate::line::{Line, read_line};
 use crate::rule::Rule;
 use crate::tables::{Table, Tables};
 use crate::word::{is_word, next_line};
@@ -31,22 +34,24 @@ enum Stop {
     NoMemory,
 }
 
-/// The tables of a rules file as iptables-save(8) writes it, reduced to the FORWARD chain, the target
-/// NFQUEUE and the matches of protocol and mark.
+/// The tables of a rules file as iptables-save(8) writes it, reduced to the FORWARD chain, the
+/// target NFQUEUE and the matches of protocol and mark.
 ///
-/// `Bad` comes exactly where a line may not stand in its place or the file ends inside a table, with
-/// the first such line. `NoMemory` comes when out of memory, which is taken only from the first line
-/// on that begins a table. The bytes are gone over once, line by line.
+/// `Bad` comes exactly where a line may not stand in its place or the file ends inside a table,
+/// with the first such line. `NoMemory` comes when out of memory, which is taken only from the
+/// first line on that begins a table. The bytes are gone over once, line by line.
 pub fn read_tables(alloc: Global, bytes: &[u8]) -> Result<Tables, LineFault>
     requires { length bytes.now < 4_294_967_295 }
 
     // What is read is in the grammar, and what is in the grammar is read, unless memory runs out.
     ensures found { IfOk result (IsRulesFile bytes.now) }
-    ensures only { (tables : List (List Rule)) → IsRulesFile bytes.now tables → Answers result (Ok tables) }
+    ensures only { (tables : List (List Rule)) → IsRulesFile bytes.now tables →
+        Answers result (Ok tables) }
 
-    // What is refused is refused at the first line that may not stand, and a file with such a line is
-    // refused there, unless memory runs out.
-    ensures refused { (line : ℕ) → result ≡ Err (LineFault.Bad line) → IsFirstRefused bytes.now line }
+    // What is refused is refused at the first line that may not stand, and a file with such a line
+    // is refused there, unless memory runs out.
+    ensures refused { (line : ℕ) → result ≡ Err (LineFault.Bad line) →
+        IsFirstRefused bytes.now line }
     ensures stuck { (line : ℕ) → IsFirstRefused bytes.now line → Answers result (Err line) }
 
     // Memory is taken from the first table on: a file without tables is always read.
@@ -64,7 +69,8 @@ pub fn read_tables(alloc: Global, bytes: &[u8]) -> Result<Tables, LineFault>
 fn read_lines(alloc: Global, bytes: &[u8]) -> Result<Tables, LineFault>
     requires { length bytes.now < 4_294_967_295 }
     ensures exact { Answers result (tables_of bytes.now) }
-    ensures memory { result ≡ Err LineFault.NoMemory → list_any opens_table (lines bytes.now) ≡ true }
+    ensures memory { result ≡ Err LineFault.NoMemory →
+        list_any opens_table (lines bytes.now) ≡ true }
     ensures bounds { IfOk result AreTables }
 {
     let mut reader = Reader::new(alloc);
@@ -132,9 +138,10 @@ impl<'a> Reader<'a> {
 
     /// Goes on after this line. Memory is taken at most where it begins a table and inside of one.
     fn read(&mut self, alloc: Global, line: &'a [u8]) -> Result<(), Stop>
-        ensures { Moves (takes_memory (place_of self.old) (says line.now)) result (line_leads_to (place_of self.old) line.now) (place_of self.new) }
+        ensures { Moves (takes_memory (place_of self.old) (says line.now)) result
+            (line_leads_to (place_of self.old) line.now) (place_of self.new) }
     {
-        match parse_line(line) {
+        match read_line(line) {
             Some(line) => self.take(alloc, line),
             None => Err(Stop::Refused),
         }
@@ -161,7 +168,8 @@ impl<'a> Reader<'a> {
     /// Goes on after a line that says this.
     #[tactic(auto, unfolding(crate::specs::RulesFile::after))]
     fn take(&mut self, alloc: Global, line: Line<'a>) -> Result<(), Stop>
-        ensures { Moves (takes_memory (place_of self.old) (Some (said line.entry))) result (after (place_of self.old) (said line.entry)) (place_of self.new) }
+        ensures { Moves (takes_memory (place_of self.old) (Some (said line.entry))) result
+            (after (place_of self.old) (said line.entry)) (place_of self.new) }
     {
         match line {
             Line::Nothing => Ok(()),
@@ -174,7 +182,8 @@ impl<'a> Reader<'a> {
 
     #[tactic(auto, unfolding(crate::specs::RulesFile::after))]
     fn open(&mut self, alloc: Global, name: &'a [u8]) -> Result<(), Stop>
-        ensures { Moves true result (after (place_of self.old) (Opens name.now)) (place_of self.new) }
+        ensures { Moves true result (after (place_of self.old) (Opens name.now))
+            (place_of self.new) }
     {
         if !self.may_open(name) {
             return Err(Stop::Refused);
@@ -208,7 +217,8 @@ impl<'a> Reader<'a> {
 
     #[tactic(auto, unfolding(crate::specs::RulesFile::after))]
     fn add(&mut self, rule: Rule) -> Result<(), Stop>
-        ensures { Moves (is_some (place_of self.old).inside) result (after (place_of self.old) (Adds rule)) (place_of self.new) }
+        ensures { Moves (is_some (place_of self.old).inside) result
+            (after (place_of self.old) (Adds rule)) (place_of self.new) }
     {
         match &mut self.inside {
             Some(table) if table.len() < MAX_RULES => {
@@ -221,7 +231,8 @@ impl<'a> Reader<'a> {
 
     #[tactic(auto, unfolding(crate::specs::RulesFile::after))]
     fn close(&mut self) -> Result<(), Stop>
-        ensures { Moves (is_some (place_of self.old).inside) result (after (place_of self.old) Closes) (place_of self.new) }
+        ensures { Moves (is_some (place_of self.old).inside) result
+            (after (place_of self.old) Closes) (place_of self.new) }
     {
         let Some(table) = self.inside.take() else {
             return Err(Stop::Refused);
