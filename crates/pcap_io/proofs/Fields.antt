@@ -1,10 +1,14 @@
 -- A number that is read is spelled by its bytes, and a number that is spelled is read again.
-use Rattle.std.proofs.Common.{◌≡◌, ℕ, ◌+◌, ◌-◌, ◌^◌, ◌<◌, ◌≤◌, Bool, true, false, cond, not, eqb, List, ◌++◌, length, get_or, take, drop, Result, Ok, Err, refl, sym, ap, ◌∙◌, arith, inl, inr, ◌⊎◌}
+use Rattle.std.proofs.Common.{◌≡◌, ℕ, ◌+◌, ◌-◌, ◌^◌, ◌<◌, ◌≤◌, Bool, true, false, cond, not, eqb}
+use Rattle.std.proofs.Common.{List, ◌++◌, length, get_or, take, drop, Result, Ok, Err, refl, sym}
+use Rattle.std.proofs.Common.{ap, ◌∙◌, arith, inl, inr, ◌⊎◌}
 use Rattle.std.specs.Prelude.{slice_range, ◌&&◌}
 use Rattle.std.specs.Int.{w16, w32}
 use Rattle.std.proofs.lemmas.Bool.{cases_lt, eqb-true, and_parts, not-false}
-use Rattle.std.proofs.lemmas.List.{take-append-drop, take-take, drop-take, length-take, length-drop, get_or-drop, get_or-take, get_or_past}
-use Rattle.std.proofs.lemmas.Nat.{be_bytes_2, be_bytes_4, le_bytes_2, le_bytes_4, from_be_bytes-to_be_bytes_4, from_le_bytes-to_le_bytes_4}
+use Rattle.std.proofs.lemmas.List.{take-append-drop, take-take, drop-take, length-take, length-drop}
+use Rattle.std.proofs.lemmas.List.{get_or-drop, get_or-take, get_or_past}
+use Rattle.std.proofs.lemmas.Nat.{be_bytes_2, be_bytes_4, le_bytes_2, le_bytes_4}
+use Rattle.std.proofs.lemmas.Nat.{from_be_bytes-to_be_bytes_4, from_le_bytes-to_le_bytes_4}
 use Rattle.pcap_io.specs.declared.fault.CaptureFault.{CaptureFault}
 use Rattle.pcap_io.specs.Text.{field}
 use Rattle.pcap_io.specs.Reading.{◌>>=◌, number, number_at}
@@ -21,10 +25,12 @@ pub IsBytes-take : (n : ℕ) (bytes : List ℕ) → IsBytes bytes → IsBytes (t
 IsBytes-take n bytes h i =
     elim (cases_lt i n) [
       | inl lt ↦ rw (get_or-take n bytes i 0 lt) (h i)
-      | inr le ↦ rw (get_or_past (take n bytes) i 0 (omega (arith, length-take n bytes))) (omega arith)
+      | inr le ↦ rw (get_or_past (take n bytes) i 0 (omega (arith, length-take n bytes)))
+          (omega arith)
     ]
 
-pub length-range : (text : List ℕ) (a b : ℕ) → a ≤ b → b ≤ length text → length (slice_range text a b) ≡ b - a
+pub length-range : (text : List ℕ) (a b : ℕ) → a ≤ b → b ≤ length text →
+    length (slice_range text a b) ≡ b - a
 length-range text a b le long = omega (arith, length-take (b - a) (drop a text), length-drop a text)
 
 -- a front and the part behind it
@@ -33,18 +39,22 @@ joined text a b le =
     let whole : a + (b - a) ≡ b = omega arith in
     let longer : a ≤ a + (b - a) = omega arith in
     let parts : take a text ++ take (b - a) (drop a text) ≡ take (a + (b - a)) text =
-    ap (λ (front : List ℕ). front ++ take (b - a) (drop a text)) (sym (take-take a (a + (b - a)) text longer))
-    ∙ ap (λ (back : List ℕ). take a (take (a + (b - a)) text) ++ back) (sym (drop-take a (b - a) text))
+    ap (λ (front : List ℕ). front ++ take (b - a) (drop a text))
+    (sym (take-take a (a + (b - a)) text longer))
+    ∙ ap (λ (back : List ℕ). take a (take (a + (b - a)) text) ++ back)
+    (sym (drop-take a (b - a) text))
     ∙ take-append-drop a (take (a + (b - a)) text) in
     parts ∙ ap (λ (n : ℕ). take n text) whole
 
 -- ---- numbers
 
-pub field_takes32 : (big : Bool) (bytes : List ℕ) → length bytes ≡ 4 → IsBytes bytes → field big w32 (number big w32 bytes) ≡ bytes
+pub field_takes32 : (big : Bool) (bytes : List ℕ) → length bytes ≡ 4 → IsBytes bytes →
+    field big w32 (number big w32 bytes) ≡ bytes
 field_takes32 true bytes len fits = be_bytes_4 bytes _ len fits refl
 field_takes32 false bytes len fits = le_bytes_4 bytes _ len fits refl
 
-pub field_takes16 : (big : Bool) (bytes : List ℕ) → length bytes ≡ 2 → IsBytes bytes → field big w16 (number big w16 bytes) ≡ bytes
+pub field_takes16 : (big : Bool) (bytes : List ℕ) → length bytes ≡ 2 → IsBytes bytes →
+    field big w16 (number big w16 bytes) ≡ bytes
 field_takes16 true bytes len fits = be_bytes_2 bytes _ len fits refl
 field_takes16 false bytes len fits = le_bytes_2 bytes _ len fits refl
 
@@ -68,18 +78,27 @@ IsBytes-range : (text : List ℕ) (a b : ℕ) → IsBytes text → IsBytes (slic
 IsBytes-range text a b fits = IsBytes-take (b - a) (drop a text) (IsBytes-drop a text fits)
 
 -- the field at a place is the part of the text there
-pub at_takes32 : (big : Bool) (text : List ℕ) (at : ℕ) → IsBytes text → at + 4 ≤ length text → field big w32 (number_at big w32 at text) ≡ slice_range text at (at + 4)
-at_takes32 big text at fits long = field_takes32 big (slice_range text at (at + 4)) (omega (arith, length-range text at (at + 4))) (IsBytes-range text at (at + 4) fits)
+pub at_takes32 : (big : Bool) (text : List ℕ) (at : ℕ) → IsBytes text → at + 4 ≤ length text →
+    field big w32 (number_at big w32 at text) ≡ slice_range text at (at + 4)
+at_takes32 big text at fits long =
+    field_takes32 big (slice_range text at (at + 4)) (omega (arith, length-range text at (at + 4)))
+    (IsBytes-range text at (at + 4) fits)
 
-pub at_takes16 : (big : Bool) (text : List ℕ) (at : ℕ) → IsBytes text → at + 2 ≤ length text → field big w16 (number_at big w16 at text) ≡ slice_range text at (at + 2)
-at_takes16 big text at fits long = field_takes16 big (slice_range text at (at + 2)) (omega (arith, length-range text at (at + 2))) (IsBytes-range text at (at + 2) fits)
+pub at_takes16 : (big : Bool) (text : List ℕ) (at : ℕ) → IsBytes text → at + 2 ≤ length text →
+    field big w16 (number_at big w16 at text) ≡ slice_range text at (at + 2)
+at_takes16 big text at fits long =
+    field_takes16 big (slice_range text at (at + 2)) (omega (arith, length-range text at (at + 2)))
+    (IsBytes-range text at (at + 2) fits)
 
-pub at_below : (big : Bool) (text : List ℕ) (at : ℕ) → IsBytes text → number_at big w32 at text < 2 ^ 32
-at_below big text at fits = number_below big (slice_range text at (at + 4)) (IsBytes-range text at (at + 4) fits)
+pub at_below : (big : Bool) (text : List ℕ) (at : ℕ) → IsBytes text →
+    number_at big w32 at text < 2 ^ 32
+at_below big text at fits =
+    number_below big (slice_range text at (at + 4)) (IsBytes-range text at (at + 4) fits)
 
 -- ---- tests
 
-pub chosen : {A : Type 0} (b : Bool) (x y z : A) → cond b x y ≡ z → ((b ≡ true) × (x ≡ z)) ⊎ ((b ≡ false) × (y ≡ z))
+pub chosen : {A : Type 0} (b : Bool) (x y z : A) → cond b x y ≡ z →
+    ((b ≡ true) × (x ≡ z)) ⊎ ((b ≡ false) × (y ≡ z))
 chosen true x y z e = inl (refl, e)
 chosen false x y z e = inr (refl, e)
 
@@ -95,10 +114,12 @@ pub ok_is : {A : Type 0} (x y : A) → done x ≡ done y → x ≡ y
 ok_is x y e = cc
 
 -- the value of a step that did not fail
-pub guarded : {A : Type 0} (b : Bool) (fault : CaptureFault) (r : Result A CaptureFault) (x : A) → cond b (Err fault) r ≡ Ok x → (b ≡ false) × (r ≡ Ok x)
+pub guarded : {A : Type 0} (b : Bool) (fault : CaptureFault) (r : Result A CaptureFault) (x : A) →
+    cond b (Err fault) r ≡ Ok x → (b ≡ false) × (r ≡ Ok x)
 guarded true fault r x e = absurd cc
 guarded false fault r x e = (refl, e)
 
-pub bound : {A B : Type 0} (r : Result A CaptureFault) (f : A → Result B CaptureFault) (y : B) → (r >>= f) ≡ Ok y → (x : A) × (r ≡ Ok x) × (f x ≡ Ok y)
+pub bound : {A B : Type 0} (r : Result A CaptureFault) (f : A → Result B CaptureFault) (y : B) →
+    (r >>= f) ≡ Ok y → (x : A) × (r ≡ Ok x) × (f x ≡ Ok y)
 bound (Ok x) f y e = (x, refl, e)
 bound (Err fault) f y e = absurd cc

@@ -1,24 +1,35 @@
 -- The header that is read is the front of the text, and a header that is spelled is read again.
-use Rattle.std.proofs.Common.{◌≡◌, ℕ, ◌<◌, ◌≤◌, ◌^◌, Bool, true, false, cond, not, eqb, ltb, List, [], ◌++◌, length, take, Result, Ok, Err, refl, sym, ap, subst, ◌∙◌, append_assoc, arith, lit≤}
+use Rattle.std.proofs.Common.{◌≡◌, ℕ, ◌<◌, ◌≤◌, ◌^◌, Bool, true, false, cond, not, eqb, ltb, List}
+use Rattle.std.proofs.Common.{[], ◌++◌, length, take, Result, Ok, Err, refl, sym, ap, subst, ◌∙◌}
+use Rattle.std.proofs.Common.{append_assoc, arith, lit≤}
 use Rattle.std.specs.Prelude.{slice_range}
 use Rattle.std.specs.Int.{w16, w32}
 use Rattle.std.proofs.lemmas.Bool.{eqb-true, ltb-false, le-ltb, not-false}
 use Rattle.std.proofs.lemmas.List.{length-take, append-nil}
 use Rattle.std.proofs.lemmas.List.Elements.{All-nil}
-use Rattle.std.proofs.lemmas.Nat.{be_bytes_4, from_be_bytes-to_be_bytes_4, from_le_bytes-to_le_bytes_4}
-use Rattle.packet_entry.specs.declared.packet.TheConstants.{MAX_FRAME}
+use Rattle.std.proofs.lemmas.Nat.{be_bytes_4, from_be_bytes-to_be_bytes_4}
+use Rattle.std.proofs.lemmas.Nat.{from_le_bytes-to_le_bytes_4}
+use Rattle.packet_entry.specs.Numbers.{longest_packet}
 use Rattle.pcap_io.specs.declared.capture.Capture.{Capture}
 use Rattle.pcap_io.specs.declared.capture.Frame.{Frame}
 use Rattle.pcap_io.specs.declared.fault.CaptureFault.{CaptureFault}
-use Rattle.pcap_io.specs.declared.fault.CaptureFault.TheVariants.{Magic, Pcapng, Version, LinkType, Cut}
-use Rattle.pcap_io.specs.declared.format.TheConstants.{PCAPNG_BLOCK, MICROSECOND_MAGIC, NANOSECOND_MAGIC, MICROSECOND_MAGIC_SWAPPED, NANOSECOND_MAGIC_SWAPPED}
-use Rattle.pcap_io.specs.Text.{field, magic_of, header_text, is_link_type, FrameFits, FieldsFit, IsCapture}
+use Rattle.pcap_io.specs.declared.fault.CaptureFault.TheVariants.{Magic, Pcapng, Version, LinkType}
+use Rattle.pcap_io.specs.declared.fault.CaptureFault.TheVariants.{Cut}
+use Rattle.pcap_io.specs.Numbers.{pcapng_block, microsecond_magic, nanosecond_magic}
+use Rattle.pcap_io.specs.Numbers.{microsecond_magic_swapped, nanosecond_magic_swapped}
+use Rattle.pcap_io.specs.Text.{field, magic_of, header_text, is_link_type, FrameFits, FieldsFit}
+use Rattle.pcap_io.specs.Text.{IsCapture}
 use Rattle.pcap_io.specs.Reading.{◌>>=◌, number_at, resolution_of, magic_at, fields_at, header_at}
-use Rattle.pcap_io.proofs.Fields.{IsBytes, IsBytes-take, joined, at_takes16, at_takes32, at_below, guarded, bound, same_numbers, ok_is}
+use Rattle.pcap_io.proofs.Fields.{IsBytes, IsBytes-take, joined, at_takes16, at_takes32, at_below}
+use Rattle.pcap_io.proofs.Fields.{guarded, bound, same_numbers, ok_is}
 
 -- what holds of each resolution whose test may succeed holds of the one that was chosen
-picked : (P : Bool × Bool → Type 0) (a b c d e : Bool) (m : Bool × Bool) → cond a (Err Pcapng) (cond b (Ok (true, false)) (cond c (Ok (true, true)) (cond d (Ok (false, false)) (cond e (Ok (false, true)) (Err Magic))))) ≡ Ok m
-    → (b ≡ true → P (true, false)) → (c ≡ true → P (true, true)) → (d ≡ true → P (false, false)) → (e ≡ true → P (false, true)) → P m
+picked : (P : Bool × Bool → Type 0) (a b c d e : Bool) (m : Bool × Bool) →
+    cond a (Err Pcapng) (cond b (Ok (true, false))
+    (cond c (Ok (true, true)) (cond d (Ok (false, false)) (cond e (Ok (false, true)) (Err Magic)))))
+    ≡ Ok m
+    → (b ≡ true → P (true, false)) → (c ≡ true → P (true, true)) → (d ≡ true → P (false, false)) →
+    (e ≡ true → P (false, true)) → P m
 picked P true b c d e m h pb pc pd pe = absurd cc
 picked P false true c d e m h pb pc pd pe = subst P (ok_is (true, false) m h) (pb refl)
 picked P false false true d e m h pb pc pd pe = subst P (ok_is (true, true) m h) (pc refl)
@@ -26,7 +37,8 @@ picked P false false false true e m h pb pc pd pe = subst P (ok_is (false, false
 picked P false false false false true m h pb pc pd pe = subst P (ok_is (false, true) m h) (pe refl)
 picked P false false false false false m h pb pc pd pe = absurd cc
 
-pub magic_takes : (text : List ℕ) (m : Bool × Bool) → IsBytes text → magic_at text ≡ Ok m → field m.0 w32 (magic_of m.1) ≡ take 4 text
+pub magic_takes : (text : List ℕ) (m : Bool × Bool) → IsBytes text → magic_at text ≡ Ok m →
+    field m.0 w32 (magic_of m.1) ≡ take 4 text
 magic_takes text m fits e =
     let g = guarded (ltb (length text) 4) Magic (resolution_of (number_at true w32 0 text)) m e in
     let long : 4 ≤ length text = ltb-false (length text) 4 g.0 in
@@ -34,11 +46,16 @@ magic_takes text m fits e =
     let len : length (take 4 text) ≡ 4 = omega (arith, length-take 4 text) in
     let bytes : IsBytes (take 4 text) = IsBytes-take 4 text fits in
     let n : ℕ = number_at true w32 0 text in
-    picked (λ (r : Bool × Bool). field r.0 w32 (magic_of r.1) ≡ take 4 text) (eqb n PCAPNG_BLOCK) (eqb n MICROSECOND_MAGIC) (eqb n NANOSECOND_MAGIC) (eqb n MICROSECOND_MAGIC_SWAPPED) (eqb n NANOSECOND_MAGIC_SWAPPED) m g.1
-    (λ t. be_bytes_4 (take 4 text) MICROSECOND_MAGIC len bytes (sym (eqb-true n MICROSECOND_MAGIC t)))
-    (λ t. be_bytes_4 (take 4 text) NANOSECOND_MAGIC len bytes (sym (eqb-true n NANOSECOND_MAGIC t)))
-    (λ t. be_bytes_4 (take 4 text) MICROSECOND_MAGIC_SWAPPED len bytes (sym (eqb-true n MICROSECOND_MAGIC_SWAPPED t)))
-    (λ t. be_bytes_4 (take 4 text) NANOSECOND_MAGIC_SWAPPED len bytes (sym (eqb-true n NANOSECOND_MAGIC_SWAPPED t)))
+    picked (λ (r : Bool × Bool). field r.0 w32 (magic_of r.1) ≡ take 4 text) (eqb n pcapng_block)
+    (eqb n microsecond_magic) (eqb n nanosecond_magic) (eqb n microsecond_magic_swapped)
+    (eqb n nanosecond_magic_swapped) m g.1
+    (λ t. be_bytes_4 (take 4 text) microsecond_magic len bytes
+    (sym (eqb-true n microsecond_magic t)))
+    (λ t. be_bytes_4 (take 4 text) nanosecond_magic len bytes (sym (eqb-true n nanosecond_magic t)))
+    (λ t. be_bytes_4 (take 4 text) microsecond_magic_swapped len bytes
+    (sym (eqb-true n microsecond_magic_swapped t)))
+    (λ t. be_bytes_4 (take 4 text) nanosecond_magic_swapped len bytes
+    (sym (eqb-true n nanosecond_magic_swapped t)))
 
 -- what a header that was read says of the text
 pub record Takes (text : List ℕ) (c : Capture) : Type 0 where
@@ -46,7 +63,8 @@ pub record Takes (text : List ℕ) (c : Capture) : Type 0 where
   pub whole : IsCapture (take 24 text) c
   pub empty : c.frames ≡ []
 
-fields_take : (big nanos : Bool) (text : List ℕ) (c : Capture) → IsBytes text → field big w32 (magic_of nanos) ≡ take 4 text → fields_at big nanos text ≡ Ok c → Takes text c
+fields_take : (big nanos : Bool) (text : List ℕ) (c : Capture) → IsBytes text →
+    field big w32 (magic_of nanos) ≡ take 4 text → fields_at big nanos text ≡ Ok c → Takes text c
 unfolding fields_at header_text
 fields_take big nanos text c fits magic e =
     let made : Capture = record {
@@ -60,21 +78,44 @@ fields_take big nanos text c fits magic e =
     } in
     let g = guarded (ltb (length text) 24) (Cut 0 0) _ c e in
     let h = guarded _ Version _ c g.1 in
-    let k = guarded (not (is_link_type (number_at big w32 20 text))) (LinkType (number_at big w32 20 text)) (Ok made) c h.1 in
+    let k = guarded (not (is_link_type (number_at big w32 20 text)))
+    (LinkType (number_at big w32 20 text)) (Ok made) c h.1 in
     let long : 24 ≤ length text = ltb-false (length text) 24 g.0 in
     let version = same_numbers (number_at big w16 4 text) (number_at big w16 6 text) 2 4 h.0 in
-    let major : field big w16 2 ≡ slice_range text 4 6 = ap (λ (n : ℕ). field big w16 n) (sym version.0) ∙ at_takes16 big text 4 fits (omega arith) in
-    let minor : field big w16 4 ≡ slice_range text 6 8 = ap (λ (n : ℕ). field big w16 n) (sym version.1) ∙ at_takes16 big text 6 fits (omega arith) in
+    let major : field big w16 2 ≡ slice_range text 4 6 =
+    ap (λ (n : ℕ). field big w16 n) (sym version.0)
+    ∙ at_takes16 big text 4 fits (omega arith) in
+    let minor : field big w16 4 ≡ slice_range text 6 8 =
+    ap (λ (n : ℕ). field big w16 n) (sym version.1)
+    ∙ at_takes16 big text 6 fits (omega arith) in
     let zone = at_takes32 big text 8 fits (omega arith) in
     let sigfigs = at_takes32 big text 12 fits (omega arith) in
     let snap = at_takes32 big text 16 fits (omega arith) in
     let link = at_takes32 big text 20 fits (omega arith) in
-    let spelled : header_text made ≡ take 24 text = rw (magic, major, minor, zone, sigfigs, snap, link, joined text 4 6 (lit≤ tt), joined text 6 8 (lit≤ tt), joined text 8 12 (lit≤ tt), joined text 12 16 (lit≤ tt), joined text 16 20 (lit≤ tt), joined text 20 24 (lit≤ tt)) refl in
+    let spelled : header_text made ≡ take 24 text =
+    rw (
+      magic,
+      major,
+      minor,
+      zone,
+      sigfigs,
+      snap,
+      link,
+      joined text 4 6 (lit≤ tt),
+      joined text 6 8 (lit≤ tt),
+      joined text 8 12 (lit≤ tt),
+      joined text 12 16 (lit≤ tt),
+      joined text 16 20 (lit≤ tt),
+      joined text 20 24 (lit≤ tt),
+    ) refl in
     subst (λ (d : Capture). Takes text d) (ok_is made c k.1) (record {
       long = long;
       empty = refl;
       whole = record {
-        held = record { link = not-false _ k.0; lengths = All-nil (λ (f : Frame). length f.bytes ≤ MAX_FRAME) };
+        held = record {
+          link = not-false _ k.0;
+          lengths = All-nil (λ (f : Frame). length f.bytes ≤ longest_packet);
+        };
         fits = record {
           zone = at_below big text 8 fits;
           sigfigs = at_below big text 12 fits;
@@ -86,7 +127,8 @@ fields_take big nanos text c fits magic e =
       };
     })
 
-pub header_takes : (text : List ℕ) (c : Capture) → IsBytes text → header_at text ≡ Ok c → Takes text c
+pub header_takes : (text : List ℕ) (c : Capture) → IsBytes text → header_at text ≡ Ok c →
+    Takes text c
 unfolding header_at
 header_takes text c fits e =
     let b = bound (magic_at text) (λ m. fields_at m.0 m.1 text) c e in
@@ -94,40 +136,88 @@ header_takes text c fits e =
 
 -- ---- what is spelled is read again
 
-magic_again : (big nanos : Bool) (rest : List ℕ) → magic_at (field big w32 (magic_of nanos) ++ rest) ≡ Ok (big, nanos)
-magic_again true true rest = let long : ltb (length (field true w32 (magic_of true) ++ rest)) 4 ≡ false = le-ltb _ _ (omega arith) in rw long refl
-magic_again true false rest = let long : ltb (length (field true w32 (magic_of false) ++ rest)) 4 ≡ false = le-ltb _ _ (omega arith) in rw long refl
-magic_again false true rest = let long : ltb (length (field false w32 (magic_of true) ++ rest)) 4 ≡ false = le-ltb _ _ (omega arith) in rw long refl
-magic_again false false rest = let long : ltb (length (field false w32 (magic_of false) ++ rest)) 4 ≡ false = le-ltb _ _ (omega arith) in rw long refl
+magic_again : (big nanos : Bool) (rest : List ℕ) →
+    magic_at (field big w32 (magic_of nanos) ++ rest) ≡ Ok (big, nanos)
+magic_again true true rest =
+    let long : ltb (length (field true w32 (magic_of true) ++ rest)) 4 ≡ false =
+    le-ltb _ _ (omega arith) in rw long refl
+magic_again true false rest =
+    let long : ltb (length (field true w32 (magic_of false) ++ rest)) 4 ≡ false =
+    le-ltb _ _ (omega arith) in rw long refl
+magic_again false true rest =
+    let long : ltb (length (field false w32 (magic_of true) ++ rest)) 4 ≡ false =
+    le-ltb _ _ (omega arith) in rw long refl
+magic_again false false rest =
+    let long : ltb (length (field false w32 (magic_of false) ++ rest)) 4 ≡ false =
+    le-ltb _ _ (omega arith) in rw long refl
 
 abbrev header_of : Bool → Bool → ℕ → ℕ → ℕ → ℕ → List Frame → Capture
-header_of big nanos zone sigfigs snap link frames = record { big = big; nanos = nanos; zone = zone; sigfigs = sigfigs; snap = snap; link = link; frames = frames }
+header_of big nanos zone sigfigs snap link frames =
+    record {
+      big = big;
+      nanos = nanos;
+      zone = zone;
+      sigfigs = sigfigs;
+      snap = snap;
+      link = link;
+      frames = frames;
+    }
 
-fields_again : (big nanos : Bool) (zone sigfigs snap link : ℕ) (frames : List Frame) (rest : List ℕ) → zone < 2 ^ 32 → sigfigs < 2 ^ 32 → snap < 2 ^ 32 → link < 2 ^ 32 → is_link_type link ≡ true
-    → fields_at big nanos (header_text (header_of big nanos zone sigfigs snap link frames) ++ rest) ≡ Ok (header_of big nanos zone sigfigs snap link [])
+fields_again : (big nanos : Bool) (zone sigfigs snap link : ℕ) (frames : List Frame)
+    (rest : List ℕ) → zone < 2 ^ 32 → sigfigs < 2 ^ 32 → snap < 2 ^ 32 → link < 2 ^ 32 →
+    is_link_type link ≡ true
+    → fields_at big nanos (header_text (header_of big nanos zone sigfigs snap link frames) ++ rest)
+    ≡ Ok (header_of big nanos zone sigfigs snap link [])
 unfolding fields_at header_text
 fields_again true nanos zone sigfigs snap link frames rest z g s l known =
-    let long : ltb (length (header_text (header_of true nanos zone sigfigs snap link frames) ++ rest)) 24 ≡ false = le-ltb _ _ (omega arith) in
-    rw (long, from_be_bytes-to_be_bytes_4 link l, known, from_be_bytes-to_be_bytes_4 zone z, from_be_bytes-to_be_bytes_4 sigfigs g, from_be_bytes-to_be_bytes_4 snap s) refl
+    let long : ltb
+    (length (header_text (header_of true nanos zone sigfigs snap link frames) ++ rest)) 24
+    ≡ false = le-ltb _ _ (omega arith) in
+    rw (
+      long,
+      from_be_bytes-to_be_bytes_4 link l,
+      known,
+      from_be_bytes-to_be_bytes_4 zone z,
+      from_be_bytes-to_be_bytes_4 sigfigs g,
+      from_be_bytes-to_be_bytes_4 snap s,
+    ) refl
 fields_again false nanos zone sigfigs snap link frames rest z g s l known =
-    let long : ltb (length (header_text (header_of false nanos zone sigfigs snap link frames) ++ rest)) 24 ≡ false = le-ltb _ _ (omega arith) in
-    rw (long, from_le_bytes-to_le_bytes_4 link l, known, from_le_bytes-to_le_bytes_4 zone z, from_le_bytes-to_le_bytes_4 sigfigs g, from_le_bytes-to_le_bytes_4 snap s) refl
+    let long : ltb
+    (length (header_text (header_of false nanos zone sigfigs snap link frames) ++ rest)) 24
+    ≡ false = le-ltb _ _ (omega arith) in
+    rw (
+      long,
+      from_le_bytes-to_le_bytes_4 link l,
+      known,
+      from_le_bytes-to_le_bytes_4 zone z,
+      from_le_bytes-to_le_bytes_4 sigfigs g,
+      from_le_bytes-to_le_bytes_4 snap s,
+    ) refl
 
 -- a capture's header, without its frames
 abbrev pub bare : Capture → Capture
 bare c = record c { frames = [] }
 
-again : (big nanos : Bool) (zone sigfigs snap link : ℕ) (frames : List Frame) (rest : List ℕ) → zone < 2 ^ 32 → sigfigs < 2 ^ 32 → snap < 2 ^ 32 → link < 2 ^ 32 → is_link_type link ≡ true
-    → header_at (header_text (header_of big nanos zone sigfigs snap link frames) ++ rest) ≡ Ok (header_of big nanos zone sigfigs snap link [])
+again : (big nanos : Bool) (zone sigfigs snap link : ℕ) (frames : List Frame) (rest : List ℕ) →
+    zone < 2 ^ 32 → sigfigs < 2 ^ 32 → snap < 2 ^ 32 → link < 2 ^ 32 → is_link_type link ≡ true
+    → header_at (header_text (header_of big nanos zone sigfigs snap link frames) ++ rest)
+    ≡ Ok (header_of big nanos zone sigfigs snap link [])
 unfolding header_at header_text
 again big nanos zone sigfigs snap link frames rest z g s l known =
-    let behind = field big w16 2 ++ (field big w16 4 ++ (field big w32 zone ++ (field big w32 sigfigs ++ (field big w32 snap ++ (field big w32 link ++ rest))))) in
+    let behind =
+    field big w16 2
+    ++ (field big w16 4 ++ (field big w32 zone
+    ++ (field big w32 sigfigs ++ (field big w32 snap ++ (field big w32 link ++ rest))))) in
     let text = header_text (header_of big nanos zone sigfigs snap link frames) ++ rest in
     let regrouped : text ≡ field big w32 (magic_of nanos) ++ behind = simp append_assoc in
-    let magic : magic_at text ≡ Ok (big, nanos) = ap magic_at regrouped ∙ magic_again big nanos behind in
+    let magic : magic_at text ≡ Ok (big, nanos) =
+    ap magic_at regrouped ∙ magic_again big nanos behind in
     ap (λ (m : Result (Bool × Bool) CaptureFault). m >>= λ r. fields_at r.0 r.1 text) magic
     ∙ fields_again big nanos zone sigfigs snap link frames rest z g s l known
 
-pub header_again : (c : Capture) (rest : List ℕ) → FieldsFit c → is_link_type c.link ≡ true → header_at (header_text c ++ rest) ≡ Ok (bare c)
+pub header_again : (c : Capture) (rest : List ℕ) → FieldsFit c → is_link_type c.link ≡ true →
+    header_at (header_text c ++ rest) ≡ Ok (bare c)
 unfolding header_text
-header_again c rest fits known = again c.big c.nanos c.zone c.sigfigs c.snap c.link c.frames rest fits.zone fits.sigfigs fits.snap fits.link known
+header_again c rest fits known =
+    again c.big c.nanos c.zone c.sigfigs c.snap c.link c.frames rest fits.zone fits.sigfigs
+    fits.snap fits.link known

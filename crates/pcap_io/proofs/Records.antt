@@ -1,21 +1,23 @@
 -- A record that is read is the front of the text, and a record that is spelled is read again.
-use Rattle.std.proofs.Common.{◌≡◌, ℕ, ◌+◌, ◌-◌, ◌<◌, ◌≤◌, ◌^◌, Bool, true, false, ltb, List, ◌++◌, length, take, Ok, refl, sym, ap, subst, ◌∙◌, arith, lit≤}
+use Rattle.std.proofs.Common.{◌≡◌, ℕ, ◌+◌, ◌-◌, ◌<◌, ◌≤◌, ◌^◌, Bool, true, false, ltb, List, ◌++◌}
+use Rattle.std.proofs.Common.{length, take, Ok, refl, sym, ap, subst, ◌∙◌, arith, lit≤}
 use Rattle.std.specs.Prelude.{slice_range}
 use Rattle.std.specs.Int.{w32}
 use Rattle.std.proofs.lemmas.Bool.{ltb-false, le-ltb}
 use Rattle.std.proofs.lemmas.List.{length-append, take_at}
 use Rattle.std.proofs.lemmas.Nat.{from_be_bytes-to_be_bytes_4, from_le_bytes-to_le_bytes_4}
-use Rattle.packet_entry.specs.declared.packet.TheConstants.{MAX_FRAME}
+use Rattle.packet_entry.specs.Numbers.{longest_packet}
 use Rattle.pcap_io.specs.declared.capture.Frame.{Frame}
 use Rattle.pcap_io.specs.declared.fault.CaptureFault.TheVariants.{Cut, TooLong}
 use Rattle.pcap_io.specs.Text.{field, record_text, FrameFits}
 use Rattle.pcap_io.specs.Reading.{number_at, record_at}
-use Rattle.pcap_io.proofs.Fields.{IsBytes, joined, length-range, at_takes32, at_below, guarded, ok_is}
+use Rattle.pcap_io.proofs.Fields.{IsBytes, joined, length-range, at_takes32, at_below, guarded}
+use Rattle.pcap_io.proofs.Fields.{ok_is}
 
 -- a frame that a record can hold
 pub record IsStored (f : Frame) : Type 0 where
   pub fits : FrameFits f
-  pub short : length f.bytes ≤ MAX_FRAME
+  pub short : length f.bytes ≤ longest_packet
 
 -- what a record that was read says of the text
 pub record Takes (big : Bool) (text : List ℕ) (f : Frame) : Type 0 where
@@ -23,56 +25,106 @@ pub record Takes (big : Bool) (text : List ℕ) (f : Frame) : Type 0 where
   pub stored : IsStored f
   pub spelled : record_text big f ≡ take (16 + length f.bytes) text
 
-pub record_takes : (big : Bool) (n place : ℕ) (text : List ℕ) (f : Frame) → IsBytes text → record_at big n place text ≡ Ok f → Takes big text f
+pub record_takes : (big : Bool) (n place : ℕ) (text : List ℕ) (f : Frame) → IsBytes text →
+    record_at big n place text ≡ Ok f → Takes big text f
 unfolding record_at record_text
 record_takes big n place text f fits e =
     let captured = number_at big w32 8 text in
     let bytes = slice_range text 16 (16 + captured) in
-    let made : Frame = record { seconds = number_at big w32 0 text; fraction = number_at big w32 4 text; original = number_at big w32 12 text; bytes = bytes } in
+    let made : Frame =
+    record {
+      seconds = number_at big w32 0 text;
+      fraction = number_at big w32 4 text;
+      original = number_at big w32 12 text;
+      bytes = bytes;
+    } in
     let g = guarded (ltb (length text) 16) (Cut n place) _ f e in
-    let h = guarded (ltb MAX_FRAME captured) (TooLong n captured) _ f g.1 in
+    let h = guarded (ltb longest_packet captured) (TooLong n captured) _ f g.1 in
     let k = guarded (ltb (length text) (16 + captured)) (Cut n place) (Ok made) f h.1 in
     let header : 16 ≤ length text = ltb-false (length text) 16 g.0 in
-    let short : captured ≤ MAX_FRAME = ltb-false MAX_FRAME captured h.0 in
+    let short : captured ≤ longest_packet = ltb-false longest_packet captured h.0 in
     let long : 16 + captured ≤ length text = ltb-false (length text) (16 + captured) k.0 in
     let len : length bytes ≡ captured = omega (arith, length-range text 16 (16 + captured)) in
     let seconds = at_takes32 big text 0 fits (omega arith) in
     let fraction = at_takes32 big text 4 fits (omega arith) in
-    let count : field big w32 (length bytes) ≡ slice_range text 8 12 = ap (λ (m : ℕ). field big w32 m) len ∙ at_takes32 big text 8 fits (omega arith) in
+    let count : field big w32 (length bytes) ≡ slice_range text 8 12 =
+    ap (λ (m : ℕ). field big w32 m) len ∙ at_takes32 big text 8 fits (omega arith) in
     let original = at_takes32 big text 12 fits (omega arith) in
     let behind : 16 ≤ 16 + captured = omega arith in
-    let spelled : record_text big made ≡ take (16 + captured) text = rw (seconds, fraction, count, original, joined text 4 8 (lit≤ tt), joined text 8 12 (lit≤ tt), joined text 12 16 (lit≤ tt), joined text 16 (16 + captured) behind) refl in
+    let spelled : record_text big made ≡ take (16 + captured) text =
+    rw (
+      seconds,
+      fraction,
+      count,
+      original,
+      joined text 4 8 (lit≤ tt),
+      joined text 8 12 (lit≤ tt),
+      joined text 12 16 (lit≤ tt),
+      joined text 16 (16 + captured) behind,
+    ) refl in
     subst (λ (x : Frame). Takes big text x) (ok_is made f k.1) (record {
       long = omega arith;
       stored = record {
-        fits = record { seconds = at_below big text 0 fits; fraction = at_below big text 4 fits; original = at_below big text 12 fits };
+        fits = record {
+          seconds = at_below big text 0 fits;
+          fraction = at_below big text 4 fits;
+          original = at_below big text 12 fits;
+        };
         short = omega arith;
       };
       spelled = spelled ∙ ap (λ (m : ℕ). take (16 + m) text) (sym len);
     })
 
 abbrev frame_of : ℕ → ℕ → ℕ → List ℕ → Frame
-frame_of seconds fraction original bytes = record { seconds = seconds; fraction = fraction; original = original; bytes = bytes }
+frame_of seconds fraction original bytes =
+    record { seconds = seconds; fraction = fraction; original = original; bytes = bytes }
 
-again : (big : Bool) (n place seconds fraction original : ℕ) (bytes rest : List ℕ) → seconds < 2 ^ 32 → fraction < 2 ^ 32 → original < 2 ^ 32 → length bytes ≤ MAX_FRAME
-    → record_at big n place (record_text big (frame_of seconds fraction original bytes) ++ rest) ≡ Ok (frame_of seconds fraction original bytes)
+again : (big : Bool) (n place seconds fraction original : ℕ) (bytes rest : List ℕ) →
+    seconds < 2 ^ 32 → fraction < 2 ^ 32 → original < 2 ^ 32 → length bytes ≤ longest_packet
+    → record_at big n place (record_text big (frame_of seconds fraction original bytes) ++ rest)
+    ≡ Ok (frame_of seconds fraction original bytes)
 unfolding record_at record_text
 again true n place seconds fraction original bytes rest s f o short =
     let text = record_text true (frame_of seconds fraction original bytes) ++ rest in
     let header : ltb (length text) 16 ≡ false = le-ltb _ _ (omega arith) in
     let count : length bytes < 2 ^ 32 = omega arith in
-    let few : ltb MAX_FRAME (length bytes) ≡ false = le-ltb _ _ short in
-    let long : ltb (length text) (16 + length bytes) ≡ false = le-ltb _ _ (omega (arith, length-append bytes rest)) in
+    let few : ltb longest_packet (length bytes) ≡ false = le-ltb _ _ short in
+    let long : ltb (length text) (16 + length bytes) ≡ false =
+    le-ltb _ _ (omega (arith, length-append bytes rest)) in
     let back : 16 + length bytes - 16 ≡ length bytes = omega arith in
-    rw (header, from_be_bytes-to_be_bytes_4 (length bytes) count, few, long, from_be_bytes-to_be_bytes_4 seconds s, from_be_bytes-to_be_bytes_4 fraction f, from_be_bytes-to_be_bytes_4 original o, back, take_at bytes rest (length bytes) refl) refl
+    rw (
+      header,
+      from_be_bytes-to_be_bytes_4 (length bytes) count,
+      few,
+      long,
+      from_be_bytes-to_be_bytes_4 seconds s,
+      from_be_bytes-to_be_bytes_4 fraction f,
+      from_be_bytes-to_be_bytes_4 original o,
+      back,
+      take_at bytes rest (length bytes) refl,
+    ) refl
 again false n place seconds fraction original bytes rest s f o short =
     let text = record_text false (frame_of seconds fraction original bytes) ++ rest in
     let header : ltb (length text) 16 ≡ false = le-ltb _ _ (omega arith) in
     let count : length bytes < 2 ^ 32 = omega arith in
-    let few : ltb MAX_FRAME (length bytes) ≡ false = le-ltb _ _ short in
-    let long : ltb (length text) (16 + length bytes) ≡ false = le-ltb _ _ (omega (arith, length-append bytes rest)) in
+    let few : ltb longest_packet (length bytes) ≡ false = le-ltb _ _ short in
+    let long : ltb (length text) (16 + length bytes) ≡ false =
+    le-ltb _ _ (omega (arith, length-append bytes rest)) in
     let back : 16 + length bytes - 16 ≡ length bytes = omega arith in
-    rw (header, from_le_bytes-to_le_bytes_4 (length bytes) count, few, long, from_le_bytes-to_le_bytes_4 seconds s, from_le_bytes-to_le_bytes_4 fraction f, from_le_bytes-to_le_bytes_4 original o, back, take_at bytes rest (length bytes) refl) refl
+    rw (
+      header,
+      from_le_bytes-to_le_bytes_4 (length bytes) count,
+      few,
+      long,
+      from_le_bytes-to_le_bytes_4 seconds s,
+      from_le_bytes-to_le_bytes_4 fraction f,
+      from_le_bytes-to_le_bytes_4 original o,
+      back,
+      take_at bytes rest (length bytes) refl,
+    ) refl
 
-pub record_again : (big : Bool) (n place : ℕ) (f : Frame) (rest : List ℕ) → IsStored f → record_at big n place (record_text big f ++ rest) ≡ Ok f
-record_again big n place f rest s = again big n place f.seconds f.fraction f.original f.bytes rest s.fits.seconds s.fits.fraction s.fits.original s.short
+pub record_again : (big : Bool) (n place : ℕ) (f : Frame) (rest : List ℕ) → IsStored f →
+    record_at big n place (record_text big f ++ rest) ≡ Ok f
+record_again big n place f rest s =
+    again big n place f.seconds f.fraction f.original f.bytes rest s.fits.seconds s.fits.fraction
+    s.fits.original s.short

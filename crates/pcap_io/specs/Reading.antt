@@ -1,17 +1,25 @@
--- What is wrong with a text that is no capture file: the first fault from the front. The layout is that of
--- pcap-savefile(5). In each table of tests below the first line that applies decides.
-use Rattle.std.specs.Prelude.{◌≡◌, ℕ, ◌+◌, ◌<◌, Bool, true, false, not, ◌==◌, ◌&&◌, if◌then◌else◌, nat_lt, List, [], ◌++◌, length, slice_range, Result, Ok, Err, ◌⊎◌}
+-- What is wrong with a text that is no capture file: the first fault from the front. The layout is
+-- that of pcap-savefile(5). In each table of tests below the first line that applies decides.
+use Rattle.std.specs.Prelude.{◌≡◌, ℕ, ◌+◌, ◌<◌, Bool, true, false, not, ◌==◌, ◌&&◌, if◌then◌else◌}
+use Rattle.std.specs.Prelude.{nat_lt, List, [], ◌++◌, length, slice_range, Result, Ok, Err, ◌⊎◌}
 use Rattle.std.specs.Int.{Width, w16, w32, byte_len, from_be_bytes, from_le_bytes}
-use Rattle.packet_entry.specs.declared.packet.TheConstants.{MAX_FRAME}
+use Rattle.packet_entry.specs.Numbers.{longest_packet}
 use Rattle.pcap_io.specs.declared.capture.Capture.{Capture}
 use Rattle.pcap_io.specs.declared.capture.Frame.{Frame}
 use Rattle.pcap_io.specs.declared.fault.CaptureFault.{CaptureFault}
-use Rattle.pcap_io.specs.declared.fault.CaptureFault.TheVariants.{Magic, Pcapng, Version, LinkType, Cut, TooLong, NoMemory}
-use Rattle.pcap_io.specs.declared.format.TheConstants.{FILE_HEADER, RECORD_HEADER, MICROSECOND_MAGIC, NANOSECOND_MAGIC, MICROSECOND_MAGIC_SWAPPED, NANOSECOND_MAGIC_SWAPPED, PCAPNG_BLOCK, MAJOR_VERSION, MINOR_VERSION, MAJOR_AT, MINOR_AT, ZONE_AT, SIGFIGS_AT, SNAP_AT, LINK_AT, SECONDS_AT, FRACTION_AT, CAPTURED_AT, ORIGINAL_AT}
+use Rattle.pcap_io.specs.declared.fault.CaptureFault.TheVariants.{Magic, Pcapng, Version, LinkType}
+use Rattle.pcap_io.specs.declared.fault.CaptureFault.TheVariants.{Cut, TooLong, NoMemory}
+use Rattle.pcap_io.specs.Numbers.{file_header_length, record_header_length, microsecond_magic}
+use Rattle.pcap_io.specs.Numbers.{nanosecond_magic, microsecond_magic_swapped}
+use Rattle.pcap_io.specs.Numbers.{nanosecond_magic_swapped, pcapng_block, major_version}
+use Rattle.pcap_io.specs.Numbers.{minor_version, major_at, minor_at, zone_at, sigfigs_at, snap_at}
+use Rattle.pcap_io.specs.Numbers.{link_at, seconds_at, fraction_at, captured_at, original_at}
+use Rattle.pcap_io.specs.Numbers.{magic_length}
 use Rattle.pcap_io.specs.Text.{is_link_type, IsCapture}
 
 infixl 10 ◌>>=◌
-abbrev pub ◌>>=◌ : {A B : Type 0} → Result A CaptureFault → (A → Result B CaptureFault) → Result B CaptureFault
+abbrev pub ◌>>=◌ : {A B : Type 0} → Result A CaptureFault → (A → Result B CaptureFault) →
+    Result B CaptureFault
 (Ok x) >>= f = f x
 (Err e) >>= f = Err e
 
@@ -32,33 +40,39 @@ number big w bytes = if big then from_be_bytes w bytes else from_le_bytes w byte
 abbrev pub number_at : Bool → Width → ℕ → List ℕ → ℕ
 number_at big w at text = number big w (slice_range text at (at + byte_len w))
 
--- byte order and resolution, by the first four bytes read as big-endian: whether the file is big-endian, and
--- whether its fractions are nanoseconds. A pcapng file begins with its section header block's type.
+-- byte order and resolution, by the first four bytes read as big-endian: whether the file is
+-- big-endian, and whether its fractions are nanoseconds. A pcapng file begins with its section
+-- header block's type.
 abbrev pub resolution_of : ℕ → Result (Bool × Bool) CaptureFault
 resolution_of magic =
-    if magic == PCAPNG_BLOCK then Err Pcapng
-    else if magic == MICROSECOND_MAGIC then Ok (true, false)
-    else if magic == NANOSECOND_MAGIC then Ok (true, true)
-    else if magic == MICROSECOND_MAGIC_SWAPPED then Ok (false, false)
-    else if magic == NANOSECOND_MAGIC_SWAPPED then Ok (false, true)
+    if magic == pcapng_block then Err Pcapng
+    else if magic == microsecond_magic then Ok (true, false)
+    else if magic == nanosecond_magic then Ok (true, true)
+    else if magic == microsecond_magic_swapped then Ok (false, false)
+    else if magic == nanosecond_magic_swapped then Ok (false, true)
     else Err Magic
 
 abbrev pub magic_at : List ℕ → Result (Bool × Bool) CaptureFault
-magic_at text = if nat_lt (length text) 4 then Err Magic else resolution_of (number_at true w32 0 text)
+magic_at text =
+    if nat_lt (length text) magic_length then Err Magic
+    else resolution_of (number_at true w32 0 text)
 
--- the header in front in this byte order, as a capture without frames, or the first thing that is wrong with it
+-- the header in front in this byte order, as a capture without frames, or the first thing that is
+-- wrong with it
 unfoldable pub fields_at : Bool → Bool → List ℕ → Result Capture CaptureFault
 fields_at big nanos text =
-    if nat_lt (length text) FILE_HEADER then Err (Cut 0 0)
-    else if not (number_at big w16 MAJOR_AT text == MAJOR_VERSION && number_at big w16 MINOR_AT text == MINOR_VERSION) then Err Version
-    else if not (is_link_type (number_at big w32 LINK_AT text)) then Err (LinkType (number_at big w32 LINK_AT text))
+    if nat_lt (length text) file_header_length then Err (Cut 0 0)
+    else if not (number_at big w16 major_at text == major_version
+    && number_at big w16 minor_at text == minor_version) then Err Version
+    else if not (is_link_type (number_at big w32 link_at text))
+    then Err (LinkType (number_at big w32 link_at text))
     else Ok (record {
       big = big;
       nanos = nanos;
-      zone = number_at big w32 ZONE_AT text;
-      sigfigs = number_at big w32 SIGFIGS_AT text;
-      snap = number_at big w32 SNAP_AT text;
-      link = number_at big w32 LINK_AT text;
+      zone = number_at big w32 zone_at text;
+      sigfigs = number_at big w32 sigfigs_at text;
+      snap = number_at big w32 snap_at text;
+      link = number_at big w32 link_at text;
       frames = [];
     })
 
@@ -66,21 +80,25 @@ fields_at big nanos text =
 unfoldable pub header_at : List ℕ → Result Capture CaptureFault
 header_at text = magic_at text >>= λ magic. fields_at magic.0 magic.1 text
 
--- the record in front, of the frame with this number, at this byte of the file, or the first thing that is wrong with it
+-- the record in front, of the frame with this number, at this byte of the file, or the first thing
+-- that is wrong with it
 unfoldable pub record_at : Bool → ℕ → ℕ → List ℕ → Result Frame CaptureFault
 record_at big number at text =
-    if nat_lt (length text) RECORD_HEADER then Err (Cut number at)
-    else if nat_lt MAX_FRAME (number_at big w32 CAPTURED_AT text) then Err (TooLong number (number_at big w32 CAPTURED_AT text))
-    else if nat_lt (length text) (RECORD_HEADER + number_at big w32 CAPTURED_AT text) then Err (Cut number at)
+    if nat_lt (length text) record_header_length then Err (Cut number at)
+    else if nat_lt longest_packet (number_at big w32 captured_at text)
+    then Err (TooLong number (number_at big w32 captured_at text))
+    else if nat_lt (length text) (record_header_length + number_at big w32 captured_at text)
+    then Err (Cut number at)
     else Ok (record {
-      seconds = number_at big w32 SECONDS_AT text;
-      fraction = number_at big w32 FRACTION_AT text;
-      original = number_at big w32 ORIGINAL_AT text;
-      bytes = slice_range text RECORD_HEADER (RECORD_HEADER + number_at big w32 CAPTURED_AT text);
+      seconds = number_at big w32 seconds_at text;
+      fraction = number_at big w32 fraction_at text;
+      original = number_at big w32 original_at text;
+      bytes = slice_range text record_header_length
+          (record_header_length + number_at big w32 captured_at text);
     })
 
--- The text is a whole capture, and then something that is no whole record. The place of the fault is the number
--- of that record, counted from 1, and the byte at which it begins.
+-- The text is a whole capture, and then something that is no whole record. The place of the fault
+-- is the number of that record, counted from 1, and the byte at which it begins.
 pub record BreaksOff (text : List ℕ) (fault : CaptureFault) : Type 0 where
   pub before : List ℕ
   pub capture : Capture

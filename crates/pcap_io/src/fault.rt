@@ -6,8 +6,8 @@ ghost use Rattle.pcap_io.specs.declared.fault.CaptureFault.TheVariants.{NoMemory
 use packet_entry::NoMemory;
 use thiserror::Error;
 
-/// The first fault of a file, from its front, with its place. Frames count from 1, and 0 is the file's
-/// header; `at` is the offset in bytes at which that frame's record begins.
+/// The first fault of a file, from its front, with its place. Frames count from 1, and 0 is the
+/// file's header; `at` is the offset in bytes at which that frame's record begins.
 #[derive(Clone, Copy, Debug, PartialEq, Eq, Error)]
 pub enum CaptureFault {
     /// There are fewer than four bytes, or the first four are none of the format's magic numbers.
@@ -28,7 +28,7 @@ pub enum CaptureFault {
     /// The record of this frame has more than 262,144 bytes of the frame, by its header.
     #[error("record {frame} has {length} bytes")]
     TooLong { frame: u32, length: u32 },
-    /// Want of memory. The bytes may be a capture or not.
+    /// Out of memory. The bytes may be a capture or not.
     #[error("out of memory")]
     NoMemory,
 }

@@ -1,22 +1,25 @@
 //! Captures: files of frames as they stood on a link, in libpcap's classic format of version 2.4
 //! (pcap-savefile(5)), in either byte order, with microseconds or nanoseconds.
 //!
-//! `read_capture` takes the whole file as bytes and gives the capture that it is, or the first fault
-//! from the front with its place. `write_capture` appends the file of a capture. The two are inverse to
-//! each other, byte for byte.
+//! `read_capture` takes the whole file as bytes and gives the capture that it is, or the first
+//! fault from the front with its place; `read_shared_capture` does so without copying a frame.
+//! `write_capture` appends the file of a capture. The two directions are inverse to each other,
+//! byte for byte.
 #![tactic(auto)]
 
 mod capture;
 mod fault;
-mod format;
+mod file_header;
 mod laws;
+mod numbers;
 mod reading;
+mod record;
 mod writing;
 
 pub use capture::{Capture, Frame, Frames};
 pub use fault::CaptureFault;
 pub use laws::{one_fault, one_value, read_back, same_bytes, value_or_fault};
-pub use reading::read_capture;
+pub use reading::{read_capture, read_shared_capture};
 pub use writing::write_capture;
 
 #[cfg(test)]

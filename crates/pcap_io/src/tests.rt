@@ -1,12 +1,23 @@
+//! Whole files in both byte orders, every cut of one, and the frames that are too long. The bytes
+//! were written out by hand from pcap-savefile(5).
+
 use super::*;
+use packet_entry::Bytes;
 use std::test::Fail;
 
-/// Three frames of raw IP, little-endian, in microseconds: a header of 24 bytes, and three times a
-/// record header of 16 and a packet of 20.
+/// Three frames of raw IP, little-endian, in microseconds.
 #[rattlefmt::skip]
 const LITTLE: [u8; 132] = [
-    0xd4, 0xc3, 0xb2, 0xa1, 2, 0, 4, 0, 0, 0, 0, 0, 0, 0, 0, 0, 0, 0, 4, 0, 0x65, 0, 0, 0,
-    1, 0, 0, 0, 0, 0, 0, 0, 0x14, 0, 0, 0, 0x14, 0, 0, 0,
+    0xd4, 0xc3, 0xb2, 0xa1, //   0  magic number: little-endian, microseconds
+    2, 0, 4, 0,             //   4  version 2.4
+    0, 0, 0, 0,             //   8  time zone
+    0, 0, 0, 0,             //  12  accuracy of times
+    0, 0, 4, 0,             //  16  snap length, 262,144
+    0x65, 0, 0, 0,          //  20  link type, 101: raw IP
+    1, 0, 0, 0,             //  24  seconds
+    0, 0, 0, 0,             //  28  microseconds
+    0x14, 0, 0, 0,          //  32  captured length, 20
+    0x14, 0, 0, 0,          //  36  original length, 20
     0x45, 0, 0, 0x14, 0, 1, 0, 0, 0x40, 6, 0, 0, 0x0a, 0, 0, 1, 0x0a, 0, 0, 2,
     2, 0, 0, 0, 0, 0, 0, 0, 0x14, 0, 0, 0, 0x14, 0, 0, 0,
     0x45, 0, 0, 0x14, 0, 2, 0, 0, 0x40, 6, 0, 0, 0x0a, 0, 0, 1, 0x0a, 0, 0, 2,
@@ -17,8 +28,16 @@ const LITTLE: [u8; 132] = [
 /// The same frames, big-endian, in nanoseconds.
 #[rattlefmt::skip]
 const BIG: [u8; 132] = [
-    0xa1, 0xb2, 0x3c, 0x4d, 0, 2, 0, 4, 0, 0, 0, 0, 0, 0, 0, 0, 0, 4, 0, 0, 0, 0, 0, 0x65,
-    0, 0, 0, 1, 0, 0, 0, 0, 0, 0, 0, 0x14, 0, 0, 0, 0x14,
+    0xa1, 0xb2, 0x3c, 0x4d, //   0  magic number: big-endian, nanoseconds
+    0, 2, 0, 4,             //   4  version 2.4
+    0, 0, 0, 0,             //   8  time zone
+    0, 0, 0, 0,             //  12  accuracy of times
+    0, 4, 0, 0,             //  16  snap length, 262,144
+    0, 0, 0, 0x65,          //  20  link type, 101: raw IP
+    0, 0, 0, 1,             //  24  seconds
+    0, 0, 0, 0,             //  28  nanoseconds
+    0, 0, 0, 0x14,          //  32  captured length, 20
+    0, 0, 0, 0x14,          //  36  original length, 20
     0x45, 0, 0, 0x14, 0, 1, 0, 0, 0x40, 6, 0, 0, 0x0a, 0, 0, 1, 0x0a, 0, 0, 2,
     0, 0, 0, 2, 0, 0, 0, 0, 0, 0, 0, 0x14, 0, 0, 0, 0x14,
     0x45, 0, 0, 0x14, 0, 2, 0, 0, 0x40, 6, 0, 0, 0x0a, 0, 0, 1, 0x0a, 0, 0, 2,
@@ -34,8 +53,8 @@ fn a_capture_is_read_and_written_back(rt: HostRuntime) -> Result<(), Fail> {
         assert_eq!(rt; (capture.zone, capture.sigfigs), (0, 0));
         assert_eq!(rt; (capture.snap, capture.link), (262_144, 101));
         assert_eq!(rt; capture.frames.len(), 3);
-        for at in 0..3usize {
-            let frame = capture.frames.get(at).ok_or("a frame")?;
+        for (at, frame) in capture.frames.iter().take(3).enumerate() {
+            assert!(rt; at < 3);
             assert_eq!(rt; (frame.seconds as usize, frame.fraction), (at + 1, 0));
             assert_eq!(rt; frame.original, 20);
             let start = 40 + 36 * at;
@@ -47,6 +66,18 @@ fn a_capture_is_read_and_written_back(rt: HostRuntime) -> Result<(), Fail> {
         assert_eq!(rt; out[0], 7);
         assert_eq!(rt; &out[1..], bytes.as_slice());
     }
+    Ok(())
+}
+
+/// What is read of a shared file is read of a copy of it too, and outlives the file.
+#[test]
+fn frames_are_cuts_of_a_shared_file(rt: HostRuntime) -> Result<(), Fail> {
+    let file = Bytes::copy(rt.alloc(), &LITTLE)?;
+    let capture = read_shared_capture(rt.alloc(), &file)?;
+    drop(file);
+    let last = capture.frames.get(2).ok_or("a frame")?;
+    assert_eq!(rt; last.bytes.as_slice(), &LITTLE[112..]);
+    assert_eq!(rt; capture.frames.len(), 3);
     Ok(())
 }
 
