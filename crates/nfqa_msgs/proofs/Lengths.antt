@@ -1,32 +1,49 @@
 -- How long the texts of attributes are.
-use Rattle.std.proofs.Common.{◌≡◌, ℕ, ◌+◌, ◌-◌, ◌^◌, ◌<◌, ◌≤◌, List, [], ◌∷◌, ◌++◌, length, Option, Some, None, refl, sym, ap, ◌∙◌, arith, append_assoc, length-append, inl, inr}
+use Rattle.std.proofs.Common.{◌≡◌, ℕ, ◌+◌, ◌-◌, ◌^◌, ◌<◌, ◌≤◌, List, [], ◌∷◌, ◌++◌, length, Option}
+use Rattle.std.proofs.Common.{Some, None, refl, sym, ap, ◌∙◌, arith, append_assoc, length-append}
+use Rattle.std.proofs.Common.{inl, inr}
 use Rattle.std.specs.Prelude.{IfSome, option_map, ◌==◌}
 use Rattle.std.proofs.lemmas.Bool.{cases_Bool}
 use Rattle.std.proofs.lemmas.List.{length-replicate}
 use Rattle.std.proofs.lemmas.List.Concat.{flat_map-append}
 use Rattle.packet_entry.specs.Numbers.{longest_payload}
 use Rattle.netlink_codec.specs.Messages.{pad}
-use Rattle.netlink_codec.specs.Attributes.{Attribute, attribute_header_length, attribute_header_text, attribute_text, attributes_text, zero_padding}
+use Rattle.netlink_codec.specs.Attributes.{Attribute, attribute_header_length}
+use Rattle.netlink_codec.specs.Attributes.{attribute_header_text, attribute_text, attributes_text}
+use Rattle.netlink_codec.specs.Attributes.{zero_padding}
 use Rattle.nfqa_msgs.specs.declared.request.Head.{Head}
 use Rattle.nfqa_msgs.specs.declared.request.Params.{Params}
 use Rattle.nfqa_msgs.specs.declared.request.Request.{Request}
 use Rattle.nfqa_msgs.specs.declared.request.Request.TheVariants.{Config, Verdict, Batch}
-use Rattle.nfqa_msgs.specs.Numbers.{command_kind, params_kind, maxlen_kind, mask_kind, flags_kind, verdict_header_kind, mark_kind, payload_kind, packet_header_kind, input_device_kind, output_device_kind, hardware_address_kind, timestamp_kind, full_length_kind, input_device, output_device, hardware_address_length}
-use Rattle.nfqa_msgs.specs.Headers.{command_content, params_content, head_content, packet_head_content, address_content, stamp_content, value_content, zeros_text, address_filler_field}
+use Rattle.nfqa_msgs.specs.Numbers.{command_kind, params_kind, maxlen_kind, mask_kind, flags_kind}
+use Rattle.nfqa_msgs.specs.Numbers.{verdict_header_kind, mark_kind, payload_kind}
+use Rattle.nfqa_msgs.specs.Numbers.{packet_header_kind, input_device_kind, output_device_kind}
+use Rattle.nfqa_msgs.specs.Numbers.{hardware_address_kind, timestamp_kind, full_length_kind}
+use Rattle.nfqa_msgs.specs.Numbers.{input_device, output_device, hardware_address_length}
+use Rattle.nfqa_msgs.specs.Headers.{command_content, params_content, head_content}
+use Rattle.nfqa_msgs.specs.Headers.{packet_head_content, address_content, stamp_content}
+use Rattle.nfqa_msgs.specs.Headers.{value_content, zeros_text, address_filler_field}
 use Rattle.nfqa_msgs.specs.RequestReading.{PayloadFits}
 use Rattle.nfqa_msgs.specs.RequestWriting.{part, request_body}
-use Rattle.nfqa_msgs.specs.NoticeWriting.{Told, FitsTold, notice_body, mark_content, payload_content}
+use Rattle.nfqa_msgs.specs.NoticeWriting.{Told, FitsTold, notice_body, mark_content}
+use Rattle.nfqa_msgs.specs.NoticeWriting.{payload_content}
 
-pub length-attribute_text : (a : Attribute) → length (attribute_text a) ≡ pad (attribute_header_length + length a.content)
+pub length-attribute_text : (a : Attribute) →
+    length (attribute_text a) ≡ pad (attribute_header_length + length a.content)
 unfolding attribute_text
 length-attribute_text a =
     let total : ℕ = attribute_header_length + length a.content in
     let head : List ℕ = attribute_header_text a.kind total ++ a.content in
     let size : length head ≡ total = omega arith in
-    omega (arith, length-append head (zero_padding total), length-replicate {A = ℕ} (pad total - total) 0)
+    omega (
+      arith,
+      length-append head (zero_padding total),
+      length-replicate {A = ℕ} (pad total - total) 0,
+    )
 
 -- a row's text is padded
-pub padded-row : (row : List Attribute) → pad (length (attributes_text row)) ≡ length (attributes_text row)
+pub padded-row : (row : List Attribute) →
+    pad (length (attributes_text row)) ≡ length (attributes_text row)
 padded-row [] = refl
 padded-row (a ∷ row) =
     let size = length-append (attribute_text a) (attributes_text row) in
@@ -35,7 +52,8 @@ padded-row (a ∷ row) =
     omega arith
 
 -- the text of two rows
-pub length-rows : (xs ys : List Attribute) → length (attributes_text (xs ++ ys)) ≡ length (attributes_text xs) + length (attributes_text ys)
+pub length-rows : (xs ys : List Attribute) →
+    length (attributes_text (xs ++ ys)) ≡ length (attributes_text xs) + length (attributes_text ys)
 length-rows xs ys = rw flat_map-append (length-append (attributes_text xs) (attributes_text ys))
 
 -- a row's text has at most n bytes
@@ -55,21 +73,32 @@ one-more : (kind : ℕ) (row : List Attribute) (content : Option (List ℕ)) (n 
     → IsWithin (n + 65536) (row ++ part kind content)
 one-more kind row content n so_far short =
     let part_short = one-part kind content short in
-    record { size = omega (arith, length-rows row (part kind content), so_far.size, part_short.size) }
+    record {
+      size = omega (
+        arith,
+        length-rows row (part kind content),
+        so_far.size,
+        part_short.size,
+      );
+    }
 
-fits-command : (command : Option ℕ) → IfSome (option_map command_content command) (λ bytes. length bytes ≤ longest_payload)
+fits-command : (command : Option ℕ) →
+    IfSome (option_map command_content command) (λ bytes. length bytes ≤ longest_payload)
 fits-command None = tt
 fits-command (Some x) = omega arith
 
-fits-params : (params : Option Params) → IfSome (option_map params_content params) (λ bytes. length bytes ≤ longest_payload)
+fits-params : (params : Option Params) →
+    IfSome (option_map params_content params) (λ bytes. length bytes ≤ longest_payload)
 fits-params None = tt
 fits-params (Some x) = omega arith
 
-fits-head : (head : Option Head) → IfSome (option_map head_content head) (λ bytes. length bytes ≤ longest_payload)
+fits-head : (head : Option Head) →
+    IfSome (option_map head_content head) (λ bytes. length bytes ≤ longest_payload)
 fits-head None = tt
 fits-head (Some x) = omega arith
 
-pub fits-number : (number : Option ℕ) → IfSome (option_map value_content number) (λ bytes. length bytes ≤ longest_payload)
+pub fits-number : (number : Option ℕ) →
+    IfSome (option_map value_content number) (λ bytes. length bytes ≤ longest_payload)
 fits-number None = tt
 fits-number (Some x) = omega arith
 
@@ -94,27 +123,35 @@ request_body-short (Batch queue head mark) fits =
     omega arith
 
 -- one more part behind a body's row
-pub row-goes-on : (head old new : List ℕ) (row more : List Attribute) → old ≡ head ++ attributes_text row → new ≡ old ++ attributes_text more → new ≡ head ++ attributes_text (row ++ more)
+pub row-goes-on : (head old new : List ℕ) (row more : List Attribute) →
+    old ≡ head ++ attributes_text row → new ≡ old ++ attributes_text more →
+    new ≡ head ++ attributes_text (row ++ more)
 row-goes-on head old new row more so_far step =
-    step ∙ ap (λ (xs : List ℕ). xs ++ attributes_text more) so_far ∙ append_assoc head (attributes_text row) (attributes_text more)
+    step ∙ ap (λ (xs : List ℕ). xs ++ attributes_text more) so_far
+    ∙ append_assoc head (attributes_text row) (attributes_text more)
     ∙ ap (λ (xs : List ℕ). head ++ xs) (sym (flat_map-append attribute_text row more))
 
 pub fits-mark : (mark : ℕ) → IfSome (mark_content mark) (λ bytes. length bytes ≤ longest_payload)
-fits-mark mark = elim (cases_Bool (mark == 0)) [ inl zero ↦ rw zero tt | inr other ↦ rw other (omega arith) ]
+fits-mark mark =
+    elim (cases_Bool (mark == 0)) [ inl zero ↦ rw zero tt | inr other ↦ rw other (omega arith) ]
 
-pub fits-address : (source : Option (List ℕ)) → IfSome source (λ s. length s ≡ hardware_address_length) → IfSome (option_map address_content source) (λ bytes. length bytes ≤ longest_payload)
+pub fits-address : (source : Option (List ℕ)) →
+    IfSome source (λ s. length s ≡ hardware_address_length) →
+    IfSome (option_map address_content source) (λ bytes. length bytes ≤ longest_payload)
 fits-address None short = tt
 fits-address (Some s) short = let size : length s ≡ hardware_address_length = short in
     omega (arith, length-append s (zeros_text address_filler_field))
 
-pub fits-payload : (payload : List ℕ) → length payload ≤ longest_payload → IfSome (payload_content payload) (λ bytes. length bytes ≤ longest_payload)
+pub fits-payload : (payload : List ℕ) → length payload ≤ longest_payload →
+    IfSome (payload_content payload) (λ bytes. length bytes ≤ longest_payload)
 fits-payload [] short = tt
 fits-payload (x ∷ payload) short = short
 
 -- a body of a notice is far shorter than a message can be
 pub notice_body-short : (told : Told) → FitsTold told → length (notice_body told) < 2 ^ 31
 notice_body-short told fits =
-    let a = one-part packet_header_kind (Some (packet_head_content told.id told.protocol)) (omega arith) in
+    let a = one-part packet_header_kind (Some (packet_head_content told.id told.protocol))
+    (omega arith) in
     let b = one-more input_device_kind _ (Some (value_content input_device)) _ a (omega arith) in
     let d = one-more output_device_kind _ (Some (value_content output_device)) _ b (omega arith) in
     let e = one-more mark_kind _ (mark_content told.mark) _ d (fits-mark told.mark) in

@@ -1,5 +1,7 @@
 -- What a notice tells is read back.
-use Rattle.std.proofs.Common.{◌≡◌, ℕ, ◌^◌, ◌<◌, ◌≤◌, false, List, [], ◌∷◌, ◌++◌, length, min, Option, Some, None, refl, sym, ap, ap₂, ◌∙◌, arith, append-nil, length-append, inl, inr}
+use Rattle.std.proofs.Common.{◌≡◌, ℕ, ◌^◌, ◌<◌, ◌≤◌, false, List, [], ◌∷◌, ◌++◌, length, min}
+use Rattle.std.proofs.Common.{Option, Some, None, refl, sym, ap, ap₂, ◌∙◌, arith, append-nil}
+use Rattle.std.proofs.Common.{length-append, inl, inr}
 use Rattle.std.specs.Prelude.{IfSome, option_map, unwrap_or, nat_lt, ◌==◌}
 use Rattle.std.specs.Option.{option_and_then}
 use Rattle.std.proofs.lemmas.Bool.{le-ltb, lt-ltb, eqb-true, cases_Bool}
@@ -8,26 +10,33 @@ use Rattle.byteorder.specs.Endian.{big_bytes}
 use Rattle.byteorder.specs.Numbers.{big_number-reads_back}
 use Rattle.packet_entry.specs.Numbers.{longest_payload, ipv4_type, ipv6_type}
 use Rattle.packet_entry.specs.Fields.{IsProtocol}
-use Rattle.netlink_codec.specs.Messages.{NetlinkMessage, FitsHeader, message_with, message_text, first_message, pad}
+use Rattle.netlink_codec.specs.Messages.{NetlinkMessage, FitsHeader, message_with, message_text}
+use Rattle.netlink_codec.specs.Messages.{first_message, pad}
 use Rattle.netlink_codec.specs.Attributes.{Attribute, AllFit, attributes_text, kind_limit}
 use Rattle.nfqa_msgs.specs.Kinds.{queue_kind}
-use Rattle.nfqa_msgs.specs.Numbers.{notice_number, queue_header_length, value_length, packet_header_length}
-use Rattle.nfqa_msgs.specs.Numbers.{packet_address_length, timestamp_length, packet_header_kind, mark_kind}
-use Rattle.nfqa_msgs.specs.Numbers.{timestamp_kind, input_device_kind, output_device_kind, payload_kind}
-use Rattle.nfqa_msgs.specs.Numbers.{hardware_address_kind, full_length_kind, input_device, output_device}
-use Rattle.nfqa_msgs.specs.Numbers.{forward_hook, hardware_address_length}
-use Rattle.nfqa_msgs.specs.Headers.{Field, value_in, bytes_in, byte_text, zeros_text, low_half, queue_in}
-use Rattle.nfqa_msgs.specs.Headers.{packet_id_field, packet_protocol_field, packet_hook_field, value_field}
-use Rattle.nfqa_msgs.specs.Headers.{address_field, address_filler_field, seconds_field, micros_field}
-use Rattle.nfqa_msgs.specs.Headers.{packet_head_content, address_content, stamp_content, value_content}
+use Rattle.nfqa_msgs.specs.Numbers.{notice_number, queue_header_length, value_length}
+use Rattle.nfqa_msgs.specs.Numbers.{packet_header_length, packet_address_length, timestamp_length}
+use Rattle.nfqa_msgs.specs.Numbers.{packet_header_kind, mark_kind, timestamp_kind}
+use Rattle.nfqa_msgs.specs.Numbers.{input_device_kind, output_device_kind, payload_kind}
+use Rattle.nfqa_msgs.specs.Numbers.{hardware_address_kind, full_length_kind, input_device}
+use Rattle.nfqa_msgs.specs.Numbers.{output_device, forward_hook, hardware_address_length}
+use Rattle.nfqa_msgs.specs.Headers.{Field, value_in, bytes_in, byte_text, zeros_text, low_half}
+use Rattle.nfqa_msgs.specs.Headers.{queue_in, packet_id_field, packet_protocol_field}
+use Rattle.nfqa_msgs.specs.Headers.{packet_hook_field, value_field, address_field}
+use Rattle.nfqa_msgs.specs.Headers.{address_filler_field, seconds_field, micros_field}
+use Rattle.nfqa_msgs.specs.Headers.{packet_head_content, address_content, stamp_content}
+use Rattle.nfqa_msgs.specs.Headers.{value_content}
 use Rattle.nfqa_msgs.specs.RequestReading.{last_content, row_in}
 use Rattle.nfqa_msgs.specs.RequestWriting.{part}
-use Rattle.nfqa_msgs.specs.NoticeWriting.{Told, FitsTold, mark_content, payload_content, notice_parts}
-use Rattle.nfqa_msgs.specs.NoticeWriting.{notice_body, notice_text}
-use Rattle.nfqa_msgs.specs.NoticeReading.{at_least, value_at, nearest_protocol, protocol_at, source_at}
-use Rattle.nfqa_msgs.specs.NoticeReading.{payload_at, above, cut_at, told_in, told_by_message, told_by}
-use Rattle.nfqa_msgs.proofs.Lengths.{notice_body-short, fits-mark, fits-address, fits-number, fits-payload}
-use Rattle.nfqa_msgs.proofs.RequestsBack.{Walks, later-nothing, last_content-append, last_content-part, fit-append, fit-part}
+use Rattle.nfqa_msgs.specs.NoticeWriting.{Told, FitsTold, mark_content, payload_content}
+use Rattle.nfqa_msgs.specs.NoticeWriting.{notice_parts, notice_body, notice_text}
+use Rattle.nfqa_msgs.specs.NoticeReading.{at_least, value_at, nearest_protocol, protocol_at}
+use Rattle.nfqa_msgs.specs.NoticeReading.{source_at, payload_at, above, cut_at, told_in}
+use Rattle.nfqa_msgs.specs.NoticeReading.{told_by_message, told_by}
+use Rattle.nfqa_msgs.proofs.Lengths.{notice_body-short, fits-mark, fits-address, fits-number}
+use Rattle.nfqa_msgs.proofs.Lengths.{fits-payload}
+use Rattle.nfqa_msgs.proofs.RequestsBack.{Walks, later-nothing, last_content-append}
+use Rattle.nfqa_msgs.proofs.RequestsBack.{last_content-part, fit-append, fit-part}
 
 -- ---- the contents of a notice's parts
 
@@ -105,12 +114,14 @@ unfolding contents_of
 mark-there told = with-mark (contents_of told)
 
 address-there : (told : Told)
-    → last_content hardware_address_kind (notice_parts told) ≡ option_map address_content told.source
+    → last_content hardware_address_kind (notice_parts told)
+    ≡ option_map address_content told.source
 unfolding contents_of
 address-there told = with-address (contents_of told)
 
 stamp-there : (told : Told)
-    → last_content timestamp_kind (notice_parts told) ≡ Some (stamp_content told.seconds told.micros)
+    → last_content timestamp_kind (notice_parts told)
+    ≡ Some (stamp_content told.seconds told.micros)
 unfolding contents_of
 stamp-there told = with-stamp (contents_of told)
 
@@ -129,8 +140,11 @@ payload-there told = with-payload (contents_of told)
 abbrev long_value : ℕ → Field → Option (List ℕ) → ℕ
 long_value n f content = unwrap_or (option_map (value_in f) (at_least n content)) 0
 
-id-back : (id protocol : ℕ) → id < 2 ^ 32 → long_value packet_header_length packet_id_field (Some (packet_head_content id protocol)) ≡ id
-id-back id protocol fits = big_number-reads_back 4 id (big_bytes 2 protocol ++ byte_text packet_hook_field forward_hook) fits
+id-back : (id protocol : ℕ) → id < 2 ^ 32 →
+    long_value packet_header_length packet_id_field (Some (packet_head_content id protocol)) ≡ id
+id-back id protocol fits =
+    big_number-reads_back 4 id (big_bytes 2 protocol ++ byte_text packet_hook_field forward_hook)
+    fits
 
 nearest-protocol : (protocol : ℕ) → IsProtocol protocol → nearest_protocol protocol ≡ protocol
 nearest-protocol protocol known =
@@ -154,34 +168,51 @@ two-bytes protocol known =
           ]
     ]
 
-protocol-back : (id protocol : ℕ) → IsProtocol protocol → nearest_protocol (unwrap_or (option_map (value_in packet_protocol_field) (at_least packet_header_length (Some (packet_head_content id protocol)))) 0) ≡ protocol
-protocol-back id protocol known = ap nearest_protocol (big_number-reads_back 2 protocol (byte_text packet_hook_field forward_hook) (two-bytes protocol known)) ∙ nearest-protocol protocol known
+protocol-back : (id protocol : ℕ) → IsProtocol protocol →
+    nearest_protocol
+    (unwrap_or (option_map (value_in packet_protocol_field)
+    (at_least packet_header_length (Some (packet_head_content id protocol)))) 0) ≡ protocol
+protocol-back id protocol known =
+    ap nearest_protocol (big_number-reads_back 2 protocol (byte_text packet_hook_field forward_hook)
+    (two-bytes protocol known)) ∙ nearest-protocol protocol known
 
-mark-back : (mark : ℕ) → mark < 2 ^ 32 → long_value value_length value_field (mark_content mark) ≡ mark
+mark-back : (mark : ℕ) → mark < 2 ^ 32 →
+    long_value value_length value_field (mark_content mark) ≡ mark
 mark-back mark fits =
     elim (cases_Bool (mark == 0)) [
       | inl zero ↦ rw zero (sym (eqb-true mark 0 zero))
       | inr other ↦ rw other (big_number-reads_back 4 mark [] fits)
     ]
 
-address-back : (source : Option (List ℕ)) → IfSome source (λ s. length s ≡ hardware_address_length) → option_map (bytes_in address_field) (at_least packet_address_length (option_map address_content source)) ≡ source
+address-back : (source : Option (List ℕ)) →
+    IfSome source (λ s. length s ≡ hardware_address_length) →
+    option_map (bytes_in address_field)
+    (at_least packet_address_length (option_map address_content source)) ≡ source
 address-back None fits = refl
 address-back (Some s) fits =
     let size : length s ≡ hardware_address_length = fits in
-    let long : nat_lt (length (address_content s)) packet_address_length ≡ false = le-ltb (length (address_content s)) packet_address_length (omega (arith, length-append s (zeros_text address_filler_field))) in
-    rw long (ap (λ (xs : List ℕ). Some xs) (take_at s (zeros_text address_filler_field) hardware_address_length size))
+    let long : nat_lt (length (address_content s)) packet_address_length ≡ false =
+    le-ltb (length (address_content s)) packet_address_length
+    (omega (arith, length-append s (zeros_text address_filler_field))) in
+    rw long (ap (λ (xs : List ℕ). Some xs)
+    (take_at s (zeros_text address_filler_field) hardware_address_length size))
 
-seconds-back : (seconds micros : ℕ) → seconds < 2 ^ 32 → long_value timestamp_length (low_half seconds_field) (Some (stamp_content seconds micros)) ≡ seconds
+seconds-back : (seconds micros : ℕ) → seconds < 2 ^ 32 →
+    long_value timestamp_length (low_half seconds_field) (Some (stamp_content seconds micros))
+    ≡ seconds
 seconds-back seconds micros fits = big_number-reads_back 4 seconds (big_bytes 8 micros) fits
 
-micros-back : (seconds micros : ℕ) → micros < 2 ^ 32 → long_value timestamp_length (low_half micros_field) (Some (stamp_content seconds micros)) ≡ micros
+micros-back : (seconds micros : ℕ) → micros < 2 ^ 32 →
+    long_value timestamp_length (low_half micros_field) (Some (stamp_content seconds micros))
+    ≡ micros
 micros-back seconds micros fits = big_number-reads_back 4 micros [] fits
 
 payload-back : (payload : List ℕ) → unwrap_or (payload_content payload) [] ≡ payload
 payload-back [] = refl
 payload-back (x ∷ payload) = refl
 
-cut-back : (shown : ℕ) (cut : Option ℕ) → IfSome cut (λ n. (shown < n) × (n < 2 ^ 32)) → above shown (long_value value_length value_field (option_map value_content cut)) ≡ cut
+cut-back : (shown : ℕ) (cut : Option ℕ) → IfSome cut (λ n. (shown < n) × (n < 2 ^ 32)) →
+    above shown (long_value value_length value_field (option_map value_content cut)) ≡ cut
 cut-back shown None fits = rw (le-ltb shown 0 (omega arith)) refl
 cut-back shown (Some n) fits =
     let back = big_number-reads_back 4 n [] fits.1 in
@@ -190,42 +221,88 @@ cut-back shown (Some n) fits =
 -- ---- the whole row
 
 made_told : ℕ → ℕ → ℕ → ℕ → Option (List ℕ) → ℕ → ℕ → Option ℕ → List ℕ → Told
-made_told queue id protocol mark source seconds micros cut payload = record { queue = queue; id = id; protocol = protocol; mark = mark; source = source; seconds = seconds; micros = micros; cut_from = cut; payload = payload }
+made_told queue id protocol mark source seconds micros cut payload =
+    record {
+      queue = queue;
+      id = id;
+      protocol = protocol;
+      mark = mark;
+      source = source;
+      seconds = seconds;
+      micros = micros;
+      cut_from = cut;
+      payload = payload;
+    }
 
 pub told_in-back : (told : Told) → FitsTold told → told_in told.queue (notice_parts told) ≡ told
 unfolding told_in made_told
 told_in-back told fits =
-    let id : value_at packet_header_kind packet_header_length packet_id_field (notice_parts told) ≡ told.id = ap (long_value packet_header_length packet_id_field) (header-there told) ∙ id-back told.id told.protocol fits.id_fits in
+    let id : value_at packet_header_kind packet_header_length packet_id_field (notice_parts told)
+    ≡ told.id =
+    ap (long_value packet_header_length packet_id_field) (header-there told)
+    ∙ id-back told.id told.protocol fits.id_fits in
     let protocol : protocol_at (notice_parts told) ≡ told.protocol =
-    ap (λ (o : Option (List ℕ)). nearest_protocol (unwrap_or (option_map (value_in packet_protocol_field) (at_least packet_header_length o)) 0)) (header-there told) ∙ protocol-back told.id told.protocol fits.protocol_fits in
-    let mark : value_at mark_kind value_length value_field (notice_parts told) ≡ told.mark = ap (long_value value_length value_field) (mark-there told) ∙ mark-back told.mark fits.mark_fits in
+    ap (λ (o : Option (List ℕ)). nearest_protocol
+    (unwrap_or (option_map (value_in packet_protocol_field) (at_least packet_header_length o))
+    0)) (header-there told) ∙ protocol-back told.id told.protocol fits.protocol_fits in
+    let mark : value_at mark_kind value_length value_field (notice_parts told) ≡ told.mark =
+    ap (long_value value_length value_field) (mark-there told)
+    ∙ mark-back told.mark fits.mark_fits in
     let source : source_at (notice_parts told) ≡ told.source =
-    ap (λ (o : Option (List ℕ)). option_map (bytes_in address_field) (at_least packet_address_length o)) (address-there told) ∙ address-back told.source fits.source_fits in
-    let seconds : value_at timestamp_kind timestamp_length (low_half seconds_field) (notice_parts told) ≡ told.seconds = ap (long_value timestamp_length (low_half seconds_field)) (stamp-there told) ∙ seconds-back told.seconds told.micros fits.seconds_fit in
-    let micros : value_at timestamp_kind timestamp_length (low_half micros_field) (notice_parts told) ≡ told.micros = ap (long_value timestamp_length (low_half micros_field)) (stamp-there told) ∙ micros-back told.seconds told.micros fits.micros_fit in
-    let payload : payload_at (notice_parts told) ≡ told.payload = ap (λ (o : Option (List ℕ)). unwrap_or o []) (payload-there told) ∙ payload-back told.payload in
+    ap (λ (o : Option (List ℕ)). option_map (bytes_in address_field)
+    (at_least packet_address_length o)) (address-there told)
+    ∙ address-back told.source fits.source_fits in
+    let seconds : value_at timestamp_kind timestamp_length (low_half seconds_field)
+    (notice_parts told) ≡ told.seconds =
+    ap (long_value timestamp_length (low_half seconds_field)) (stamp-there told)
+    ∙ seconds-back told.seconds told.micros fits.seconds_fit in
+    let micros : value_at timestamp_kind timestamp_length (low_half micros_field)
+    (notice_parts told) ≡ told.micros =
+    ap (long_value timestamp_length (low_half micros_field)) (stamp-there told)
+    ∙ micros-back told.seconds told.micros fits.micros_fit in
+    let payload : payload_at (notice_parts told) ≡ told.payload =
+    ap (λ (o : Option (List ℕ)). unwrap_or o []) (payload-there told)
+    ∙ payload-back told.payload in
     let cut : cut_at (notice_parts told) ≡ told.cut_from =
-    ap₂ (λ (xs : List ℕ) (o : Option (List ℕ)). above (length xs) (long_value value_length value_field o)) payload (cut-there told) ∙ cut-back (length told.payload) told.cut_from fits.cut_fits in
-    ap (λ (x : ℕ). made_told told.queue x (protocol_at (notice_parts told)) (value_at mark_kind value_length value_field (notice_parts told)) (source_at (notice_parts told)) (value_at timestamp_kind timestamp_length (low_half seconds_field) (notice_parts told)) (value_at timestamp_kind timestamp_length (low_half micros_field) (notice_parts told)) (cut_at (notice_parts told)) (payload_at (notice_parts told))) id
-    ∙ ap₂ (λ (x y : ℕ). made_told told.queue told.id x y (source_at (notice_parts told)) (value_at timestamp_kind timestamp_length (low_half seconds_field) (notice_parts told)) (value_at timestamp_kind timestamp_length (low_half micros_field) (notice_parts told)) (cut_at (notice_parts told)) (payload_at (notice_parts told))) protocol mark
-    ∙ ap₂ (λ (x : Option (List ℕ)) (y : ℕ). made_told told.queue told.id told.protocol told.mark x y (value_at timestamp_kind timestamp_length (low_half micros_field) (notice_parts told)) (cut_at (notice_parts told)) (payload_at (notice_parts told))) source seconds
-    ∙ ap₂ (λ (x : ℕ) (y : Option ℕ). made_told told.queue told.id told.protocol told.mark told.source told.seconds x y (payload_at (notice_parts told))) micros cut
-    ∙ ap (λ (x : List ℕ). made_told told.queue told.id told.protocol told.mark told.source told.seconds told.micros told.cut_from x) payload
+    ap₂ (λ (xs : List ℕ) (o : Option (List ℕ)). above (length xs)
+    (long_value value_length value_field o)) payload (cut-there told)
+    ∙ cut-back (length told.payload) told.cut_from fits.cut_fits in
+    ap (λ (x : ℕ). made_told told.queue x (protocol_at (notice_parts told))
+    (value_at mark_kind value_length value_field (notice_parts told))
+    (source_at (notice_parts told))
+    (value_at timestamp_kind timestamp_length (low_half seconds_field) (notice_parts told))
+    (value_at timestamp_kind timestamp_length (low_half micros_field) (notice_parts told))
+    (cut_at (notice_parts told)) (payload_at (notice_parts told))) id
+    ∙ ap₂ (λ (x y : ℕ). made_told told.queue told.id x y (source_at (notice_parts told))
+    (value_at timestamp_kind timestamp_length (low_half seconds_field) (notice_parts told))
+    (value_at timestamp_kind timestamp_length (low_half micros_field) (notice_parts told))
+    (cut_at (notice_parts told)) (payload_at (notice_parts told))) protocol mark
+    ∙ ap₂ (λ (x : Option (List ℕ)) (y : ℕ). made_told told.queue told.id told.protocol told.mark x y
+    (value_at timestamp_kind timestamp_length (low_half micros_field) (notice_parts told))
+    (cut_at (notice_parts told)) (payload_at (notice_parts told))) source seconds
+    ∙ ap₂ (λ (x : ℕ) (y : Option ℕ). made_told told.queue told.id told.protocol told.mark
+    told.source told.seconds x y (payload_at (notice_parts told))) micros cut
+    ∙ ap (λ (x : List ℕ). made_told told.queue told.id told.protocol told.mark told.source
+    told.seconds told.micros told.cut_from x) payload
 
 pub parts-fit : (told : Told) → FitsTold told → AllFit (notice_parts told)
 parts-fit told fits =
     let header : List ℕ = packet_head_content told.id told.protocol in
     let a : RowFits (part packet_header_kind (Some header)) =
-        record { all = fit-part packet_header_kind (Some header) (omega arith) (omega arith) } in
-    let b = one-more input_device_kind _ (Some (value_content input_device)) (omega arith) a (omega arith) in
-    let d = one-more output_device_kind _ (Some (value_content output_device)) (omega arith) b (omega arith) in
+    record { all = fit-part packet_header_kind (Some header) (omega arith) (omega arith) } in
+    let b = one-more input_device_kind _ (Some (value_content input_device)) (omega arith) a
+    (omega arith) in
+    let d = one-more output_device_kind _ (Some (value_content output_device)) (omega arith) b
+    (omega arith) in
     let e = one-more mark_kind _ (mark_content told.mark) (omega arith) d (fits-mark told.mark) in
     let address = fits-address told.source fits.source_fits in
-    let f = one-more hardware_address_kind _ (option_map address_content told.source) (omega arith) e address in
+    let f = one-more hardware_address_kind _ (option_map address_content told.source) (omega arith)
+    e address in
     let stamp : List ℕ = stamp_content told.seconds told.micros in
     let g = one-more timestamp_kind _ (Some stamp) (omega arith) f (omega arith) in
     let cut = fits-number told.cut_from in
-    let h = one-more full_length_kind _ (option_map value_content told.cut_from) (omega arith) g cut in
+    let h = one-more full_length_kind _ (option_map value_content told.cut_from) (omega arith) g cut
+    in
     let payload = fits-payload told.payload fits.payload_fits in
     let i = one-more payload_kind _ (payload_content told.payload) (omega arith) h payload in
     i.all
@@ -238,31 +315,51 @@ notice_message told = message_with (queue_kind notice_number) 0 0 0 (notice_body
 pub notice-fits : (told : Told) → FitsTold told → FitsHeader (notice_message told)
 notice-fits told fits =
     let short = notice_body-short told fits in
-    record { kind = omega arith; flags = omega arith; sequence = omega arith; port = omega arith; length = omega arith }
+    record {
+      kind = omega arith;
+      flags = omega arith;
+      sequence = omega arith;
+      port = omega arith;
+      length = omega arith;
+    }
 
-message-back : Walks → (told : Told) (used : ℕ) → FitsTold told → told_by_message (notice_message told, used) ≡ Some told
+message-back : Walks → (told : Told) (used : ℕ) → FitsTold told →
+    told_by_message (notice_message told, used) ≡ Some told
 message-back walks told used fits =
     let row : List Attribute = notice_parts told in
-    let long : nat_lt (length (notice_body told)) queue_header_length ≡ false = le-ltb (length (notice_body told)) queue_header_length (omega arith) in
-    let queue : queue_in (notice_body told) ≡ told.queue = big_number-reads_back 2 told.queue (attributes_text row) fits.queue_fits in
+    let long : nat_lt (length (notice_body told)) queue_header_length ≡ false =
+    le-ltb (length (notice_body told)) queue_header_length (omega arith) in
+    let queue : queue_in (notice_body told) ≡ told.queue =
+    big_number-reads_back 2 told.queue (attributes_text row) fits.queue_fits in
     let walked : row_in (notice_body told) ≡ row = walks row (parts-fit told fits) in
-    rw long (ap₂ (λ (q : ℕ) (r : List Attribute). Some (told_in q r)) queue walked ∙ ap (λ (t : Told). Some t) (told_in-back told fits))
+    rw long (ap₂ (λ (q : ℕ) (r : List Attribute). Some (told_in q r)) queue walked
+    ∙ ap (λ (t : Told). Some t) (told_in-back told fits))
 
 -- reading has the message in front, as the codec's law says
 abbrev pub Fronts : Type 0
 Fronts = (body behind : List ℕ) → FitsHeader (message_with (queue_kind notice_number) 0 0 0 body)
-    → first_message (message_text (queue_kind notice_number) 0 0 0 body ++ behind) ≡ Some (message_with (queue_kind notice_number) 0 0 0 body, min (pad (length (message_text (queue_kind notice_number) 0 0 0 body))) (length (message_text (queue_kind notice_number) 0 0 0 body ++ behind)))
+    → first_message (message_text (queue_kind notice_number) 0 0 0 body ++ behind)
+    ≡ Some (
+      message_with (queue_kind notice_number) 0 0 0 body,
+      min (pad (length (message_text (queue_kind notice_number) 0 0 0 body)))
+          (length (message_text (queue_kind notice_number) 0 0 0 body ++ behind)),
+    )
 
-pub told_by-back : Walks → Fronts → (told : Told) → FitsTold told → told_by (notice_text told) ≡ Some told
+pub told_by-back : Walks → Fronts → (told : Told) → FitsTold told →
+    told_by (notice_text told) ≡ Some told
 unfolding told_by notice_text
 told_by-back walks fronts told fits =
     let text : List ℕ = message_text (queue_kind notice_number) 0 0 0 (notice_body told) in
     let read = fronts (notice_body told) [] (notice-fits told fits) in
-    ap told_by (sym (append-nil text)) ∙ ap (option_and_then told_by_message) read ∙ message-back walks told (min (pad (length text)) (length (text ++ []))) fits
+    ap told_by (sym (append-nil text)) ∙ ap (option_and_then told_by_message) read
+    ∙ message-back walks told (min (pad (length text)) (length (text ++ []))) fits
 
-pub one_value : Walks → Fronts → (told other : Told) → FitsTold told → FitsTold other → notice_text told ≡ notice_text other → told ≡ other
+pub one_value : Walks → Fronts → (told other : Told) → FitsTold told → FitsTold other →
+    notice_text told ≡ notice_text other → told ≡ other
 one_value walks fronts told other fits others same =
-    let both = sym (told_by-back walks fronts told fits) ∙ ap told_by same ∙ told_by-back walks fronts other others in cc
+    let both =
+    sym (told_by-back walks fronts told fits) ∙ ap told_by same
+    ∙ told_by-back walks fronts other others in cc
 
 abbrev framed : NetlinkMessage × ℕ → Option (NetlinkMessage × ℕ)
 framed front = Some front
@@ -285,5 +382,6 @@ pub no_prefix : Fronts → (told other : Told) (behind : List ℕ) → FitsTold 
 no_prefix fronts told other behind fits others longer =
     let text : List ℕ = notice_text told in
     let whole : List ℕ = notice_text other in
-    let same : text ≡ whole = apart fronts told other behind [] fits others (sym longer ∙ sym (append-nil whole)) in
+    let same : text ≡ whole =
+    apart fronts told other behind [] fits others (sym longer ∙ sym (append-nil whole)) in
     append_cancel_left text behind [] (sym longer ∙ sym same ∙ sym (append-nil text))

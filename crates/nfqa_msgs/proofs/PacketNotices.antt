@@ -10,7 +10,8 @@ use Rattle.packet_entry.specs.Numbers.{tagged_header_length}
 use Rattle.packet_entry.specs.Fields.{IsLinkLength}
 use Rattle.nfqa_msgs.specs.Numbers.{longest_range, copy_packet, hardware_address_length}
 use Rattle.nfqa_msgs.specs.Numbers.{source_address_at}
-use Rattle.nfqa_msgs.specs.NoticeWriting.{Told, FitsTold, IsNoticed, IsPacketNotice, told_of, source_in}
+use Rattle.nfqa_msgs.specs.NoticeWriting.{Told, FitsTold, IsNoticed, IsPacketNotice, told_of}
+use Rattle.nfqa_msgs.specs.NoticeWriting.{source_in}
 use Rattle.nfqa_msgs.proofs.NoticesBack.{Fronts, apart}
 
 -- a link header that isn't empty has room for two addresses
@@ -35,12 +36,16 @@ source-fits [] known = tt
 source-fits (x ∷ link) known =
     let all : List ℕ = x ∷ link in
     let long : 12 ≤ length all = long-link (length all) known (λ e. omega arith) in
-    omega (arith, length-take hardware_address_length (drop source_address_at all), length-drop source_address_at all)
+    omega (
+      arith,
+      length-take hardware_address_length (drop source_address_at all),
+      length-drop source_address_at all,
+    )
 
 cut-by : (tells above : Bool) (range : ℕ) (bytes : List ℕ) → above ≡ nat_lt range (length bytes)
     → length bytes ≤ longest_packet
     → IfSome (if tells && above then Some (length bytes) else None)
-        (λ n. (length (if tells then take range bytes else []) < n) × (n < 2 ^ 32))
+    (λ n. (length (if tells then take range bytes else []) < n) × (n < 2 ^ 32))
 cut-by true true range bytes is short =
     let above = ltb-true range (length bytes) (sym is) in
     (omega (arith, length-take range bytes), omega arith)
@@ -62,7 +67,9 @@ told-fits queue mode range id card fits = record {
   source_fits = source-fits card.link fits.card_fits.link;
   seconds_fit = fits.seconds_fit;
   micros_fit = fits.micros_fit;
-  cut_fits = cut-by (mode == copy_packet) (nat_lt range (length card.bytes)) range card.bytes refl fits.card_fits.bytes;
+  cut_fits =
+      cut-by (mode == copy_packet) (nat_lt range (length card.bytes)) range card.bytes refl
+      fits.card_fits.bytes;
   payload_fits = shown-by (mode == copy_packet) range card.bytes fits.range_fits;
 }
 
@@ -71,8 +78,10 @@ pub packets-apart : Fronts → (text other behind rest : List ℕ) → IsPacketN
 packets-apart fronts text other behind rest n m same =
     let a : Told = told_of n.queue n.mode n.range n.id n.card in
     let b : Told = told_of m.queue m.mode m.range m.id m.card in
-    let start = ap (λ (xs : List ℕ). xs ++ behind) (sym n.is) ∙ same ∙ ap (λ (xs : List ℕ). xs ++ rest) m.is in
+    let start =
+    ap (λ (xs : List ℕ). xs ++ behind) (sym n.is) ∙ same
+    ∙ ap (λ (xs : List ℕ). xs ++ rest) m.is in
     n.is
     ∙ apart fronts a b behind rest (told-fits n.queue n.mode n.range n.id n.card n.noticed)
-        (told-fits m.queue m.mode m.range m.id m.card m.noticed) start
+    (told-fits m.queue m.mode m.range m.id m.card m.noticed) start
     ∙ sym m.is

@@ -1,5 +1,6 @@
 -- A spelling is decoded to its request.
-use Rattle.std.proofs.Common.{◌≡◌, ℕ, ◌^◌, ◌<◌, ◌≤◌, Bool, true, false, ◌||◌, List, [], ◌∷◌, ◌++◌, length, Option, Some, None, refl, sym, ap, ap₂, ◌∙◌, arith}
+use Rattle.std.proofs.Common.{◌≡◌, ℕ, ◌^◌, ◌<◌, ◌≤◌, Bool, true, false, ◌||◌, List, [], ◌∷◌, ◌++◌}
+use Rattle.std.proofs.Common.{length, Option, Some, None, refl, sym, ap, ap₂, ◌∙◌, arith}
 use Rattle.std.specs.Prelude.{IfSome, option_map, nat_eq, nat_lt, if◌then◌else◌, not, bit_and, ◌==◌}
 use Rattle.std.specs.List.{list_any}
 use Rattle.std.proofs.lemmas.Bool.{le-ltb}
@@ -8,17 +9,28 @@ use Rattle.byteorder.specs.Endian.{big_bytes}
 use Rattle.byteorder.specs.Numbers.{big_number-reads_back}
 use Rattle.packet_entry.specs.Numbers.{longest_payload}
 use Rattle.netlink_codec.specs.Messages.{NetlinkMessage, FitsHeader, pad}
-use Rattle.netlink_codec.specs.Attributes.{Attribute, AllFit, attributes, attributes_text, kind_limit}
+use Rattle.netlink_codec.specs.Attributes.{Attribute, AllFit, attributes, attributes_text}
+use Rattle.netlink_codec.specs.Attributes.{kind_limit}
 use Rattle.nfqa_msgs.specs.declared.request.Head.{Head}
 use Rattle.nfqa_msgs.specs.declared.request.Params.{Params}
 use Rattle.nfqa_msgs.specs.declared.request.Request.{Request}
 use Rattle.nfqa_msgs.specs.declared.request.Request.TheVariants.{Config, Verdict, Batch}
 use Rattle.nfqa_msgs.specs.declared.request.Decoded.TheVariants.{Asked}
 use Rattle.nfqa_msgs.specs.Kinds.{queue_kind, subsystem_of, number_of}
-use Rattle.nfqa_msgs.specs.Numbers.{request_flag, least_kind, queue_subsystem, queue_header_length, config_number, verdict_number, batch_number, command_kind, params_kind, maxlen_kind, mask_kind, flags_kind, verdict_header_kind, mark_kind, payload_kind, command_length, params_length, verdict_header_length, value_length}
-use Rattle.nfqa_msgs.specs.Headers.{queue_header, value_in, value_field, value_content, command_in, params_in, head_in, queue_in, command_content, params_content, head_content}
-use Rattle.nfqa_msgs.specs.RequestReading.{is_short, least_content, later, last_content, config_in, verdict_in, batch_in, request_in, row_in, decoded, PayloadFits}
-use Rattle.nfqa_msgs.specs.RequestWriting.{part, value_part, head_part, parts_of, spelled, request_body, number_for, flags_for, FitsHead, FitsParams, FitsConfig, FitsVerdict, FitsRequest}
+use Rattle.nfqa_msgs.specs.Numbers.{request_flag, least_kind, queue_subsystem, queue_header_length}
+use Rattle.nfqa_msgs.specs.Numbers.{config_number, verdict_number, batch_number, command_kind}
+use Rattle.nfqa_msgs.specs.Numbers.{params_kind, maxlen_kind, mask_kind, flags_kind}
+use Rattle.nfqa_msgs.specs.Numbers.{verdict_header_kind, mark_kind, payload_kind, command_length}
+use Rattle.nfqa_msgs.specs.Numbers.{params_length, verdict_header_length, value_length}
+use Rattle.nfqa_msgs.specs.Headers.{queue_header, value_in, value_field, value_content, command_in}
+use Rattle.nfqa_msgs.specs.Headers.{params_in, head_in, queue_in, command_content, params_content}
+use Rattle.nfqa_msgs.specs.Headers.{head_content}
+use Rattle.nfqa_msgs.specs.RequestReading.{is_short, least_content, later, last_content, config_in}
+use Rattle.nfqa_msgs.specs.RequestReading.{verdict_in, batch_in, request_in, row_in, decoded}
+use Rattle.nfqa_msgs.specs.RequestReading.{PayloadFits}
+use Rattle.nfqa_msgs.specs.RequestWriting.{part, value_part, head_part, parts_of, spelled}
+use Rattle.nfqa_msgs.specs.RequestWriting.{request_body, number_for, flags_for, FitsHead}
+use Rattle.nfqa_msgs.specs.RequestWriting.{FitsParams, FitsConfig, FitsVerdict, FitsRequest}
 use Rattle.nfqa_msgs.proofs.Lengths.{request_body-short, padded-row}
 
 -- ---- the last content of a kind in a row of parts
@@ -31,11 +43,14 @@ later-later : (a b c : Option (List ℕ)) → later (later a b) c ≡ later a (l
 later-later None b c = refl
 later-later (Some x) b c = refl
 
-pub last_content-append : (kind : ℕ) (xs ys : List Attribute) → last_content kind (xs ++ ys) ≡ later (last_content kind ys) (last_content kind xs)
+pub last_content-append : (kind : ℕ) (xs ys : List Attribute) →
+    last_content kind (xs ++ ys) ≡ later (last_content kind ys) (last_content kind xs)
 last_content-append kind [] ys = sym (later-nothing (last_content kind ys))
 last_content-append kind (x ∷ xs) ys =
-    ap (λ (o : Option (List ℕ)). later o (if nat_eq x.kind kind then Some x.content else None)) (last_content-append kind xs ys)
-    ∙ later-later (last_content kind ys) (last_content kind xs) (if nat_eq x.kind kind then Some x.content else None)
+    ap (λ (o : Option (List ℕ)). later o (if nat_eq x.kind kind then Some x.content else None))
+    (last_content-append kind xs ys)
+    ∙ later-later (last_content kind ys) (last_content kind xs)
+    (if nat_eq x.kind kind then Some x.content else None)
 
 abbrev nothing : Option (List ℕ)
 nothing = None
@@ -44,15 +59,19 @@ if-none : (b : Bool) → (if b then nothing else nothing) ≡ nothing
 if-none true = refl
 if-none false = refl
 
-pub last_content-part : (kind k : ℕ) (content : Option (List ℕ)) → last_content kind (part k content) ≡ (if nat_eq k kind then content else None)
+pub last_content-part : (kind k : ℕ) (content : Option (List ℕ)) →
+    last_content kind (part k content) ≡ (if nat_eq k kind then content else None)
 last_content-part kind k None = sym (if-none (nat_eq k kind))
 last_content-part kind k (Some content) = refl
 
 -- ---- no part is short
 
-pub part-long : (number kind : ℕ) (content : Option (List ℕ)) → IfSome content (λ bytes. least_content number kind ≤ length bytes) → list_any (is_short number) (part kind content) ≡ false
+pub part-long : (number kind : ℕ) (content : Option (List ℕ)) →
+    IfSome content (λ bytes. least_content number kind ≤ length bytes) →
+    list_any (is_short number) (part kind content) ≡ false
 part-long number kind None long = refl
-part-long number kind (Some content) long = rw (le-ltb (length content) (least_content number kind) long) refl
+part-long number kind (Some content) long =
+    rw (le-ltb (length content) (least_content number kind) long) refl
 
 -- ---- each part fits an attribute
 
@@ -60,29 +79,39 @@ pub fit-append : (xs ys : List Attribute) → AllFit xs → AllFit ys → AllFit
 fit-append [] ys fits others = others
 fit-append (x ∷ xs) ys fits others = (fits.0, fit-append xs ys fits.1 others)
 
-pub fit-part : (kind : ℕ) (content : Option (List ℕ)) → kind < kind_limit → IfSome content (λ bytes. length bytes ≤ longest_payload) → AllFit (part kind content)
+pub fit-part : (kind : ℕ) (content : Option (List ℕ)) → kind < kind_limit →
+    IfSome content (λ bytes. length bytes ≤ longest_payload) → AllFit (part kind content)
 fit-part kind None small short = tt
 fit-part kind (Some content) small short = (record { kind = small; content = short }, tt)
 
 -- ---- what a content says is what was put into it
 
-pub said_back : {A : Type 0} (put : A → List ℕ) (say : List ℕ → A) (Fits : A → Type 0) → ((x : A) → Fits x → say (put x) ≡ x) → (o : Option A) → IfSome o Fits → option_map say (option_map put o) ≡ o
+pub said_back : {A : Type 0} (put : A → List ℕ) (say : List ℕ → A) (Fits : A → Type 0) →
+    ((x : A) → Fits x → say (put x) ≡ x) → (o : Option A) → IfSome o Fits →
+    option_map say (option_map put o) ≡ o
 said_back put say Fits back None fits = refl
 said_back put say Fits back (Some x) fits = ap Some (back x fits)
 
-pub IfSome-put : {A : Type 0} (put : A → List ℕ) (P : List ℕ → Type 0) → ((x : A) → P (put x)) → (o : Option A) → IfSome (option_map put o) P
+pub IfSome-put : {A : Type 0} (put : A → List ℕ) (P : List ℕ → Type 0) → ((x : A) → P (put x)) →
+    (o : Option A) → IfSome (option_map put o) P
 IfSome-put put P each None = tt
 IfSome-put put P each (Some x) = each x
 
-pub number-back : (o : Option ℕ) → IfSome o (λ n. n < 2 ^ 32) → option_map (value_in value_field) (option_map value_content o) ≡ o
-number-back = said_back value_content (value_in value_field) (λ n. n < 2 ^ 32) (λ n fits. big_number-reads_back 4 n [] fits)
+pub number-back : (o : Option ℕ) → IfSome o (λ n. n < 2 ^ 32) →
+    option_map (value_in value_field) (option_map value_content o) ≡ o
+number-back =
+    said_back value_content (value_in value_field) (λ n. n < 2 ^ 32)
+    (λ n fits. big_number-reads_back 4 n [] fits)
 
 -- ---- the lines, for a message that is asked
 
 pub decoded-asked : (m : NetlinkMessage) (number queue : ℕ) (row : List Attribute)
-    → (bit_and m.flags request_flag == 0) ≡ false → nat_lt m.kind least_kind ≡ false → nat_lt (length m.body) queue_header_length ≡ false
-    → (not (subsystem_of m.kind == queue_subsystem) || nat_lt batch_number (number_of m.kind)) ≡ false
-    → number_of m.kind ≡ number → (number == 0) ≡ false → queue_in m.body ≡ queue → row_in m.body ≡ row → list_any (is_short number) row ≡ false
+    → (bit_and m.flags request_flag == 0) ≡ false → nat_lt m.kind least_kind ≡ false →
+    nat_lt (length m.body) queue_header_length ≡ false
+    → (not (subsystem_of m.kind == queue_subsystem) || nat_lt batch_number (number_of m.kind))
+    ≡ false
+    → number_of m.kind ≡ number → (number == 0) ≡ false → queue_in m.body ≡ queue →
+    row_in m.body ≡ row → list_any (is_short number) row ≡ false
     → decoded m ≡ Asked (request_in number queue row)
 unfolding decoded
 decoded-asked m number queue row flag kind body known is some queue-is row-is long =
@@ -95,38 +124,64 @@ Walks = (row : List Attribute) → AllFit row → attributes (attributes_text ro
 -- ---- each request
 
 -- a row of parts has no short one, where neither front nor last part is short
-long-append : (number : ℕ) (xs ys : List Attribute) → list_any (is_short number) xs ≡ false → list_any (is_short number) ys ≡ false → list_any (is_short number) (xs ++ ys) ≡ false
+long-append : (number : ℕ) (xs ys : List Attribute) → list_any (is_short number) xs ≡ false →
+    list_any (is_short number) ys ≡ false → list_any (is_short number) (xs ++ ys) ≡ false
 long-append number xs ys a b = list_any-append (is_short number) xs ys ∙ rw (a, b) refl
 
 record Reads (number : ℕ) (row : List Attribute) : Type 0 where
   fits : AllFit row
   long : list_any (is_short number) row ≡ false
 
-part-reads : (number kind : ℕ) (content : Option (List ℕ)) → kind < kind_limit → IfSome content (λ bytes. length bytes ≤ longest_payload) → IfSome content (λ bytes. least_content number kind ≤ length bytes) → Reads number (part kind content)
-part-reads number kind content small short long = record { fits = fit-part kind content small short; long = part-long number kind content long }
+part-reads : (number kind : ℕ) (content : Option (List ℕ)) → kind < kind_limit →
+    IfSome content (λ bytes. length bytes ≤ longest_payload) →
+    IfSome content (λ bytes. least_content number kind ≤ length bytes) →
+    Reads number (part kind content)
+part-reads number kind content small short long =
+    record { fits = fit-part kind content small short; long = part-long number kind content long }
 
-both-read : (number : ℕ) (xs ys : List Attribute) → Reads number xs → Reads number ys → Reads number (xs ++ ys)
-both-read number xs ys a b = record { fits = fit-append xs ys a.fits b.fits; long = long-append number xs ys a.long b.long }
+both-read : (number : ℕ) (xs ys : List Attribute) → Reads number xs → Reads number ys →
+    Reads number (xs ++ ys)
+both-read number xs ys a b =
+    record { fits = fit-append xs ys a.fits b.fits; long = long-append number xs ys a.long b.long }
 
-command-part : (command : Option ℕ) → Reads config_number (part command_kind (option_map command_content command))
-command-part command = part-reads config_number command_kind (option_map command_content command) (omega arith)
-    (IfSome-put command_content (λ bytes. length bytes ≤ longest_payload) (λ x. omega arith) command) (IfSome-put command_content (λ bytes. command_length ≤ length bytes) (λ x. omega arith) command)
+command-part : (command : Option ℕ) →
+    Reads config_number (part command_kind (option_map command_content command))
+command-part command =
+    part-reads config_number command_kind (option_map command_content command) (omega arith)
+    (IfSome-put command_content (λ bytes. length bytes ≤ longest_payload) (λ x. omega arith)
+    command) (IfSome-put command_content (λ bytes. command_length ≤ length bytes)
+    (λ x. omega arith) command)
 
-params-part : (params : Option Params) → Reads config_number (part params_kind (option_map params_content params))
-params-part params = part-reads config_number params_kind (option_map params_content params) (omega arith)
-    (IfSome-put params_content (λ bytes. length bytes ≤ longest_payload) (λ x. omega arith) params) (IfSome-put params_content (λ bytes. params_length ≤ length bytes) (λ x. omega arith) params)
+params-part : (params : Option Params) →
+    Reads config_number (part params_kind (option_map params_content params))
+params-part params =
+    part-reads config_number params_kind (option_map params_content params) (omega arith)
+    (IfSome-put params_content (λ bytes. length bytes ≤ longest_payload) (λ x. omega arith) params)
+    (IfSome-put params_content (λ bytes. params_length ≤ length bytes) (λ x. omega arith)
+    params)
 
-number-part : (number kind : ℕ) (value : Option ℕ) → kind < kind_limit → least_content number kind ≤ value_length → Reads number (value_part kind value)
-number-part number kind value small need = part-reads number kind (option_map value_content value) small
-    (IfSome-put value_content (λ bytes. length bytes ≤ longest_payload) (λ x. omega arith) value) (IfSome-put value_content (λ bytes. least_content number kind ≤ length bytes) (λ x. need) value)
+number-part : (number kind : ℕ) (value : Option ℕ) → kind < kind_limit →
+    least_content number kind ≤ value_length → Reads number (value_part kind value)
+number-part number kind value small need =
+    part-reads number kind (option_map value_content value) small
+    (IfSome-put value_content (λ bytes. length bytes ≤ longest_payload) (λ x. omega arith) value)
+    (IfSome-put value_content (λ bytes. least_content number kind ≤ length bytes) (λ x. need)
+    value)
 
-head-reads : (number : ℕ) (head : Option Head) → least_content number verdict_header_kind ≤ verdict_header_length → Reads number (head_part head)
-head-reads number head need = part-reads number verdict_header_kind (option_map head_content head) (omega arith)
-    (IfSome-put head_content (λ bytes. length bytes ≤ longest_payload) (λ x. omega arith) head) (IfSome-put head_content (λ bytes. least_content number verdict_header_kind ≤ length bytes) (λ x. need) head)
+head-reads : (number : ℕ) (head : Option Head) →
+    least_content number verdict_header_kind ≤ verdict_header_length → Reads number (head_part head)
+head-reads number head need =
+    part-reads number verdict_header_kind (option_map head_content head) (omega arith)
+    (IfSome-put head_content (λ bytes. length bytes ≤ longest_payload) (λ x. omega arith) head)
+    (IfSome-put head_content (λ bytes. least_content number verdict_header_kind ≤ length bytes)
+    (λ x. need) head)
 
-payload-part : (payload : Option (List ℕ)) → IfSome payload (λ bytes. length bytes ≤ longest_payload) → Reads verdict_number (part payload_kind payload)
+payload-part : (payload : Option (List ℕ)) →
+    IfSome payload (λ bytes. length bytes ≤ longest_payload) →
+    Reads verdict_number (part payload_kind payload)
 payload-part None short = record { fits = tt; long = refl }
-payload-part (Some bytes) short = part-reads verdict_number payload_kind (Some bytes) (omega arith) short (omega arith)
+payload-part (Some bytes) short =
+    part-reads verdict_number payload_kind (Some bytes) (omega arith) short (omega arith)
 
 abbrev made_params : ℕ → ℕ → Params
 made_params range mode = record { range = range; mode = mode }
@@ -138,69 +193,107 @@ command-back : (o : Option ℕ) → option_map command_in (option_map command_co
 command-back None = refl
 command-back (Some x) = refl
 
-params-back : (o : Option Params) → IfSome o FitsParams → option_map params_in (option_map params_content o) ≡ o
+params-back : (o : Option Params) → IfSome o FitsParams →
+    option_map params_in (option_map params_content o) ≡ o
 params-back None fits = refl
-params-back (Some x) fits = let range = big_number-reads_back 4 x.range (x.mode ∷ []) fits.range in ap (λ (n : ℕ). Some (made_params n x.mode)) range
+params-back (Some x) fits =
+    let range =
+    big_number-reads_back 4 x.range (x.mode ∷ []) fits.range in
+    ap (λ (n : ℕ). Some (made_params n x.mode)) range
 
-head-back : (o : Option Head) → IfSome o FitsHead → option_map head_in (option_map head_content o) ≡ o
+head-back : (o : Option Head) → IfSome o FitsHead →
+    option_map head_in (option_map head_content o) ≡ o
 head-back None fits = refl
 head-back (Some x) fits =
     let verdict = big_number-reads_back 4 x.verdict (big_bytes 4 x.id) fits.verdict in
     let id = big_number-reads_back 4 x.id [] fits.id in
     ap₂ (λ (n m : ℕ). Some (made_head n m)) verdict id
 
-config-reads : (command : Option ℕ) (params : Option Params) (maxlen flags mask : Option ℕ) (queue : ℕ) → Reads config_number (parts_of (Config queue command params maxlen flags mask))
+config-reads : (command : Option ℕ) (params : Option Params) (maxlen flags mask : Option ℕ)
+    (queue : ℕ) → Reads config_number (parts_of (Config queue command params maxlen flags mask))
 config-reads command params maxlen flags mask queue =
-    both-read config_number _ _ (both-read config_number _ _ (both-read config_number _ _ (both-read config_number _ _ (command-part command) (params-part params))
-    (number-part config_number maxlen_kind maxlen (omega arith) (omega arith))) (number-part config_number mask_kind mask (omega arith) (omega arith))) (number-part config_number flags_kind flags (omega arith) (omega arith))
+    both-read config_number _ _ (both-read config_number _ _
+    (both-read config_number _ _ (both-read config_number _ _ (command-part command)
+    (params-part params))
+    (number-part config_number maxlen_kind maxlen (omega arith) (omega arith)))
+    (number-part config_number mask_kind mask (omega arith) (omega arith)))
+    (number-part config_number flags_kind flags (omega arith) (omega arith))
 
-config-back : (queue : ℕ) (command : Option ℕ) (params : Option Params) (maxlen flags mask : Option ℕ) → FitsConfig queue command params maxlen flags mask
-    → config_in queue (parts_of (Config queue command params maxlen flags mask)) ≡ Config queue command params maxlen flags mask
+config-back : (queue : ℕ) (command : Option ℕ) (params : Option Params)
+    (maxlen flags mask : Option ℕ) → FitsConfig queue command params maxlen flags mask
+    → config_in queue (parts_of (Config queue command params maxlen flags mask))
+    ≡ Config queue command params maxlen flags mask
 config-back queue command params maxlen flags mask fits =
     simp (last_content-append, last_content-part, later-nothing, command-back)
-    (rw (params-back params fits.params_fit, number-back maxlen fits.maxlen_fits, number-back flags fits.flags_fit, number-back mask fits.mask_fits) refl)
+    (rw (
+      params-back params fits.params_fit,
+      number-back maxlen fits.maxlen_fits,
+      number-back flags fits.flags_fit,
+      number-back mask fits.mask_fits,
+    ) refl)
 
-verdict-reads : (queue : ℕ) (head : Option Head) (mark : Option ℕ) (payload : Option (List ℕ)) → FitsVerdict queue head mark payload → Reads verdict_number (parts_of (Verdict queue head mark payload))
+verdict-reads : (queue : ℕ) (head : Option Head) (mark : Option ℕ) (payload : Option (List ℕ)) →
+    FitsVerdict queue head mark payload →
+    Reads verdict_number (parts_of (Verdict queue head mark payload))
 verdict-reads queue head mark payload fits =
-    both-read verdict_number _ _ (both-read verdict_number _ _ (head-reads verdict_number head (omega arith)) (number-part verdict_number mark_kind mark (omega arith) (omega arith))) (payload-part payload fits.payload_fits)
+    both-read verdict_number _ _ (both-read verdict_number _ _
+    (head-reads verdict_number head (omega arith))
+    (number-part verdict_number mark_kind mark (omega arith) (omega arith)))
+    (payload-part payload fits.payload_fits)
 
-verdict-back : (queue : ℕ) (head : Option Head) (mark : Option ℕ) (payload : Option (List ℕ)) → FitsVerdict queue head mark payload
-    → verdict_in queue (parts_of (Verdict queue head mark payload)) ≡ Verdict queue head mark payload
+verdict-back : (queue : ℕ) (head : Option Head) (mark : Option ℕ) (payload : Option (List ℕ)) →
+    FitsVerdict queue head mark payload
+    → verdict_in queue (parts_of (Verdict queue head mark payload))
+    ≡ Verdict queue head mark payload
 verdict-back queue head mark payload fits =
-    simp (last_content-append, last_content-part, later-nothing) (rw (head-back head fits.head_fits, number-back mark fits.mark_fits) refl)
+    simp (last_content-append, last_content-part, later-nothing)
+    (rw (head-back head fits.head_fits, number-back mark fits.mark_fits) refl)
 
-batch-reads : (queue : ℕ) (head : Option Head) (mark : Option ℕ) → Reads batch_number (parts_of (Batch queue head mark))
-batch-reads queue head mark = both-read batch_number _ _ (head-reads batch_number head (omega arith)) (number-part batch_number mark_kind mark (omega arith) (omega arith))
+batch-reads : (queue : ℕ) (head : Option Head) (mark : Option ℕ) →
+    Reads batch_number (parts_of (Batch queue head mark))
+batch-reads queue head mark =
+    both-read batch_number _ _ (head-reads batch_number head (omega arith))
+    (number-part batch_number mark_kind mark (omega arith) (omega arith))
 
 batch-back : (queue : ℕ) (head : Option Head) (mark : Option ℕ) → FitsVerdict queue head mark None
     → batch_in queue (parts_of (Batch queue head mark)) ≡ Batch queue head mark
 batch-back queue head mark fits =
-    simp (last_content-append, last_content-part, later-nothing) (rw (head-back head fits.head_fits, number-back mark fits.mark_fits) refl)
+    simp (last_content-append, last_content-part, later-nothing)
+    (rw (head-back head fits.head_fits, number-back mark fits.mark_fits) refl)
 
 -- a body has its queue's header
-body-long : (queue : ℕ) (row : List Attribute) → nat_lt (length (queue_header 0 queue ++ attributes_text row)) queue_header_length ≡ false
+body-long : (queue : ℕ) (row : List Attribute) →
+    nat_lt (length (queue_header 0 queue ++ attributes_text row)) queue_header_length ≡ false
 body-long queue row = le-ltb (length (queue_header 0 queue ++ attributes_text row)) 4 (omega arith)
 
-queue-back : (queue : ℕ) (row : List Attribute) → queue < 2 ^ 16 → queue_in (queue_header 0 queue ++ attributes_text row) ≡ queue
+queue-back : (queue : ℕ) (row : List Attribute) → queue < 2 ^ 16 →
+    queue_in (queue_header 0 queue ++ attributes_text row) ≡ queue
 queue-back queue row fits = big_number-reads_back 2 queue (attributes_text row) fits
 
 -- a spelling's message is decoded to its request
-pub spelled-decodes : Walks → (port call : ℕ) (request : Request) → FitsRequest request → decoded (spelled port call request) ≡ Asked request
+pub spelled-decodes : Walks → (port call : ℕ) (request : Request) → FitsRequest request →
+    decoded (spelled port call request) ≡ Asked request
 unfolding request_in
 spelled-decodes walks port call (Config queue command params maxlen flags mask) fits =
     let row = parts_of (Config queue command params maxlen flags mask) in
     let reads = config-reads command params maxlen flags mask queue in
-    decoded-asked (spelled port call (Config queue command params maxlen flags mask)) config_number queue row refl refl (body-long queue row) refl refl refl (queue-back queue row fits.queue_fits) (walks row reads.fits) reads.long
+    decoded-asked (spelled port call (Config queue command params maxlen flags mask)) config_number
+    queue row refl refl (body-long queue row) refl refl refl
+    (queue-back queue row fits.queue_fits) (walks row reads.fits) reads.long
     ∙ ap Asked (config-back queue command params maxlen flags mask fits)
 spelled-decodes walks port call (Verdict queue head mark payload) fits =
     let row = parts_of (Verdict queue head mark payload) in
     let reads = verdict-reads queue head mark payload fits in
-    decoded-asked (spelled port call (Verdict queue head mark payload)) verdict_number queue row refl refl (body-long queue row) refl refl refl (queue-back queue row fits.queue_fits) (walks row reads.fits) reads.long
+    decoded-asked (spelled port call (Verdict queue head mark payload)) verdict_number queue row
+    refl refl (body-long queue row) refl refl refl (queue-back queue row fits.queue_fits)
+    (walks row reads.fits) reads.long
     ∙ ap Asked (verdict-back queue head mark payload fits)
 spelled-decodes walks port call (Batch queue head mark) fits =
     let row = parts_of (Batch queue head mark) in
     let reads = batch-reads queue head mark in
-    decoded-asked (spelled port call (Batch queue head mark)) batch_number queue row refl refl (body-long queue row) refl refl refl (queue-back queue row fits.queue_fits) (walks row reads.fits) reads.long
+    decoded-asked (spelled port call (Batch queue head mark)) batch_number queue row refl refl
+    (body-long queue row) refl refl refl (queue-back queue row fits.queue_fits)
+    (walks row reads.fits) reads.long
     ∙ ap Asked (batch-back queue head mark fits)
 
 -- ---- a spelling's message fits its header
@@ -220,11 +313,19 @@ payload-fits (Config queue command params maxlen flags mask) fits = tt
 payload-fits (Verdict queue head mark payload) fits = fits.payload_fits
 payload-fits (Batch queue head mark) fits = tt
 
-pub spelled-fits : (port call : ℕ) (request : Request) → port < 2 ^ 32 → call < 2 ^ 32 → FitsRequest request → FitsHeader (spelled port call request)
+pub spelled-fits : (port call : ℕ) (request : Request) → port < 2 ^ 32 → call < 2 ^ 32 →
+    FitsRequest request → FitsHeader (spelled port call request)
 spelled-fits port call request p q fits =
     let short = request_body-short request (payload-fits request fits) in
-    record { kind = kind-small request; flags = flags-small request; sequence = q; port = p; length = omega arith }
+    record {
+      kind = kind-small request;
+      flags = flags-small request;
+      sequence = q;
+      port = p;
+      length = omega arith;
+    }
 
 -- a body is padded
-pub request_body-padded : (request : Request) → pad (length (request_body request)) ≡ length (request_body request)
+pub request_body-padded : (request : Request) →
+    pad (length (request_body request)) ≡ length (request_body request)
 request_body-padded request = omega (arith, padded-row (parts_of request))

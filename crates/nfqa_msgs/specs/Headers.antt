@@ -1,6 +1,7 @@
 -- The headers of queue messages and of their attributes (uapi linux/netfilter/nfnetlink.h and
--- linux/netfilter/nfnetlink_queue.h), each as one table: a field a line, with its place and its width in
--- bytes. Numbers have their highest byte first. Below each table stand its text and what is read in it.
+-- linux/netfilter/nfnetlink_queue.h), each as one table: a field a line, with its place and its
+-- width in bytes. Numbers have their highest byte first. Below each table stand its text and what
+-- is read in it.
 use Rattle.std.specs.Prelude.{ℕ, ◌+◌, List, [], ◌∷◌, ◌++◌, slice_index, take, drop, replicate}
 use Rattle.byteorder.specs.Endian.{big_bytes, big_number}
 use Rattle.nfqa_msgs.specs.declared.request.Head.{Head}
@@ -68,7 +69,8 @@ command_family_field = field 2 2
 -- the protocol family is 0, and isn't read
 abbrev pub command_content : ℕ → List ℕ
 command_content command =
-    byte_text command_field command ++ zeros_text command_pad_field ++ zeros_text command_family_field
+    byte_text command_field command ++ zeros_text command_pad_field
+    ++ zeros_text command_family_field
 
 abbrev pub command_in : List ℕ → ℕ
 command_in content = byte_in command_field content
@@ -136,7 +138,8 @@ address_filler_field = field 10 2
 
 abbrev pub address_content : List ℕ → List ℕ
 address_content source =
-    value_text address_length_field hardware_address_length ++ zeros_text address_pad_field ++ source
+    value_text address_length_field hardware_address_length ++ zeros_text address_pad_field
+    ++ source
     ++ zeros_text address_filler_field
 
 -- ---- `struct nfqnl_msg_packet_timestamp`

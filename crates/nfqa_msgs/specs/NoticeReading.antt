@@ -1,7 +1,7 @@
--- What the attributes of a message tell, read where a notice has it. A message that is no notice is read
--- as well, and then isn't the text of what is read.
-use Rattle.std.specs.Prelude.{ℕ, ◌==◌, nat_lt, if◌then◌else◌, List, [], length}
-use Rattle.std.specs.Prelude.{Option, Some, None, option_map, unwrap_or}
+-- What the attributes of a message tell, read where a notice has it. A message that is no notice is
+-- read as well, and then isn't the text of what is read.
+use Rattle.std.specs.Prelude.{ℕ, ◌==◌, nat_lt, if◌then◌else◌, List, [], length, Option, Some, None}
+use Rattle.std.specs.Prelude.{option_map, unwrap_or}
 use Rattle.std.specs.Option.{option_and_then}
 use Rattle.packet_entry.specs.Numbers.{ipv4_type, ipv6_type}
 use Rattle.netlink_codec.specs.Messages.{NetlinkMessage, first_message}
@@ -38,7 +38,8 @@ protocol_at row =
 
 abbrev pub source_at : List Attribute → Option (List ℕ)
 source_at row =
-    option_map (bytes_in address_field) (long_content hardware_address_kind packet_address_length row)
+    option_map (bytes_in address_field)
+    (long_content hardware_address_kind packet_address_length row)
 
 abbrev pub payload_at : List Attribute → List ℕ
 payload_at row = unwrap_or (last_content payload_kind row) []
@@ -48,7 +49,8 @@ abbrev pub above : ℕ → ℕ → Option ℕ
 above length n = if nat_lt length n then Some n else None
 
 abbrev pub cut_at : List Attribute → Option ℕ
-cut_at row = above (length (payload_at row)) (value_at full_length_kind value_length value_field row)
+cut_at row =
+    above (length (payload_at row)) (value_at full_length_kind value_length value_field row)
 
 unfoldable pub told_in : ℕ → List Attribute → Told
 told_in queue row = record {
@@ -65,7 +67,8 @@ told_in queue row = record {
 
 abbrev pub told_by_message : NetlinkMessage × ℕ → Option Told
 told_by_message (m, used) =
-    if nat_lt (length m.body) queue_header_length then None else Some (told_in (queue_in m.body) (row_in m.body))
+    if nat_lt (length m.body) queue_header_length then None
+    else Some (told_in (queue_in m.body) (row_in m.body))
 
 unfoldable pub told_by : List ℕ → Option Told
 told_by bytes = option_and_then told_by_message (first_message bytes)

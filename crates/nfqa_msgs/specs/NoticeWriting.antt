@@ -1,8 +1,9 @@
--- Notices: uapi linux/netfilter/nfnetlink_queue.h, and the kernel's `nfqnl_build_packet_message`. The
--- order of the attributes, the two devices, and that there always is a timestamp are this project's.
+-- Notices: uapi linux/netfilter/nfnetlink_queue.h, and the kernel's `nfqnl_build_packet_message`.
+-- The order of the attributes, the two devices, and that there always is a timestamp are this
+-- project's.
 use Rattle.std.specs.Prelude.{◌≡◌, ℕ, ◌^◌, ◌<◌, ◌≤◌, Bool, ◌&&◌, ◌||◌, ◌==◌, nat_lt, IsTrue}
-use Rattle.std.specs.Prelude.{if◌then◌else◌, List, [], ◌∷◌, ◌++◌, length, take, drop}
-use Rattle.std.specs.Prelude.{Option, Some, None, IfSome, option_map}
+use Rattle.std.specs.Prelude.{if◌then◌else◌, List, [], ◌∷◌, ◌++◌, length, take, drop, Option, Some}
+use Rattle.std.specs.Prelude.{None, IfSome, option_map}
 use Rattle.packet_entry.specs.declared.packet.Card.{Card}
 use Rattle.packet_entry.specs.Numbers.{longest_payload, ipv4_type}
 use Rattle.packet_entry.specs.Fields.{IsProtocol}

@@ -1,6 +1,7 @@
--- The numbers of nfnetlink_queue messages, each once: uapi linux/netlink.h, linux/netfilter/nfnetlink.h,
--- linux/netfilter/nfnetlink_queue.h, linux/netfilter.h, linux/socket.h and asm-generic/errno-base.h and
--- errno.h. Kinds, numbers and places have no unit; lengths are in bytes.
+-- The numbers of nfnetlink_queue messages, each once: uapi linux/netlink.h,
+-- linux/netfilter/nfnetlink.h, linux/netfilter/nfnetlink_queue.h, linux/netfilter.h, linux/socket.h
+-- and asm-generic/errno-base.h and errno.h. Kinds, numbers and places have no unit; lengths are in
+-- bytes.
 use Rattle.std.specs.Prelude.{ℕ}
 use Rattle.packet_entry.specs.Numbers.{longest_payload}
 

@@ -1,6 +1,6 @@
--- What a message asks: uapi linux/netfilter/nfnetlink_queue.h, and the kernel's `nfnetlink_rcv_msg`,
--- `nfqnl_recv_config`, `nfqnl_recv_verdict` and `nfqnl_recv_verdict_batch`. That a short attribute is
--- ERANGE is this project's.
+-- What a message asks: uapi linux/netfilter/nfnetlink_queue.h, and the kernel's
+-- `nfnetlink_rcv_msg`, `nfqnl_recv_config`, `nfqnl_recv_verdict` and `nfqnl_recv_verdict_batch`.
+-- That a short attribute is ERANGE is this project's.
 use Rattle.std.specs.Prelude.{◌≤◌, ℕ, Bool, true, false, not, ◌||◌, ◌==◌, nat_lt, if◌then◌else◌}
 use Rattle.std.specs.Prelude.{List, [], ◌∷◌, length, drop, Option, Some, None, IfSome, option_map}
 use Rattle.std.specs.Prelude.{bit_and}
@@ -16,9 +16,9 @@ use Rattle.nfqa_msgs.specs.declared.request.Decoded.TheVariants.{Nothing, Refuse
 use Rattle.nfqa_msgs.specs.Numbers.{request_flag, least_kind, queue_subsystem, queue_header_length}
 use Rattle.nfqa_msgs.specs.Numbers.{notice_number, verdict_number, config_number, batch_number}
 use Rattle.nfqa_msgs.specs.Numbers.{command_kind, params_kind, maxlen_kind, mask_kind, flags_kind}
-use Rattle.nfqa_msgs.specs.Numbers.{verdict_header_kind, mark_kind, payload_kind}
-use Rattle.nfqa_msgs.specs.Numbers.{command_length, params_length, verdict_header_length}
-use Rattle.nfqa_msgs.specs.Numbers.{value_length, einval, erange, eopnotsupp}
+use Rattle.nfqa_msgs.specs.Numbers.{verdict_header_kind, mark_kind, payload_kind, command_length}
+use Rattle.nfqa_msgs.specs.Numbers.{params_length, verdict_header_length, value_length, einval}
+use Rattle.nfqa_msgs.specs.Numbers.{erange, eopnotsupp}
 use Rattle.nfqa_msgs.specs.Kinds.{subsystem_of, number_of}
 use Rattle.nfqa_msgs.specs.Headers.{value_in, value_field, queue_in, command_in, params_in, head_in}
 
@@ -33,8 +33,8 @@ config_least kind =
     else if kind == flags_kind then value_length
     else 0
 
--- the same for a verdict and a batch (`nfqa_verdict_policy`, `nfqa_verdict_batch_policy`); a payload may
--- have no bytes
+-- the same for a verdict and a batch (`nfqa_verdict_policy`, `nfqa_verdict_batch_policy`); a
+-- payload may have no bytes
 abbrev pub verdict_least : ℕ → ℕ
 verdict_least kind =
     if kind == verdict_header_kind then verdict_header_length
@@ -96,7 +96,8 @@ row_in body = attributes (drop queue_header_length body)
 
 -- the message is of no number of the subsystem of queues
 abbrev pub is_foreign : NetlinkMessage → Bool
-is_foreign m = not (subsystem_of m.kind == queue_subsystem) || nat_lt batch_number (number_of m.kind)
+is_foreign m =
+    not (subsystem_of m.kind == queue_subsystem) || nat_lt batch_number (number_of m.kind)
 
 -- what a message is decoded to: the first line that applies decides
 unfoldable pub decoded : NetlinkMessage → Decoded
@@ -112,7 +113,8 @@ decoded m =
 -- a payload has no more bytes than one attribute holds
 abbrev pub PayloadFits : Request → Type 0
 PayloadFits (Config queue command params maxlen flags mask) = Unit {0}
-PayloadFits (Verdict queue head mark payload) = IfSome payload (λ bytes. length bytes ≤ longest_payload)
+PayloadFits (Verdict queue head mark payload) =
+    IfSome payload (λ bytes. length bytes ≤ longest_payload)
 PayloadFits (Batch queue head mark) = Unit {0}
 
 abbrev pub AskedFits : Decoded → Type 0

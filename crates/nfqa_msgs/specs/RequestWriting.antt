@@ -1,7 +1,7 @@
 -- The one text of a request: uapi linux/netlink.h and linux/netfilter/nfnetlink_queue.h, and the
 -- messages that libnetfilter_queue writes. The order of the parts is this project's.
-use Rattle.std.specs.Prelude.{ℕ, ◌+◌, ◌<◌, ◌≤◌, ◌^◌, List, [], ◌∷◌, ◌++◌, length}
-use Rattle.std.specs.Prelude.{Option, Some, None, IfSome, option_map}
+use Rattle.std.specs.Prelude.{ℕ, ◌+◌, ◌<◌, ◌≤◌, ◌^◌, List, [], ◌∷◌, ◌++◌, length, Option, Some}
+use Rattle.std.specs.Prelude.{None, IfSome, option_map}
 use Rattle.packet_entry.specs.Numbers.{longest_payload}
 use Rattle.netlink_codec.specs.Messages.{NetlinkMessage, message_text, message_with}
 use Rattle.netlink_codec.specs.Attributes.{Attribute, attributes_text}
@@ -60,15 +60,20 @@ queue_for (Batch queue head mark) = queue
 
 -- any family and the queue's number, and the parts
 abbrev pub request_body : Request → List ℕ
-request_body request = queue_header any_family (queue_for request) ++ attributes_text (parts_of request)
+request_body request =
+    queue_header any_family (queue_for request) ++ attributes_text (parts_of request)
 
 -- the text of a request: its call is the sequence
 unfoldable pub spelling : ℕ → ℕ → Request → List ℕ
-spelling port call request = message_text (queue_kind (number_for request)) (flags_for request) call port (request_body request)
+spelling port call request =
+    message_text (queue_kind (number_for request)) (flags_for request) call port
+    (request_body request)
 
 -- the message that this text is
 abbrev pub spelled : ℕ → ℕ → Request → NetlinkMessage
-spelled port call request = message_with (queue_kind (number_for request)) (flags_for request) call port (request_body request)
+spelled port call request =
+    message_with (queue_kind (number_for request)) (flags_for request) call port
+    (request_body request)
 
 -- each number of a request fits its field
 pub record FitsHead (head : Head) : Type 0 where
@@ -79,7 +84,8 @@ pub record FitsParams (params : Params) : Type 0 where
   pub range : params.range < 2 ^ 32
   pub mode : params.mode < 2 ^ 8
 
-pub record FitsConfig (queue : ℕ) (command : Option ℕ) (params : Option Params) (maxlen flags mask : Option ℕ) : Type 0 where
+pub record FitsConfig (queue : ℕ) (command : Option ℕ) (params : Option Params)
+    (maxlen flags mask : Option ℕ) : Type 0 where
   pub queue_fits : queue < 2 ^ 16
   pub command_fits : IfSome command (λ n. n < 2 ^ 8)
   pub params_fit : IfSome params FitsParams
@@ -87,13 +93,15 @@ pub record FitsConfig (queue : ℕ) (command : Option ℕ) (params : Option Para
   pub flags_fit : IfSome flags (λ n. n < 2 ^ 32)
   pub mask_fits : IfSome mask (λ n. n < 2 ^ 32)
 
-pub record FitsVerdict (queue : ℕ) (head : Option Head) (mark : Option ℕ) (payload : Option (List ℕ)) : Type 0 where
+pub record FitsVerdict (queue : ℕ) (head : Option Head) (mark : Option ℕ)
+    (payload : Option (List ℕ)) : Type 0 where
   pub queue_fits : queue < 2 ^ 16
   pub head_fits : IfSome head FitsHead
   pub mark_fits : IfSome mark (λ n. n < 2 ^ 32)
   pub payload_fits : IfSome payload (λ bytes. length bytes ≤ longest_payload)
 
 abbrev pub FitsRequest : Request → Type 0
-FitsRequest (Config queue command params maxlen flags mask) = FitsConfig queue command params maxlen flags mask
+FitsRequest (Config queue command params maxlen flags mask) =
+    FitsConfig queue command params maxlen flags mask
 FitsRequest (Verdict queue head mark payload) = FitsVerdict queue head mark payload
 FitsRequest (Batch queue head mark) = FitsVerdict queue head mark None

@@ -1,15 +1,15 @@
 //! The known attributes of a message, checked for their length and found by their kind.
 
-ghost use Rattle.std.specs.Prelude.{◌≡◌, ℕ, ◌≤◌, length, Option, option_map, IfSome, IfOk, IsOk, IsNone};
-ghost use Rattle.std.specs.Prelude.{false};
+ghost use Rattle.std.specs.Prelude.{◌≡◌, ℕ, ◌≤◌, length, Option, option_map, IfSome, IfOk, IsOk};
+ghost use Rattle.std.specs.Prelude.{IsNone, false};
 ghost use Rattle.std.specs.List.{list_any};
 ghost use Rattle.packet_entry.specs.Numbers.{longest_payload};
 ghost use Rattle.netlink_codec.specs.Attributes.{attributes};
 ghost use Rattle.nfqa_msgs.specs.Numbers.{config_number, command_kind, params_kind, payload_kind};
 ghost use Rattle.nfqa_msgs.specs.Numbers.{verdict_header_kind, verdict_header_length, value_length};
 ghost use Rattle.nfqa_msgs.specs.Headers.{command_in, params_in};
-ghost use Rattle.nfqa_msgs.specs.RequestReading.{config_least, verdict_least, least_content, is_short};
-ghost use Rattle.nfqa_msgs.specs.RequestReading.{last_content, last_value, last_head};
+ghost use Rattle.nfqa_msgs.specs.RequestReading.{config_least, verdict_least, least_content};
+ghost use Rattle.nfqa_msgs.specs.RequestReading.{is_short, last_content, last_value, last_head};
 
 use crate::headers::command::{COMMAND_LENGTH, read_command};
 use crate::headers::params::{PARAMS_LENGTH, read_params};
@@ -55,8 +55,8 @@ fn verdict_length(kind: u16) -> usize
     }
 }
 
-/// Whether a known attribute of a message of this number is shorter than its content. Each occurrence
-/// counts.
+/// Whether a known attribute of a message of this number is shorter than its content. Each
+/// occurrence counts.
 pub(crate) fn has_short(number: u16, row: &[u8]) -> bool
     ensures { result ≡ list_any (is_short number) (attributes row.now) }
 {
@@ -70,7 +70,8 @@ pub(crate) fn has_short(number: u16, row: &[u8]) -> bool
 
 /// The content of this kind; the last one, where the kind repeats.
 pub(crate) fn last_of(row: &[u8], kind: u16) -> Option<&[u8]>
-    ensures value { option_map (λ content. content.now) result ≡ last_content kind (attributes row.now) }
+    ensures value { option_map (λ content. content.now) result
+        ≡ last_content kind (attributes row.now) }
     ensures limit { IfSome result (λ content. length content.now ≤ longest_payload) }
 {
     let mut last = None;
@@ -82,11 +83,12 @@ pub(crate) fn last_of(row: &[u8], kind: u16) -> Option<&[u8]>
     last
 }
 
-/// The same in a message of this number without short attributes: the content has the bytes that its
-/// kind needs.
+/// The same in a message of this number without short attributes: the content has the bytes that
+/// its kind needs.
 fn whole_last_of(number: u16, row: &[u8], kind: u16) -> Option<&[u8]>
     requires { list_any (is_short number) (attributes row.now) ≡ false }
-    ensures value { option_map (λ content. content.now) result ≡ last_content kind (attributes row.now) }
+    ensures value { option_map (λ content. content.now) result
+        ≡ last_content kind (attributes row.now) }
     ensures long { IfSome result (λ content. least_content number kind ≤ length content.now) }
 {
     last_of(row, kind)
@@ -140,8 +142,10 @@ pub(crate) fn head_of(number: u16, row: &[u8]) -> Option<Head>
 
 /// The bytes in the packet's place. Memory is taken where there are some.
 pub(crate) fn payload_of(alloc: Global, row: &[u8]) -> Result<Option<Bytes>, NoMemory>
-    ensures value { IfOk result (λ payload. payload ≡ last_content payload_kind (attributes row.now)) }
-    ensures limit { IfOk result (λ payload. IfSome payload (λ bytes. length bytes ≤ longest_payload)) }
+    ensures value { IfOk result (λ payload.
+        payload ≡ last_content payload_kind (attributes row.now)) }
+    ensures limit { IfOk result (λ payload.
+        IfSome payload (λ bytes. length bytes ≤ longest_payload)) }
     ensures no_memory { IsNone (last_content payload_kind (attributes row.now)) → IsOk result }
 {
     match last_of(row, PAYLOAD) {

@@ -14,19 +14,17 @@ use std::alloc::AllocError;
 pub(crate) fn put_part(body: &mut Vec<u8>, kind: u16, content: &[u8]) -> Result<(), AllocError>
     requires kind { kind < kind_limit }
     requires content { length content.now ≤ longest_payload }
-    ensures { OnOk result (body.new.items ≡ body.old.items ++ attributes_text (part kind (Some content.now))) }
+    ensures { OnOk result (body.new.items ≡ body.old.items
+        ++ attributes_text (part kind (Some content.now))) }
 {
     put_attr(body, kind, content)
 }
 
 /// Appends an attribute that is one number, where there is one.
-pub(crate) fn put_value(
-    body: &mut Vec<u8>,
-    kind: u16,
-    value: Option<u32>,
-) -> Result<(), AllocError>
+pub(crate) fn put_value(body: &mut Vec<u8>, kind: u16, value: Option<u32>) -> Result<(), AllocError>
     requires { kind < kind_limit }
-    ensures { OnOk result (body.new.items ≡ body.old.items ++ attributes_text (value_part kind value)) }
+    ensures { OnOk result (body.new.items ≡ body.old.items
+        ++ attributes_text (value_part kind value)) }
 {
     match value {
         None => Ok(()),

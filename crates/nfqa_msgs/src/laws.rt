@@ -33,8 +33,8 @@ pub fn spelling_decodes_to_its_request()
     written_attributes_are_walked();
 }
 
-/// What a notice tells is read back; so a text is the notice of at most one thing told, and no notice is
-/// a proper prefix of another.
+/// What a notice tells is read back; so a text is the notice of at most one thing told, and no
+/// notice is a proper prefix of another.
 pub fn notices_are_told_apart()
     ensures back { (told : Told) → FitsTold told → told_by (notice_text told) ≡ Some told }
     ensures one { (told other : Told) → FitsTold told → FitsTold other →
@@ -46,9 +46,9 @@ pub fn notices_are_told_apart()
     written_attributes_are_walked();
 }
 
-/// What is told of a waiting packet is what a notice can tell. So where bytes begin with the notice of
-/// one packet and with that of another, the two notices are the same, and neither is a proper prefix of
-/// the other.
+/// What is told of a waiting packet is what a notice can tell. So where bytes begin with the notice
+/// of one packet and with that of another, the two notices are the same, and neither is a proper
+/// prefix of the other.
 pub fn packet_notices_are_told_apart()
     ensures fits { (queue mode range id : ℕ) (card : Card) → IsNoticed queue mode range id card →
         FitsTold (told_of queue mode range id card) }

@@ -13,8 +13,8 @@ pub struct Notice {
     pub protocol: u16,
     /// The firewall mark.
     pub mark: u32,
-    /// How many bytes the packet has, as far as that is told: all of them where it was cut, and else the
-    /// payload's.
+    /// How many bytes the packet has, as far as that is told: all of them where it was cut, and
+    /// else the payload's.
     pub length: u32,
     /// The packet's first bytes.
     pub payload: Bytes,

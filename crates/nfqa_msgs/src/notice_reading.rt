@@ -1,7 +1,7 @@
 //! Notices, read from messages.
 
-ghost use Rattle.std.specs.Prelude.{◌≡◌, ◌≤◌, ◌+◌, ◌↔◌, ℕ, length, option_map, unwrap_or};
-ghost use Rattle.std.specs.Prelude.{IfSome, IfOk, IsNone, Some};
+ghost use Rattle.std.specs.Prelude.{◌≡◌, ◌≤◌, ◌+◌, ◌↔◌, ℕ, length, option_map, unwrap_or, IfSome};
+ghost use Rattle.std.specs.Prelude.{IfOk, IsNone, Some};
 ghost use Rattle.packet_entry.specs.Numbers.{longest_payload};
 ghost use Rattle.packet_entry.specs.Fields.{IsProtocol};
 ghost use Rattle.netlink_codec.specs.Attributes.{attributes};
@@ -28,11 +28,12 @@ use netlink_codec::next_message;
 use packet_entry::{Bytes, IPV4, IPV6, NoMemory};
 use std::alloc::Global;
 
-/// What a notice tells, where the bytes are one: exactly the text that a queue writes for some id, packet
-/// and copy mode, without a byte more or less. `None` for all other bytes.
+/// What a notice tells, where the bytes are one: exactly the text that a queue writes for some id,
+/// packet and copy mode, without a byte more or less. `None` for all other bytes.
 pub fn decode_notice(alloc: Global, bytes: &[u8]) -> Result<Option<Notice>, NoMemory>
     ensures found { IfOk result (λ answer. IfSome answer (λ notice.
-        (told : Told) × FitsTold told × (bytes.now ≡ notice_text told) × (notice ≡ notice_of told))) }
+        (told : Told) × FitsTold told × (bytes.now ≡ notice_text told)
+        × (notice ≡ notice_of told))) }
     ensures only { (told : Told) → FitsTold told → bytes.now ≡ notice_text told →
         IfOk result (λ answer. answer ≡ Some (notice_of told)) }
     ensures none { IfOk result (λ answer. IsNone answer ↔ IsNoNotice bytes.now) }
@@ -60,7 +61,8 @@ fn owned(alloc: Global, told: &Telling<'_>) -> Result<Notice, NoMemory>
     })
 }
 
-/// What the bytes tell, where they are the text of that: what is read is written again, and compared.
+/// What the bytes tell, where they are the text of that: what is read is written again, and
+/// compared.
 fn told_exactly(alloc: Global, bytes: &[u8]) -> Result<Option<Telling<'_>>, NoMemory>
     ensures found { IfOk result (λ answer. IfSome answer (λ told.
         FitsTold (telling told) × (bytes.now ≡ notice_text (telling told)))) }
@@ -116,7 +118,8 @@ fn told_in(queue: u16, row: &[u8]) -> Telling<'_>
 }
 
 fn long_of(row: &[u8], kind: u16, least: usize) -> Option<&[u8]>
-    ensures value { option_map (λ content. content.now) result ≡ read.long_content kind least (attributes row.now) }
+    ensures value { option_map (λ content. content.now) result
+        ≡ read.long_content kind least (attributes row.now) }
     ensures long { IfSome result (λ content. least ≤ length content.now) }
 {
     match last_of(row, kind) {
@@ -126,7 +129,8 @@ fn long_of(row: &[u8], kind: u16, least: usize) -> Option<&[u8]>
 }
 
 fn at_least(content: &[u8], least: usize) -> Option<&[u8]>
-    ensures value { option_map (λ content. content.now) result ≡ read.at_least least (Some content.now) }
+    ensures value { option_map (λ content. content.now) result
+        ≡ read.at_least least (Some content.now) }
     ensures long { IfSome result (λ content. least ≤ length content.now) }
 {
     if content.len() < least {

@@ -8,8 +8,8 @@ ghost use Rattle.netlink_codec.specs.Attributes.{attributes_text};
 ghost use Rattle.nfqa_msgs.specs.Numbers.{copy_meta, copy_packet, longest_range, mark_kind};
 ghost use Rattle.nfqa_msgs.specs.Numbers.{payload_kind, hardware_address_length};
 ghost use Rattle.nfqa_msgs.specs.RequestWriting.{part};
-ghost use Rattle.nfqa_msgs.specs.NoticeWriting.{FitsTold, notice, notice_text, notice_body, told_of};
-ghost use Rattle.nfqa_msgs.specs.NoticeWriting.{source_in, cut_of, told_bytes, family_of};
+ghost use Rattle.nfqa_msgs.specs.NoticeWriting.{FitsTold, notice, notice_text, notice_body};
+ghost use Rattle.nfqa_msgs.specs.NoticeWriting.{told_of, source_in, cut_of, told_bytes, family_of};
 ghost use Rattle.nfqa_msgs.specs.NoticeWriting.{mark_content, payload_content};
 ghost use Rattle.nfqa_msgs.specs.Telling.{telling};
 
@@ -35,9 +35,10 @@ const OUTPUT: u32 = 2;
 /// Where the source address begins in an Ethernet header, after the destination's 6 bytes.
 const LINK_SOURCE_AT: usize = 6;
 
-/// Appends the notice of a packet that waits in `queue` under `id`: of all packets the id, the Ethernet
-/// type, the devices, the mark unless it is 0, the source address of an Ethernet header and the time of
-/// capture; under the mode `PACKET` its first `range` bytes, and its length where that is more.
+/// Appends the notice of a packet that waits in `queue` under `id`: of all packets the id, the
+/// Ethernet type, the devices, the mark unless it is 0, the source address of an Ethernet header
+/// and the time of capture; under the mode `PACKET` its first `range` bytes, and its length where
+/// that is more.
 ///
 /// `NoMemory` leaves `out` as it was.
 pub fn encode_notice(
@@ -50,7 +51,8 @@ pub fn encode_notice(
 ) -> Result<(), NoMemory>
     requires mode { IsTrue ((mode == copy_meta) || (mode == copy_packet)) }
     requires range { range ≤ longest_range }
-    ensures ok { OnOk result (out.new.items ≡ out.old.items ++ notice queue mode range id packet.now) }
+    ensures ok { OnOk result (out.new.items ≡ out.old.items
+        ++ notice queue mode range id packet.now) }
     ensures err { OnErr result (out.new.items ≡ out.old.items) }
     // What is told is what a notice can tell, so that it is read back.
     ensures fits { FitsTold (told_of queue mode range id packet.now) }
@@ -153,7 +155,8 @@ fn family(protocol: u16) -> u8
 }
 
 fn put_mark(body: &mut Vec<u8>, mark: u32) -> Result<(), AllocError>
-    ensures { OnOk result (body.new.items ≡ body.old.items ++ attributes_text (part mark_kind (mark_content mark))) }
+    ensures { OnOk result (body.new.items ≡ body.old.items
+        ++ attributes_text (part mark_kind (mark_content mark))) }
 {
     if mark == 0 {
         return Ok(());
@@ -163,7 +166,8 @@ fn put_mark(body: &mut Vec<u8>, mark: u32) -> Result<(), AllocError>
 
 fn put_payload(body: &mut Vec<u8>, payload: &[u8]) -> Result<(), AllocError>
     requires { length payload.now ≤ longest_payload }
-    ensures { OnOk result (body.new.items ≡ body.old.items ++ attributes_text (part payload_kind (payload_content payload.now))) }
+    ensures { OnOk result (body.new.items ≡ body.old.items
+        ++ attributes_text (part payload_kind (payload_content payload.now))) }
 {
     if payload.is_empty() {
         return Ok(());

@@ -8,7 +8,7 @@ pub const META: u8 = 1;
 /// Copy mode: the notice has the packet's first bytes too. (`NFQNL_COPY_PACKET`)
 pub const PACKET: u8 = 2;
 
-/// The most bytes of a packet that a notice has: one attribute of 65,535 bytes less its header of 4.
+/// The most bytes of a packet that a notice has: an attribute's 65,535 less its header of 4.
 pub const MAX_RANGE: u32 = 65_531;
 
 /// Config command: make the queue, for the sender. (`NFQNL_CFG_CMD_BIND`)

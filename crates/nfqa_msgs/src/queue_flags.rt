@@ -23,17 +23,16 @@ bitflag_items! {
 
 impl Flags for QueueFlags {
     ghost use Rattle.std.specs.Prelude.{⊤, [], ◌∷◌, codes};
-    ghost use Rattle.nfqa_msgs.specs.Numbers.{flag_fail_open, flag_conntrack, flag_gso, flag_uid_gid};
-    ghost use Rattle.nfqa_msgs.specs.Numbers.{flag_secctx};
+    ghost use Rattle.nfqa_msgs.specs.Numbers.{flag_fail_open, flag_conntrack, flag_gso};
+    ghost use Rattle.nfqa_msgs.specs.Numbers.{flag_uid_gid, flag_secctx};
 
     type Bits = u32;
 
     ghost exact = { ⊤ };
 
-    ghost table = {
-        (codes "FAIL_OPEN", flag_fail_open) ∷ (codes "CONNTRACK", flag_conntrack) ∷ (codes "GSO", flag_gso)
-        ∷ (codes "UID_GID", flag_uid_gid) ∷ (codes "SECCTX", flag_secctx) ∷ []
-    };
+    ghost table = { (codes "FAIL_OPEN", flag_fail_open) ∷ (codes "CONNTRACK", flag_conntrack)
+        ∷ (codes "GSO", flag_gso) ∷ (codes "UID_GID", flag_uid_gid)
+        ∷ (codes "SECCTX", flag_secctx) ∷ [] };
 
     ghost set_of = { λ flags. flags.0 };
 

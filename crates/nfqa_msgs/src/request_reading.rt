@@ -5,9 +5,9 @@ ghost use Rattle.std.specs.List.{list_any};
 ghost use Rattle.netlink_codec.specs.Messages.{message_of};
 ghost use Rattle.netlink_codec.specs.Attributes.{attributes};
 ghost use Rattle.nfqa_msgs.specs.Numbers.{verdict_number, config_number, batch_number};
-ghost use Rattle.nfqa_msgs.specs.RequestReading.{decoded, request_in, config_in, verdict_in, batch_in};
-ghost use Rattle.nfqa_msgs.specs.RequestReading.{is_short, AskedFits, PayloadFits, has_payload};
-ghost use Rattle.nfqa_msgs.specs.RequestReading.{asks_with_payload};
+ghost use Rattle.nfqa_msgs.specs.RequestReading.{decoded, request_in, config_in, verdict_in};
+ghost use Rattle.nfqa_msgs.specs.RequestReading.{batch_in, is_short, AskedFits, PayloadFits};
+ghost use Rattle.nfqa_msgs.specs.RequestReading.{has_payload, asks_with_payload};
 
 use crate::attribute_reading::{command_of, has_short, head_of, params_of, payload_of, read_value};
 use crate::headers::queue_header::{QUEUE_HEADER_LENGTH, read_queue};
@@ -21,8 +21,8 @@ use packet_entry::NoMemory;
 use std::alloc::Global;
 
 /// What a message asks. Known attributes are checked in the order in which they stand, each
-/// occurrence; of a kind that repeats the last counts, a longer content is taken by its first bytes,
-/// and other kinds are passed over.
+/// occurrence; of a kind that repeats the last counts, a longer content is taken by its first
+/// bytes, and other kinds are passed over.
 ///
 /// `Nothing` is for a message without the flag `NLM_F_REQUEST`, of a kind below 16, or with fewer
 /// than 4 bytes after its header; then `Refused` with `EINVAL` for one of another subsystem or an
@@ -66,9 +66,11 @@ pub fn decode_request(alloc: Global, message: &Message<'_>) -> Result<Decoded, N
 fn request_of(alloc: Global, number: u16, queue: u16, row: &[u8]) -> Result<Request, NoMemory>
     requires number { (verdict_number ≤ number) × (number ≤ batch_number) }
     requires whole { list_any (is_short number) (attributes row.now) ≡ false }
-    ensures value { IfOk result (λ request. request ≡ request_in number queue (attributes row.now)) }
+    ensures value { IfOk result (λ request.
+        request ≡ request_in number queue (attributes row.now)) }
     ensures payload { IfOk result PayloadFits }
-    ensures no_memory { has_payload (request_in number queue (attributes row.now)) ≡ false → IsOk result }
+    ensures no_memory { has_payload (request_in number queue (attributes row.now)) ≡ false →
+        IsOk result }
 {
     match number {
         CONFIG => Ok(config_of(queue, row)),

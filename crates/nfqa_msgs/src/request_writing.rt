@@ -99,7 +99,8 @@ fn config_body(
     flags: Option<u32>,
     mask: Option<u32>,
 ) -> Result<Vec<u8>, AllocError>
-    ensures { IfOk result (λ body. body.items ≡ request_body (Config queue command params maxlen flags mask)) }
+    ensures { IfOk result (λ body.
+        body.items ≡ request_body (Config queue command params maxlen flags mask)) }
 {
     let mut body = begin_body(alloc, ANY_FAMILY, queue)?;
     put_command(&mut body, command)?;
@@ -118,7 +119,8 @@ fn verdict_body(
     payload: Option<&Bytes>,
 ) -> Result<Vec<u8>, AllocError>
     requires { IfSome payload (λ bytes. length bytes.now ≤ longest_payload) }
-    ensures { IfOk result (λ body. body.items ≡ request_body (Verdict queue head mark (option_map (λ bytes. bytes.now) payload.entry))) }
+    ensures { IfOk result (λ body. body.items ≡
+        request_body (Verdict queue head mark (option_map (λ bytes. bytes.now) payload.entry))) }
 {
     let mut body = batch_body(alloc, queue, head, mark)?;
     if let Some(bytes) = payload {

@@ -1,77 +1,144 @@
 //! Messages by their bytes, as the kernel and its clients write them.
-ghost use Rattle.std.specs.Prelude.{◌≤◌, length};
-ghost use Rattle.nfqa_msgs.specs.RequestReading.{PayloadFits};
+
+ghost use Rattle.std.specs.Prelude.{IfOk};
+ghost use Rattle.nfqa_msgs.specs.RequestReading.{AskedFits};
 
 use super::*;
 use netlink_codec::next_message;
-use packet_entry::{Bytes, IPV4, Packet};
+use packet_entry::{Bytes, IPV4, IPV6, NoMemory, Packet};
 use std::alloc::Global;
 use std::test::Fail;
 
-const BIND_QUEUE: &[u8; 28] =
+/// The verdict ACCEPT for id 1 of queue 0, field by field.
+const ACCEPT: &[u8] = &[
+    0x20, 0, 0, 0, // nlmsghdr: length, 32
+    0x01, 0x03, // kind: NFQNL_MSG_VERDICT of NFNL_SUBSYS_QUEUE
+    0x01, 0, // flags: NLM_F_REQUEST
+    0x03, 0, 0, 0, // sequence, 3
+    0x07, 0, 0, 0, // port, 7
+    0, // nfgenmsg: family, AF_UNSPEC
+    0, // version
+    0, 0, // number of the queue
+    0x0c, 0, // nlattr: length, 12
+    0x02, 0, // kind: NFQA_VERDICT_HDR
+    0, 0, 0, 0x01, // verdict: NF_ACCEPT
+    0, 0, 0, 0x01, // id of the packet
+];
+
+/// The notice of a packet of 20 bytes that waits in queue 0 under id 1, field by field.
+const NOTICE: &[u8] = &[
+    0x5c, 0, 0, 0, // nlmsghdr: length, 92
+    0, 0x03, // kind: NFQNL_MSG_PACKET of NFNL_SUBSYS_QUEUE
+    0, 0, // flags
+    0, 0, 0, 0, // sequence
+    0, 0, 0, 0, // port
+    0x02, // nfgenmsg: family, AF_INET
+    0, // version
+    0, 0, // number of the queue
+    0x0b, 0, 0x01, 0, // nlattr: 11 bytes, NFQA_PACKET_HDR
+    0, 0, 0, 0x01, // id of the packet
+    0x08, 0, // Ethernet type: IPv4
+    0x02, // hook: NF_INET_FORWARD
+    0, // padding
+    0x08, 0, 0x05, 0, // nlattr: 8 bytes, NFQA_IFINDEX_INDEV
+    0, 0, 0, 0x01, // device 1
+    0x08, 0, 0x06, 0, // nlattr: 8 bytes, NFQA_IFINDEX_OUTDEV
+    0, 0, 0, 0x02, // device 2
+    0x14, 0, 0x04, 0, // nlattr: 20 bytes, NFQA_TIMESTAMP
+    0, 0, 0, 0, 0, 0, 0, 0x01, // seconds
+    0, 0, 0, 0, 0, 0, 0, 0, // microseconds
+    0x18, 0, 0x0a, 0, // nlattr: 24 bytes, NFQA_PAYLOAD
+    0x45, 0, 0, 0x14, 0, 0x01, 0, 0, 0x40, 0x06, // the packet: IPv4, 20 bytes, TCP
+    0, 0, 0x0a, 0, 0, 0x01, 0x0a, 0, 0, 0x02, // from 10.0.0.1 to 10.0.0.2
+];
+
+const V4: &[u8] = b"\x45\0\0\x14\0\x01\0\0\x40\x06\0\0\x0a\0\0\x01\x0a\0\0\x02";
+
+const V6: &[u8] = b"\x60\0\0\0\0\0\x3b\x40\
+    \x20\x01\x0d\xb8\0\0\0\0\0\0\0\0\0\0\0\x01\x20\x01\x0d\xb8\0\0\0\0\0\0\0\0\0\0\0\x02";
+
+const LINK: &[u8] = b"\x02\0\0\0\0\x02\x02\0\0\0\0\x01\x86\xdd";
+
+const TAGGED: &[u8] = b"\x02\0\0\0\0\x02\x02\0\0\0\0\x01\x81\0\0\x05\x08\0";
+
+const BIND_QUEUE: &[u8] =
     b"\x1c\0\0\0\x02\x03\x05\0\x01\0\0\0\x07\0\0\0\0\0\0\0\x08\0\x01\0\x01\0\0\0";
 
-const SET_PARAMS: &[u8; 32] =
-    b"\x20\0\0\0\x02\x03\x05\0\x02\0\0\0\x07\0\0\0\0\0\0\0\x09\0\x02\0\0\0\0\0\x02\0\0\0";
+const SET_PARAMS: &[u8] =
+    b"\x20\0\0\0\x02\x03\x05\0\x01\0\0\0\x07\0\0\0\0\0\0\0\x09\0\x02\0\0\0\0\0\x02\0\0\0";
 
-const ACCEPT: &[u8; 32] =
-    b"\x20\0\0\0\x01\x03\x01\0\x03\0\0\0\x07\0\0\0\0\0\0\0\x0c\0\x02\0\0\0\0\x01\0\0\0\x01";
+const EMPTY_CONFIG: &[u8] = b"\x14\0\0\0\x02\x03\x05\0\x01\0\0\0\x07\0\0\0\0\0\x01\x02";
+/// UNBIND, range 66,051 under PACKET, 1,024 packets, mask 5, flags 1.
+const FULL_CONFIG: &[u8] = b"\x40\0\0\0\x02\x03\x05\0\x01\0\0\0\x07\0\0\0\0\0\x01\x02\
+    \x08\0\x01\0\x02\0\0\0\x09\0\x02\0\0\x01\x02\x03\x02\0\0\0\x08\0\x03\0\0\0\x04\0\
+    \x08\0\x04\0\0\0\0\x05\x08\0\x05\0\0\0\0\x01";
 
-// The head is cut off inside, so that the walk ends before it.
-const CUT: &[u8; 28] =
-    b"\x1c\0\0\0\x01\x03\x01\0\x03\0\0\0\x07\0\0\0\0\0\0\0\x0c\0\x02\0\0\0\0\x01";
+const EMPTY_VERDICT: &[u8] = b"\x14\0\0\0\x01\x03\x01\0\x03\0\0\0\x07\0\0\0\0\0\x02\x01";
 
-const HEAD_OF_SEVEN: &[u8; 32] =
+const FULL_VERDICT: &[u8] = b"\x34\0\0\0\x01\x03\x01\0\x03\0\0\0\x07\0\0\0\0\0\x02\x01\
+    \x0c\0\x02\0\0\0\0\x01\x0a\x0b\x0c\x0d\x08\0\x03\0\x01\x02\x03\x04\x09\0\x0a\0hello\0\0\0";
+
+const NO_BYTES: &[u8] = b"\x18\0\0\0\x01\x03\x01\0\x03\0\0\0\x07\0\0\0\0\0\0\0\x04\0\x0a\0";
+
+const EMPTY_BATCH: &[u8] = b"\x14\0\0\0\x03\x03\x01\0\x03\0\0\0\x07\0\0\0\0\0\0\x01";
+
+const FULL_BATCH: &[u8] = b"\x28\0\0\0\x03\x03\x01\0\x03\0\0\0\x07\0\0\0\0\0\0\x01\
+    \x0c\0\x02\0\0\x02\0\x03\0\0\0\x09\x08\0\x03\0\0\0\0\x10";
+
+/// The head is cut off inside, so that the walk ends before it.
+const CUT: &[u8] = b"\x1c\0\0\0\x01\x03\x01\0\x03\0\0\0\x07\0\0\0\0\0\0\0\x0c\0\x02\0\0\0\0\x01";
+
+const HEAD_OF_SEVEN: &[u8] =
     b"\x20\0\0\0\x01\x03\x01\0\x03\0\0\0\x07\0\0\0\0\0\0\0\x0b\0\x02\0\0\0\0\x01\0\0\0\0";
 
-const MARKED_TWICE: &[u8; 48] =
-    b"\x30\0\0\0\x01\x03\x01\0\x03\0\0\0\x07\0\0\0\0\0\0\0\x0c\0\x02\0\0\0\0\x01\0\0\0\x01\x08\0\x03\0\0\0\0\x05\x08\0\x03\0\0\0\0\x09";
+const MARKED_TWICE: &[u8] = b"\x30\0\0\0\x01\x03\x01\0\x03\0\0\0\x07\0\0\0\0\0\0\0\
+    \x0c\0\x02\0\0\0\0\x01\0\0\0\x01\x08\0\x03\0\0\0\0\x05\x08\0\x03\0\0\0\0\x09";
+/// An attribute of kind 127 after the head.
+const WITH_UNKNOWN: &[u8] = b"\x28\0\0\0\x01\x03\x01\0\x03\0\0\0\x07\0\0\0\0\0\0\0\
+    \x0c\0\x02\0\0\0\0\x01\0\0\0\x01\x05\0\x7f\0\x2a\0\0\0";
 
-// An attribute of kind 127 behind the head.
-const WITH_UNKNOWN: &[u8; 40] =
-    b"\x28\0\0\0\x01\x03\x01\0\x03\0\0\0\x07\0\0\0\0\0\0\0\x0c\0\x02\0\0\0\0\x01\0\0\0\x01\x05\0\x7f\0\x2a\0\0\0";
-
-const BIND_WITHOUT_REQUEST: &[u8; 28] =
+const BIND_WITHOUT_REQUEST: &[u8] =
     b"\x1c\0\0\0\x02\x03\x04\0\x01\0\0\0\x07\0\0\0\0\0\0\0\x08\0\x01\0\x01\0\0\0";
+/// Subsystem 3, number 4.
+const UNKNOWN_NUMBER: &[u8] = b"\x14\0\0\0\x04\x03\x01\0\x01\0\0\0\x07\0\0\0\0\0\0\0";
 
-// Subsystem 3, number 4.
-const UNKNOWN_NUMBER: &[u8; 20] = b"\x14\0\0\0\x04\x03\x01\0\x01\0\0\0\x07\0\0\0\0\0\0\0";
+const ASKED_AS_NOTICE: &[u8] = b"\x14\0\0\0\0\x03\x01\0\x01\0\0\0\x07\0\0\0\0\0\0\0";
 
-const ASKED_AS_NOTICE: &[u8; 20] = b"\x14\0\0\0\0\x03\x01\0\x01\0\0\0\x07\0\0\0\0\0\0\0";
-
-const NOTICE: &[u8; 92] =
-    b"\x5c\0\0\0\0\x03\0\0\0\0\0\0\0\0\0\0\x02\0\0\0\x0b\0\x01\0\0\0\0\x01\x08\0\x02\0\x08\0\x05\0\0\0\0\x01\x08\0\x06\0\0\0\0\x02\x14\0\x04\0\0\0\0\0\0\0\0\x01\0\0\0\0\0\0\0\0\x18\0\x0a\0\x45\0\0\x14\0\x01\0\0\x40\x06\0\0\x0a\0\0\x01\x0a\0\0\x02";
-
-const FIRST_PACKET: &[u8; 20] = b"\x45\0\0\x14\0\x01\0\0\x40\x06\0\0\x0a\0\0\x01\x0a\0\0\x02";
-
-fn decoded_of(alloc: Global, text: &[u8]) -> Result<Decoded, Fail> {
+fn decoded_of(alloc: Global, text: &[u8]) -> Result<Decoded, Fail>
+    ensures { IfOk result AskedFits }
+{
     let (message, _) = next_message(text).ok_or("no message")?;
     Ok(decode_request(alloc, &message)?)
 }
 
 #[test]
-fn worked_configs_are_decoded(rt: HostRuntime) -> Result<(), Fail> {
-    let params = Params {
-        range: 0,
-        mode: PACKET,
+fn configs_are_decoded(rt: HostRuntime) -> Result<(), Fail> {
+    let short = Params { range: 0, mode: 2 };
+    let long = Params {
+        range: 66_051,
+        mode: 2,
     };
-    for (text, command, set) in [
-        (BIND_QUEUE.as_slice(), Some(BIND), None),
-        (SET_PARAMS.as_slice(), None, Some(params)),
+    let none = (None, None, None);
+    let all = (Some(1_024), Some(1), Some(5));
+    for (text, at, command, params, numbers) in [
+        (BIND_QUEUE, 0, Some(BIND), None, none),
+        (SET_PARAMS, 0, None, Some(short), none),
+        (EMPTY_CONFIG, 258, None, None, none),
+        (FULL_CONFIG, 258, Some(UNBIND), Some(long), all),
     ] {
         match decoded_of(rt.alloc(), text)? {
             Decoded::Asked {
                 request: Request::Config {
                     queue,
                     command: told,
-                    params,
+                    params: set,
                     maxlen,
                     flags,
                     mask,
                 },
             } => {
-                assert_eq!(rt; (queue, told, params), (0, command, set));
-                assert_eq!(rt; (maxlen, flags, mask), (None, None, None));
+                assert_eq!(rt; (queue, told, set), (at, command, params));
+                assert_eq!(rt; (maxlen, flags, mask), numbers);
             }
             _ => assert!(rt; false, "is no config"),
         }
@@ -79,26 +146,42 @@ fn worked_configs_are_decoded(rt: HostRuntime) -> Result<(), Fail> {
     Ok(())
 }
 
+fn same(payload: &Option<Bytes>, wanted: Option<&[u8]>) -> bool {
+    match (payload, wanted) {
+        (None, None) => true,
+        (Some(bytes), Some(wanted)) => bytes.as_slice() == wanted,
+        _ => false,
+    }
+}
+
 #[test]
-fn worked_verdicts_are_decoded(rt: HostRuntime) -> Result<(), Fail> {
+fn verdicts_are_decoded(rt: HostRuntime) -> Result<(), Fail> {
     let first = Head { verdict: 1, id: 1 };
-    for (text, head, mark) in [
-        (ACCEPT.as_slice(), Some(first), None),
-        (CUT.as_slice(), None, None),
-        (MARKED_TWICE.as_slice(), Some(first), Some(9)),
-        (WITH_UNKNOWN.as_slice(), Some(first), None),
+    let far = Head {
+        verdict: 1,
+        id: 0x0a0b_0c0d,
+    };
+    let hello = b"hello".as_slice();
+    for (text, queue, head, mark, bytes) in [
+        (ACCEPT, 0, Some(first), None, None),
+        (EMPTY_VERDICT, 513, None, None, None),
+        (FULL_VERDICT, 513, Some(far), Some(0x0102_0304), Some(hello)),
+        (NO_BYTES, 0, None, None, Some(&hello[..0])),
+        (CUT, 0, None, None, None),
+        (MARKED_TWICE, 0, Some(first), Some(9), None),
+        (WITH_UNKNOWN, 0, Some(first), None, None),
     ] {
         match decoded_of(rt.alloc(), text)? {
             Decoded::Asked {
                 request: Request::Verdict {
-                    queue,
+                    queue: at,
                     head: told,
                     mark: set,
                     payload,
                 },
             } => {
-                assert_eq!(rt; (queue, told, set), (0, head, mark));
-                assert!(rt; payload.is_none());
+                assert_eq!(rt; (at, told, set), (queue, head, mark));
+                assert!(rt; same(&payload, bytes), "other bytes");
             }
             _ => assert!(rt; false, "is no verdict"),
         }
@@ -107,142 +190,158 @@ fn worked_verdicts_are_decoded(rt: HostRuntime) -> Result<(), Fail> {
 }
 
 #[test]
+fn batches_are_decoded(rt: HostRuntime) -> Result<(), Fail> {
+    let up_to_nine = Head {
+        verdict: 0x0002_0003,
+        id: 9,
+    };
+    for (text, head, mark) in [
+        (EMPTY_BATCH, None, None),
+        (FULL_BATCH, Some(up_to_nine), Some(16)),
+    ] {
+        match decoded_of(rt.alloc(), text)? {
+            Decoded::Asked {
+                request: Request::Batch {
+                    queue,
+                    head: told,
+                    mark: set,
+                },
+            } => assert_eq!(rt; (queue, told, set), (1, head, mark)),
+            _ => assert!(rt; false, "is no batch"),
+        }
+    }
+    Ok(())
+}
+
+#[test]
 fn refusals_and_silence_come_by_the_lines(rt: HostRuntime) -> Result<(), Fail> {
     for (text, errno) in [
-        (HEAD_OF_SEVEN.as_slice(), 34),
-        (UNKNOWN_NUMBER.as_slice(), 22),
-        (ASKED_AS_NOTICE.as_slice(), 95),
+        (HEAD_OF_SEVEN, 34),
+        (UNKNOWN_NUMBER, 22),
+        (ASKED_AS_NOTICE, 95),
     ] {
         match decoded_of(rt.alloc(), text)? {
             Decoded::Refused { errno: told } => assert_eq!(rt; told, errno),
             _ => assert!(rt; false, "isn't refused"),
         }
     }
-    for text in [BIND_WITHOUT_REQUEST.as_slice(), NOTICE.as_slice()] {
+    for text in [BIND_WITHOUT_REQUEST, NOTICE] {
         assert!(rt; matches!(&decoded_of(rt.alloc(), text)?, Decoded::Nothing));
     }
     assert!(rt; next_message(&ACCEPT[..15]).is_none());
     Ok(())
 }
 
-fn bind() -> Request
-    ensures { PayloadFits result }
-{
-    Request::Config {
-        queue: 0,
-        command: Some(BIND),
-        params: None,
-        maxlen: None,
-        flags: None,
-        mask: None,
-    }
-}
-
-fn set_params() -> Request
-    ensures { PayloadFits result }
-{
-    Request::Config {
-        queue: 0,
-        command: None,
-        params: Some(Params {
-            range: 0,
-            mode: PACKET,
-        }),
-        maxlen: None,
-        flags: None,
-        mask: None,
-    }
-}
-
-fn accept() -> Request
-    ensures { PayloadFits result }
-{
-    Request::Verdict {
-        queue: 0,
-        head: Some(Head { verdict: 1, id: 1 }),
-        mark: None,
-        payload: None,
-    }
-}
-
-#[test]
-fn requests_are_spelled(rt: HostRuntime) -> Result<(), Fail> {
-    let mut out = Vec::new(rt.alloc());
-    encode_request(7, 1, &bind(), &mut out)?;
-    assert_eq!(rt; out.as_slice(), BIND_QUEUE.as_slice());
-
-    out.clear();
-    encode_request(7, 2, &set_params(), &mut out)?;
-    assert_eq!(rt; out.as_slice(), SET_PARAMS.as_slice());
-
-    out.clear();
-    encode_request(7, 3, &accept(), &mut out)?;
-    assert_eq!(rt; out.as_slice(), ACCEPT.as_slice());
-    Ok(())
-}
-
-#[test]
-fn a_replacement_comes_back(rt: HostRuntime) -> Result<(), Fail> {
-    let payload = Bytes::copy(rt.alloc(), b"hello")?;
-    assert!(rt; payload.len() < 9);
-    let request = Request::Verdict {
-        queue: 513,
-        head: None,
-        mark: Some(0x0102_0304),
-        payload: Some(payload),
-    };
-    let mut out = Vec::new(rt.alloc());
-    encode_request(7, 4, &request, &mut out)?;
-    match decoded_of(rt.alloc(), &out)? {
-        Decoded::Asked {
-            request: Request::Verdict {
-                queue: 513,
-                head: None,
-                mark: Some(0x0102_0304),
-                payload: Some(bytes),
-            },
-        } => assert_eq!(rt; bytes.as_slice(), b"hello".as_slice()),
-        _ => assert!(rt; false, "isn't that verdict"),
-    }
-    Ok(())
-}
-
-// The notice of a raw IPv4 packet that waits in queue 0 under id 1.
-fn noticed(alloc: Global, range: u32, bytes: &[u8]) -> Result<Vec<u8>, Fail>
-    requires range { range ≤ 65531 }
-    requires bytes { length bytes.now ≤ 100 }
-{
-    let packet = Packet::new(alloc, 1, 1, 0, IPV4, &[], bytes)?;
+fn rewritten(alloc: Global, call: u32, text: &[u8]) -> Result<Vec<u8>, Fail> {
     let mut out = Vec::new(alloc);
-    let outcome = encode_notice(0, 1, PACKET, range, &packet, &mut out);
+    match decoded_of(alloc, text)? {
+        Decoded::Asked { request } => encode_request(7, call, &request, &mut out)?,
+        _ => return Err(Fail::new("isn't asked")),
+    }
+    Ok(out)
+}
+
+#[test]
+fn requests_are_written_as_they_were_read(rt: HostRuntime) -> Result<(), Fail> {
+    for (text, call) in [
+        (BIND_QUEUE, 1),
+        (SET_PARAMS, 1),
+        (EMPTY_CONFIG, 1),
+        (FULL_CONFIG, 1),
+        (ACCEPT, 3),
+        (EMPTY_VERDICT, 3),
+        (FULL_VERDICT, 3),
+        (NO_BYTES, 3),
+        (EMPTY_BATCH, 3),
+        (FULL_BATCH, 3),
+    ] {
+        assert_eq!(rt; rewritten(rt.alloc(), call, text)?.as_slice(), text);
+    }
+    Ok(())
+}
+
+/// The packet in 20 bytes, without link header and mark, of which no bytes are told.
+const META_V4: &[u8] = b"\x44\0\0\0\0\x03\0\0\0\0\0\0\0\0\0\0\x02\0\0\0\
+    \x0b\0\x01\0\0\0\0\x01\x08\0\x02\0\x08\0\x05\0\0\0\0\x01\x08\0\x06\0\0\0\0\x02\
+    \x14\0\x04\0\0\0\0\0\0\0\0\x01\0\0\0\0\0\0\0\0";
+/// Of a marked packet with an Ethernet header: the mark, and the address 02:00:00:00:00:01.
+const META_TAGGED: &[u8] = b"\x5c\0\0\0\0\x03\0\0\0\0\0\0\0\0\0\0\x02\0\0\0\
+    \x0b\0\x01\0\0\0\0\x01\x08\0\x02\0\x08\0\x05\0\0\0\0\x01\x08\0\x06\0\0\0\0\x02\
+    \x08\0\x03\0\0\0\0\x2a\x10\0\x09\0\0\x06\0\0\x02\0\0\0\0\x01\0\0\
+    \x14\0\x04\0\0\0\0\0\0\0\0\x01\0\0\0\0\0\0\0\0";
+/// Range 0: the length, and no bytes.
+const RANGE_0: &[u8] = b"\x4c\0\0\0\0\x03\0\0\0\0\0\0\0\0\0\0\x02\0\0\0\
+    \x0b\0\x01\0\0\0\0\x01\x08\0\x02\0\x08\0\x05\0\0\0\0\x01\x08\0\x06\0\0\0\0\x02\
+    \x14\0\x04\0\0\0\0\0\0\0\0\x01\0\0\0\0\0\0\0\0\x08\0\x0d\0\0\0\0\x14";
+/// Range 5: the length, five bytes and their padding.
+const RANGE_5: &[u8] = b"\x58\0\0\0\0\x03\0\0\0\0\0\0\0\0\0\0\x02\0\0\0\
+    \x0b\0\x01\0\0\0\0\x01\x08\0\x02\0\x08\0\x05\0\0\0\0\x01\x08\0\x06\0\0\0\0\x02\
+    \x14\0\x04\0\0\0\0\0\0\0\0\x01\0\0\0\0\0\0\0\0\x08\0\x0d\0\0\0\0\x14\
+    \x09\0\x0a\0\x45\0\0\x14\0\0\0\0";
+/// IPv6 with mark and Ethernet header under range 8: all eight attributes.
+const ALL_V6: &[u8] = b"\x70\0\0\0\0\x03\0\0\0\0\0\0\0\0\0\0\x0a\0\0\0\
+    \x0b\0\x01\0\0\0\0\x01\x86\xdd\x02\0\x08\0\x05\0\0\0\0\x01\x08\0\x06\0\0\0\0\x02\
+    \x08\0\x03\0\x01\x02\x03\x04\x10\0\x09\0\0\x06\0\0\x02\0\0\0\0\x01\0\0\
+    \x14\0\x04\0\0\0\0\0\0\0\0\x01\0\0\0\0\0\0\0\0\x08\0\x0d\0\0\0\0\x28\
+    \x0c\0\x0a\0\x60\0\0\0\0\0\x3b\x40";
+
+/// A packet as it waits in queue 0 under id 1, captured one second after 1970 began.
+fn waiting(
+    alloc: Global,
+    mark: u32,
+    protocol: u16,
+    link: &[u8],
+    bytes: &[u8],
+) -> Result<Packet, Fail> {
+    if protocol != IPV4 && protocol != IPV6 {
+        return Err(Fail::new("another protocol"));
+    }
+    if !link.is_empty() && link.len() != 14 && link.len() != 18 {
+        return Err(Fail::new("another link header"));
+    }
+    if 100 < bytes.len() {
+        return Err(Fail::new("a long packet"));
+    }
+    let mut packet = Packet::new(alloc, 1, 1, 0, protocol, link, bytes)?;
+    packet.edit(Some(mark), None);
+    Ok(packet)
+}
+
+/// Its notice.
+fn noticed(alloc: Global, mode: u8, range: u32, packet: Packet) -> Result<Vec<u8>, Fail> {
+    let mut out = Vec::new(alloc);
+    let outcome = if (mode == META || mode == PACKET) && range <= MAX_RANGE {
+        encode_notice(0, 1, mode, range, &packet, &mut out)
+    } else {
+        Err(NoMemory)
+    };
     packet.destroy();
     outcome?;
     Ok(out)
 }
 
 #[test]
-fn a_notice_is_written_and_read(rt: HostRuntime) -> Result<(), Fail> {
-    let text = noticed(rt.alloc(), MAX_RANGE, FIRST_PACKET)?;
-    assert_eq!(rt; text.as_slice(), NOTICE.as_slice());
-
-    let notice = decode_notice(rt.alloc(), &text)?.ok_or("no notice")?;
-    assert_eq!(rt; notice.queue, 0);
-    assert_eq!(rt; notice.id, 1);
-    assert_eq!(rt; notice.protocol, 0x0800);
-    assert_eq!(rt; notice.mark, 0);
-    assert_eq!(rt; notice.length, 20);
-    assert_eq!(rt; notice.payload.as_slice(), FIRST_PACKET.as_slice());
-    Ok(())
-}
-
-#[test]
-fn a_long_packet_is_cut(rt: HostRuntime) -> Result<(), Fail> {
-    let text = noticed(rt.alloc(), 40, &[7; 84])?;
-    assert_eq!(rt; text.len(), 120);
-
-    let notice = decode_notice(rt.alloc(), &text)?.ok_or("no notice")?;
-    assert_eq!(rt; notice.length, 84);
-    assert_eq!(rt; notice.payload.as_slice(), [7; 40].as_slice());
+fn notices_are_written_and_read(rt: HostRuntime) -> Result<(), Fail> {
+    let none = b"".as_slice();
+    for (mode, range, mark, protocol, link, bytes, text, length, told) in [
+        (META, 0, 0, IPV4, none, V4, META_V4, 0, 0),
+        (META, 0, 42, IPV4, TAGGED, V4, META_TAGGED, 0, 0),
+        (PACKET, MAX_RANGE, 0, IPV4, none, V4, NOTICE, 20, 20),
+        (PACKET, 0, 0, IPV4, none, V4, RANGE_0, 20, 0),
+        (PACKET, 5, 0, IPV4, none, V4, RANGE_5, 20, 5),
+        (PACKET, 8, 0x0102_0304, IPV6, LINK, V6, ALL_V6, 40, 8),
+    ] {
+        let packet = waiting(rt.alloc(), mark, protocol, link, bytes)?;
+        let written = noticed(rt.alloc(), mode, range, packet)?;
+        assert_eq!(rt; written.as_slice(), text);
+        let notice = decode_notice(rt.alloc(), text)?.ok_or("no notice")?;
+        assert_eq!(rt;
+            (notice.queue, notice.id, notice.protocol),
+            (0, 1, protocol)
+        );
+        assert_eq!(rt; (notice.mark, notice.length), (mark, length));
+        assert_eq!(rt; Some(notice.payload.as_slice()), bytes.get(..told));
+    }
     Ok(())
 }
 

@@ -1,5 +1,5 @@
-//! The sender's hardware address, `struct nfqnl_msg_packet_hw`, in which the address is filled up to 8
-//! bytes:
+//! The sender's hardware address, `struct nfqnl_msg_packet_hw`, in which the address is filled up
+//! to 8 bytes:
 //!
 //! | Place | Width | Field |
 //! |---|---|---|
@@ -32,7 +32,8 @@ pub(crate) const ADDRESS_LENGTH: usize = 6;
 /// Appends the address, where there is one.
 pub(crate) fn put_address(body: &mut Vec<u8>, source: Option<&[u8]>) -> Result<(), AllocError>
     requires { IfSome source (λ source. length source.now ≡ hardware_address_length) }
-    ensures { OnOk result (body.new.items ≡ body.old.items ++ attributes_text (part hardware_address_kind
+    ensures { OnOk result (body.new.items ≡ body.old.items
+        ++ attributes_text (part hardware_address_kind
         (option_map address_content (option_map (λ source. source.now) source.entry)))) }
 {
     match source {

@@ -6,4 +6,5 @@ use Rattle.nfqa_msgs.proofs.attribute_reading.has_short.Given as goal
 
 -- the attributes so far are long enough
 abbrev pub invariant-loop-attr : goal.invariant-loop-attr
-invariant-loop-attr l = list_any (is_short l.number) l.attr-iterator ≡ list_any (is_short l.number) (attributes l.row)
+invariant-loop-attr l =
+    list_any (is_short l.number) l.attr-iterator ≡ list_any (is_short l.number) (attributes l.row)

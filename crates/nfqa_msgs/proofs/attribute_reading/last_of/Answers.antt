@@ -9,26 +9,35 @@ use Rattle.nfqa_msgs.proofs.attribute_reading.last_of.Goals as goal
 pub loop-attr-preserved-then-attr-kind : goal.loop-attr-preserved-then-attr-kind
 loop-attr-preserved-then-attr-kind c =
     let so_far : Option (List ℕ) = option_map (λ content. content.now) c.loop-attr.last in
-    let step : c.loop-attr.attr-iterator ≡ attribute_of c.in-Some.attr ∷ c.next.new.self = c.in-Some.ensures.steps in
-    sym (walked-own c.args.kind (attribute_of c.in-Some.attr) c.next.new.self so_far c.if-attr-kind.true)
-    ∙ ap (λ (row : List Attribute). later (last_content c.args.kind row) so_far) (sym step) ∙ c.loop-attr.invariant
+    let step : c.loop-attr.attr-iterator ≡ attribute_of c.in-Some.attr ∷ c.next.new.self =
+    c.in-Some.ensures.steps in
+    sym (walked-own c.args.kind (attribute_of c.in-Some.attr) c.next.new.self so_far
+    c.if-attr-kind.true)
+    ∙ ap (λ (row : List Attribute). later (last_content c.args.kind row) so_far) (sym step)
+    ∙ c.loop-attr.invariant
 
 pub loop-attr-preserved : goal.loop-attr-preserved
 loop-attr-preserved c =
     let so_far : Option (List ℕ) = option_map (λ content. content.now) c.loop-attr.last in
-    let step : c.loop-attr.attr-iterator ≡ attribute_of c.in-Some.attr ∷ c.next.new.self = c.in-Some.ensures.steps in
-    sym (walked-other c.args.kind (attribute_of c.in-Some.attr) c.next.new.self so_far c.if-attr-kind.false)
-    ∙ ap (λ (row : List Attribute). later (last_content c.args.kind row) so_far) (sym step) ∙ c.loop-attr.invariant
+    let step : c.loop-attr.attr-iterator ≡ attribute_of c.in-Some.attr ∷ c.next.new.self =
+    c.in-Some.ensures.steps in
+    sym (walked-other c.args.kind (attribute_of c.in-Some.attr) c.next.new.self so_far
+    c.if-attr-kind.false)
+    ∙ ap (λ (row : List Attribute). later (last_content c.args.kind row) so_far) (sym step)
+    ∙ c.loop-attr.invariant
 
 pub returns-clause-value : goal.returns-clause-value
 returns-clause-value c =
     let so_far : Option (List ℕ) = option_map (λ content. content.now) c.loop-attr.last in
-    ap (λ (row : List Attribute). later (last_content c.args.kind row) so_far) (sym c.in-None.ensures.steps.0) ∙ c.loop-attr.invariant
+    ap (λ (row : List Attribute). later (last_content c.args.kind row) so_far)
+    (sym c.in-None.ensures.steps.0) ∙ c.loop-attr.invariant
 
 pub returns-clause-limit : goal.returns-clause-limit
 returns-clause-limit c =
     let P : List ℕ → Type 0 = λ content. length content ≤ longest_payload in
     let held : Holds c.args.row.now (attributes c.args.row.now) =
-    subst (λ (row : List Attribute). Holds c.args.row.now row) c.attrs-attr-items.ensures.walk c.attrs-attr-items.ensures.held in
-    IfSome-seen (λ x. x.now) P c.loop-attr.last (last_content c.args.kind (attributes c.args.row.now)) (returns-clause-value c)
+    subst (λ (row : List Attribute). Holds c.args.row.now row) c.attrs-attr-items.ensures.walk
+    c.attrs-attr-items.ensures.held in
+    IfSome-seen (λ x. x.now) P c.loop-attr.last
+    (last_content c.args.kind (attributes c.args.row.now)) (returns-clause-value c)
     (last_content-fits c.args.kind (attributes c.args.row.now) c.args.row.now held)

@@ -7,5 +7,6 @@ use Rattle.nfqa_msgs.proofs.attribute_reading.whole_last_of.Goals as goal
 pub returns-clause-long : goal.returns-clause-long
 returns-clause-long c =
     let P : List ℕ → Type 0 = λ content. least_content c.args.number c.args.kind ≤ length content in
-    IfSome-seen (λ x. x.now) P c.last_of.result (last_content c.args.kind (attributes c.args.row.now)) c.last_of.ensures.value
+    IfSome-seen (λ x. x.now) P c.last_of.result
+    (last_content c.args.kind (attributes c.args.row.now)) c.last_of.ensures.value
     (last_content-long c.args.number c.args.kind (attributes c.args.row.now) c.requires)

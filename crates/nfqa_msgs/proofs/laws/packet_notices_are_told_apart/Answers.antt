@@ -3,7 +3,8 @@ use Rattle.nfqa_msgs.proofs.PacketNotices.{told-fits, packets-apart}
 use Rattle.nfqa_msgs.proofs.laws.packet_notices_are_told_apart.Goals as goal
 
 pub returns-clause-fits : goal.returns-clause-fits
-returns-clause-fits c = λ queue mode range id card noticed. told-fits queue mode range id card noticed
+returns-clause-fits c =
+    λ queue mode range id card noticed. told-fits queue mode range id card noticed
 
 pub returns-clause-apart : goal.returns-clause-apart
 returns-clause-apart c =
@@ -13,4 +14,5 @@ returns-clause-apart c =
 
 pub returns-clause-no_prefix : goal.returns-clause-no_prefix
 returns-clause-no_prefix c =
-    λ text other behind n m longer. sym (returns-clause-apart c text other behind [] n m (sym longer ∙ sym (append-nil other)))
+    λ text other behind n m longer. sym
+    (returns-clause-apart c text other behind [] n m (sym longer ∙ sym (append-nil other)))

@@ -10,11 +10,18 @@ unfolding spelling
 returns-clause-front c =
     λ port call request behind p q fits.
     let text : List ℕ = spelling port call request in
-    let size = c.written_message_is_in_front.ensures.size (queue_kind (number_for request)) (flags_for request) call port (request_body request) in
+    let size =
+    c.written_message_is_in_front.ensures.size (queue_kind (number_for request))
+    (flags_for request) call port (request_body request) in
     let padded = request_body-padded request in
-    let uses : min (pad (length text)) (length (text ++ behind)) ≡ length text = omega (arith, length-append text behind) in
+    let uses : min (pad (length text)) (length (text ++ behind)) ≡ length text =
+    omega (arith, length-append text behind) in
     subst (λ (used : ℕ). Front (text ++ behind) (spelled port call request) used) uses
-    (c.written_message_is_in_front.ensures.front (queue_kind (number_for request)) (flags_for request) call port (request_body request) behind (spelled-fits port call request p q fits))
+    (c.written_message_is_in_front.ensures.front (queue_kind (number_for request))
+    (flags_for request) call port (request_body request) behind
+    (spelled-fits port call request p q fits))
 
 pub returns-clause-request : goal.returns-clause-request
-returns-clause-request c = λ port call request fits. spelled-decodes (λ row all. c.written_attributes_are_walked.ensures.row row all) port call request fits
+returns-clause-request c =
+    λ port call request fits. spelled-decodes (λ row
+    all. c.written_attributes_are_walked.ensures.row row all) port call request fits

@@ -16,5 +16,7 @@ pub returns-clause-ok : goal.returns-clause-ok
 unfolding notice_text
 returns-clause-ok c =
     let body = c.deref.ensures.value ∙ c.in_ok-body.ensures in
-    let P : List ℕ → Type 0 = λ body. OnOk c.put_message.result (c.put_message.new.out.items ≡ c.args.out.now.items ++ message_text 768 0 0 0 body) in
+    let P : List ℕ → Type 0 =
+    λ body. OnOk c.put_message.result
+    (c.put_message.new.out.items ≡ c.args.out.now.items ++ message_text 768 0 0 0 body) in
     subst P body c.put_message.ensures.ok

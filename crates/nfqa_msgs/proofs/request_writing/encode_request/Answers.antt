@@ -3,4 +3,5 @@ use Rattle.nfqa_msgs.proofs.Lengths.{request_body-short}
 use Rattle.nfqa_msgs.proofs.request_writing.encode_request.Goals as goal
 
 pub put_message-requires : goal.put_message-requires
-put_message-requires c = omega (arith, ap length c.in_ok-body.ensures, request_body-short c.args.request.now c.requires)
+put_message-requires c =
+    omega (arith, ap length c.in_ok-body.ensures, request_body-short c.args.request.now c.requires)

@@ -7,5 +7,8 @@ use Rattle.nfqa_msgs.proofs.headers.timestamp.put_stamp.Goals as goal
 
 pub returns : goal.returns
 returns c =
-    let P : List ℕ → Type 0 = λ content. OnOk c.put_part.result (c.put_part.new.body.items ≡ c.args.body.now.items ++ attributes_text (part timestamp_kind (Some content))) in
+    let P : List ℕ → Type 0 =
+    λ content. OnOk c.put_part.result
+    (c.put_part.new.body.items ≡ c.args.body.now.items
+    ++ attributes_text (part timestamp_kind (Some content))) in
     subst P c.stamp_of.ensures c.put_part.ensures
