@@ -7,7 +7,7 @@ use Rattle.std.proofs.lemmas.Bool.{ltb-false, eqb-true, eq-eqb, ne_eqb}
 use Rattle.packet_entry.specs.Numbers.{longest_payload}
 use Rattle.netlink_codec.specs.Messages.{pad}
 use Rattle.netlink_codec.specs.Attributes.{Attribute, AttributeFront, Holds}
-use Rattle.netlink_codec.specs.Attributes.{attribute_header_length}
+use Rattle.netlink_codec.specs.Numbers.{attribute_header_length}
 use Rattle.nfqa_msgs.specs.RequestReading.{is_short, least_content, later, last_content}
 
 -- a disjunction that fails, by its parts

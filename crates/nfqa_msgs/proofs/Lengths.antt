@@ -8,7 +8,8 @@ use Rattle.std.proofs.lemmas.List.{length-replicate}
 use Rattle.std.proofs.lemmas.List.Concat.{flat_map-append}
 use Rattle.packet_entry.specs.Numbers.{longest_payload}
 use Rattle.netlink_codec.specs.Messages.{pad}
-use Rattle.netlink_codec.specs.Attributes.{Attribute, attribute_header_length}
+use Rattle.netlink_codec.specs.Attributes.{Attribute}
+use Rattle.netlink_codec.specs.Numbers.{attribute_header_length}
 use Rattle.netlink_codec.specs.Attributes.{attribute_header_text, attribute_text, attributes_text}
 use Rattle.netlink_codec.specs.Attributes.{zero_padding}
 use Rattle.nfqa_msgs.specs.declared.request.Head.{Head}

@@ -12,7 +12,8 @@ use Rattle.packet_entry.specs.Numbers.{longest_payload, ipv4_type, ipv6_type}
 use Rattle.packet_entry.specs.Fields.{IsProtocol}
 use Rattle.netlink_codec.specs.Messages.{NetlinkMessage, FitsHeader, message_with, message_text}
 use Rattle.netlink_codec.specs.Messages.{first_message, pad}
-use Rattle.netlink_codec.specs.Attributes.{Attribute, AllFit, attributes_text, kind_limit}
+use Rattle.netlink_codec.specs.Attributes.{Attribute, AllFit, attributes_text}
+use Rattle.netlink_codec.specs.Numbers.{kind_limit}
 use Rattle.nfqa_msgs.specs.Kinds.{queue_kind}
 use Rattle.nfqa_msgs.specs.Numbers.{notice_number, queue_header_length, value_length}
 use Rattle.nfqa_msgs.specs.Numbers.{packet_header_length, packet_address_length, timestamp_length}

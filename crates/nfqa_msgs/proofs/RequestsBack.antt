@@ -10,7 +10,7 @@ use Rattle.byteorder.specs.Numbers.{big_number-reads_back}
 use Rattle.packet_entry.specs.Numbers.{longest_payload}
 use Rattle.netlink_codec.specs.Messages.{NetlinkMessage, FitsHeader, pad}
 use Rattle.netlink_codec.specs.Attributes.{Attribute, AllFit, attributes, attributes_text}
-use Rattle.netlink_codec.specs.Attributes.{kind_limit}
+use Rattle.netlink_codec.specs.Numbers.{kind_limit}
 use Rattle.nfqa_msgs.specs.declared.request.Head.{Head}
 use Rattle.nfqa_msgs.specs.declared.request.Params.{Params}
 use Rattle.nfqa_msgs.specs.declared.request.Request.{Request}

@@ -5,7 +5,7 @@ use Rattle.std.specs.Prelude.{None, IfSome, option_map}
 use Rattle.packet_entry.specs.Numbers.{longest_payload}
 use Rattle.netlink_codec.specs.Messages.{NetlinkMessage, message_text, message_with}
 use Rattle.netlink_codec.specs.Attributes.{Attribute, attributes_text}
-use Rattle.netlink_codec.specs.Acknowledgements.{ack_flag}
+use Rattle.netlink_codec.specs.Numbers.{ack_flag}
 use Rattle.nfqa_msgs.specs.declared.request.Head.{Head}
 use Rattle.nfqa_msgs.specs.declared.request.Params.{Params}
 use Rattle.nfqa_msgs.specs.declared.request.Request.{Request}

@@ -2,7 +2,8 @@
 
 ghost use Rattle.std.specs.Prelude.{◌≡◌, ◌≤◌, ◌<◌, ◌++◌, length, Some, OnOk};
 ghost use Rattle.packet_entry.specs.Numbers.{longest_payload};
-ghost use Rattle.netlink_codec.specs.Attributes.{attributes_text, kind_limit};
+ghost use Rattle.netlink_codec.specs.Attributes.{attributes_text};
+ghost use Rattle.netlink_codec.specs.Numbers.{kind_limit};
 ghost use Rattle.nfqa_msgs.specs.RequestWriting.{part, value_part};
 
 use crate::kinds::VALUE_LENGTH;

@@ -36,8 +36,8 @@ pub returns-clause-limit : goal.returns-clause-limit
 returns-clause-limit c =
     let P : List ℕ → Type 0 = λ content. length content ≤ longest_payload in
     let held : Holds c.args.row.now (attributes c.args.row.now) =
-    subst (λ (row : List Attribute). Holds c.args.row.now row) c.attrs-attr-items.ensures.walk
-    c.attrs-attr-items.ensures.held in
+    subst (λ (row : List Attribute). Holds c.args.row.now row) c.walk_attrs-attr-items.ensures.walk
+    c.walk_attrs-attr-items.ensures.held in
     IfSome-seen (λ x. x.now) P c.loop-attr.last
     (last_content c.args.kind (attributes c.args.row.now)) (returns-clause-value c)
     (last_content-fits c.args.kind (attributes c.args.row.now) c.args.row.now held)
