@@ -1,33 +1,22 @@
-// The link header in front of an IP packet, for the link types of a classic capture file.
+//! The link header before an IP packet, for the link types of a classic capture file.
 
-ghost use Rattle.std.specs.Prelude.{◌≡◌, ◌≤◌, ◌+◌, nat_le, length, IfSome, if◌then◌else◌};
-ghost use Rattle.ip_fields.specs.Packet.{network_number};
-ghost use Rattle.ip_fields.specs.Frame.{IsIpStart, cut_of, ethernet_cut, is_ip_type, raw_cut};
+ghost use Rattle.std.specs.Prelude.{◌≡◌, IfSome};
+ghost use Rattle.ip_fields.specs.Frame.{IsIpStart, cut_of, ethernet_cut, raw_cut};
 
-use crate::packet::version;
-use byteorder::{BigEndian, ByteOrder};
+use crate::ethernet::{ETHERNET_HEADER_LENGTH, TYPE_IPV4, TYPE_IPV6, is_ip, read_ethernet_type};
+use crate::ipv4::IPV4_VERSION;
+use crate::ipv6::IPV6_VERSION;
+use crate::packet::read_version;
+use crate::vlan::{TAGGED_HEADER_LENGTH, TYPE_VLAN, read_tagged_type};
 
+/// LINKTYPE_ETHERNET of the registry at www.tcpdump.org/linktypes.html.
 const LINK_ETHERNET: u32 = 1;
-
+/// LINKTYPE_RAW: a packet of IPv4 or IPv6 with no header before it.
 const LINK_RAW: u32 = 101;
-
+/// LINKTYPE_IPV4: a packet of IPv4.
 const LINK_IPV4: u32 = 228;
-
+/// LINKTYPE_IPV6: a packet of IPv6.
 const LINK_IPV6: u32 = 229;
-
-const TYPE_IPV4: u16 = 0x0800;
-
-const TYPE_IPV6: u16 = 0x86dd;
-
-const TYPE_VLAN: u16 = 0x8100;
-
-const ETHERNET_TYPE: usize = 12;
-
-const ETHERNET_LENGTH: usize = 14;
-
-const VLAN_TYPE: usize = 16;
-
-const VLAN_LENGTH: usize = 18;
 
 /// Where the IP packet of a captured frame starts.
 #[derive(Clone, Copy, Debug, PartialEq, Eq)]
@@ -41,7 +30,7 @@ pub struct LinkCut {
 /// Where the IP packet starts in a captured frame, and its Ethernet type.
 ///
 /// `link` is the capture's link type: 1 Ethernet, 101 raw IP, 228 IPv4, 229 IPv6. `None` comes
-/// exactly for a frame that isn't IP: under another link type; under Ethernet where the type, behind
+/// exactly for a frame that isn't IP: under another link type; under Ethernet where the type, after
 /// at most one VLAN tag 0x8100, is neither of the two or isn't there; under raw IP where the first
 /// half byte is neither 4 nor 6 or the frame is empty.
 #[tactic(auto, unfolding(crate::specs::Frame::cut_of))]
@@ -69,13 +58,14 @@ fn whole(protocol: u16) -> LinkCut
     }
 }
 
+/// The cut under Ethernet.
 fn ethernet(bytes: &[u8]) -> Option<LinkCut>
     ensures exact { result ≡ ethernet_cut bytes.now }
     ensures start { IfSome result (IsIpStart bytes.now) }
 {
-    let (length, protocol) = match ethernet_type(bytes, ETHERNET_TYPE)? {
-        TYPE_VLAN => (VLAN_LENGTH, ethernet_type(bytes, VLAN_TYPE)?),
-        kind => (ETHERNET_LENGTH, kind),
+    let (length, protocol) = match read_ethernet_type(bytes)? {
+        TYPE_VLAN => (TAGGED_HEADER_LENGTH, read_tagged_type(bytes)?),
+        kind => (ETHERNET_HEADER_LENGTH, kind),
     };
     if is_ip(protocol) {
         Some(LinkCut { length, protocol })
@@ -84,31 +74,14 @@ fn ethernet(bytes: &[u8]) -> Option<LinkCut>
     }
 }
 
-/// The Ethernet type in the two bytes from place `at`, if they are there.
-#[tactic(auto, unfolding(crate::specs::Packet::network_number))]
-fn ethernet_type(bytes: &[u8], at: usize) -> Option<u16>
-    requires { at ≤ 16 }
-    ensures { result ≡ (if nat_le (at + 2) (length bytes.now) then Some (network_number 2 at bytes.now) else None) }
-{
-    if bytes.len() < at + 2 {
-        return None;
-    }
-    Some(BigEndian::read_u16(&bytes[at..]))
-}
-
-fn is_ip(kind: u16) -> bool
-    ensures { result ≡ is_ip_type kind }
-{
-    kind == TYPE_IPV4 || kind == TYPE_IPV6
-}
-
+/// The cut under raw IP.
 fn raw(bytes: &[u8]) -> Option<LinkCut>
     ensures exact { result ≡ raw_cut bytes.now }
     ensures start { IfSome result (IsIpStart bytes.now) }
 {
-    match version(bytes)? {
-        4 => Some(whole(TYPE_IPV4)),
-        6 => Some(whole(TYPE_IPV6)),
+    match read_version(bytes)? {
+        IPV4_VERSION => Some(whole(TYPE_IPV4)),
+        IPV6_VERSION => Some(whole(TYPE_IPV6)),
         _ => None,
     }
 }

@@ -1,29 +1,10 @@
-// The header of an IP packet: RFC 791, section 3.1, and RFC 8200, section 3.
+//! What an IP packet says of itself, by the headers of IPv4 and IPv6.
 
-ghost use Rattle.std.specs.Prelude.{◌≡◌, ◌≤◌, ◌<◌, ◌^◌, ◌==◌, length, IfSome, if◌then◌else◌};
-ghost use Rattle.ip_fields.specs.Packet.{IsAddressed, fields_of, ipv4_fields, ipv6_fields, version_of};
+ghost use Rattle.std.specs.Prelude.{◌≡◌, ◌==◌, length, IfSome, if◌then◌else◌};
+ghost use Rattle.ip_fields.specs.Packet.{IsAddressed, fields_of, version_of};
 
-use byteorder::{BigEndian, ByteOrder};
-
-const VERSION_4: u8 = 4;
-
-const VERSION_6: u8 = 6;
-
-const IPV4_LENGTH: usize = 20;
-
-const IPV4_PROTOCOL: usize = 9;
-
-const IPV4_SOURCE: usize = 12;
-
-const IPV4_DESTINATION: usize = 16;
-
-const IPV6_LENGTH: usize = 40;
-
-const IPV6_NEXT_HEADER: usize = 6;
-
-const IPV6_SOURCE: usize = 8;
-
-const IPV6_DESTINATION: usize = 24;
+use crate::ipv4::{IPV4_HEADER_LENGTH, IPV4_VERSION, read_ipv4};
+use crate::ipv6::{IPV6_HEADER_LENGTH, IPV6_VERSION, read_ipv6};
 
 /// The fields of an IP header that rules and the flow hash look at.
 #[derive(Clone, Copy, Debug, PartialEq, Eq)]
@@ -48,45 +29,17 @@ pub fn fields(bytes: &[u8]) -> Option<IpFields>
     ensures exact { result ≡ fields_of bytes.now }
     ensures addressed { IfSome result IsAddressed }
 {
-    match version(bytes)? {
-        VERSION_4 if bytes.len() >= IPV4_LENGTH => Some(ipv4(bytes)),
-        VERSION_6 if bytes.len() >= IPV6_LENGTH => Some(ipv6(bytes)),
+    match read_version(bytes)? {
+        IPV4_VERSION if bytes.len() >= IPV4_HEADER_LENGTH => Some(read_ipv4(bytes)),
+        IPV6_VERSION if bytes.len() >= IPV6_HEADER_LENGTH => Some(read_ipv6(bytes)),
         _ => None,
     }
 }
 
 /// The version of the packet that the bytes begin with: the upper half of the first byte. `None`
 /// where there is no byte.
-pub(crate) fn version(bytes: &[u8]) -> Option<u8>
+pub(crate) fn read_version(bytes: &[u8]) -> Option<u8>
     ensures { result ≡ (if length bytes.now == 0 then None else Some (version_of bytes.now)) }
 {
     bytes.first().map(|first| first >> 4)
-}
-
-#[tactic(auto, unfolding(crate::specs::Packet::network_number))]
-fn ipv4(bytes: &[u8]) -> IpFields
-    requires { 20 ≤ length bytes.now }
-    ensures exact { result ≡ ipv4_fields bytes.now }
-    ensures source { result.source < 2 ^ 32 }
-    ensures destination { result.destination < 2 ^ 32 }
-{
-    IpFields {
-        family: VERSION_4,
-        protocol: bytes[IPV4_PROTOCOL],
-        source: u128::from(BigEndian::read_u32(&bytes[IPV4_SOURCE..])),
-        destination: u128::from(BigEndian::read_u32(&bytes[IPV4_DESTINATION..])),
-    }
-}
-
-#[tactic(auto, unfolding(crate::specs::Packet::network_number))]
-fn ipv6(bytes: &[u8]) -> IpFields
-    requires { 40 ≤ length bytes.now }
-    ensures { result ≡ ipv6_fields bytes.now }
-{
-    IpFields {
-        family: VERSION_6,
-        protocol: bytes[IPV6_NEXT_HEADER],
-        source: BigEndian::read_u128(&bytes[IPV6_SOURCE..]),
-        destination: BigEndian::read_u128(&bytes[IPV6_DESTINATION..]),
-    }
 }
