@@ -47,13 +47,38 @@ fn queue(number: u16, bypass: bool) -> Decision {
     Decision::Queue { number, bypass }
 }
 
-/// A file of one table that has this rule, after `-A FORWARD `.
-fn file_of(alloc: Global, rule: &[u8]) -> Result<Vec<u8>, AllocError> {
+/// What comes before and after a table's line in a file.
+const LINE: (&[u8], &[u8]) = (b"*filter\n", b"\nCOMMIT\n");
+
+/// The same for the matches of a rule.
+const MATCHES: (&[u8], &[u8]) = (b"*filter\n-A FORWARD ", b" -j NFQUEUE\nCOMMIT\n");
+
+/// The same for its options.
+const OPTIONS: (&[u8], &[u8]) = (b"*filter\n-A FORWARD -j NFQUEUE ", b"\nCOMMIT\n");
+
+/// A file of one table, whose second line has this text in its frame.
+fn file_of(alloc: Global, frame: (&[u8], &[u8]), text: &[u8]) -> Result<Vec<u8>, AllocError> {
     let mut file = Vec::new(alloc);
-    file.extend_from_slice(b"*filter\n-A FORWARD ")?;
-    file.extend_from_slice(rule)?;
-    file.extend_from_slice(b"\nCOMMIT\n")?;
+    file.extend_from_slice(frame.0)?;
+    file.extend_from_slice(text)?;
+    file.extend_from_slice(frame.1)?;
     Ok(file)
+}
+
+/// The rule of a file of one table, which has one rule with this text in its frame.
+fn rule_of(alloc: Global, frame: (&[u8], &[u8]), text: &[u8]) -> Result<Option<Rule>, Fail> {
+    let file = file_of(alloc, frame, text)?;
+    if file.len() >= 1_000 {
+        return Ok(None);
+    }
+    let tables = read_tables(alloc, file.as_slice())?;
+    match tables.as_slice() {
+        [table] => match table.rules() {
+            [rule] => Ok(Some(*rule)),
+            _ => Ok(None),
+        },
+        _ => Ok(None),
+    }
 }
 
 /// The line at which a text is refused, or `None` where it is read.
@@ -67,154 +92,110 @@ fn refused(alloc: Global, text: &[u8]) -> Result<Option<u32>, LineFault>
     }
 }
 
+/// The line at which a file of one table is refused, with this text in its frame.
+fn refused_in(alloc: Global, frame: (&[u8], &[u8]), text: &[u8]) -> Result<Option<u32>, Fail> {
+    let file = file_of(alloc, frame, text)?;
+    if file.len() >= 1_000 {
+        return Ok(None);
+    }
+    Ok(refused(alloc, file.as_slice())?)
+}
+
 #[test]
 fn each_kind_of_rule_is_read(rt: HostRuntime) -> Result<(), Fail> {
     let alloc = rt.alloc();
-    let rows: [(&[u8], Rule); 17] = [
-        (b"-j NFQUEUE", rule(None, None, number(0), false)),
-        (b"-p tcp -j NFQUEUE", rule(Some(6), None, number(0), false)),
-        (b"-p udp -j NFQUEUE", rule(Some(17), None, number(0), false)),
-        (b"-p icmp -j NFQUEUE", rule(Some(1), None, number(0), false)),
-        (
-            b"-p ipv6-icmp -j NFQUEUE",
-            rule(Some(58), None, number(0), false),
-        ),
-        (
-            b"-p 255 -j NFQUEUE",
-            rule(Some(255), None, number(0), false),
-        ),
-        (
-            b"-j NFQUEUE --queue-num 65535",
-            rule(None, None, number(65_535), false),
-        ),
-        (
-            b"-j NFQUEUE --queue-balance 2:5",
-            rule(None, None, among(2, 4), false),
-        ),
-        (
-            b"-j NFQUEUE --queue-balance 0:65534",
-            rule(None, None, among(0, 65_535), false),
-        ),
-        (
-            b"-j NFQUEUE --queue-balance 1:65535",
-            rule(None, None, among(1, 65_535), false),
-        ),
-        (
-            b"-j NFQUEUE --queue-bypass",
-            rule(None, None, number(0), true),
-        ),
-        (
-            b"-j NFQUEUE --queue-num 3 --queue-bypass",
-            rule(None, None, number(3), true),
-        ),
-        (
-            b"-j NFQUEUE --queue-bypass --queue-num 3",
-            rule(None, None, number(3), true),
-        ),
-        (
-            b"-m mark --mark 7 -j NFQUEUE",
-            rule(None, mark(7, u32::MAX, false), number(0), false),
-        ),
-        (
-            b"-m mark --mark 0xAb/0x0F -j NFQUEUE",
-            rule(None, mark(171, 15, false), number(0), false),
-        ),
-        (
-            b"-m mark ! --mark 1/1 -j NFQUEUE",
-            rule(None, mark(1, 1, true), number(0), false),
-        ),
-        (
-            b"-p 6 -m mark --mark 1/0 -j NFQUEUE",
-            rule(Some(6), mark(1, 0, false), number(0), false),
-        ),
+    let matches: [(&[u8], Option<u8>, Option<MarkTest>); 11] = [
+        (b"", None, None),
+        (b"-p tcp", Some(6), None),
+        (b"-p udp", Some(17), None),
+        (b"-p icmp", Some(1), None),
+        (b"-p ipv6-icmp", Some(58), None),
+        (b"-p 0", Some(0), None),
+        (b"-p 255", Some(255), None),
+        (b"-m mark --mark 7", None, mark(7, u32::MAX, false)),
+        (b"-m mark --mark 0xAb/0x0F", None, mark(171, 15, false)),
+        (b"-m mark ! --mark 1/1", None, mark(1, 1, true)),
+        (b"-p 6 -m mark --mark 1/0", Some(6), mark(1, 0, false)),
     ];
-    for (text, wanted) in rows {
-        let file = file_of(alloc, text)?;
-        assert!(rt; file.len() < 100);
-        let tables = read_tables(alloc, file.as_slice())?;
-        assert_eq!(rt; tables.as_slice().len(), 1);
-        let wanted = [wanted];
-        assert_eq!(rt; tables.as_slice()[0].rules(), wanted.as_slice());
+    for (text, protocol, mark) in matches {
+        let wanted = rule(protocol, mark, number(0), false);
+        assert_eq!(rt; rule_of(alloc, MATCHES, text)?, Some(wanted));
+    }
+    let options: [(&[u8], Pick, bool); 8] = [
+        (b"", number(0), false),
+        (b"--queue-num 65535", number(65_535), false),
+        (b"--queue-balance 2:5", among(2, 4), false),
+        (b"--queue-balance 0:65534", among(0, 65_535), false),
+        (b"--queue-balance 1:65535", among(1, 65_535), false),
+        (b"--queue-bypass", number(0), true),
+        (b"--queue-num 3 --queue-bypass", number(3), true),
+        (b"--queue-bypass --queue-num 3", number(3), true),
+    ];
+    for (text, pick, bypass) in options {
+        let wanted = rule(None, None, pick, bypass);
+        assert_eq!(rt; rule_of(alloc, OPTIONS, text)?, Some(wanted));
     }
     Ok(())
 }
 
-/// Rules that are refused, and why.
-const BAD_RULES: [(&[u8], &str); 21] = [
-    (b"-j NFQUEUE --queue-num 1 --queue-num 1", "an option twice"),
-    (b"-j NFQUEUE --queue-balance 0:65535", "65,536 queues"),
-    (b"-j NFQUEUE --queue-balance 3:3", "one queue"),
-    (b"-j NFQUEUE --queue-balance 4:3", "a range that goes down"),
-    (b"-j NFQUEUE --queue-balance 1:2 --queue-num 1", "two picks"),
-    (b"-j NFQUEUE --queue-bypass --queue-bypass", "bypass twice"),
-    (b"-j NFQUEUE --queue-num 01", "a leading zero"),
-    (b"-j NFQUEUE --queue-num 65536", "a queue above 65,535"),
-    (b"-j NFQUEUE --queue-num", "no number"),
-    (b"-j NFQUEUE --queue-cpu-fanout", "fanout"),
-    (b"-p 256 -j NFQUEUE", "a protocol above 255"),
-    (b"-p TCP -j NFQUEUE", "a protocol in capitals"),
-    (b"-p tcp -p udp -j NFQUEUE", "two protocols"),
-    (
-        b"-m mark --mark 1 -p tcp -j NFQUEUE",
-        "the mark before the protocol",
-    ),
-    (b"-m mark --mark 0x -j NFQUEUE", "no hexadecimal digit"),
-    (b"-m mark --mark 0X1 -j NFQUEUE", "a capital X"),
-    (
-        b"-m mark --mark 4294967296 -j NFQUEUE",
-        "a value of 33 bits",
-    ),
-    (
-        b"-m mark --mark 0x100000000 -j NFQUEUE",
-        "a hexadecimal value of 33 bits",
-    ),
-    (b"-m mark --mark 1/2/3 -j NFQUEUE", "two masks"),
-    (
-        b"-m mark !--mark 1 -j NFQUEUE",
-        "no blank rest_after the mark of negation",
-    ),
-    (b"-j ACCEPT", "another target"),
+/// Options of a rule that are refused, and why.
+const BAD_OPTIONS: [(&[u8], &str); 10] = [
+    (b"--queue-num 1 --queue-num 1", "an option twice"),
+    (b"--queue-balance 0:65535", "65,536 queues"),
+    (b"--queue-balance 3:3", "one queue"),
+    (b"--queue-balance 4:3", "a range that goes down"),
+    (b"--queue-balance 1:2 --queue-num 1", "two picks"),
+    (b"--queue-bypass --queue-bypass", "bypass twice"),
+    (b"--queue-num 01", "a leading zero"),
+    (b"--queue-num 65536", "a queue above 65,535"),
+    (b"--queue-num", "no number"),
+    (b"--queue-cpu-fanout", "fanout"),
+];
+
+/// Matches of a rule that are refused, and why.
+const BAD_MATCHES: [(&[u8], &str); 10] = [
+    (b"-p 256", "a protocol above 255"),
+    (b"-p TCP", "a protocol in capitals"),
+    (b"-p tcp -p udp", "two protocols"),
+    (b"-m mark --mark 1 -p tcp", "mark before protocol"),
+    (b"-m mark --mark 0x", "no hexadecimal digit"),
+    (b"-m mark --mark 0X1", "a capital X"),
+    (b"-m mark --mark 4294967296", "33 bits"),
+    (b"-m mark --mark 0x100000000", "33 bits, hexadecimal"),
+    (b"-m mark --mark 1/2/3", "two masks"),
+    (b"-m mark !--mark 1", "no blank after !"),
+];
+
+/// Lines of a table that are refused, and why.
+const BAD_LINES: [(&[u8], &str); 9] = [
+    (b"-A FORWARD -j ACCEPT", "another target"),
+    (b"-A INPUT -j NFQUEUE", "another chain"),
+    (b":INPUT DROP [0:0]", "another policy"),
+    (b":INPUT ACCEPT", "no counters"),
+    (b":INPUT ACCEPT [0:]", "a counter without digits"),
+    (b":IN1 ACCEPT [0:0]", "a chain with a digit"),
+    (b"*raw", "a table inside a table"),
+    (b"COMMIT now", "a word after COMMIT"),
+    (b"# \x01", "a bad byte after #"),
 ];
 
 /// Files that are refused, with the number of the first bad line, and why.
-const BAD_FILES: [(&[u8], u32, &str); 21] = [
+const BAD_FILES: [(&[u8], u32, &str); 15] = [
     (b"*filter\n", 2, "the end inside a table"),
-    (b"*filter", 2, "the end inside a table without LF"),
-    (
-        b"*filter\n-A INPUT -j NFQUEUE\nCOMMIT\n",
-        2,
-        "another chain",
-    ),
-    (b"*filter\n:INPUT DROP [0:0]\nCOMMIT\n", 2, "another policy"),
-    (b"*filter\n:INPUT ACCEPT\nCOMMIT\n", 2, "no counters"),
-    (
-        b"*filter\n:INPUT ACCEPT [0:]\nCOMMIT\n",
-        2,
-        "a counter without digits",
-    ),
-    (
-        b"*filter\n:IN1 ACCEPT [0:0]\nCOMMIT\n",
-        2,
-        "a chain's name with a digit",
-    ),
+    (b"*filter", 2, "the same without LF"),
     (b"-A FORWARD -j NFQUEUE\n", 1, "a rule outside a table"),
     (b":INPUT ACCEPT [0:0]\n", 1, "a policy outside a table"),
     (b"\n\nCOMMIT\n", 3, "an end outside a table"),
-    (b"*filter\n*raw\nCOMMIT\n", 2, "a table inside a table"),
     (b"*filter\nCOMMIT\n*filter\nCOMMIT\n", 3, "a name twice"),
     (b"*Filter\nCOMMIT\n", 1, "a table's name in capitals"),
     (b"* filter\nCOMMIT\n", 1, "a table without a name"),
-    (
-        b"*a-name-of-32-letters-01234567890\nCOMMIT\n",
-        1,
-        "a name of 32 bytes",
-    ),
-    (b"*filter\nCOMMIT now\n", 2, "a word rest_after COMMIT"),
-    (b"# \x01\n", 1, "a bad byte rest_after #"),
-    (b"#\n# \x7f\n", 2, "a bad byte rest_after #"),
+    (b"*a-name-of-32-letters-01234567890\n", 1, "32 bytes"),
+    (b"# \x01\n", 1, "a bad byte after #"),
+    (b"#\n# \x7f\n", 2, "a bad byte after #"),
     (b"*filter\r\nCOMMIT\r", 2, "a CR that ends no line"),
     (b"#\r\r\n", 1, "two CR"),
     (b"*fil\0ter\nCOMMIT\n", 1, "a zero byte"),
+    (b"*a\nCOMMIT\nCOMMIT\n", 3, "an end twice"),
 ];
 
 /// Files that are read, with the number of their tables.
@@ -233,10 +214,14 @@ const GOOD_FILES: [(&[u8], usize); 9] = [
 #[test]
 fn each_bad_line_is_refused_with_its_number(rt: HostRuntime) -> Result<(), Fail> {
     let alloc = rt.alloc();
-    for (text, what) in BAD_RULES {
-        let file = file_of(alloc, text)?;
-        assert!(rt; file.len() < 100);
-        assert_eq!(rt; refused(alloc, file.as_slice())?, Some(2), "{what}");
+    for (text, what) in BAD_OPTIONS {
+        assert_eq!(rt; refused_in(alloc, OPTIONS, text)?, Some(2), "{what}");
+    }
+    for (text, what) in BAD_MATCHES {
+        assert_eq!(rt; refused_in(alloc, MATCHES, text)?, Some(2), "{what}");
+    }
+    for (text, what) in BAD_LINES {
+        assert_eq!(rt; refused_in(alloc, LINE, text)?, Some(2), "{what}");
     }
     for (text, line, what) in BAD_FILES {
         assert!(rt; text.len() < 100);
@@ -270,7 +255,7 @@ COMMIT
 \t-A  FORWARD -m mark ! --mark 0xAb/0x00fF -j NFQUEUE  --queue-bypass \t
 -A FORWARD -p icmp -m mark --mark 7/4294967295 -j NFQUEUE --queue-bypass --queue-num 65535
 -A FORWARD -p ipv6-icmp -j NFQUEUE --queue-balance 1:65535
-  # a comment rest_after blanks
+  # a comment after blanks
 -A FORWARD -p udp -j NFQUEUE --queue-balance 0:65534\r
 -A FORWARD -j NFQUEUE
 COMMIT
@@ -322,7 +307,7 @@ fn a_table_has_1000_rules_and_a_file_16_tables(rt: HostRuntime) -> Result<(), Fa
     let rules = text.len();
     text.extend_from_slice(b"COMMIT\n")?;
     assert!(rt; text.len() < 100_000);
-    let next = routed(alloc, text.as_slice(), 0, IPV4, &ipv4(6, 1, 2), 1)?;
+    let next = routed(alloc, text.as_slice(), 0, IPV4, &IPV4_BYTES, 1)?;
     assert_eq!(rt; next, to(9, false, 1));
 
     text.truncate(rules);
@@ -344,77 +329,31 @@ fn a_table_has_1000_rules_and_a_file_16_tables(rt: HostRuntime) -> Result<(), Fa
     Ok(())
 }
 
-/// An IPv4 packet of this protocol, from one address of 10.0.0.0/24 to another.
-fn ipv4(protocol: u8, source: u8, destination: u8) -> [u8; 20] {
-    let ttl = 64;
-    [
-        0x45,
-        0,
-        0,
-        20, // version, words of the header, type of service, total length
-        0,
-        1,
-        0,
-        0, // id, fragment
-        ttl,
-        protocol,
-        0,
-        0, // time to live, protocol, checksum
-        10,
-        0,
-        0,
-        source, // source address
-        10,
-        0,
-        0,
-        destination, // destination address
-    ]
+/// An IPv4 packet of TCP from 10.0.0.1 to 10.0.0.2: its header alone.
+const IPV4_BYTES: [u8; 20] = [
+    0x45, 0, 0, 20, 0, 1, 0, 0, 64, 6, 0, 0, 10, 0, 0, 1, 10, 0, 0, 2,
+];
+
+/// An IPv6 packet of UDP from 2001:db8::1 to 2001:db8::2: its header alone.
+const IPV6_BYTES: [u8; 40] = [
+    0x60, 0, 0, 0, 0, 0, 17, 64, 0x20, 1, 0xd, 0xb8, 0, 0, 0, 0, 0, 0, 0, 0, 0, 0, 0, 1, 0x20, 1,
+    0xd, 0xb8, 0, 0, 0, 0, 0, 0, 0, 0, 0, 0, 0, 2,
+];
+
+/// The IPv4 packet with these last bytes of its addresses.
+fn ipv4(source: u8, destination: u8) -> [u8; 20] {
+    let mut bytes = IPV4_BYTES;
+    bytes[15] = source;
+    bytes[19] = destination;
+    bytes
 }
 
-/// An IPv6 packet of UDP, from one address of 2001:db8::/64 to another.
+/// The IPv6 packet with these last bytes of its addresses.
 fn ipv6(source: u8, destination: u8) -> [u8; 40] {
-    [
-        0x60,
-        0,
-        0,
-        0, // version, traffic class, flow label
-        0,
-        0,
-        17,
-        64, // payload length, next header, hop limit
-        0x20,
-        1,
-        0xd,
-        0xb8,
-        0,
-        0,
-        0,
-        0,
-        0,
-        0,
-        0,
-        0,
-        0,
-        0,
-        0,
-        source, // source address
-        0x20,
-        1,
-        0xd,
-        0xb8,
-        0,
-        0,
-        0,
-        0,
-        0,
-        0,
-        0,
-        0,
-        0,
-        0,
-        0,
-        destination, // destination address
-    ]
+    let mut bytes = IPV6_BYTES;
+    bytes[23] = source;
+    bytes[39] = destination;
+    bytes
 }
 
 /// A rule for all packets.
@@ -473,10 +412,8 @@ fn packets_are_routed_from_a_table_on(rt: HostRuntime) -> Result<(), Fail> {
     ];
     for (rules, from, wanted) in rows {
         assert!(rt; rules.len() < 200);
-        assert_eq!(rt;
-            routed(alloc, rules, 0, IPV4, &ipv4(6, 1, 2), from)?,
-            wanted
-        );
+        let next = routed(alloc, rules, 0, IPV4, &IPV4_BYTES, from)?;
+        assert_eq!(rt; next, wanted);
     }
     Ok(())
 }
@@ -492,7 +429,7 @@ fn sent_on(
     requires { length rules.now < 100_000 }
 {
     let tables = read_tables(alloc, rules)?;
-    let mut packet = Packet::new(alloc, 1, 0, 0, IPV4, &[], &ipv4(6, 1, 2))?;
+    let mut packet = Packet::new(alloc, 1, 0, 0, IPV4, &[], &IPV4_BYTES)?;
     packet.queued(1);
     packet.edit(mark, None);
     let next = onward(&tables, 0, &packet, decision);
@@ -521,29 +458,27 @@ fn decisions_send_a_packet_on(rt: HostRuntime) -> Result<(), Fail> {
     Ok(())
 }
 
+/// Where a packet goes whose flow is spread over four queues.
+fn spread(alloc: Global, key: u32, protocol: u16, bytes: &[u8]) -> Result<Next, Fail>
+    requires protocol { IsProtocol protocol }
+    requires bytes { length bytes.now ≤ 40 }
+{
+    routed(alloc, FLOWS, key, protocol, bytes, 1)
+}
+
 #[test]
 fn both_directions_of_a_flow_go_to_one_queue(rt: HostRuntime) -> Result<(), Fail> {
     let alloc = rt.alloc();
     // The queues are those of the kernel's jhash.h at these keys.
     for (key, queue) in [(0, 2), (3, 1), (559_038_725, 0)] {
-        assert_eq!(rt;
-            routed(alloc, FLOWS, key, IPV4, &ipv4(6, 1, 2), 1)?,
-            to(queue, false, 1)
-        );
-        assert_eq!(rt;
-            routed(alloc, FLOWS, key, IPV4, &ipv4(6, 2, 1), 1)?,
-            to(queue, false, 1)
-        );
+        let wanted = to(queue, false, 1);
+        assert_eq!(rt; spread(alloc, key, IPV4, &ipv4(1, 2))?, wanted);
+        assert_eq!(rt; spread(alloc, key, IPV4, &ipv4(2, 1))?, wanted);
     }
     for (key, queue) in [(0, 3), (3, 1), (559_038_725, 3)] {
-        assert_eq!(rt;
-            routed(alloc, FLOWS, key, IPV6, &ipv6(1, 2), 1)?,
-            to(queue, false, 1)
-        );
-        assert_eq!(rt;
-            routed(alloc, FLOWS, key, IPV6, &ipv6(2, 1), 1)?,
-            to(queue, false, 1)
-        );
+        let wanted = to(queue, false, 1);
+        assert_eq!(rt; spread(alloc, key, IPV6, &ipv6(1, 2))?, wanted);
+        assert_eq!(rt; spread(alloc, key, IPV6, &ipv6(2, 1))?, wanted);
     }
     Ok(())
 }
@@ -551,28 +486,22 @@ fn both_directions_of_a_flow_go_to_one_queue(rt: HostRuntime) -> Result<(), Fail
 /// The key at which the hash's seed is 0.
 const KEY: u32 = 559_038_725;
 
-/// 2001:db8::1 and 2001:db8::2.
+/// 2001:db8::1.
 const FIRST: u128 = 0x2001_0db8_0000_0000_0000_0000_0000_0001;
 
+/// 2001:db8::2.
 const SECOND: u128 = 0x2001_0db8_0000_0000_0000_0000_0000_0002;
 
 /// What each of the seven lines of the hash gives, with a seed of 0.
 fn seven_lines(a: u32, b: u32, c: u32) -> [u32; 7] {
-    let first = mix(c, b, 14);
-    let second = mix(a, first, 11);
-    let third = mix(b, second, 25);
-    let fourth = mix(first, third, 16);
-    let fifth = mix(second, fourth, 4);
-    let sixth = mix(third, fifth, 14);
-    [
-        first,
-        second,
-        third,
-        fourth,
-        fifth,
-        sixth,
-        mix(fourth, sixth, 24),
-    ]
+    let c1 = mix(c, b, 14);
+    let a1 = mix(a, c1, 11);
+    let b1 = mix(b, a1, 25);
+    let c2 = mix(c1, b1, 16);
+    let a2 = mix(a1, c2, 4);
+    let b2 = mix(b1, a2, 14);
+    let c3 = mix(c2, b2, 24);
+    [c1, a1, b1, c2, a2, b2, c3]
 }
 
 /// The lines of a flow of protocol 6 between the addresses 0.
@@ -609,15 +538,11 @@ fn the_flow_hash_line_by_line(rt: HostRuntime) {
     assert_eq!(rt; seven_lines(x, y, 17).as_slice(), IPV6_LINES.as_slice());
 
     // The upper 16 bits of the hash, or the upper two.
+    let there = flow(17, FIRST, SECOND);
+    let back = flow(17, SECOND, FIRST);
     assert_eq!(rt; balance(KEY, Some(&flow(6, 0, 0)), 0, 65_536), 0xcc9e);
     assert_eq!(rt; balance(KEY, Some(&flow(6, 0, 0)), 10, 4), 13);
-    assert_eq!(rt;
-        balance(KEY, Some(&flow(17, FIRST, SECOND)), 0, 65_536),
-        0xcc5b
-    );
-    assert_eq!(rt;
-        balance(KEY, Some(&flow(17, SECOND, FIRST)), 0, 65_536),
-        0xcc5b
-    );
+    assert_eq!(rt; balance(KEY, Some(&there), 0, 65_536), 0xcc5b);
+    assert_eq!(rt; balance(KEY, Some(&back), 0, 65_536), 0xcc5b);
     assert_eq!(rt; balance(7, None, 5, 1), 5);
 }
