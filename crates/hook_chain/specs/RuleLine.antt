@@ -52,7 +52,7 @@ mark_match words = option_map_or (λ rest. do
   ))
     (words_after (codes "-m") words) (Some (None, words))
 
--- A:B, with A below B, which are not more than the most queues
+-- A:B, with A below B, and not too many queues
 unfoldable pub range_of : List ℕ → Option Pick
 range_of word = do
   parts ← cut_at (byte ":") word

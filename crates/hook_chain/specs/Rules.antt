@@ -10,12 +10,12 @@ abbrev pub IsPick : Pick → Type 0
 IsPick (Number queue) = queue < 2 ^ 16
 IsPick (Balance first total) = (2 ≤ total) × (total ≤ most_queues) × (first + total ≤ 2 ^ 16)
 
--- a table of rules that can be picked
+-- a table: not too many rules, each with queues that there are
 pub record IsTable (rules : List Rule) : Type 0 where
   pub length : length rules ≤ most_rules
   pub picks : All (λ r. IsPick r.pick) rules
 
--- the tables of a file
+-- the tables of a file: not too many
 pub record AreTables (tables : List (List Rule)) : Type 0 where
   pub length : length tables ≤ most_tables
   pub each : All IsTable tables

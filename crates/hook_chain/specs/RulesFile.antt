@@ -24,7 +24,7 @@ pub record Place : Type 0 where
 abbrev pub start : Place
 start = record { names = []; closed = []; inside = None }
 
--- a table may be opened outside of tables, under a new name, and is one of the most tables
+-- a table may be opened outside of tables, under a new name, if they aren't too many
 abbrev pub may_open : Place → List ℕ → Bool
 may_open p name =
     is_none p.inside && nat_lt (length p.closed) most_tables
