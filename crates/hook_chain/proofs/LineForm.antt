@@ -104,8 +104,8 @@ form_some (word ∷ words) said e =
             | inr g ↦ elim (chosen (eqb (get_or word 0 0) (byte ":")) (policy (drop 1 word) words) _
                 (Some said) g.1) [
                   | inl f ↦ policy_some word words said (byte_and_rest (byte ":") word refl f.0) f.1
-                  | inr f ↦ elim (chosen (bytes_eq word (codes "-A")) (option_map Adds (rule_of words)) _
-                      (Some said) f.1) [
+                  | inr f ↦ elim (chosen (bytes_eq word (codes "-A"))
+                      (option_map Adds (rule_of words)) _ (Some said) f.1) [
                         | inl d ↦ rule_form word words said (same_word word (codes "-A") d.0) d.1
                         | inr d ↦ commit_form word words said d.1
                       ]

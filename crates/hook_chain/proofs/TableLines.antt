@@ -30,7 +30,9 @@ begins_by line Closes e is = absurd (false≢true is)
 
 begins : (line : List ℕ) → opens_table line ≡ true → BeginsTable line
 begins line is =
-    elim (says line) as (λ o. says line ≡ o → option_map_or opens o false ≡ true → BeginsTable line) [
+    let Means : Option Says → Type 0 =
+    λ o. says line ≡ o → option_map_or opens o false ≡ true → BeginsTable line in
+    elim (says line) as Means [
       | None ↦ λ e f. absurd (false≢true f)
       | Some said ↦ λ e f. begins_by line said e f
     ] refl is

@@ -3,7 +3,8 @@
 -- of include/linux/kernel.h. All numbers are whole numbers, and a word is one below 2 ^ 32.
 use Rattle.std.specs.Prelude.{ℕ, ◌+◌, ◌-◌, ◌*◌, ◌/◌, ◌%◌, ◌^◌, ◌==◌, min, max, bit_xor, Option}
 use Rattle.std.specs.Prelude.{Some, None, if◌then◌else◌}
-use Rattle.hook_chain.specs.Numbers.{ipv4_family, hash_start, hashed_bytes}
+use Rattle.ip_fields.specs.Numbers.{ipv4_version}
+use Rattle.hook_chain.specs.Numbers.{hash_start, hashed_bytes}
 use Rattle.ip_fields.specs.declared.packet.IpFields.{IpFields}
 
 -- sum and difference modulo 2 ^ 32
@@ -36,7 +37,7 @@ final_mix a b c =
 -- an IPv4 address is its word; of an IPv6 address it is the exclusive or of its four words
 unfoldable pub address_word : ℕ → ℕ → ℕ
 address_word family address =
-    if family == ipv4_family then address
+    if family == ipv4_version then address
     else bit_xor (bit_xor (bit_xor (address / 2 ^ 96) (address / 2 ^ 64 % 2 ^ 32))
     (address / 2 ^ 32 % 2 ^ 32)) (address % 2 ^ 32)
 

@@ -53,7 +53,3 @@ hash_start = 0xdeadbeef
 -- the bytes that are hashed: three words of 4 bytes (jhash_3words of jhash.h)
 abbrev pub hashed_bytes : ℕ
 hashed_bytes = 12
-
--- the address family of IPv4 in a packet's fields
-abbrev pub ipv4_family : ℕ
-ipv4_family = 4

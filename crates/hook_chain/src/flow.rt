@@ -2,7 +2,7 @@
 
 ghost use Rattle.std.specs.Prelude.{◌≡◌, ◌+◌, ◌/◌, ◌%◌, ◌^◌, ◌<◌, ◌≤◌, IfSome, option_copied};
 ghost use Rattle.ip_fields.specs.Packet.{IsAddressed};
-ghost use Rattle.hook_chain.specs.Numbers.{ipv4_family};
+ghost use Rattle.ip_fields.specs.Numbers.{ipv4_version};
 ghost use Rattle.hook_chain.specs.Balance.{address_word, balanced, final_mix, flow_hash, mixed};
 ghost use Rattle.hook_chain.specs.Balance.{packet_hash};
 
@@ -52,7 +52,7 @@ fn hash_of(key: u32, fields: Option<&IpFields>) -> u32
 
 #[tactic(auto, unfolding(crate::specs::Balance::address_word))]
 pub(crate) fn word_of(family: u8, address: u128) -> u32
-    requires { family ≡ ipv4_family → address < 2 ^ 32 }
+    requires { family ≡ ipv4_version → address < 2 ^ 32 }
     ensures { result ≡ address_word family address }
 {
     if family == IPV4_FAMILY {

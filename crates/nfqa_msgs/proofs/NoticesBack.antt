@@ -336,7 +336,7 @@ message-back walks told used fits =
     rw long (ap₂ (λ (q : ℕ) (r : List Attribute). Some (told_in q r)) queue walked
     ∙ ap (λ (t : Told). Some t) (told_in-back told fits))
 
--- reading has the message in front, as the codec's law says
+-- reading begins with the message, as the codec's law says
 abbrev pub Fronts : Type 0
 Fronts = (body behind : List ℕ) → FitsHeader (message_with (queue_kind notice_number) 0 0 0 body)
     → first_message (message_text (queue_kind notice_number) 0 0 0 body ++ behind)

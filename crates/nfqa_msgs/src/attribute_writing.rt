@@ -1,4 +1,4 @@
-//! Attributes, written behind one another in a body.
+//! Attributes, written one after the other in a body.
 
 ghost use Rattle.std.specs.Prelude.{◌≡◌, ◌≤◌, ◌<◌, ◌++◌, length, Some, OnOk};
 ghost use Rattle.packet_entry.specs.Numbers.{longest_payload};

@@ -19,7 +19,7 @@ use crate::{
 };
 use netlink_codec::{written_attributes_are_walked, written_message_is_in_front};
 
-/// A spelling with anything behind it has this message in front, uses the spelling's length, and
+/// A spelling with anything after it begins with this message, uses the spelling's length, and
 /// decodes to its request.
 pub fn spelling_decodes_to_its_request()
     ensures front { (port call : ℕ) (request : Request) (behind : List ℕ) →

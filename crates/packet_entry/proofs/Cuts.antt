@@ -4,7 +4,8 @@ use Rattle.std.specs.Prelude.{slice_range}
 use Rattle.std.proofs.lemmas.List.{take-take, drop-drop, drop-take}
 
 -- a part of a part is a part of the whole
-pub cut_of_cut : (xs : List ℕ) (a b s e : ℕ) → s ≤ e → e ≤ b - a → slice_range (slice_range xs a b) s e ≡ slice_range xs (a + s) (a + e)
+pub cut_of_cut : (xs : List ℕ) (a b s e : ℕ) → s ≤ e → e ≤ b - a →
+    slice_range (slice_range xs a b) s e ≡ slice_range xs (a + s) (a + e)
 cut_of_cut xs a b s e order within =
     let split : b - a ≡ s + (b - a - s) = omega arith in
     let short : e - s ≤ b - a - s = omega arith in

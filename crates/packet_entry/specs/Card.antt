@@ -15,8 +15,19 @@ pub record IsCard (c : Card) : Type 0 where
 -- a packet as it is read from its input, before it meets a queue
 abbrev pub opening_card : ℕ → ℕ → ℕ → ℕ → List ℕ → List ℕ → Card
 opening_card number seconds micros protocol link bytes =
-    record { number = number; visit = 0; table = 0; mark = 0; seconds = seconds; micros = micros; protocol = protocol; link = link; bytes = bytes }
+    record {
+      number = number;
+      visit = 0;
+      table = 0;
+      mark = 0;
+      seconds = seconds;
+      micros = micros;
+      protocol = protocol;
+      link = link;
+      bytes = bytes;
+    }
 
--- the mark and the bytes are those that are given, and else stay (nfqnl_recv_verdict, nfqnl_mangle in nfnetlink_queue.c)
+-- the mark and the bytes are those that are given, and else stay (nfqnl_recv_verdict, nfqnl_mangle
+-- in nfnetlink_queue.c)
 abbrev pub edited : Card → Option ℕ → Option (List ℕ) → Card
 edited c mark payload = record c { mark = unwrap_or mark c.mark; bytes = unwrap_or payload c.bytes }

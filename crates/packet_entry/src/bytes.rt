@@ -1,16 +1,16 @@
 //! Bytes that are shared: copies and cuts of one buffer, which none of them can change.
 
-ghost use Rattle.std.specs.Prelude.{◌≡◌, ◌≤◌, ◌↔◌, List, [], length, slice_range, IfOk, IfErr, IsTrue};
-ghost use Rattle.std.specs.Prelude.{MatchResult};
+ghost use Rattle.std.specs.Prelude.{◌≡◌, ◌≤◌, ◌↔◌, List, [], length, slice_range, IfOk, IfErr};
+ghost use Rattle.std.specs.Prelude.{IsTrue, MatchResult};
 
 use crate::NoMemory;
 use std::alloc::{AllocFailed, Global};
 use std::marker::Model;
 use std::sync::Arc;
 
-/// A list of bytes that can't be changed. Several lists may share one buffer: to [`share`](Bytes::share)
-/// bytes, or to [`cut`](Bytes::cut) a part out of them, copies nothing. The buffer ends with its last list.
-/// It may be used from several threads.
+/// A list of bytes that can't be changed. Several lists may share one buffer: to
+/// [`share`](Bytes::share) bytes, or to [`cut`](Bytes::cut) a part out of them, copies nothing. The
+/// buffer ends with its last list. It may be used from several threads.
 #[derive(Debug, Drop)]
 pub struct Bytes {
     /// `None` for a list that was made without a buffer, and has no bytes.
@@ -50,8 +50,9 @@ impl Bytes {
         Ok(Bytes::from_vec(Vec::from_slice(alloc, from)?)?)
     }
 
-    /// The bytes of the vector, which becomes the buffer as it is: no byte is copied. The memory that is
-    /// taken counts the lists that share the buffer. Where there is none the vector comes back.
+    /// The bytes of the vector, which becomes the buffer as it is: no byte is copied. The memory
+    /// that is taken counts the lists that share the buffer. Where there is none the vector comes
+    /// back.
     pub fn from_vec(items: Vec<u8>) -> Result<Bytes, AllocFailed<Vec<u8>>>
         ensures ok { IfOk result (λ bytes. bytes ≡ items.items) }
         ensures returned { IfErr result (λ failed. failed.value ≡ items) }
@@ -64,16 +65,16 @@ impl Bytes {
         })
     }
 
-    /// The same bytes once more. Nothing is copied, and no memory is taken: `NoMemory` comes only where
-    /// 2^63 - 1 lists share the buffer already.
+    /// The same bytes once more. Nothing is copied, and no memory is taken: `NoMemory` comes only
+    /// where 2^63 - 1 lists share the buffer already.
     pub fn share(&self) -> Result<Bytes, NoMemory>
         ensures { IfOk result (λ bytes. bytes ≡ self.now) }
     {
         self.cut(0, self.len())
     }
 
-    /// The bytes from place `start` to before place `end`, counted from 0. Nothing is copied, and no memory
-    /// is taken: `NoMemory` comes only where 2^63 - 1 lists share the buffer already.
+    /// The bytes from place `start` to before place `end`, counted from 0. Nothing is copied, and
+    /// no memory is taken: `NoMemory` comes only where 2^63 - 1 lists share the buffer already.
     pub fn cut(&self, start: usize, end: usize) -> Result<Bytes, NoMemory>
         requires order { start ≤ end }
         requires within { end ≤ length self.now }
@@ -93,8 +94,8 @@ impl Bytes {
         }
     }
 
-    /// The vector that was the buffer, where these are all of its bytes and no other list shares it.
-    /// Otherwise the bytes come back. Takes no memory.
+    /// The vector that was the buffer, where these are all of its bytes and no other list shares
+    /// it. Otherwise the bytes come back. Takes no memory.
     pub fn into_vec(self) -> Result<Vec<u8>, Bytes>
         ensures { MatchResult result (λ items. items.items ≡ self) (λ bytes. bytes ≡ self) }
     {

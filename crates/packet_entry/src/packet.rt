@@ -53,7 +53,8 @@ pub struct Card {
     pub bytes: Bytes,
 }
 
-/// A packet on its way. It is no `Clone` and no `Drop`: each is spent once, by `release` or `destroy`.
+/// A packet on its way. It is no `Clone` and no `Drop`: each is spent once, by `release` or
+/// `destroy`.
 pub struct Packet {
     card: Card,
 }

@@ -9,8 +9,8 @@ use std::alloc::Global;
 use std::collections::{VecDeque, vec_deque};
 use std::marker::Model;
 
-/// A list of items of its own, taken from the front and added to at the end. It is made from a `Vec`
-/// and gives it back without taking memory. Places count from 0.
+/// A list of items of its own, taken from the front and added to at the end. It is made from a
+/// `Vec` and gives it back without taking memory. Places count from 0.
 #[derive(Debug, Drop)]
 pub struct Sequence<T> {
     items: VecDeque<T>,
@@ -143,7 +143,8 @@ impl<'a, T> Iterator for Iter<'a, T> {
     }
 }
 
-/// The items of a [`Sequence`], given up in their order. Contracts see it as the items still to come.
+/// The items of a [`Sequence`], given up in their order. Contracts see it as the items still to
+/// come.
 #[derive(Drop)]
 pub struct IntoIter<T> {
     rest: Sequence<T>,

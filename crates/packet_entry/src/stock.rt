@@ -8,8 +8,8 @@ use crate::{NoMemory, Sequence};
 use std::alloc::Global;
 use std::marker::Model;
 
-/// A list that is added to at its end, and the room that it has: how many items more it takes without
-/// memory. Who must not fail later makes room first.
+/// A list that is added to at its end, and the room that it has: how many items more it takes
+/// without memory. Who must not fail later makes room first.
 #[derive(Debug, Drop)]
 pub struct Stock<T> {
     items: Vec<T>,

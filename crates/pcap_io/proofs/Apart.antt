@@ -1,4 +1,4 @@
--- Want of memory is no fault of a text.
+-- Out of memory is no fault of a text.
 use Rattle.std.proofs.Common.{◌≡◌, ◌≢◌, ℕ, ◌+◌, Bool, true, false, cond, eqb, List, length, Result}
 use Rattle.std.proofs.Common.{Ok, Err, refl, ap, inl, inr}
 use Rattle.std.specs.Int.{w32}

@@ -38,7 +38,7 @@ not_both : {A : Type 0} (r : Result A CaptureFault) (x : A) (fault : CaptureFaul
 not_both {A} r x fault p q =
     let e : ◌≡◌ {A = Result A CaptureFault} (Ok x) (Err fault) = sym p ∙ q in cc
 
--- ---- a record stands in front in one way only
+-- ---- a text begins with one record only
 
 pub record BeginsWhole (big : Bool) (text : List ℕ) : Type 0 where
   pub frame : Frame
@@ -66,7 +66,7 @@ nothing_begins big w =
       length-record big w.frame,
     ))
 
--- two lists of records in front of one text are the same, or one goes on where the other ends
+-- two lists of records at the start of one text are the same, or one goes on where the other ends
 two_fronts : (big : Bool) (fs gs : List Frame) (r s : List ℕ) → AllByRecursion IsStored fs →
     AllByRecursion IsStored gs → records big fs ++ r ≡ records big gs ++ s
     → ((fs ≡ gs) × (r ≡ s)) ⊎ (BeginsWhole big r ⊎ BeginsWhole big s)
@@ -108,7 +108,7 @@ two_fronts big (f ∷ fs) (g ∷ gs) r s p q e =
       | inr longer ↦ inr longer
     ]
 
--- ---- a whole capture stands in front in one way only
+-- ---- a text begins with one whole capture only
 
 stored_frames : (c : Capture) → IsHeld c → FieldsFit c → AllByRecursion IsStored c.frames
 stored_frames c held fits =

@@ -57,7 +57,7 @@ magic_at text =
     if nat_lt (length text) magic_length then Err Magic
     else resolution_of (number_at true w32 0 text)
 
--- the header in front in this byte order, as a capture without frames, or the first thing that is
+-- the header in this byte order, as a capture without frames, or the first thing that is
 -- wrong with it
 unfoldable pub fields_at : Bool → Bool → List ℕ → Result Capture CaptureFault
 fields_at big nanos text =
@@ -80,7 +80,7 @@ fields_at big nanos text =
 unfoldable pub header_at : List ℕ → Result Capture CaptureFault
 header_at text = magic_at text >>= λ magic. fields_at magic.0 magic.1 text
 
--- the record in front, of the frame with this number, at this byte of the file, or the first thing
+-- the first record, of the frame with this number, at this byte of the file, or the first thing
 -- that is wrong with it
 unfoldable pub record_at : Bool → ℕ → ℕ → List ℕ → Result Frame CaptureFault
 record_at big number at text =

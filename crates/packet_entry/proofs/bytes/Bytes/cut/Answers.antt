@@ -17,6 +17,7 @@ returns-in_ok-try_clone-in-Some c =
     subst (λ b. bytes_of b from to ≡ c.args.self.now) c.in-Some.is c.self.view_is in
     let within : c.args.end ≤ to - from =
     omega (arith, c.requires.within, length-take (to - from) (drop from buffer), ap length whole) in
-    ap (λ v. slice_range v.items (from + c.args.start) (from + c.args.end)) c.in_ok-try_clone-in-Some.ensures
+    ap (λ v. slice_range v.items (from + c.args.start) (from + c.args.end))
+    c.in_ok-try_clone-in-Some.ensures
     ∙ sym (cut_of_cut buffer from to c.args.start c.args.end c.requires.order within)
     ∙ ap (λ bytes. slice_range bytes c.args.start c.args.end) whole
