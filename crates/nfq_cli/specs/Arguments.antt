@@ -1,5 +1,6 @@
 -- The arguments of the command line: play RULES SCRIPT IN OUT LEDGER JOURNAL.
-use Rattle.std.specs.Prelude.{ℕ, List, [], ◌∷◌, length, map, Option, Some, None, Bool, not, ◌&&◌, ◌==◌, codes, if◌then◌else◌}
+use Rattle.std.specs.Prelude.{ℕ, List, [], ◌∷◌, length, map, Option, Some, None, Bool, not, ◌&&◌}
+use Rattle.std.specs.Prelude.{◌==◌, codes, if◌then◌else◌}
 use Rattle.std.specs.Str.{bytes_eq}
 use Rattle.std.specs.Prelude.{String}
 use Rattle.std.specs.String.{string_bytes}
@@ -21,7 +22,14 @@ pub record PlayFiles : Type 0 where
 -- as the code holds them
 abbrev pub files_of : Play → PlayFiles
 files_of p =
-    record { rules = p.rules.now; script = p.script.now; input = p.input.now; output = p.output.now; ledger = p.ledger.now; journal = p.journal.now }
+    record {
+      rules = p.rules.now;
+      script = p.script.now;
+      input = p.input.now;
+      output = p.output.now;
+      ledger = p.ledger.now;
+      journal = p.journal.now;
+    }
 
 -- a word names a file where it isn't empty and isn't `-`
 abbrev pub is_file : List ℕ → Bool
@@ -29,17 +37,27 @@ is_file word = not (length word == 0) && not (bytes_eq word (codes "-"))
 
 abbrev pub are_files : PlayFiles → Bool
 are_files f =
-    is_file f.rules && is_file f.script && is_file f.input && is_file f.output && is_file f.ledger && is_file f.journal
+    is_file f.rules && is_file f.script && is_file f.input && is_file f.output && is_file f.ledger
+    && is_file f.journal
 
 -- the written files have names of their own; a file that is read may be named again
 abbrev pub are_apart : PlayFiles → Bool
 are_apart f =
-    not (bytes_eq f.output f.ledger) && not (bytes_eq f.output f.journal) && not (bytes_eq f.ledger f.journal)
+    not (bytes_eq f.output f.ledger) && not (bytes_eq f.output f.journal)
+    && not (bytes_eq f.ledger f.journal)
 
 -- the files of a `play` command, where the arguments are one
 abbrev pub play_of : List (List ℕ) → Option PlayFiles
 play_of (verb ∷ rules ∷ script ∷ input ∷ output ∷ ledger ∷ journal ∷ []) =
-    let f : PlayFiles = record { rules = rules; script = script; input = input; output = output; ledger = ledger; journal = journal } in
+    let f : PlayFiles =
+    record {
+      rules = rules;
+      script = script;
+      input = input;
+      output = output;
+      ledger = ledger;
+      journal = journal;
+    } in
     if bytes_eq verb (codes "play") && are_files f && are_apart f then Some f else None
 play_of words = None
 
@@ -47,7 +65,8 @@ play_of words = None
 abbrev pub words_of_play : List (String Global) → Option PlayFiles
 words_of_play words = play_of (map string_bytes words)
 
--- the same, from all arguments, the program's name first; where they can't be had they are no command
+-- the same, from all arguments, the program's name first; where they can't be had they are no
+-- command
 abbrev pub arguments_of_play : {E : Type 0} → Result (IntoIter (String Global) Global) E →
     Option PlayFiles
 arguments_of_play (Ok arguments) = words_of_play (drop 1 (into_iter_items arguments))

@@ -1,5 +1,6 @@
 -- What becomes of a frame: its last event in the histories.
-use Rattle.std.specs.Prelude.{ℕ, ◌+◌, List, [], ◌∷◌, ◌++◌, map, Option, Some, None, Bool, true, ◌&&◌, ◌==◌, nat_le, if◌then◌else◌}
+use Rattle.std.specs.Prelude.{ℕ, ◌+◌, List, [], ◌∷◌, ◌++◌, map, Option, Some, None, Bool, true}
+use Rattle.std.specs.Prelude.{◌&&◌, ◌==◌, nat_le, if◌then◌else◌}
 use Rattle.packet_entry.specs.declared.packet.Card.{Card}
 use Rattle.pcap_io.specs.declared.capture.Frame.{Frame}
 use Rattle.queue_core.specs.declared.offers.Outcome.{Outcome}
@@ -19,8 +20,8 @@ use Rattle.nfq_cli.specs.declared.ledger.Fate.TheVariants as fate
 use Rattle.nfq_cli.specs.declared.ledger.FateLine.{FateLine}
 use Rattle.nfq_cli.specs.History.{Moved, step}
 
--- an event of a packet: its entry's queue and place in that queue's history, the fate that it is if it is the
--- last, and the packet there, after its edits
+-- an event of a packet: its entry's queue and place in that queue's history, the fate that it is if
+-- it is the last, and the packet there, after its edits
 pub record Happening : Type 0 where
   pub queue : ℕ
   pub at : ℕ
@@ -63,13 +64,15 @@ abbrev pub happens : ℕ → ℕ → Event → Moved → List Happening
 happens queue at (event.Arrive card bypass room) moved =
     record { queue = queue; at = at; fate = arrival_fate moved.reply; card = card } ∷ []
 happens queue at (event.Ask port call asked) moved =
-    map (λ l. record { queue = queue; at = at; fate = fate_by_request asked l.1; card = l.0 }) moved.left
+    map (λ l. record { queue = queue; at = at; fate = fate_by_request asked l.1; card = l.0 })
+    moved.left
 
 -- the events of a history, from a state and a place on
 abbrev pub happenings_from : Option Bound → ℕ → List Entry → List Happening
 happenings_from q at [] = []
 happenings_from q at (e ∷ es) =
-    happens e.queue at e.event (step q e.event) ++ happenings_from (step q e.event).state (at + 1) es
+    happens e.queue at e.event (step q e.event)
+    ++ happenings_from (step q e.event).state (at + 1) es
 
 -- the events of a history
 abbrev pub happenings : List Entry → List Happening
@@ -88,13 +91,22 @@ last_of number (h ∷ hs) kept =
 
 -- the line of a frame whose packet has this last event
 abbrev pub fate_line : ℕ → Frame → Option Happening → FateLine
-fate_line number f None = record { number = number; fate = fate.Unhooked; queue = 0; at = 0; mark = 0; payload = f.bytes }
+fate_line number f None =
+    record { number = number; fate = fate.Unhooked; queue = 0; at = 0; mark = 0; payload = f.bytes }
 fate_line number f (Some h) =
-    record { number = number; fate = h.fate; queue = h.queue; at = h.at; mark = h.card.mark; payload = h.card.bytes }
+    record {
+      number = number;
+      fate = h.fate;
+      queue = h.queue;
+      at = h.at;
+      mark = h.card.mark;
+      payload = h.card.bytes;
+    }
 
 abbrev pub fates_from : List Happening → ℕ → List Frame → List FateLine
 fates_from hs number [] = []
-fates_from hs number (f ∷ fs) = fate_line number f (last_of number hs None) ∷ fates_from hs (number + 1) fs
+fates_from hs number (f ∷ fs) =
+    fate_line number f (last_of number hs None) ∷ fates_from hs (number + 1) fs
 
 -- what became of each frame, in order
 abbrev pub fates : List Entry → List Frame → List FateLine

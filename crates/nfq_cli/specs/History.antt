@@ -29,7 +29,14 @@ arrived s = record { state = s.state; reply = Arrived s.reply; left = s.left }
 
 abbrev pub ask : Option Bound → ℕ → Request → Moved
 ask q port (Config number command params maxlen flags mask) =
-    answered (queue.config q port (record { command = command; params = params; maximum = maxlen; flags = flags; mask = mask }))
+    answered (queue.config q port
+    (record {
+      command = command;
+      params = params;
+      maximum = maxlen;
+      flags = flags;
+      mask = mask;
+    }))
 ask q port (Verdict number head mark payload) = answered (queue.verdict q port head mark payload)
 
 -- the step of an event in a state: the queue's own, by the tables of its rules
@@ -57,4 +64,5 @@ IsLegal es = IsLegalFrom None es
 
 -- the histories of one queue and one port
 abbrev pub histories_of : ℕ → List Entry → List Did → Histories
-histories_of port entries dids = record { entries = entries; logs = record { port = port; dids = dids } ∷ [] }
+histories_of port entries dids =
+    record { entries = entries; logs = record { port = port; dids = dids } ∷ [] }

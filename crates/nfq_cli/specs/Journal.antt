@@ -1,12 +1,15 @@
--- The journal's text: one line for each entry, and for each thing that a port did. Words are separated by
--- one blank, numbers are decimal, bytes are lower-case hexadecimal, `-` for none.
-use Rattle.std.specs.Prelude.{ℕ, List, [], ◌∷◌, ◌++◌, Option, Some, None, Bool, true, false, codes, decimal}
+-- The journal's text: one line for each entry, and for each thing that a port did. Words are
+-- separated by one blank, numbers are decimal, bytes are lower-case hexadecimal, `-` for none.
+use Rattle.std.specs.Prelude.{ℕ, List, [], ◌∷◌, ◌++◌, Option, Some, None, Bool, true, false, codes}
+use Rattle.std.specs.Prelude.{decimal}
 use Rattle.hex.specs.Hex.{encode_lower}
 use Rattle.packet_entry.specs.declared.packet.Card.{Card}
-use Rattle.queue_core.specs.declared.request.Params.{Params}
-use Rattle.queue_core.specs.declared.request.Head.{Head}
+use Rattle.nfqa_msgs.specs.declared.request.Params.{Params}
+use Rattle.nfqa_msgs.specs.declared.request.Head.{Head}
 use Rattle.queue_core.specs.declared.offers.Outcome.{Outcome}
-use Rattle.queue_core.specs.declared.offers.Outcome.TheVariants.{Taken, Overflow, OverflowOpen, UserFull, UserFullOpen, NoQueue, Bypassed, CopyNone, Loop}
+use Rattle.queue_core.specs.declared.offers.Outcome.TheVariants.{Taken, Overflow, OverflowOpen}
+use Rattle.queue_core.specs.declared.offers.Outcome.TheVariants.{UserFull, UserFullOpen, NoQueue}
+use Rattle.queue_core.specs.declared.offers.Outcome.TheVariants.{Bypassed, CopyNone, Loop}
 use Rattle.nfq_cli.specs.declared.histories.Request.{Request}
 use Rattle.nfq_cli.specs.declared.histories.Request.TheVariants.{Config, Verdict}
 use Rattle.nfq_cli.specs.declared.histories.Event.{Event}
@@ -50,7 +53,8 @@ request (Config queue command asked maxlen flags mask) =
     codes "config " ++ decimal queue ++ part (codes " cmd ") command ++ params asked
     ++ part (codes " maxlen ") maxlen ++ part (codes " flags ") flags ++ part (codes " mask ") mask
 request (Verdict queue h mark bytes) =
-    codes "verdict " ++ decimal queue ++ codes " " ++ head h ++ part (codes " mark ") mark ++ payload bytes
+    codes "verdict " ++ decimal queue ++ codes " " ++ head h ++ part (codes " mark ") mark
+    ++ payload bytes
 
 abbrev pub outcome : Outcome → List ℕ
 outcome (Taken id) = codes "taken:" ++ decimal id ++ codes "\n"
@@ -64,26 +68,32 @@ outcome CopyNone = codes "copynone\n"
 outcome Loop = codes "loop\n"
 
 abbrev pub journey : Card → List ℕ
-journey c = decimal c.number ++ codes " " ++ decimal c.visit ++ codes " " ++ decimal c.table ++ codes " "
+journey c =
+    decimal c.number ++ codes " " ++ decimal c.visit ++ codes " " ++ decimal c.table ++ codes " "
 
 abbrev pub facts : Card → List ℕ
 facts c =
-    decimal c.mark ++ codes " " ++ decimal c.seconds ++ codes " " ++ decimal c.micros ++ codes " " ++ decimal c.protocol ++ codes " "
+    decimal c.mark ++ codes " " ++ decimal c.seconds ++ codes " " ++ decimal c.micros ++ codes " "
+    ++ decimal c.protocol ++ codes " "
 
 abbrev pub card : Card → List ℕ → List ℕ → List ℕ
 card c bypass room =
-    journey c ++ (bypass ++ codes " " ++ room ++ codes " ") ++ facts c ++ hexadecimal c.link ++ codes " "
+    journey c ++ (bypass ++ codes " " ++ room ++ codes " ") ++ facts c ++ hexadecimal c.link
+    ++ codes " "
     ++ hexadecimal c.bytes ++ codes " "
 
 -- an outcome, or the errno and how many packets left
 abbrev pub reply : Reply → List ℕ
 reply (Arrived o) = outcome o
-reply (Answer errno taken) = codes " = " ++ decimal errno ++ codes " " ++ decimal taken ++ codes "\n"
+reply (Answer errno taken) =
+    codes " = " ++ decimal errno ++ codes " " ++ decimal taken ++ codes "\n"
 
 abbrev pub event : ℕ → Event → List ℕ
-event queue (Arrive c bypass room) = codes "A " ++ decimal queue ++ codes " " ++ card c (yes_no bypass) (yes_no room)
+event queue (Arrive c bypass room) =
+    codes "A " ++ decimal queue ++ codes " " ++ card c (yes_no bypass) (yes_no room)
 event queue (Ask port call asked) =
-    codes "M " ++ decimal queue ++ codes " " ++ decimal port ++ codes " " ++ decimal call ++ codes " " ++ request asked
+    codes "M " ++ decimal queue ++ codes " " ++ decimal port ++ codes " " ++ decimal call
+    ++ codes " " ++ request asked
 
 abbrev pub entry : Entry → List ℕ
 entry e = event e.queue e.event ++ reply e.reply
@@ -95,8 +105,10 @@ answer (Some errno) = codes " = " ++ decimal errno ++ codes "\n"
 
 abbrev pub did : Did → List ℕ
 did (Received queue number visit) =
-    codes "R " ++ decimal queue ++ codes " " ++ decimal number ++ codes " " ++ decimal visit ++ codes "\n"
-did (Sent call asked answered) = codes "S " ++ decimal call ++ codes " " ++ request asked ++ answer answered
+    codes "R " ++ decimal queue ++ codes " " ++ decimal number ++ codes " " ++ decimal visit
+    ++ codes "\n"
+did (Sent call asked answered) =
+    codes "S " ++ decimal call ++ codes " " ++ request asked ++ answer answered
 
 abbrev pub entries : List Entry → List ℕ
 entries [] = []

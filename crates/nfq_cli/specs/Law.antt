@@ -1,5 +1,6 @@
 -- The run in the subject's own words: who arrived, who left, and which frames were written.
-use Rattle.std.specs.Prelude.{◌≡◌, ℕ, zero, suc, ◌+◌, List, [], ◌∷◌, ◌++◌, length, map, Option, None}
+use Rattle.std.specs.Prelude.{◌≡◌, ℕ, zero, suc, ◌+◌, List, [], ◌∷◌, ◌++◌, length, map, Option}
+use Rattle.std.specs.Prelude.{None}
 use Rattle.packet_entry.specs.declared.packet.Card.{Card}
 use Rattle.pcap_io.specs.declared.capture.Frame.{Frame}
 use Rattle.queue_core.specs.State.{Bound}
@@ -34,7 +35,9 @@ arrivals (e ∷ es) = arriving e.event ++ arrivals es
 -- the packets that left the queue, step by step, from a state on
 abbrev pub departures_from : Option Bound → List Entry → List ℕ
 departures_from q [] = []
-departures_from q (e ∷ es) = map (λ (l : Card × Way). l.0.number) (step q e.event).left ++ departures_from (step q e.event).state es
+departures_from q (e ∷ es) =
+    map (λ (l : Card × Way). l.0.number) (step q e.event).left
+    ++ departures_from (step q e.event).state es
 
 abbrev pub departures : List Entry → List ℕ
 departures es = departures_from None es
@@ -47,11 +50,16 @@ if_accepted verdict.Drop f = []
 -- the frames that a script accepts, from the packet with this number on, in their order
 abbrev pub accepted : List OnId → Verdict → ℕ → List Frame → List Frame
 accepted lines rest number [] = []
-accepted lines rest number (f ∷ fs) = if_accepted (answer lines rest number) f ++ accepted lines rest (number + 1) fs
+accepted lines rest number (f ∷ fs) =
+    if_accepted (answer lines rest number) f ++ accepted lines rest (number + 1) fs
 
--- Each frame's packet arrives once and leaves once, in the order of the frames, and the frames that are
--- written are those that the script accepts by their numbers, unchanged and in order.
-pub record IsFair (port : ℕ) (lines : List OnId) (rest : Verdict) (frames : List Frame) : Type 0 where
-  pub arrive_once : arrivals (solo_histories port lines rest frames).entries ≡ numbers 1 (length frames)
-  pub leave_once : departures (solo_histories port lines rest frames).entries ≡ numbers 1 (length frames)
-  pub written : released.frames frames (solo_fates port lines rest frames) ≡ accepted lines rest 1 frames
+-- Each frame's packet arrives once and leaves once, in the order of the frames, and the frames that
+-- are written are those that the script accepts by their numbers, unchanged and in order.
+pub record IsFair (port : ℕ) (lines : List OnId) (rest : Verdict) (frames : List Frame) : Type 0
+  where
+    pub arrive_once : arrivals (solo_histories port lines rest frames).entries
+        ≡ numbers 1 (length frames)
+    pub leave_once : departures (solo_histories port lines rest frames).entries
+        ≡ numbers 1 (length frames)
+    pub written : released.frames frames (solo_fates port lines rest frames)
+        ≡ accepted lines rest 1 frames

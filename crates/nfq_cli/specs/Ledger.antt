@@ -1,5 +1,6 @@
 -- What becomes of the frames, and the ledger's text.
-use Rattle.std.specs.Prelude.{ℕ, List, [], ◌∷◌, ◌++◌, length, Bool, true, false, codes, decimal, ◌==◌, if◌then◌else◌}
+use Rattle.std.specs.Prelude.{ℕ, List, [], ◌∷◌, ◌++◌, length, Bool, true, false, codes, decimal}
+use Rattle.std.specs.Prelude.{◌==◌, if◌then◌else◌}
 use Rattle.nfq_cli.specs.declared.ledger.Fate.{Fate}
 use Rattle.nfq_cli.specs.declared.ledger.Fate.TheVariants as fate
 use Rattle.nfq_cli.specs.declared.ledger.FateLine.{FateLine}

@@ -1,3 +1,4 @@
+pub mod Numbers
 pub mod Code
 pub mod Fates
 pub mod Forms
@@ -17,4 +18,4 @@ pub mod Script
 pub mod Solo
 pub mod Stops
 pub mod Told
-pub mod Words
+pub mod Arguments

@@ -18,7 +18,8 @@ solo_fates port lines rest frames = fates (solo_histories port lines rest frames
 
 -- the frames that were released, as a capture file
 abbrev pub output_text : ℕ → List OnId → Verdict → Capture → List ℕ
-output_text port lines rest c = capture_text (released.capture c (solo_fates port lines rest c.frames))
+output_text port lines rest c =
+    capture_text (released.capture c (solo_fates port lines rest c.frames))
 
 abbrev pub ledger_text : ℕ → List OnId → Verdict → Capture → List ℕ
 ledger_text port lines rest c = ledger.ledger (solo_fates port lines rest c.frames)

@@ -4,7 +4,7 @@ use Rattle.std.specs.Char.{IsAsciiDigit}
 use Rattle.nfq_cli.specs.declared.script.OnId.{OnId}
 use Rattle.nfq_cli.specs.Script.{on_id, opening}
 
--- no digit stands in front, so a number before this text ends where it begins
+-- the text doesn't begin with a digit, so a number before it ends where it begins
 abbrev pub NoDigitAhead : List ℕ → Type 0
 NoDigitAhead [] = Unit {0}
 NoDigitAhead (b ∷ bs) = ¬ (IsAsciiDigit b)
@@ -14,7 +14,7 @@ abbrev pub EndsNumber : List ℕ → Type 0
 EndsNumber [] = ⊥
 EndsNumber (b ∷ bs) = ¬ (IsAsciiDigit b)
 
--- no line that answers the notice of an id stands in front
+-- the text doesn't begin with a line that answers the notice of an id
 abbrev pub NoLineAhead : List ℕ → Type 0
 NoLineAhead text = (l : OnId) (rest : List ℕ) → l.id < 2 ^ 32 → text ≡ on_id l ++ rest → ⊥
 

@@ -1,4 +1,4 @@
--- Rules of the first form: one table with one rule, as iptables-save writes them.
+-- Rules of the supported form: one table with one rule, as iptables-save writes them.
 use Rattle.std.specs.Prelude.{ℕ, List, codes}
 
 -- each packet that is passed on goes to queue 0

@@ -1,13 +1,14 @@
--- The schedule of one thread, for a script of the first form over the one rule, which queues every packet at
--- queue 0. The world is a list of entries, the notices that weren't received yet, and what the port did; the
--- queue's state in it is the replay of the entries.
-use Rattle.std.specs.Prelude.{ℕ, zero, suc, ◌+◌, ◌*◌, ◌%◌, List, [], ◌∷◌, ◌++◌, length, Option, Some, None, Bool, true, false, not, ◌&&◌, ◌==◌, nat_lt, if◌then◌else◌}
+-- The schedule of one thread, for a script of the supported form over the one rule, which queues
+-- every packet at queue 0. The world is a list of entries, the notices that weren't received yet,
+-- and what the port did; the queue's state in it is the replay of the entries.
+use Rattle.std.specs.Prelude.{ℕ, zero, suc, ◌+◌, ◌*◌, ◌%◌, List, [], ◌∷◌, ◌++◌, length, Option}
+use Rattle.std.specs.Prelude.{Some, None, Bool, true, false, not, ◌&&◌, ◌==◌, nat_lt, if◌then◌else◌}
 use Rattle.packet_entry.specs.declared.packet.Card.{Card}
-use Rattle.packet_entry.specs.declared.packet.TheConstants.{IPV4}
+use Rattle.packet_entry.specs.Numbers.{ipv4_type}
 use Rattle.packet_entry.specs.Card.{opening_card}
 use Rattle.pcap_io.specs.declared.capture.Frame.{Frame}
 use Rattle.queue_core.specs.declared.offers.Outcome.TheVariants as outcome
-use Rattle.queue_core.specs.declared.request.TheConstants.{BIND, PACKET}
+use Rattle.nfqa_msgs.specs.Numbers.{command_bind, copy_packet}
 use Rattle.queue_core.specs.State.{Bound}
 use Rattle.queue_core.specs.Held.{is_decided_early}
 use Rattle.nfq_cli.specs.declared.script.Verdict.{Verdict}
@@ -20,6 +21,7 @@ use Rattle.nfq_cli.specs.declared.histories.Reply.TheVariants as reply
 use Rattle.nfq_cli.specs.declared.histories.Entry.{Entry}
 use Rattle.nfq_cli.specs.declared.histories.Did.{Did}
 use Rattle.nfq_cli.specs.declared.histories.Did.TheVariants as did
+use Rattle.nfq_cli.specs.Numbers.{mailbox_size, most_notices, call_count}
 use Rattle.nfq_cli.specs.Code.{code_of}
 use Rattle.nfq_cli.specs.Script.{answer}
 use Rattle.nfq_cli.specs.History.{step, replay}
@@ -40,29 +42,32 @@ pub record World : Type 0 where
 abbrev pub nothing_yet : World
 nothing_yet = record { entries = []; notices = []; dids = []; calls = 0 }
 
--- how many notices a port's mailbox holds
-abbrev pub MAIL : ℕ
-MAIL = 1024
-
--- the numbers of a port's messages begin again behind 2^32 - 1
+-- the numbers of a port's messages begin again after 2^32 - 1
 abbrev pub next_call : World → ℕ
-next_call w = (w.calls + 1) % 4294967296
+next_call w = (w.calls + 1) % call_count
 
--- whether the sender of a request wants an acknowledgement in any case: config requests do, verdicts don't
+-- whether the sender of a request wants an acknowledgement in any case: config requests do,
+-- verdicts don't
 abbrev pub wants_answer : Request → Bool
 wants_answer (request.Config queue command params maxlen flags mask) = true
 wants_answer (request.Verdict queue head mark payload) = false
 
 -- the errno of the acknowledgement: a fault is always acknowledged
 abbrev pub answer_to : Request → Reply → Option ℕ
-answer_to asked (reply.Answer errno taken) = if (errno == 0) && not (wants_answer asked) then None else Some errno
+answer_to asked (reply.Answer errno taken) =
+    if (errno == 0) && not (wants_answer asked) then None else Some errno
 answer_to asked (reply.Arrived o) = None
 
--- The port sends a message: its entry, and what the port did. What left goes on with the table behind the one
--- that queued it, which there isn't, or is destroyed: nothing arrives again.
+-- The port sends a message: its entry, and what the port did. What left goes on with the table
+-- after the one that queued it, which there isn't, or is destroyed: nothing arrives again.
 abbrev pub send : ℕ → Request → World → World
 send port asked w =
-    let e : Entry = record { queue = 0; event = event.Ask port (next_call w) asked; reply = (step (replay w.entries) (event.Ask port (next_call w) asked)).reply } in
+    let e : Entry =
+    record {
+      queue = 0;
+      event = event.Ask port (next_call w) asked;
+      reply = (step (replay w.entries) (event.Ask port (next_call w) asked)).reply;
+    } in
     record w {
       entries = w.entries ++ e ∷ [];
       dids = w.dids ++ did.Sent (next_call w) asked (answer_to asked e.reply) ∷ [];
@@ -71,17 +76,19 @@ send port asked w =
 
 -- the two requests that open queue 0
 abbrev pub bind : Request
-bind = request.Config 0 (Some BIND) None None None None
+bind = request.Config 0 (Some command_bind) None None None None
 
 abbrev pub copy_packets : Request
-copy_packets = request.Config 0 None (Some (record { range = 0; mode = PACKET })) None None None
+copy_packets =
+    request.Config 0 None (Some (record { range = 0; mode = copy_packet })) None None None
 
 abbrev pub opened : ℕ → World
 opened port = send port copy_packets (send port bind nothing_yet)
 
 -- a frame's packet, as the one table queues it
 abbrev pub queued_card : ℕ → Frame → Card
-queued_card number f = record (opening_card number f.seconds f.fraction IPV4 [] f.bytes) { visit = 1; table = 1 }
+queued_card number f =
+    record (opening_card number f.seconds f.fraction ipv4_type [] f.bytes) { visit = 1; table = 1 }
 
 -- whether the mailbox has room for the notice of an arrival, or none is sent
 abbrev pub has_room : World → Bool
@@ -89,27 +96,36 @@ has_room w = room_of (replay w.entries)
   where
     room_of : Option Bound → Bool
     room_of None = true
-    room_of (Some q) = if is_decided_early q then true else nat_lt (length w.notices) MAIL
+    room_of (Some q) = if is_decided_early q then true else nat_lt (length w.notices) mailbox_size
 
 -- an arrival that is taken sends a notice
 abbrev pub notices_of : Card → Reply → List Notice
-notices_of card (reply.Arrived (outcome.Taken id)) = record { number = card.number; visit = card.visit; id = id } ∷ []
+notices_of card (reply.Arrived (outcome.Taken id)) =
+    record { number = card.number; visit = card.visit; id = id } ∷ []
 notices_of card other = []
 
 -- a packet arrives at the queue
 abbrev pub arrive : Card → World → World
 arrive card w =
-    let e : Entry = record { queue = 0; event = event.Arrive card false (has_room w); reply = (step (replay w.entries) (event.Arrive card false (has_room w))).reply } in
+    let e : Entry =
+    record {
+      queue = 0;
+      event = event.Arrive card false (has_room w);
+      reply = (step (replay w.entries) (event.Arrive card false (has_room w))).reply;
+    } in
     record w { entries = w.entries ++ e ∷ []; notices = w.notices ++ notices_of card e.reply }
 
 -- the verdict request that the script answers the notice of an id with
 abbrev pub verdict_on : List OnId → Verdict → ℕ → Request
-verdict_on lines rest id = request.Verdict 0 (Some (record { verdict = code_of (answer lines rest id); id = id })) None None
+verdict_on lines rest id =
+    request.Verdict 0 (Some (record { verdict = code_of (answer lines rest id); id = id })) None
+    None
 
 -- the port receives the first notice, and answers it
 abbrev pub receive : ℕ → List OnId → Verdict → Notice → List Notice → World → World
 receive port lines rest n more w =
-    send port (verdict_on lines rest n.id) (record w { notices = more; dids = w.dids ++ did.Received 0 n.number n.visit ∷ [] })
+    send port (verdict_on lines rest n.id)
+    (record w { notices = more; dids = w.dids ++ did.Received 0 n.number n.visit ∷ [] })
 
 -- what comes of a mailbox: nothing, or what is made of its first notice and the others
 abbrev pub at_first : List Notice → World → (Notice → List Notice → World) → World
@@ -120,14 +136,17 @@ at_first (n ∷ more) w received = received n more
 abbrev pub emptied : ℕ → ℕ → List OnId → Verdict → World → World
 emptied zero port lines rest w = w
 emptied (suc looks) port lines rest w =
-    at_first w.notices w (λ n more. emptied looks port lines rest (receive port lines rest n more w))
+    at_first w.notices w (λ n more. emptied looks port lines rest
+    (receive port lines rest n more w))
 
 -- from the frame with this number on: each packet arrives, and then the mailbox is emptied
 abbrev pub over : ℕ → ℕ → List OnId → Verdict → ℕ → List Frame → World → World
 over looks port lines rest number [] w = emptied looks port lines rest w
 over looks port lines rest number (f ∷ fs) w =
-    over looks port lines rest (number + 1) fs (emptied looks port lines rest (arrive (queued_card number f) w))
+    over looks port lines rest (number + 1) fs
+    (emptied looks port lines rest (arrive (queued_card number f) w))
 
 -- the whole run: the port opens the queue, and then come the frames
 abbrev pub solo : ℕ → List OnId → Verdict → List Frame → World
-solo port lines rest frames = over (32 * length frames + 1) port lines rest 1 frames (opened port)
+solo port lines rest frames =
+    over (most_notices * length frames + 1) port lines rest 1 frames (opened port)

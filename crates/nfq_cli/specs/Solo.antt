@@ -8,4 +8,5 @@ use Rattle.nfq_cli.specs.History.{histories_of}
 use Rattle.nfq_cli.specs.Schedule.{solo}
 
 abbrev pub solo_histories : ℕ → List OnId → Verdict → List Frame → Histories
-solo_histories port lines rest frames = let w = solo port lines rest frames in histories_of port w.entries w.dids
+solo_histories port lines rest frames =
+    let w = solo port lines rest frames in histories_of port w.entries w.dids

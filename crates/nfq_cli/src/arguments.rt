@@ -1,9 +1,10 @@
-//! The words of the command line.
+//! The arguments of the command line.
+
 ghost use Rattle.std.specs.Prelude.{◌≡◌, None, Some, map, MatchOption, IfSome, true};
 ghost use Rattle.std.specs.String.{string_bytes};
 ghost use Rattle.nfq_cli.specs.Arguments as named;
 
-/// The files that `play` reads and writes, by the names that its words give them.
+/// The files that `play` reads and writes, by the names that its arguments give them.
 #[derive(Clone, Copy, Debug)]
 pub struct Play<'a> {
     pub rules: &'a str,
@@ -14,7 +15,7 @@ pub struct Play<'a> {
     pub journal: &'a str,
 }
 
-/// The files of a `play` command; `None` where the words aren't one.
+/// The files of a `play` command; `None` where the arguments aren't one.
 pub fn play_of(words: &[String]) -> Option<Play<'_>>
     ensures files { MatchOption result (named.play_of (map string_bytes words.now) ≡ None)
         (λ p. named.play_of (map string_bytes words.now) ≡ Some (named.files_of p)) }
@@ -38,7 +39,7 @@ pub fn play_of(words: &[String]) -> Option<Play<'_>>
     }
 }
 
-/// Whether each word names a file.
+/// Whether each argument names a file.
 fn are_files(play: &Play<'_>) -> bool
     ensures { result ≡ named.are_files (named.files_of play.now) }
 {
@@ -57,7 +58,7 @@ fn are_apart(play: &Play<'_>) -> bool
     play.output != play.ledger && play.output != play.journal && play.ledger != play.journal
 }
 
-/// Whether a word names a file: it isn't empty, and isn't that of standard output.
+/// Whether an argument names a file: it isn't empty, and isn't that of standard output.
 fn is_file(word: &str) -> bool
     ensures { result ≡ named.is_file word.now }
 {

@@ -1,3 +1,5 @@
+//! Why a file wasn't read.
+
 ghost use Rattle.std.specs.Prelude.{◌≡◌};
 ghost use Rattle.nfq_cli.specs.declared.fault.FormFault.TheVariants.{NoMemory};
 

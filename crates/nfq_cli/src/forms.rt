@@ -1,6 +1,7 @@
 //! The form that a capture must have today.
+
 ghost use Rattle.std.specs.Prelude.{◌≡◌, ◌↔◌, IsTrue, All};
-ghost use Rattle.nfq_cli.specs.Forms.{IsFirstForm, IsIpv4};
+ghost use Rattle.nfq_cli.specs.Forms.{IsSupported, IsIpv4};
 
 use pcap_io::{Capture, Frame, Frames};
 
@@ -13,10 +14,10 @@ const MAX_FRAMES: usize = 200_000;
 /// The version of IPv4, in the first four bits of a packet.
 const VERSION_4: u8 = 4;
 
-/// Whether the capture is little-endian, has microseconds and raw IP, and at most 200,000 frames, each of
-/// IPv4.
-pub fn is_first_form(capture: &Capture) -> bool
-    ensures { IsTrue result ↔ IsFirstForm capture.now }
+/// Whether the capture is little-endian, has microseconds and raw IP, and at most 200,000 frames,
+/// each of IPv4.
+pub fn is_supported(capture: &Capture) -> bool
+    ensures { IsTrue result ↔ IsSupported capture.now }
 {
     !capture.big
         && !capture.nanos
@@ -28,15 +29,7 @@ pub fn is_first_form(capture: &Capture) -> bool
 fn are_ipv4(frames: &Frames) -> bool
     ensures { IsTrue result ↔ All IsIpv4 frames.now }
 {
-    for at in 0..frames.len() {
-        let Some(frame) = frames.get(at) else {
-            unreachable!()
-        };
-        if !is_ipv4(frame) {
-            return false;
-        }
-    }
-    true
+    frames.iter().all(|frame| is_ipv4(frame))
 }
 
 fn is_ipv4(frame: &Frame) -> bool

@@ -1,6 +1,8 @@
 //! What happened at the queues and at the ports, entry by entry.
+
+use nfqa_msgs::{Head, Params};
 use packet_entry::{Bytes, Card, Sequence};
-use queue_core::{Head, Outcome, Params};
+use queue_core::Outcome;
 
 /// What a message asks of a queue.
 #[derive(Debug, Drop)]
@@ -24,8 +26,8 @@ pub enum Request {
 /// What happens at a queue.
 #[derive(Debug, Drop)]
 pub enum Event {
-    /// A packet arrives. `bypass` is the rule's; `room` says whether the port's mailbox took the notice, and
-    /// is true where none was offered.
+    /// A packet arrives. `bypass` is the rule's; `room` says whether the port's mailbox took the
+    /// notice, and is true where none was offered.
     Arrive {
         card: Card,
         bypass: bool,

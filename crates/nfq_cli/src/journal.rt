@@ -1,10 +1,13 @@
 //! The journal: the histories as text.
-ghost use Rattle.std.specs.Prelude.{◌≡◌, ◌∷◌, ◌++◌, [], OnOk, IfOk, string_bytes, codes, decimal, drop, length};
+
+ghost use Rattle.std.specs.Prelude.{◌≡◌, ◌∷◌, ◌++◌, [], OnOk, IfOk, string_bytes, codes, decimal};
+ghost use Rattle.std.specs.Prelude.{drop, length};
 ghost use Rattle.nfq_cli.specs.Journal as text;
 
 use crate::histories::{Did, Entry, Event, Histories, PortLog, Reply, Request};
+use nfqa_msgs::{Head, Params};
 use packet_entry::{Bytes, Card, Sequence};
-use queue_core::{Head, Outcome, Params};
+use queue_core::Outcome;
 use std::alloc::{AllocError, Global};
 
 /// Appends the journal of these histories.
@@ -13,7 +16,8 @@ pub fn journal_text(
     histories: &Histories,
     out: &mut String,
 ) -> Result<(), AllocError>
-    ensures { OnOk result (string_bytes out.new ≡ string_bytes out.old ++ text.journal histories.now) }
+    ensures { OnOk result (string_bytes out.new ≡ string_bytes out.old
+        ++ text.journal histories.now) }
 {
     out.push_str("nfq-journal 1\n")?;
     push_histories(alloc, histories, out)?;
@@ -21,7 +25,8 @@ pub fn journal_text(
 }
 
 fn push_histories(alloc: Global, histories: &Histories, out: &mut String) -> Result<(), AllocError>
-    ensures { OnOk result (string_bytes out.new ≡ string_bytes out.old ++ text.histories histories.now) }
+    ensures { OnOk result (string_bytes out.new ≡ string_bytes out.old
+        ++ text.histories histories.now) }
 {
     push_entries(alloc, &histories.entries, out)?;
     push_logs(alloc, &histories.logs, out)
@@ -32,12 +37,10 @@ fn push_entries(
     entries: &Sequence<Entry>,
     out: &mut String,
 ) -> Result<(), AllocError>
-    ensures { OnOk result (string_bytes out.new ≡ string_bytes out.old ++ text.entries entries.now) }
+    ensures { OnOk result (string_bytes out.new ≡ string_bytes out.old
+        ++ text.entries entries.now) }
 {
-    for at in 0..entries.len() {
-        let Some(entry) = entries.get(at) else {
-            unreachable!()
-        };
+    for entry in entries {
         push_entry(alloc, entry, out)?;
     }
     Ok(())
@@ -46,10 +49,7 @@ fn push_entries(
 fn push_logs(alloc: Global, logs: &Sequence<PortLog>, out: &mut String) -> Result<(), AllocError>
     ensures { OnOk result (string_bytes out.new ≡ string_bytes out.old ++ text.logs logs.now) }
 {
-    for at in 0..logs.len() {
-        let Some(log) = logs.get(at) else {
-            unreachable!()
-        };
+    for log in logs {
         push_log(alloc, log, out)?;
     }
     Ok(())
@@ -66,10 +66,7 @@ fn push_log(alloc: Global, log: &PortLog, out: &mut String) -> Result<(), AllocE
 fn push_dids(alloc: Global, dids: &Sequence<Did>, out: &mut String) -> Result<(), AllocError>
     ensures { OnOk result (string_bytes out.new ≡ string_bytes out.old ++ text.dids dids.now) }
 {
-    for at in 0..dids.len() {
-        let Some(did) = dids.get(at) else {
-            unreachable!()
-        };
+    for did in dids {
         push_did(alloc, did, out)?;
     }
     Ok(())
@@ -100,7 +97,7 @@ fn push_entry(alloc: Global, entry: &Entry, out: &mut String) -> Result<(), Allo
     push_reply(&entry.reply, out)
 }
 
-/// What an arrival's line says of the packet, and the blank behind it.
+/// What an arrival's line says of the packet, and the blank after it.
 fn push_card(
     alloc: Global,
     card: &Card,
@@ -108,7 +105,8 @@ fn push_card(
     room: &str,
     out: &mut String,
 ) -> Result<(), AllocError>
-    ensures { OnOk result (string_bytes out.new ≡ string_bytes out.old ++ text.card card.now bypass.now room.now) }
+    ensures { OnOk result (string_bytes out.new ≡ string_bytes out.old
+        ++ text.card card.now bypass.now room.now) }
 {
     push_journey(card, out)?;
     write!(out, "{bypass} {room} ")?;
@@ -141,7 +139,8 @@ fn push_facts(card: &Card, out: &mut String) -> Result<(), AllocError>
 }
 
 fn push_request(alloc: Global, request: &Request, out: &mut String) -> Result<(), AllocError>
-    ensures { OnOk result (string_bytes out.new ≡ string_bytes out.old ++ text.request request.now) }
+    ensures { OnOk result (string_bytes out.new ≡ string_bytes out.old
+        ++ text.request request.now) }
 {
     match request {
         Request::Config {
@@ -176,7 +175,8 @@ fn push_request(alloc: Global, request: &Request, out: &mut String) -> Result<()
 }
 
 fn push_command(command: Option<u8>, out: &mut String) -> Result<(), AllocError>
-    ensures { OnOk result (string_bytes out.new ≡ string_bytes out.old ++ text.part (codes " cmd ") command) }
+    ensures { OnOk result (string_bytes out.new ≡ string_bytes out.old
+        ++ text.part (codes " cmd ") command) }
 {
     match command {
         Some(command) => write!(out, " cmd {command}"),
@@ -205,7 +205,8 @@ fn push_head(head: Option<Head>, out: &mut String) -> Result<(), AllocError>
 
 /// A word and its number, where there is one.
 fn push_number(word: &str, number: Option<u32>, out: &mut String) -> Result<(), AllocError>
-    ensures { OnOk result (string_bytes out.new ≡ string_bytes out.old ++ text.part word.now number) }
+    ensures { OnOk result (string_bytes out.new ≡ string_bytes out.old
+        ++ text.part word.now number) }
 {
     match number {
         Some(number) => write!(out, "{word}{number}"),
@@ -214,7 +215,8 @@ fn push_number(word: &str, number: Option<u32>, out: &mut String) -> Result<(), 
 }
 
 fn push_payload(alloc: Global, payload: &Option<Bytes>, out: &mut String) -> Result<(), AllocError>
-    ensures { OnOk result (string_bytes out.new ≡ string_bytes out.old ++ text.payload payload.now) }
+    ensures { OnOk result (string_bytes out.new ≡ string_bytes out.old
+        ++ text.payload payload.now) }
 {
     match payload {
         Some(bytes) => {
@@ -227,7 +229,8 @@ fn push_payload(alloc: Global, payload: &Option<Bytes>, out: &mut String) -> Res
 
 /// Bytes in lower-case hexadecimal, `-` for none.
 fn push_bytes(alloc: Global, bytes: &[u8], out: &mut String) -> Result<(), AllocError>
-    ensures { OnOk result (string_bytes out.new ≡ string_bytes out.old ++ text.hexadecimal bytes.now) }
+    ensures { OnOk result (string_bytes out.new ≡ string_bytes out.old
+        ++ text.hexadecimal bytes.now) }
 {
     if bytes.is_empty() {
         return out.push_str("-");

@@ -1,4 +1,5 @@
 //! The ledger: what became of each frame, as text, and the frames that were released.
+
 ghost use Rattle.std.specs.Prelude.{◌≡◌, ◌++◌, OnOk, IfOk, string_bytes};
 ghost use Rattle.nfq_cli.specs.Ledger as text;
 

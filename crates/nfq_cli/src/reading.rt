@@ -1,9 +1,11 @@
 //! Reading a text from the front.
-ghost use Rattle.std.specs.Prelude.{◌≡◌, ◌<◌, ◌≤◌, ◌^◌, ◌++◌, ℕ, List, IfSome, IsSomeAnd, decimal, length, slice_index};
+
+ghost use Rattle.std.specs.Prelude.{◌≡◌, ◌<◌, ◌≤◌, ◌^◌, ◌++◌, ℕ, List, IfSome, IsSomeAnd, decimal};
+ghost use Rattle.std.specs.Prelude.{length, slice_index};
 ghost use Rattle.std.specs.Char.{IsAsciiDigit};
 ghost use Rattle.nfq_cli.specs.Reading.{NoDigitAhead, EndsNumber};
 
-/// What follows a text that stands in front.
+/// What follows a text that the bytes begin with.
 pub fn behind<'a>(bytes: &'a [u8], text: &[u8]) -> Option<&'a [u8]>
     ensures found { IfSome result (λ after. bytes.now ≡ text.now ++ after.now) }
     ensures only { (rest : List ℕ) → bytes.now ≡ text.now ++ rest →
@@ -12,7 +14,7 @@ pub fn behind<'a>(bytes: &'a [u8], text: &[u8]) -> Option<&'a [u8]>
     bytes.strip_prefix(text)
 }
 
-/// The number between two texts that stand in front, and what follows the second.
+/// The number between two texts that the bytes begin with, and what follows the second.
 pub fn number_between<'a>(bytes: &'a [u8], before: &[u8], after: &[u8]) -> Option<(u32, &'a [u8])>
     requires { EndsNumber after.now }
     ensures found { IfSome result (λ read.
@@ -25,17 +27,19 @@ pub fn number_between<'a>(bytes: &'a [u8], before: &[u8], after: &[u8]) -> Optio
     Some((number, behind(rest, after)?))
 }
 
-/// The number in front, in decimal digits with no leading zero, and what follows its last digit.
+/// The number that the bytes begin with, in decimal digits with no leading zero, and what follows
+/// its last digit.
 fn number(bytes: &[u8]) -> Option<(u32, &[u8])>
     ensures found { IfSome result (λ read. bytes.now ≡ decimal read.0 ++ read.1.now) }
     ensures only { (n : ℕ) (rest : List ℕ) → n < 2 ^ 32 → NoDigitAhead rest →
-        bytes.now ≡ decimal n ++ rest → IsSomeAnd result (λ read. (read.0 ≡ n) × (read.1.now ≡ rest)) }
+        bytes.now ≡ decimal n ++ rest →
+        IsSomeAnd result (λ read. (read.0 ≡ n) × (read.1.now ≡ rest)) }
 {
     let (digits, rest) = bytes.split_at(digits_ahead(bytes));
     Some((value(digits)?, rest))
 }
 
-/// How many digits stand in front.
+/// How many digits the bytes begin with.
 fn digits_ahead(bytes: &[u8]) -> usize
     ensures within { result ≤ length bytes.now }
     ensures digits { (k : ℕ) → k < result → IsAsciiDigit (slice_index bytes.now k) }

@@ -1,10 +1,11 @@
 //! The capture of what was released.
-ghost use Rattle.std.specs.Prelude.{◌≡◌, ◌≤◌, length, IfOk, All};
-ghost use Rattle.packet_entry.specs.declared.packet.TheConstants.{MAX_FRAME};
+
+ghost use Rattle.std.specs.Prelude.{◌≡◌, ◌≤◌, ◌∷◌, ◌++◌, [], length, IfOk, OnOk, All};
+ghost use Rattle.packet_entry.specs.Numbers.{longest_packet};
 ghost use Rattle.nfq_cli.specs.Released as released;
 
 use crate::ledger::FateLine;
-use packet_entry::{Bytes, NoMemory};
+use packet_entry::NoMemory;
 use pcap_io::{Capture, Frame, Frames};
 use std::alloc::Global;
 
@@ -15,7 +16,7 @@ pub fn released_capture(
     lines: &[FateLine],
 ) -> Result<Capture, NoMemory>
     requires lines { length capture.frames ≡ length lines.now }
-    requires payloads { All (λ l. length l.payload ≤ MAX_FRAME) lines.now }
+    requires payloads { All (λ l. length l.payload ≤ longest_packet) lines.now }
     ensures { IfOk result (λ kept. kept ≡ released.capture capture lines.now) }
 {
     let frames = released_frames(alloc, capture.frames, lines)?;
@@ -36,7 +37,7 @@ fn released_frames(
     lines: &[FateLine],
 ) -> Result<Frames, NoMemory>
     requires lines { length frames ≡ length lines.now }
-    requires payloads { All (λ l. length l.payload ≤ MAX_FRAME) lines.now }
+    requires payloads { All (λ l. length l.payload ≤ longest_packet) lines.now }
     ensures { IfOk result (λ kept. kept ≡ released.frames frames lines.now) }
 {
     let mut kept = Frames::new(alloc);
@@ -44,19 +45,25 @@ fn released_frames(
         let Some(frame) = frames.take_first() else {
             unreachable!()
         };
-        if line.fate.is_release() {
-            let frame = written(alloc, frame, line)?;
-            if kept.push(frame).is_err() {
-                return Err(NoMemory);
-            }
-        }
+        keep(&mut kept, frame, line)?;
     }
     Ok(kept)
 }
 
+/// Keeps the frame of this line, if it was released.
+fn keep(kept: &mut Frames, frame: Frame, line: &FateLine) -> Result<(), NoMemory>
+    requires { length line.now.payload ≤ longest_packet }
+    ensures { OnOk result (kept.new ≡ kept.old ++ released.frames (frame ∷ []) (line.now ∷ [])) }
+{
+    if !line.fate.is_release() {
+        return Ok(());
+    }
+    kept.push(written(frame, line)?).map_err(|_| NoMemory)
+}
+
 /// A released frame as it is written: as it was read, unless its bytes were replaced.
-fn written(alloc: Global, frame: Frame, line: &FateLine) -> Result<Frame, NoMemory>
-    requires { length line.now.payload ≤ MAX_FRAME }
+fn written(frame: Frame, line: &FateLine) -> Result<Frame, NoMemory>
+    requires { length line.now.payload ≤ longest_packet }
     ensures { IfOk result (λ out. out ≡ released.written frame line.now) }
 {
     let payload = line.payload.as_slice();
@@ -67,6 +74,6 @@ fn written(alloc: Global, frame: Frame, line: &FateLine) -> Result<Frame, NoMemo
         seconds: frame.seconds,
         fraction: frame.fraction,
         original: payload.len() as u32,
-        bytes: Bytes::copy(alloc, payload)?,
+        bytes: line.payload.share()?,
     })
 }

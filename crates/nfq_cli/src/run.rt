@@ -1,8 +1,10 @@
-//! The run on one thread: every frame arrives at the queue, its notice is answered, and the verdict is
-//! carried out before the next frame arrives.
-ghost use Rattle.std.specs.Prelude.{◌≡◌, ◌≤◌, ◌<◌, ◌+◌, ◌^◌, ◌++◌, ◌∷◌, [], length, vec_len, Some, None, true, false, IfOk, OnOk, OnErr, IsSome, option_map, All};
-ghost use Rattle.packet_entry.specs.declared.packet.TheConstants.{MAX_FRAME};
-ghost use Rattle.queue_core.specs.declared.decision.TheConstants.{ACCEPT, DROP};
+//! The run on one thread: every frame arrives at the queue, its notice is answered, and the verdict
+//! is carried out before the next frame arrives.
+
+ghost use Rattle.std.specs.Prelude.{◌≡◌, ◌≤◌, ◌<◌, ◌+◌, ◌^◌, ◌++◌, ◌∷◌, [], length, vec_len, Some};
+ghost use Rattle.std.specs.Prelude.{None, true, false, IfOk, OnOk, OnErr, IsSome, option_map, All};
+ghost use Rattle.packet_entry.specs.Numbers.{longest_packet};
+ghost use Rattle.nfq_cli.specs.Numbers.{most_frames};
 ghost use Rattle.queue_core.specs.State.{bound_to, configured};
 ghost use Rattle.queue_core.specs.Step as queue_step;
 ghost use Rattle.nfq_cli.specs.Schedule as schedule;
@@ -16,9 +18,10 @@ ghost use Rattle.nfq_cli.specs.Run.{IsRunOf};
 use crate::histories::{Did, Entry, Event, Histories, PortLog, Reply, Request};
 use crate::ledger::{Fate, FateLine};
 use crate::script::Script;
+use nfqa_msgs::{BIND, Head, PACKET, Params};
 use packet_entry::{Bytes, Card, IPV4, NoMemory, Packet, Sequence};
 use pcap_io::{Capture, Frame};
-use queue_core::{BIND, Begun, Decision, Head, NoRoom, Outcome, PACKET, Params, Queue, Settled};
+use queue_core::{Begun, Decision, NoRoom, Outcome, Queue, Settled};
 use std::alloc::Global;
 
 /// What a run leaves: the histories, and what became of each frame.
@@ -36,10 +39,11 @@ const TABLE: u16 = 1;
 
 /// Runs the script over the frames of a capture.
 pub fn solo(alloc: Global, script: &Script, capture: &Capture) -> Result<Run, NoMemory>
-    requires frames { length capture.now.frames ≤ 200000 }
-    requires bytes { All (λ f. length f.bytes ≤ MAX_FRAME) capture.now.frames }
+    requires frames { length capture.now.frames ≤ most_frames }
+    requires bytes { All (λ f. length f.bytes ≤ longest_packet) capture.now.frames }
     ensures run { IfOk result (IsRunOf script.now capture.now) }
-    ensures payloads { IfOk result (λ run. All (λ l. length l.payload ≤ MAX_FRAME) run.lines.items) }
+    ensures payloads { IfOk result
+        (λ run. All (λ l. length l.payload ≤ longest_packet) run.lines.items) }
 {
     let mut queue = Queue::bind(alloc, script.port);
     let outcome = run_queue(alloc, script, capture, &mut queue);
@@ -54,12 +58,13 @@ fn run_queue(
     capture: &Capture,
     queue: &mut Queue,
 ) -> Result<Run, NoMemory>
-    requires frames { length capture.now.frames ≤ 200000 }
-    requires bytes { All (λ f. length f.bytes ≤ MAX_FRAME) capture.now.frames }
+    requires frames { length capture.now.frames ≤ most_frames }
+    requires bytes { All (λ f. length f.bytes ≤ longest_packet) capture.now.frames }
     requires bound { queue.old.state ≡ bound_to script.now.port }
     requires no_offer { queue.old.offer ≡ None }
     ensures run { IfOk result (IsRunOf script.now capture.now) }
-    ensures payloads { IfOk result (λ run. All (λ l. length l.payload ≤ MAX_FRAME) run.lines.items) }
+    ensures payloads { IfOk result
+        (λ run. All (λ l. length l.payload ≤ longest_packet) run.lines.items) }
     ensures no_offer { queue.new.offer ≡ None }
 {
     let mut story = Story::with_room(alloc, capture.frames.len())?;
@@ -90,7 +95,7 @@ struct Story {
 impl Story {
     /// Nothing happened yet. The memory for what happens to so many frames is taken at once.
     fn with_room(alloc: Global, frames: usize) -> Result<Story, NoMemory>
-        requires { frames ≤ 200000 }
+        requires { frames ≤ most_frames }
         ensures entries { IfOk result (λ story. story.entries.items ≡ []) }
         ensures dids { IfOk result (λ story. story.dids.items ≡ []) }
         ensures calls { IfOk result (λ story. story.calls ≡ 0) }
@@ -104,7 +109,8 @@ impl Story {
 
     /// The port opens the queue: it binds it, and asks for whole packets.
     fn open(&mut self, port: u32, queue: &mut Queue) -> Result<(), NoMemory>
-        requires nothing { (self.old.entries.items ≡ []) × (self.old.dids.items ≡ []) × (self.old.calls ≡ 0) }
+        requires nothing { (self.old.entries.items ≡ []) × (self.old.dids.items ≡ [])
+            × (self.old.calls ≡ 0) }
         requires bound { queue.old.state ≡ bound_to port }
         requires no_offer { queue.old.offer ≡ None }
         ensures world { OnOk result (schedule.opened port ≡ record {
@@ -125,8 +131,10 @@ impl Story {
 
     /// A packet arrived and waits, and the port received its notice.
     fn received(&mut self, card: Card, id: u32) -> Result<(), NoMemory>
-        ensures entries { OnOk result (self.new.entries.items ≡ self.old.entries.items ++ passing.taken_entry card id ∷ []) }
-        ensures dids { OnOk result (self.new.dids.items ≡ self.old.dids.items ++ passing.received card ∷ []) }
+        ensures entries { OnOk result
+            (self.new.entries.items ≡ self.old.entries.items ++ passing.taken_entry card id ∷ []) }
+        ensures dids { OnOk result (self.new.dids.items ≡ self.old.dids.items
+            ++ passing.received card ∷ []) }
         ensures calls { self.new.calls ≡ self.old.calls }
     {
         let number = card.number;
@@ -160,9 +168,11 @@ impl Story {
         answer: Option<u16>,
     ) -> Result<(), NoMemory>
         ensures entries { OnOk result (self.new.entries.items
-            ≡ self.old.entries.items ++ passing.asked_entry port (passing.call_behind self.old.calls) asked taken ∷ []) }
+            ≡ self.old.entries.items ++ passing.asked_entry port
+            (passing.call_behind self.old.calls) asked taken ∷ []) }
         ensures dids { OnOk result (self.new.dids.items
-            ≡ self.old.dids.items ++ Did.Sent (passing.call_behind self.old.calls) told answer ∷ []) }
+            ≡ self.old.dids.items ++ Did.Sent (passing.call_behind self.old.calls) told answer
+            ∷ []) }
         ensures calls { self.new.calls ≡ passing.call_behind self.old.calls }
     {
         self.calls = self.calls.wrapping_add(1);
@@ -185,7 +195,8 @@ impl Story {
     }
 
     fn into_histories(self, alloc: Global, port: u32) -> Result<Histories, NoMemory>
-        ensures { IfOk result (λ histories. histories ≡ histories_of port self.entries.items self.dids.items) }
+        ensures { IfOk result (λ histories. histories
+            ≡ histories_of port self.entries.items self.dids.items) }
     {
         let mut logs = Vec::with_capacity(alloc, 1)?;
         logs.push(PortLog {
@@ -252,21 +263,26 @@ fn pass(
     frame: &Frame,
 ) -> Result<FateLine, NoMemory>
     requires number { 1 ≤ number }
-    requires bytes { length frame.now.bytes ≤ MAX_FRAME }
+    requires bytes { length frame.now.bytes ≤ longest_packet }
     requires ready { IsReady queue.old }
     ensures entries { OnOk result (story.new.entries.items
-        ≡ (story.old.entries.items ++ passing.taken_entry (schedule.queued_card number frame.now) (queue_step.next_id queue.old.state) ∷ [])
+        ≡ (story.old.entries.items ++ passing.taken_entry (schedule.queued_card number frame.now)
+        (queue_step.next_id queue.old.state) ∷ [])
         ++ passing.asked_entry script.now.port (passing.call_behind story.old.calls)
-        (schedule.verdict_on script.now.lines.items script.now.rest (queue_step.next_id queue.old.state)) 1 ∷ []) }
+        (schedule.verdict_on script.now.lines.items script.now.rest
+        (queue_step.next_id queue.old.state)) 1 ∷ []) }
     ensures dids { OnOk result (story.new.dids.items
         ≡ (story.old.dids.items ++ passing.received (schedule.queued_card number frame.now) ∷ [])
         ++ Did.Sent (passing.call_behind story.old.calls)
-        (schedule.verdict_on script.now.lines.items script.now.rest (queue_step.next_id queue.old.state)) None ∷ []) }
+        (schedule.verdict_on script.now.lines.items script.now.rest
+        (queue_step.next_id queue.old.state)) None ∷ []) }
     ensures calls { OnOk result (story.new.calls ≡ passing.call_behind story.old.calls) }
     ensures line { IfOk result (λ line. line ≡ passing.line_of number
-        (code_of (answer script.now.lines.items script.now.rest (queue_step.next_id queue.old.state)))
+        (code_of (answer script.now.lines.items script.now.rest
+        (queue_step.next_id queue.old.state)))
         (length story.old.entries.items + 2) (schedule.queued_card number frame.now)) }
-    ensures state { OnOk result (queue.new.state ≡ queue_step.with_last queue.old.state (queue_step.next_id queue.old.state)) }
+    ensures state { OnOk result (queue.new.state
+        ≡ queue_step.with_last queue.old.state (queue_step.next_id queue.old.state)) }
     ensures no_offer { queue.new.offer ≡ None }
 {
     let (packet, card) = opened(alloc, number, frame)?;
@@ -284,20 +300,13 @@ fn pass(
 /// A frame's packet, queued by the one table, and a copy of what it is.
 fn opened(alloc: Global, number: u32, frame: &Frame) -> Result<(Packet, Card), NoMemory>
     requires number { 1 ≤ number }
-    requires bytes { length frame.now.bytes ≤ MAX_FRAME }
+    requires bytes { length frame.now.bytes ≤ longest_packet }
     ensures packet { IfOk result (λ both. both.0 ≡ schedule.queued_card number frame.now) }
     ensures card { IfOk result (λ both. both.1 ≡ schedule.queued_card number frame.now) }
 {
-    let bytes = frame.bytes.as_slice();
-    let mut packet = Packet::new(
-        alloc,
-        number,
-        frame.seconds,
-        frame.fraction,
-        IPV4,
-        &[],
-        bytes,
-    )?;
+    let link = Bytes::new(alloc);
+    let bytes = frame.bytes.share()?;
+    let mut packet = Packet::from_shared(number, frame.seconds, frame.fraction, IPV4, link, bytes);
     packet.queued(TABLE);
     match packet.card(alloc) {
         Ok(card) => Ok((packet, card)),
@@ -312,7 +321,8 @@ fn opened(alloc: Global, number: u32, frame: &Frame) -> Result<(Packet, Card), N
 fn arrive(alloc: Global, queue: &mut Queue, packet: Packet) -> Result<u32, NoMemory>
     requires { IsReady queue.old }
     ensures id { IfOk result (λ id. id ≡ queue_step.next_id queue.old.state) }
-    ensures taken { IfOk result (λ id. queue.new.state ≡ queue_step.taken queue.old.state id packet) }
+    ensures taken { IfOk result (λ id. queue.new.state
+        ≡ queue_step.taken queue.old.state id packet) }
     ensures err { OnErr result (queue.new ≡ queue.old) }
     ensures no_offer { queue.new.offer ≡ None }
 {
@@ -347,7 +357,8 @@ fn decide(
     requires waits { IsSome (queue_step.card_under queue.old.state head.id) }
     requires no_offer { queue.old.offer ≡ None }
     ensures line { IfOk result (λ line. Some line
-        ≡ option_map (passing.line_of number head.verdict at) (queue_step.card_under queue.old.state head.id)) }
+        ≡ option_map (passing.line_of number head.verdict at)
+        (queue_step.card_under queue.old.state head.id)) }
     ensures state { queue.new.state ≡ queue_step.without queue.old.state head.id }
     ensures no_offer { queue.new.offer ≡ None }
 {
@@ -355,7 +366,7 @@ fn decide(
         unreachable!()
     };
     let mark = packet.mark();
-    let payload = Bytes::copy(alloc, packet.bytes());
+    let payload = packet.share_bytes();
     let fate = match decision {
         Decision::Accept => {
             packet.release();

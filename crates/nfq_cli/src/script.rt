@@ -1,6 +1,9 @@
 //! What the inspector of a port does, as its script says.
-ghost use Rattle.std.specs.Prelude.{◌≡◌, ◌≤◌, ◌<◌, ◌+◌, ◌^◌, ◌++◌, ℕ, List, length, codes, IfSome, IsSomeAnd, IfOk, IsErrOf, MatchResult};
+
+ghost use Rattle.std.specs.Prelude.{◌≡◌, ◌≤◌, ◌<◌, ◌+◌, ◌^◌, ◌++◌, ℕ, List, length, codes, IfSome};
+ghost use Rattle.std.specs.Prelude.{IsSomeAnd, IfOk, IsErrOf, MatchResult};
 ghost use Rattle.std.specs.List.{AllByRecursion};
+ghost use Rattle.nfq_cli.specs.Numbers.{most_lines, fixed_lines};
 ghost use Rattle.nfq_cli.specs.Code.{code_of, word};
 ghost use Rattle.nfq_cli.specs.Script.{on_id, on_ids, on_any, IsScript};
 ghost use Rattle.nfq_cli.specs.Reading.{heading, NoLineAhead};
@@ -13,10 +16,11 @@ use std::alloc::Global;
 /// How many bytes a script has at most.
 const MAX_BYTES: usize = 1_048_576;
 
-/// How many lines stand behind the port's at most.
+/// How many lines follow the port's at most.
 const MAX_LINES: usize = 1000;
 
-/// How many of them answer the notice of an id: the others are the two that open the queue, and the last.
+/// How many of them answer the notice of an id: the others are the two that open the queue, and the
+/// last.
 const MAX_ON_ID_LINES: usize = MAX_LINES - 3;
 
 /// How a script answers a notice.
@@ -45,7 +49,8 @@ pub struct OnId {
     pub verdict: Verdict,
 }
 
-/// A script of the first form: one port, which opens queue 0, and answers each notice by one verdict.
+/// A script of the supported form: one port, which opens queue 0, and answers each notice by one
+/// verdict.
 #[derive(Debug, Drop)]
 pub struct Script {
     pub port: u32,
@@ -71,10 +76,10 @@ impl Script {
     }
 }
 
-/// Reads a script of the first form: the port, the two lines that open queue 0, at most 997 lines that each
-/// answer the notice of an id, and the line that answers every other notice. Each line is ended by a line
-/// feed, words are one blank apart, and numbers are decimal with no leading zero. Any other text is
-/// `NotInForm`, and so is one of more than 1,048,576 bytes.
+/// Reads a script of the supported form: the port, the two lines that open queue 0, at most 997
+/// lines that each answer the notice of an id, and the line that answers every other notice. Each
+/// line is ended by a line feed, words are one blank apart, and numbers are decimal with no leading
+/// zero. Any other text is `NotInForm`, and so is one of more than 1,048,576 bytes.
 pub fn read_script(alloc: Global, bytes: &[u8]) -> Result<Script, FormFault>
     // What is read is spelled so.
     ensures found { IfOk result (λ s. IsScript bytes.now s.port s.lines.items s.rest) }
@@ -100,7 +105,7 @@ pub fn read_script(alloc: Global, bytes: &[u8]) -> Result<Script, FormFault>
     Ok(Script { port, lines, rest })
 }
 
-/// The port, whose line stands in front with the two that open queue 0, and what follows them.
+/// The port, whose line comes first with the two that open queue 0, and what follows them.
 fn read_heading(bytes: &[u8]) -> Option<(u32, &[u8])>
     ensures found { IfSome result (λ read. bytes.now ≡ heading read.0 ++ read.1.now) }
     ensures not_zero { IfSome result (λ read. (0 < read.0) × (read.0 < 2 ^ 32)) }
@@ -116,13 +121,14 @@ fn read_heading(bytes: &[u8]) -> Option<(u32, &[u8])>
     if port == 0 { None } else { Some((port, rest)) }
 }
 
-/// The lines in front that answer the notices of ids, all of them, and what follows.
+/// The first lines, that answer the notices of ids, all of them, and what follows.
 fn read_lines(alloc: Global, bytes: &[u8]) -> Result<(Vec<OnId>, &[u8]), FormFault>
     ensures found { IfOk result (λ read. bytes.now ≡ on_ids read.0.items ++ read.1.now) }
     ensures fit { IfOk result (λ read. AllByRecursion (λ l. l.id < 2 ^ 32) read.0.items) }
-    ensures block { IfOk result (λ read. length read.0.items + 3 ≤ 1000) }
+    ensures block { IfOk result (λ read. length read.0.items + fixed_lines ≤ most_lines) }
     ensures only { (lines : List OnId) (rest : List ℕ) → AllByRecursion (λ l. l.id < 2 ^ 32) lines →
-        length lines + 3 ≤ 1000 → NoLineAhead rest → bytes.now ≡ on_ids lines ++ rest →
+        length lines + fixed_lines ≤ most_lines → NoLineAhead rest →
+        bytes.now ≡ on_ids lines ++ rest →
         MatchResult result (λ read. (read.0.items ≡ lines) × (read.1.now ≡ rest))
         (λ fault. fault ≡ FormFault.NoMemory) }
 {
@@ -138,7 +144,7 @@ fn read_lines(alloc: Global, bytes: &[u8]) -> Result<(Vec<OnId>, &[u8]), FormFau
     Ok((lines, rest))
 }
 
-/// The line in front that answers the notice of an id, and what follows it.
+/// The first line, that answers the notice of an id, and what follows it.
 fn read_line(bytes: &[u8]) -> Option<(OnId, &[u8])>
     ensures found { IfSome result (λ read. bytes.now ≡ on_id read.0 ++ read.1.now) }
     ensures fits { IfSome result (λ read. read.0.id < 2 ^ 32) }
@@ -159,7 +165,7 @@ fn read_last_line(bytes: &[u8]) -> Option<Verdict>
     if rest.is_empty() { Some(verdict) } else { None }
 }
 
-/// The verdict whose word stands in front with the end of its line, and what follows.
+/// The verdict whose word comes first with the end of its line, and what follows.
 fn read_verdict(bytes: &[u8]) -> Option<(Verdict, &[u8])>
     ensures found { IfSome result (λ read.
         bytes.now ≡ word read.0 ++ codes " this\n" ++ read.1.now) }

@@ -1,4 +1,5 @@
 //! Why a command stops before its end.
+
 ghost use Rattle.std.specs.Prelude.{◌≡◌};
 ghost use Rattle.nfq_cli.specs.Stops.{of_read, of_capture, status_of};
 

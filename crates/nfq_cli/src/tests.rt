@@ -1,4 +1,5 @@
 //! Runs of `play` over a machine in memory. What they expect was written out by hand.
+
 ghost use Rattle.std.specs.Prelude.{◌≡◌};
 
 use crate::play::play;
@@ -61,7 +62,8 @@ fn capture(alloc: Global, packets: &[u8]) -> Result<Vec<u8>, AllocError> {
     Ok(bytes)
 }
 
-/// A host with the three inputs under the names `r`, `s` and `c`, and room for the outputs `o`, `l` and `j`.
+/// A host with the three inputs under the names `r`, `s` and `c`, and room for the outputs `o`, `l`
+/// and `j`.
 fn host(
     alloc: Global,
     rules: &[u8],
@@ -80,7 +82,7 @@ fn host(
     Ok(host)
 }
 
-/// The words of `play` with these files.
+/// The arguments of `play` with these files.
 fn words(alloc: Global, words: &[&str]) -> Result<Vec<String>, AllocError> {
     let mut all = Vec::new(alloc);
     for word in words {
@@ -127,6 +129,65 @@ fn a_capture_without_frames_is_played(rt: HostRuntime) -> Result<(), Fail> {
     let journal = "nfq-journal 1\nM 0 7 1 config 0 cmd 1 = 0 0\nM 0 7 2 config 0 params 2 0 = 0 0\n\
         P 7\nS 1 config 0 cmd 1 = 0\nS 2 config 0 params 2 0 = 0\nend\n";
     assert_eq!(rt; host.get("j").ok_or("no journal")?, journal.as_bytes());
+    Ok(())
+}
+
+/// The record of a frame of this many bytes of IPv4, captured at this second.
+fn record_of(alloc: Global, second: u32, length: u32) -> Result<Vec<u8>, AllocError> {
+    let mut bytes = Vec::from_slice(alloc, &second.to_le_bytes())?;
+    bytes.extend_from_slice(&[0, 0, 0, 0])?;
+    bytes.extend_from_slice(&length.to_le_bytes())?;
+    bytes.extend_from_slice(&length.to_le_bytes())?;
+    for _ in 0..length {
+        bytes.push(0x45)?;
+    }
+    Ok(bytes)
+}
+
+/// A script of 1,000 lines after the port's: of the ids 1 to 997 the even ones are dropped, and
+/// every other packet is accepted.
+fn longest_script(alloc: Global) -> Result<String, AllocError> {
+    let mut script = String::new(alloc);
+    script.push_str("port 7\nopen config 0 bind\nopen config 0 params packet 0\n")?;
+    for id in 1..=997u32 {
+        let verdict = if id % 2 == 0 { "drop" } else { "accept" };
+        writeln!(script, "on id {id} do verdict this {verdict} this")?;
+    }
+    script.push_str("on any do verdict this accept this\n")?;
+    Ok(script)
+}
+
+/// A run of 1,100 frames, the first of 262,144 bytes, by a script of the most lines.
+#[test]
+fn the_longest_frame_and_script_are_played(rt: HostRuntime) -> Result<(), Fail> {
+    let alloc = rt.alloc();
+    let mut input = Vec::from_slice(alloc, &HEADER)?;
+    let mut output = Vec::from_slice(alloc, &HEADER)?;
+    for number in 1..=1_100u32 {
+        let length = if number == 1 { 262_144 } else { 20 };
+        let record = record_of(alloc, number, length)?;
+        input.extend_from_slice(&record)?;
+        if number > 997 || number % 2 == 1 {
+            output.extend_from_slice(&record)?;
+        }
+    }
+    let script = longest_script(alloc)?;
+    let mut host = host(alloc, RULES, Some(script.as_bytes()), &input)?;
+    for name in ["o", "l", "j"] {
+        host.room(alloc, name, 1_000_000)?;
+    }
+    assert_eq!(rt; played(alloc, &mut host)?, 0);
+    assert!(rt; host.get("o") == Some(output.as_slice()));
+    let ledger = host.get("l").ok_or("no ledger")?;
+    // A heading, and a line for each frame.
+    assert_eq!(rt; ledger.iter().filter(|byte| **byte == b'\n').count(), 1_101);
+    let journal = host.get("j").ok_or("no journal")?;
+    // Two lines for each frame's packet and two for what the port did; two of each for the opening;
+    // the heading, the port's line and the end.
+    assert_eq!(rt;
+        journal.iter().filter(|byte| **byte == b'\n').count(),
+        4_407
+    );
     Ok(())
 }
 

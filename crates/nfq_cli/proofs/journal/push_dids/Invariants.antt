@@ -1,8 +1,9 @@
-use Rattle.std.proofs.Common.{◌≡◌, ◌++◌, drop}
+use Rattle.std.proofs.Common.{◌≡◌, ◌++◌}
 use Rattle.std.specs.String.{string_bytes}
 use Rattle.nfq_cli.specs.Journal as text
 use Rattle.nfq_cli.proofs.journal.push_dids.Given as goal
 
--- the text so far, and that of what is left
-abbrev pub invariant-loop-at : goal.invariant-loop-at
-invariant-loop-at l = string_bytes l.out ++ text.dids (drop l.at l.dids) ≡ string_bytes l.fn.out ++ text.dids l.dids
+-- the text so far, and that of what is still to come
+abbrev pub invariant-loop-did : goal.invariant-loop-did
+invariant-loop-did l =
+    string_bytes l.out ++ text.dids l.did-iterator ≡ string_bytes l.fn.out ++ text.dids l.dids

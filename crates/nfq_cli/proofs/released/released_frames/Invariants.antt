@@ -5,5 +5,6 @@ use Rattle.nfq_cli.proofs.released.released_frames.Given as goal
 -- what was kept so far, and what of the rest will be
 abbrev pub invariant-loop-line : goal.invariant-loop-line
 invariant-loop-line l =
-    (l.kept ++ released.frames l.frames (drop l.line-index l.lines) ≡ released.frames l.fn.frames l.lines)
+    (l.kept ++ released.frames l.frames (drop l.line-index l.lines)
+    ≡ released.frames l.fn.frames l.lines)
     × (length l.frames ≡ length (drop l.line-index l.lines))
