@@ -1,6 +1,7 @@
 -- The numbers of the command `play` and of its schedule, each once. Those of packets, captures,
 -- requests and queues are those of the crates below.
-use Rattle.std.specs.Prelude.{ℕ}
+use Rattle.std.specs.Prelude.{ℕ, ◌-◌}
+use Rattle.packet_entry.specs.Numbers.{last_visit}
 
 -- the most bytes of rules or a script, and of a capture
 abbrev pub text_limit : ℕ
@@ -27,7 +28,7 @@ mailbox_size = 1024
 
 -- how many visits of a packet can end in a queue, so that as many notices are received at most
 abbrev pub most_notices : ℕ
-most_notices = 32
+most_notices = last_visit - 1
 
 -- the calls of a port count modulo this
 abbrev pub call_count : ℕ

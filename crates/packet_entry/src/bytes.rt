@@ -1,17 +1,18 @@
 //! Bytes that are shared: copies and cuts of one buffer, which none of them can change.
 
 ghost use Rattle.std.specs.Prelude.{◌≡◌, ◌≤◌, ◌↔◌, List, [], length, slice_range, IfOk, IfErr};
-ghost use Rattle.std.specs.Prelude.{IsTrue, MatchResult};
+ghost use Rattle.std.specs.Prelude.{IsTrue};
 
 use crate::NoMemory;
 use std::alloc::{AllocFailed, Global};
+use std::fmt;
 use std::marker::Model;
 use std::sync::Arc;
 
 /// A list of bytes that can't be changed. Several lists may share one buffer: to
 /// [`share`](Bytes::share) bytes, or to [`cut`](Bytes::cut) a part out of them, copies nothing. The
 /// buffer ends with its last list. It may be used from several threads.
-#[derive(Debug, Drop)]
+#[derive(Drop)]
 pub struct Bytes {
     /// `None` for a list that was made without a buffer, and has no bytes.
     buffer: Option<Arc<Vec<u8>, Global>>,
@@ -94,36 +95,6 @@ impl Bytes {
         }
     }
 
-    /// The vector that was the buffer, where these are all of its bytes and no other list shares
-    /// it. Otherwise the bytes come back. Takes no memory.
-    pub fn into_vec(self) -> Result<Vec<u8>, Bytes>
-        ensures { MatchResult result (λ items. items.items ≡ self) (λ bytes. bytes ≡ self) }
-    {
-        let Bytes { buffer, start, end } = self;
-        let Some(buffer) = buffer else {
-            return Err(Bytes {
-                buffer: None,
-                start,
-                end,
-            });
-        };
-        if start != 0 || end != buffer.len() {
-            return Err(Bytes {
-                buffer: Some(buffer),
-                start,
-                end,
-            });
-        }
-        match Arc::try_unwrap(buffer) {
-            Ok(items) => Ok(items),
-            Err(buffer) => Err(Bytes {
-                buffer: Some(buffer),
-                start,
-                end,
-            }),
-        }
-    }
-
     /// The bytes, where they lie: nothing is copied.
     pub fn as_slice(&self) -> &[u8]
         ensures { result.now ≡ self.now }
@@ -146,5 +117,13 @@ impl Bytes {
         ensures { IsTrue result ↔ (self.now ≡ []) }
     {
         self.start == self.end
+    }
+}
+
+/// The bytes of this list alone, as a list of numbers.
+impl fmt::Debug for Bytes {
+    fn fmt<W: fmt::Write>(&self, f: &mut fmt::Formatter<W>) -> fmt::Result {
+        let bytes = self.as_slice();
+        write!(f, "{bytes:?}")
     }
 }

@@ -1,6 +1,6 @@
 //! Packets, and the cards that say what they are.
 
-ghost use Rattle.std.specs.Prelude.{◌≡◌, ◌+◌, ◌<◌, ◌≤◌, length, IfOk, IfSome, unwrap_or};
+ghost use Rattle.std.specs.Prelude.{◌≡◌, ◌+◌, ◌<◌, ◌≤◌, length, IfOk, IfSome};
 ghost use Rattle.packet_entry.specs.Numbers.{longest_packet, longest_payload, last_visit};
 ghost use Rattle.packet_entry.specs.Fields.{IsProtocol, IsLinkLength};
 

@@ -93,7 +93,7 @@ impl<T> Sequence<T> {
         self.items.get_mut(at)
     }
 
-    /// Adds an item at the end. Out of memory the item comes back and nothing has changed.
+    /// Adds an item at the end. When memory runs out, the item comes back and nothing has changed.
     pub fn push(&mut self, item: T) -> Result<(), T>
         ensures ok { OnOk result (self.new ≡ self.old ++ item ∷ []) }
         ensures returned { IfErr result (λ back. back ≡ item) }

@@ -21,7 +21,8 @@ impl<T> Model for Stock<T> {
 
     ghost Value = { Stocked T };
 
-    ghost view = { λ s. record { items = s.items.items; room = vec_capacity s.items - vec_len s.items } };
+    ghost view = { λ s.
+        record { items = s.items.items; room = vec_capacity s.items - vec_len s.items } };
 }
 
 impl<T> Stock<T> {

@@ -43,23 +43,28 @@ fn bytes_are_copied_shared_and_cut(rt: HostRuntime) -> Result<(), Fail> {
 }
 
 #[test]
-fn a_vector_becomes_the_buffer_and_comes_back(rt: HostRuntime) -> Result<(), Fail> {
+fn a_vector_becomes_the_buffer(rt: HostRuntime) -> Result<(), Fail> {
     let alloc = rt.alloc();
     for items in [BYTES.as_slice(), &[]] {
         let bytes = Bytes::from_vec(Vec::from_slice(alloc, items)?)?;
         assert_eq!(rt; bytes.as_slice(), items);
         let other = bytes.share()?;
-        let bytes = bytes
-            .into_vec()
-            .map_err(|_| "unshared")
-            .err()
-            .ok_or("shared")?;
-        assert_eq!(rt; bytes, "unshared");
-        let vec = other.into_vec().map_err(|_| "shared")?;
-        assert_eq!(rt; vec.as_slice(), items);
+        drop(bytes);
+        assert_eq!(rt; other.as_slice(), items);
     }
     assert!(rt; Bytes::new(alloc).is_empty());
     assert!(rt; Bytes::copy(alloc, &[])?.is_empty());
+    Ok(())
+}
+
+/// A cut shows its own bytes, and not its whole buffer.
+#[test]
+fn a_cut_prints_its_own_bytes(rt: HostRuntime) -> Result<(), Fail> {
+    let cut = Bytes::copy(rt.alloc(), &BYTES)?;
+    assert_eq!(rt; cut.len(), 20);
+    let cut = cut.cut(12, 16)?;
+    let text = format!(in rt.alloc(); "{cut:?}")?;
+    assert_eq!(rt; text.as_str(), "[10, 0, 0, 1]");
     Ok(())
 }
 
