@@ -24,23 +24,23 @@ use Rattle.hook_chain.specs.RulesFile.{Answers, Place, start, may_open, after, l
 use Rattle.hook_chain.specs.RulesFile.{tables_from, tables_of}
 use Rattle.hook_chain.proofs.Picks.{SaysPick, says_if}
 
-pub record IsRead (text : List ℕ) (number : ℕ) (p : Place) (rest : List ℕ) : Type 0 where
-  pub answer : tables_of text ≡ tables_from number p (lines rest)
+pub record IsRead (text : List ℕ) (line_number : ℕ) (p : Place) (rest : List ℕ) : Type 0 where
+  pub answer : tables_of text ≡ tables_from line_number p (lines rest)
   pub sound : IsSound p
-  pub count : number + length rest ≤ length text + 1
+  pub count : line_number + length rest ≤ length text + 1
   pub plain : list_any opens_table (lines text) ≡ false →
       (p.inside ≡ None) × (list_any opens_table (lines rest) ≡ false)
 
-pub tables_from-on : (number : ℕ) (p q : Place) (line : List ℕ) (rest : List (List ℕ)) →
+pub tables_from-on : (line_number : ℕ) (p q : Place) (line : List ℕ) (rest : List (List ℕ)) →
     line_leads_to p line ≡ Some q →
-    tables_from number p (line ∷ rest) ≡ tables_from (number + 1) q rest
+    tables_from line_number p (line ∷ rest) ≡ tables_from (line_number + 1) q rest
 unfolding tables_from
-tables_from-on number p q line rest e = rw e refl
+tables_from-on line_number p q line rest e = rw e refl
 
-pub tables_from-off : (number : ℕ) (p : Place) (line : List ℕ) (rest : List (List ℕ)) →
-    line_leads_to p line ≡ None → tables_from number p (line ∷ rest) ≡ Err number
+pub tables_from-off : (line_number : ℕ) (p : Place) (line : List ℕ) (rest : List (List ℕ)) →
+    line_leads_to p line ≡ None → tables_from line_number p (line ∷ rest) ≡ Err line_number
 unfolding tables_from
-tables_from-off number p line rest e = rw e refl
+tables_from-off line_number p line rest e = rw e refl
 
 no_rules : IsTable []
 no_rules = record { length = omega arith; picks = All-nil (λ r. IsPick r.pick) }
@@ -165,48 +165,51 @@ plain_next p q rest line later first e h =
     (ap (list_any opens_table) (sym first) ∙ h.1) in
     (plain_by p q (says line) h.0 parts.0 e, parts.1)
 
-pub is_read_next : (text : List ℕ) (number : ℕ) (p q : Place) (rest line later : List ℕ) →
-    IsRead text number p rest → lines rest ≡ line ∷ lines later → length later < length rest →
-    line_leads_to p line ≡ Some q → IsRead text (number + 1) q later
-is_read_next text number p q rest line later r first shorter e = record {
-  answer = rw (r.answer, first) (tables_from-on number p q line (lines later) e);
+pub is_read_next : (text : List ℕ) (line_number : ℕ) (p q : Place) (rest line later : List ℕ) →
+    IsRead text line_number p rest → lines rest ≡ line ∷ lines later → length later < length rest →
+    line_leads_to p line ≡ Some q → IsRead text (line_number + 1) q later
+is_read_next text line_number p q rest line later r first shorter e = record {
+  answer = rw (r.answer, first) (tables_from-on line_number p q line (lines later) e);
   sound = sound_after_line p q line r.sound e;
   count = omega (arith, r.count);
   plain = λ h. plain_next p q rest line later first e (r.plain h);
 }
 
-pub is_refused : (text : List ℕ) (number : ℕ) (p : Place) (rest line later : List ℕ) →
-    IsRead text number p rest → lines rest ≡ line ∷ lines later → line_leads_to p line ≡ None →
-    tables_of text ≡ Err number
-is_refused text number p rest line later r first e =
-    rw (r.answer, first) (tables_from-off number p line (lines later) e)
+pub is_refused : (text : List ℕ) (line_number : ℕ) (p : Place) (rest line later : List ℕ) →
+    IsRead text line_number p rest → lines rest ≡ line ∷ lines later → line_leads_to p line ≡ None →
+    tables_of text ≡ Err line_number
+is_refused text line_number p rest line later r first e =
+    rw (r.answer, first) (tables_from-off line_number p line (lines later) e)
 
-pub is_fault : (stop : Stop) (text : List ℕ) (number : ℕ) (p q : Place) (rest line later : List ℕ) →
-    IsRead text number p rest → lines rest ≡ line ∷ lines later →
+pub is_fault : (stop : Stop) (text : List ℕ) (line_number : ℕ) (p q : Place)
+    (rest line later : List ℕ) →
+    IsRead text line_number p rest → lines rest ≡ line ∷ lines later →
     Moves {A = Unit {0}} (takes_memory p (says line)) (Err stop) (line_leads_to p line) q →
-    Answers (Err (fault_of stop number)) (tables_of text)
-is_fault Refused text number p q rest line later r first e =
-    is_refused text number p rest line later r first e
-is_fault NoMemory text number p q rest line later r first e = tt
+    Answers (Err (fault_of stop line_number)) (tables_of text)
+is_fault Refused text line_number p q rest line later r first e =
+    is_refused text line_number p rest line later r first e
+is_fault NoMemory text line_number p q rest line later r first e = tt
 
 pub same_fault : {T : Type 0} (x y : LineFault) → ◌≡◌ {A = Result T LineFault} (Err x) (Err y) →
     x ≡ y
 same_fault x y e = cc
 
-bad_is_no_memory : (number : ℕ) → ◌≡◌ {A = LineFault} (Bad number) fault.NoMemory → ⊥
-bad_is_no_memory number e = cc
+bad_is_no_memory : (line_number : ℕ) → ◌≡◌ {A = LineFault} (Bad line_number) fault.NoMemory → ⊥
+bad_is_no_memory line_number e = cc
 
 takes_none : (p : Place) (said : Option Says) → p.inside ≡ None →
     option_map_or opens said false ≡ false → takes_memory p said ≡ false
 takes_none p said out plain = rw (out, plain) refl
 
 -- memory ran out: some line begins a table
-pub is_taken : (stop : Stop) (text : List ℕ) (number : ℕ) (p q : Place) (rest line later : List ℕ) →
-    IsRead text number p rest → lines rest ≡ line ∷ lines later →
+pub is_taken : (stop : Stop) (text : List ℕ) (line_number : ℕ) (p q : Place)
+    (rest line later : List ℕ) →
+    IsRead text line_number p rest → lines rest ≡ line ∷ lines later →
     Moves {A = Unit {0}} (takes_memory p (says line)) (Err stop) (line_leads_to p line) q →
-    fault_of stop number ≡ fault.NoMemory → list_any opens_table (lines text) ≡ true
-is_taken Refused text number p q rest line later r first e is = absurd (bad_is_no_memory number is)
-is_taken NoMemory text number p q rest line later r first e is =
+    fault_of stop line_number ≡ fault.NoMemory → list_any opens_table (lines text) ≡ true
+is_taken Refused text line_number p q rest line later r first e is =
+    absurd (bad_is_no_memory line_number is)
+is_taken NoMemory text line_number p q rest line later r first e is =
     true_from_ne_false (list_any opens_table (lines text))
     (λ none.
     let plain = r.plain none in

@@ -198,18 +198,18 @@ not_begun p front line h refused begin =
     let last = subst (λ (s : Place). Leads s (line ∷ []) all.0) same parts.2 in
     refused last.0 last.1 last.2 last.3
 
-refused_where : (text : List ℕ) (number : ℕ) (front rest : List (List ℕ)) (p : Place) →
-    tables_of text ≡ Err number → lines text ≡ front ++ rest → length front + 1 ≡ number →
-    Leads start front p → IsStuck p rest → IsFirstRefused text number
-refused_where text number front [] p answer e count h stuck =
+refused_where : (text : List ℕ) (line_number : ℕ) (front rest : List (List ℕ)) (p : Place) →
+    tables_of text ≡ Err line_number → lines text ≡ front ++ rest → length front + 1 ≡ line_number →
+    Leads start front p → IsStuck p rest → IsFirstRefused text line_number
+refused_where text line_number front [] p answer e count h stuck =
     let whole : lines text ≡ front = e ∙ append-nil front in
     inr (record {
       count = omega (arith, ap length whole, count);
       begin = subst BeginFile (sym whole) (leads_begin front p h);
       unfinished =
-          λ tables file. two_answers tables number (sym (file_read text tables file) ∙ answer);
+          λ tables file. two_answers tables line_number (sym (file_read text tables file) ∙ answer);
     })
-refused_where text number front (line ∷ rest) p answer e count h stuck =
+refused_where text line_number front (line ∷ rest) p answer e count h stuck =
     inl (record {
       front = front;
       line = line;
@@ -229,33 +229,35 @@ file_refused text line e =
     refused_where text line stop.0 stop.1 stop.2 e stop.3 (omega (arith, found.1, stop.4)) stop.5
     stop.6
 
-bad_line : (text : List ℕ) (number : ℕ) → IsBadLine text number → tables_of text ≡ Err number
+bad_line : (text : List ℕ) (line_number : ℕ) → IsBadLine text line_number →
+    tables_of text ≡ Err line_number
 unfolding tables_of
-bad_line text number h =
+bad_line text line_number h =
     let led = begin_leads h.front h.begin in
     let stuck : IsStuck led.0 (h.line ∷ h.rest) =
     λ said next is e. h.refused (one_more_leads led.0 next h.front h.line said led.1 is e) in
-    let same : 1 + length h.front ≡ number = omega (arith, h.count) in
+    let same : 1 + length h.front ≡ line_number = omega (arith, h.count) in
     rw h.lines_are (fault_of_front 1 start led.0 h.front (h.line ∷ h.rest) led.1 stuck
     ∙ ap (λ n. Err n) same)
 
-stuck_inside : (text : List ℕ) (number : ℕ) (p : Place) → EndsEarly text number →
+stuck_inside : (text : List ℕ) (line_number : ℕ) (p : Place) → EndsEarly text line_number →
     Leads start (lines text) p → IsStuck p []
-stuck_inside text number p h led =
+stuck_inside text line_number p h led =
     elim p.inside as (λ o. p.inside ≡ o → is_some o ≡ true) [
       | None ↦ λ out. absurd (h.unfinished p.closed (file_of_leads (lines text) p led out))
       | Some rules ↦ λ in_one. refl
     ] refl
 
-ends_early : (text : List ℕ) (number : ℕ) → EndsEarly text number → tables_of text ≡ Err number
+ends_early : (text : List ℕ) (line_number : ℕ) → EndsEarly text line_number →
+    tables_of text ≡ Err line_number
 unfolding tables_of
-ends_early text number h =
+ends_early text line_number h =
     let led = begin_leads (lines text) h.begin in
-    let same : 1 + length (lines text) ≡ number = omega (arith, h.count) in
+    let same : 1 + length (lines text) ≡ line_number = omega (arith, h.count) in
     let all =
-    fault_of_front 1 start led.0 (lines text) [] led.1 (stuck_inside text number led.0 h led.1)
+    fault_of_front 1 start led.0 (lines text) [] led.1 (stuck_inside text line_number led.0 h led.1)
     ∙ ap (λ n. Err n) same in
-    subst (λ ls. tables_from 1 start ls ≡ Err number) (append-nil (lines text)) all
+    subst (λ ls. tables_from 1 start ls ≡ Err line_number) (append-nil (lines text)) all
 
 -- what has such a line is refused there
 pub file_stuck : (text : List ℕ) (line : ℕ) → IsFirstRefused text line → tables_of text ≡ Err line

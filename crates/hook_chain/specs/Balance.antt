@@ -1,6 +1,7 @@
--- The flow hash, and the queue that it picks: `__jhash_final` of include/linux/jhash.h over three
--- words, as hash_v4 and hash_v6 of include/net/netfilter/nf_queue.h give them, and reciprocal_scale
--- of include/linux/kernel.h. All numbers are whole numbers, and a word is one below 2 ^ 32.
+-- The flow hash, and the queue that it picks: `jhash_3words` of include/linux/jhash.h, and
+-- `reciprocal_scale` of include/linux/kernel.h. Which three words are hashed is this project's own
+-- choice: the smaller address word, the greater one, and the protocol. All numbers are whole
+-- numbers, and a word is one below 2 ^ 32.
 use Rattle.std.specs.Prelude.{ℕ, ◌+◌, ◌-◌, ◌*◌, ◌/◌, ◌%◌, ◌^◌, ◌==◌, min, max, bit_xor, Option}
 use Rattle.std.specs.Prelude.{Some, None, if◌then◌else◌}
 use Rattle.ip_fields.specs.Numbers.{ipv4_version}

@@ -142,22 +142,22 @@ BeginFile front =
 
 -- a line that may not stand in its place: the lines before it begin a rules file, and with it they
 -- don't
-pub record IsBadLine (text : List ℕ) (number : ℕ) : Type 0 where
+pub record IsBadLine (text : List ℕ) (line_number : ℕ) : Type 0 where
   pub front : List (List ℕ)
   pub line : List ℕ
   pub rest : List (List ℕ)
   pub lines_are : lines text ≡ front ++ line ∷ rest
-  pub count : length front + 1 ≡ number
+  pub count : length front + 1 ≡ line_number
   pub begin : BeginFile front
   pub refused : BeginFile (front ++ line ∷ []) → ⊥
 
 -- a text that ends too early, inside of a table: its lines begin a rules file, and it is none
 -- itself
-pub record EndsEarly (text : List ℕ) (number : ℕ) : Type 0 where
-  pub count : length (lines text) + 1 ≡ number
+pub record EndsEarly (text : List ℕ) (line_number : ℕ) : Type 0 where
+  pub count : length (lines text) + 1 ≡ line_number
   pub begin : BeginFile (lines text)
   pub unfinished : (tables : List (List Rule)) → IsRulesFile text tables → ⊥
 
 -- the number of the first line that is refused, or of the one that is missing after the last
 abbrev pub IsFirstRefused : List ℕ → ℕ → Type 0
-IsFirstRefused text number = IsBadLine text number ⊎ EndsEarly text number
+IsFirstRefused text line_number = IsBadLine text line_number ⊎ EndsEarly text line_number

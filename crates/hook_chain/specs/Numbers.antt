@@ -9,8 +9,15 @@ most_tables = 16
 abbrev pub most_rules : ℕ
 most_rules = 1000
 
--- the most bytes of the name of a table or a chain: XT_TABLE_MAXNAMELEN of the kernel's x_tables.h
--- is 32, with the zero byte at the end
+-- the bytes that have no sign (ASCII): the horizontal tab, and LF, which ends a line
+abbrev pub tab : ℕ
+tab = 9
+
+abbrev pub line_feed : ℕ
+line_feed = 10
+
+-- the most bytes of a name: of a table's it is XT_TABLE_MAXNAMELEN of the kernel's x_tables.h, 32,
+-- less the zero byte at the end; for a chain's it is this project's own limit
 abbrev pub longest_name : ℕ
 longest_name = 31
 

@@ -46,8 +46,8 @@ Moves takes (Err NoMemory) next new = IsTrue takes
 
 -- what a call's refusal means of the file
 abbrev pub fault_of : Stop → ℕ → LineFault
-fault_of Refused number = Bad number
-fault_of NoMemory number = fault.NoMemory
+fault_of Refused line_number = Bad line_number
+fault_of NoMemory line_number = fault.NoMemory
 
 -- The bounds that a reader keeps: those of the closed tables and of the open one, which has room
 -- among them.

@@ -37,12 +37,12 @@ queue_of key fields (Number queue) = queue
 queue_of key fields (Balance first total) = balanced key fields first total
 
 -- In each table the first rule that matches queues the packet; after the last table it is released.
--- `number` is the number of the first of these tables.
+-- `table` is the number of the first of these tables.
 unfoldable pub next_of : ℕ → ℕ → Option IpFields → ℕ → List (List Rule) → Next
-next_of key mark fields number [] = Released
-next_of key mark fields number (rules ∷ tables) =
-    option_map_or (λ r. To (queue_of key fields r.pick) r.bypass number)
-    (find (matches mark fields) rules) (next_of key mark fields (number + 1) tables)
+next_of key mark fields table [] = Released
+next_of key mark fields table (rules ∷ tables) =
+    option_map_or (λ r. To (queue_of key fields r.pick) r.bypass table)
+    (find (matches mark fields) rules) (next_of key mark fields (table + 1) tables)
 
 -- the tables from number `from` on; they count from 1, and 0 takes all as well
 unfoldable pub next : List (List Rule) → ℕ → Card → ℕ → Next

@@ -49,12 +49,13 @@ abbrev pub line_leads_to : Place → List ℕ → Option Place
 line_leads_to p line = says line >>= after p
 
 -- The tables that these lines make from a place on, or the number of the first line that no form
--- allows in its place; `number` is the first line's. A file that ends inside a table is refused
--- after its last line.
+-- allows in its place; `line_number` is the first line's. A file that ends inside a table is
+-- refused after its last line.
 unfoldable pub tables_from : ℕ → Place → List (List ℕ) → Result (List (List Rule)) ℕ
-tables_from number p [] = if is_none p.inside then Ok p.closed else Err number
-tables_from number p (line ∷ rest) =
-    option_map_or (λ q. tables_from (number + 1) q rest) (line_leads_to p line) (Err number)
+tables_from line_number p [] = if is_none p.inside then Ok p.closed else Err line_number
+tables_from line_number p (line ∷ rest) =
+    option_map_or (λ q. tables_from (line_number + 1) q rest) (line_leads_to p line)
+    (Err line_number)
 
 -- The tables of a text, or its first line that is refused. Lines are ended by LF, which may be
 -- missing at the end; one CR before LF is dropped.

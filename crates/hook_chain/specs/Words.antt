@@ -4,6 +4,7 @@ use Rattle.std.specs.Prelude.{ℕ, ◌||◌, ◌&&◌, ◌==◌, not, nat_le, Bo
 use Rattle.std.specs.Prelude.{slice_index, filter, Option, Some, None, bytes_eq, codes, option_map}
 use Rattle.std.specs.Prelude.{if◌then◌else◌}
 use Rattle.std.specs.List.{slice_split}
+use Rattle.hook_chain.specs.Numbers.{tab}
 
 infixl 10 ◌>>=◌
 abbrev pub ◌>>=◌ : {A B : Type 0} → Option A → (A → Option B) → Option B
@@ -17,13 +18,6 @@ byte text = slice_index (codes text) 0
 -- the bytes from one to another
 abbrev pub is_from_to : String → String → ℕ → Bool
 is_from_to first last b = nat_le (byte first) b && nat_le b (byte last)
-
--- the bytes that have no sign: the horizontal tab, and LF, which ends a line
-abbrev pub tab : ℕ
-tab = 9
-
-abbrev pub line_feed : ℕ
-line_feed = 10
 
 -- a space or a tab
 abbrev pub is_blank : ℕ → Bool

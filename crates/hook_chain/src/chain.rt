@@ -1,9 +1,8 @@
 //! Where a packet goes next.
 
-ghost use Rattle.std.specs.Prelude.{◌≡◌, ◌+◌, ◌^◌, ◌<◌, ◌≤◌, length, IfSome, All, find, drop, max};
-ghost use Rattle.std.specs.Prelude.{slice_index_or, option_map, option_copied};
+ghost use Rattle.std.specs.Prelude.{◌≡◌, ◌≤◌, IfSome, All, find, max, option_copied};
 ghost use Rattle.ip_fields.specs.Packet.{IsAddressed, fields_of};
-ghost use Rattle.hook_chain.specs.Rules.{IsPick, AreTables};
+ghost use Rattle.hook_chain.specs.Rules.{IsPick};
 ghost use Rattle.hook_chain.specs.Route.{has_mark, has_protocol, matches, next, onward_of};
 ghost use Rattle.hook_chain.specs.Route.{queue_of};
 
@@ -56,11 +55,11 @@ struct Look {
 pub fn route(tables: &Tables, key: u32, packet: &Packet, from: u16) -> Next
     ensures exact { result ≡ next tables.now key packet.now from }
 {
-    enter(tables, key, packet, first_number(from))
+    enter(tables, key, packet, first_table(from))
 }
 
 /// The tables count from 1, and 0 takes all of them as well.
-fn first_number(from: u16) -> usize
+fn first_table(from: u16) -> usize
     ensures { result ≡ max from 1 }
 {
     from.max(1) as usize

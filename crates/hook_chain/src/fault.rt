@@ -1,8 +1,5 @@
 //! Why a file of lines was refused.
 
-ghost use Rattle.hook_chain.specs.declared.fault.LineFault.TheVariants.{NoMemory};
-
-use std::alloc::{AllocError, AllocFailed};
 use thiserror::Error;
 
 /// Why a file of lines was refused.
@@ -12,7 +9,7 @@ pub enum LineFault {
     /// where the file ends too early.
     #[error("line {line} is refused")]
     Bad { line: u32 },
-    /// No memory was left.
-    #[error("no memory")]
+    /// Out of memory.
+    #[error("out of memory")]
     NoMemory,
 }

@@ -12,8 +12,8 @@ use ip_fields::IpFields;
 const INITIAL_VALUE: u32 = 0xdead_beef;
 /// The bytes that are hashed: three words of 4 (`jhash_3words` of jhash.h).
 const HASHED_BYTES: u32 = 12;
-/// The family of a packet's fields whose addresses have 32 bits.
-const IPV4_FAMILY: u8 = 4;
+/// The IP version of a packet's fields whose addresses have 32 bits.
+const IPV4_VERSION: u8 = 4;
 /// How many values a word has.
 const WORDS: u128 = 1 << 32;
 
@@ -36,6 +36,7 @@ pub fn balance(key: u32, fields: Option<&IpFields>, first: u16, total: u32) -> u
     first + offset as u16
 }
 
+/// The hash of a packet with these fields; without fields, of three words 0.
 fn hash_of(key: u32, fields: Option<&IpFields>) -> u32
     requires { IfSome fields (λ f. IsAddressed f.now) }
     ensures { result ≡ packet_hash key (option_copied fields.entry) }
@@ -50,12 +51,14 @@ fn hash_of(key: u32, fields: Option<&IpFields>) -> u32
     }
 }
 
+/// The word of an address: an IPv4 address itself, of an IPv6 address the exclusive or of its four
+/// words.
 #[tactic(auto, unfolding(crate::specs::Balance::address_word))]
 pub(crate) fn word_of(family: u8, address: u128) -> u32
     requires { family ≡ ipv4_version → address < 2 ^ 32 }
     ensures { result ≡ address_word family address }
 {
-    if family == IPV4_FAMILY {
+    if family == IPV4_VERSION {
         address as u32
     } else {
         word(address >> 96) ^ word(address >> 64) ^ word(address >> 32) ^ word(address)

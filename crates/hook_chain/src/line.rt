@@ -11,8 +11,8 @@ use crate::rule::Rule;
 use crate::rule_line::rule;
 use crate::word::{cut, is_end, is_word, next_word, rest_after};
 
-/// The most bytes of a table's or a chain's name: `XT_TABLE_MAXNAMELEN` of the kernel's x_tables.h,
-/// less the zero byte at the end.
+/// The most bytes of a name. For a table's it is `XT_TABLE_MAXNAMELEN` of the kernel's x_tables.h,
+/// less the zero byte at the end; for a chain's it is this project's own limit.
 const LONGEST_NAME: usize = 31;
 
 /// What one line of a rules file says.

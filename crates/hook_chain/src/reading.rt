@@ -1,7 +1,7 @@
 //! The reading of a whole rules file, line by line.
 
 ghost use Rattle.std.specs.Prelude.{ℕ, List, Any, true, false, is_some, Some, ◌≡◌, ◌≢◌, IfOk, IsOk};
-ghost use Rattle.std.specs.Prelude.{[], ◌+◌, ◌<◌, length, map, bytes_eq};
+ghost use Rattle.std.specs.Prelude.{[], ◌+◌, ◌-◌, ◌^◌, ◌<◌, length, bytes_eq};
 ghost use Rattle.std.specs.Str.Lines.{lines};
 ghost use Rattle.std.specs.List.{list_any};
 ghost use Rattle.hook_chain.specs.declared.reading.Stop.TheVariants.{NoMemory};
@@ -41,7 +41,7 @@ enum Stop {
 /// with the first such line. `NoMemory` comes when out of memory, which is taken only from the
 /// first line on that begins a table. The bytes are gone over once, line by line.
 pub fn read_tables(alloc: Global, bytes: &[u8]) -> Result<Tables, LineFault>
-    requires { length bytes.now < 4_294_967_295 }
+    requires { length bytes.now < 2 ^ 32 - 1 }
 
     // What is read is in the grammar, and what is in the grammar is read, unless memory runs out.
     ensures found { IfOk result (IsRulesFile bytes.now) }
@@ -67,7 +67,7 @@ pub fn read_tables(alloc: Global, bytes: &[u8]) -> Result<Tables, LineFault>
 
 /// Reads line after line.
 fn read_lines(alloc: Global, bytes: &[u8]) -> Result<Tables, LineFault>
-    requires { length bytes.now < 4_294_967_295 }
+    requires { length bytes.now < 2 ^ 32 - 1 }
     ensures exact { Answers result (tables_of bytes.now) }
     ensures memory { result ≡ Err LineFault.NoMemory →
         list_any opens_table (lines bytes.now) ≡ true }
@@ -75,15 +75,15 @@ fn read_lines(alloc: Global, bytes: &[u8]) -> Result<Tables, LineFault>
 {
     let mut reader = Reader::new(alloc);
     let mut rest = bytes;
-    let mut number = 1;
+    let mut line_number = 1;
     while let Some((line, later)) = next_line(rest) {
         if let Err(stop) = reader.read(alloc, line) {
-            return Err(stop.at(number));
+            return Err(stop.at(line_number));
         }
         rest = later;
-        number += 1;
+        line_number += 1;
     }
-    reader.finish(number)
+    reader.finish(line_number)
 }
 
 impl From<AllocError> for Stop {
@@ -103,12 +103,12 @@ impl<T: Drop> From<AllocFailed<T>> for Stop {
 }
 
 impl Stop {
-    /// The fault of the file whose line `number` stopped the reader.
-    fn at(self, number: u32) -> LineFault
-        ensures { result ≡ fault_of self number }
+    /// The fault of the file whose line `line_number` stopped the reader.
+    fn at(self, line_number: u32) -> LineFault
+        ensures { result ≡ fault_of self line_number }
     {
         match self {
-            Stop::Refused => LineFault::Bad { line: number },
+            Stop::Refused => LineFault::Bad { line: line_number },
             Stop::NoMemory => LineFault::NoMemory,
         }
     }
@@ -147,11 +147,11 @@ impl<'a> Reader<'a> {
         }
     }
 
-    /// The tables of a file that ends here; `number` is the number of its lines plus 1.
+    /// The tables of a file that ends here; `line_number` is the number of its lines plus 1.
     #[tactic(auto, unfolding(crate::specs::RulesFile::tables_from))]
-    fn finish(self, number: u32) -> Result<Tables, LineFault>
+    fn finish(self, line_number: u32) -> Result<Tables, LineFault>
         requires { IsSound (place_of self) }
-        ensures exact { Answers result (tables_from number (place_of self.entry) []) }
+        ensures exact { Answers result (tables_from line_number (place_of self.entry) []) }
         ensures memory { result ≢ Err LineFault.NoMemory }
     {
         let Reader {
@@ -161,7 +161,7 @@ impl<'a> Reader<'a> {
         } = self;
         match inside {
             None => Ok(Tables::from_vec(closed)),
-            Some(_table) => Err(LineFault::Bad { line: number }),
+            Some(_table) => Err(LineFault::Bad { line: line_number }),
         }
     }
 
@@ -180,6 +180,8 @@ impl<'a> Reader<'a> {
         }
     }
 
+    /// Begins a table of this name. Refused inside of a table, where the tables would be too many,
+    /// and where the name was used before.
     #[tactic(auto, unfolding(crate::specs::RulesFile::after))]
     fn open(&mut self, alloc: Global, name: &'a [u8]) -> Result<(), Stop>
         ensures { Moves true result (after (place_of self.old) (Opens name.now))
@@ -205,6 +207,7 @@ impl<'a> Reader<'a> {
         is_among(self.names.as_slice(), name)
     }
 
+    /// Goes on after a chain's policy, which has no effect. Refused outside of tables.
     #[tactic(auto, unfolding(crate::specs::RulesFile::after))]
     fn policy(&mut self) -> Result<(), Stop>
         ensures { Moves false result (after (place_of self.old) Policy) (place_of self.new) }
@@ -215,6 +218,7 @@ impl<'a> Reader<'a> {
         Ok(())
     }
 
+    /// Adds a rule to the open table. Refused outside of tables, and where the table is full.
     #[tactic(auto, unfolding(crate::specs::RulesFile::after))]
     fn add(&mut self, rule: Rule) -> Result<(), Stop>
         ensures { Moves (is_some (place_of self.old).inside) result
@@ -229,6 +233,7 @@ impl<'a> Reader<'a> {
         }
     }
 
+    /// Ends the open table. Refused outside of tables.
     #[tactic(auto, unfolding(crate::specs::RulesFile::after))]
     fn close(&mut self) -> Result<(), Stop>
         ensures { Moves (is_some (place_of self.old).inside) result

@@ -1,6 +1,6 @@
 //! A rule by the words of its line: `-A FORWARD MATCHES -j NFQUEUE OPTIONS`.
 
-ghost use Rattle.std.specs.Prelude.{◌≡◌, false, ◌+◌, ◌-◌, ◌<◌, ◌≤◌, ◌^◌, option_map};
+ghost use Rattle.std.specs.Prelude.{◌≡◌, false, option_map};
 ghost use Rattle.hook_chain.specs.Words.{words_of};
 ghost use Rattle.hook_chain.specs.RuleLine.{mark_match, options_after, pick_of, protocol_match};
 ghost use Rattle.hook_chain.specs.RuleLine.{protocol_of, range_of, rule_of, value_and_mask};

@@ -1,6 +1,6 @@
 //! Worked rules files, routes and hashes, and each kind of rules file with ample memory.
 
-ghost use Rattle.std.specs.Prelude.{◌≡◌, ◌<◌, ◌≤◌, ◌^◌, length};
+ghost use Rattle.std.specs.Prelude.{◌≡◌, ◌<◌, ◌≤◌, length};
 ghost use Rattle.packet_entry.specs.Fields.{IsProtocol};
 
 use super::*;

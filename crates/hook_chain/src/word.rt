@@ -1,11 +1,11 @@
 //! The lines of a file, and the words of a line.
 
 ghost use Rattle.std.specs.Prelude.{◌≡◌, bytes_eq, ℕ, ◌+◌, ◌<◌, ◌≤◌, true, false, length};
-ghost use Rattle.std.specs.Prelude.{slice_index, IfSome, IsTrue, ◌==◌, ◌↔◌, option_map, IsNone};
+ghost use Rattle.std.specs.Prelude.{slice_index, IfSome, ◌==◌, option_map};
 ghost use Rattle.std.specs.Prelude.{MatchOption, ◌∷◌, []};
 ghost use Rattle.std.specs.Str.Lines.{lines, strip_carriage_return};
-ghost use Rattle.hook_chain.specs.Words.{words_after, cut_at, first_word, is_blank, line_feed};
-ghost use Rattle.hook_chain.specs.Words.{words_of};
+ghost use Rattle.hook_chain.specs.Numbers.{line_feed};
+ghost use Rattle.hook_chain.specs.Words.{words_after, cut_at, first_word, is_blank, words_of};
 
 /// The byte that ends a line.
 const LINE_FEED: u8 = b'\n';

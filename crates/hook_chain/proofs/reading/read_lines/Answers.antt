@@ -10,13 +10,13 @@ loop-line-init c =
 pub returns-in-Err-clause-exact : goal.returns-in-Err-clause-exact
 returns-in-Err-clause-exact c =
     rw c.at.ensures
-    (is_fault c.in-Err.stop c.args.bytes.now c.loop-line.number (place_of c.loop-line.reader)
+    (is_fault c.in-Err.stop c.args.bytes.now c.loop-line.line_number (place_of c.loop-line.reader)
     (place_of c.read.new.self) c.loop-line.rest.now c.in-Some.line.now c.in-Some.later.now
     c.loop-line.invariant c.in-Some.ensures.line c.in-Err.ensures)
 
 pub loop-line-preserved : goal.loop-line-preserved
 loop-line-preserved c =
-    is_read_next c.args.bytes.now c.loop-line.number (place_of c.loop-line.reader)
+    is_read_next c.args.bytes.now c.loop-line.line_number (place_of c.loop-line.reader)
     (place_of c.read.new.self) c.loop-line.rest.now c.in-Some.line.now c.in-Some.later.now
     c.loop-line.invariant c.in-Some.ensures.line c.in-Some.ensures.shorter
     c.in_default-read.ensures
@@ -24,7 +24,8 @@ loop-line-preserved c =
 pub returns-in-Err-clause-memory : goal.returns-in-Err-clause-memory
 returns-in-Err-clause-memory c =
     rw c.at.ensures
-    (λ e. is_taken c.in-Err.stop c.args.bytes.now c.loop-line.number (place_of c.loop-line.reader)
+    (λ e. is_taken c.in-Err.stop c.args.bytes.now c.loop-line.line_number
+    (place_of c.loop-line.reader)
     (place_of c.read.new.self) c.loop-line.rest.now c.in-Some.line.now c.in-Some.later.now
     c.loop-line.invariant c.in-Some.ensures.line
-    c.in-Err.ensures (same_fault (fault_of c.in-Err.stop c.loop-line.number) NoMemory e))
+    c.in-Err.ensures (same_fault (fault_of c.in-Err.stop c.loop-line.line_number) NoMemory e))
