@@ -1,11 +1,11 @@
 //! From bytes to a capture.
 
 ghost use Rattle.std.specs.Prelude.{◌≡◌, ◌≢◌, ◌+◌, ◌<◌, ◌≤◌, length, take, Ok, Err, IfOk, OnOk};
-ghost use Rattle.std.specs.Prelude.{IfErr};
+ghost use Rattle.std.specs.Prelude.{IfErr, IsOk};
 ghost use Rattle.pcap_io.specs.declared.capture.Capture.{Capture};
 ghost use Rattle.pcap_io.specs.Numbers.{file_header_length};
 ghost use Rattle.pcap_io.specs.Text.{IsCapture};
-ghost use Rattle.pcap_io.specs.Reading.{Gives, BreaksOff, IsFault};
+ghost use Rattle.pcap_io.specs.Reading.{Gives, BreaksOff, IsFault, header_at};
 
 use crate::capture::Capture;
 use crate::fault::CaptureFault;
@@ -15,8 +15,9 @@ use packet_entry::Bytes;
 use std::alloc::Global;
 
 /// The capture that a file of these bytes is. `NoMemory` apart, a file that is none is answered
-/// with its first fault from the front. The bytes are copied once, as a whole, and the frames are
-/// cuts of that copy: who has the file as [`Bytes`] calls [`read_shared_capture`].
+/// with its first fault from the front. The header is read first; then the bytes are copied once, as
+/// a whole, and the frames are cuts of that copy: who has the file as [`Bytes`] calls
+/// [`read_shared_capture`].
 pub fn read_capture(alloc: Global, bytes: &[u8]) -> Result<Capture, CaptureFault>
     requires { length bytes.now < 4294967295 }
 
@@ -28,7 +29,12 @@ pub fn read_capture(alloc: Global, bytes: &[u8]) -> Result<Capture, CaptureFault
     ensures fault { IfErr result (λ fault. fault ≢ CaptureFault.NoMemory →
         IsFault bytes.now fault) }
     ensures exact { (fault : CaptureFault) → IsFault bytes.now fault → Gives result (Err fault) }
+
+    // No memory is needed to find a fault of the header.
+    ensures header { (fault : CaptureFault) → header_at bytes.now ≡ Err fault →
+        result ≡ Err fault }
 {
+    read_header(alloc, bytes)?;
     let file = Bytes::copy(alloc, bytes)?;
     read_shared_capture(alloc, &file)
 }
@@ -40,6 +46,12 @@ pub fn read_shared_capture(alloc: Global, file: &Bytes) -> Result<Capture, Captu
     ensures only { (capture : Capture) → IsCapture file.now capture → Gives result (Ok capture) }
     ensures fault { IfErr result (λ fault. fault ≢ CaptureFault.NoMemory → IsFault file.now fault) }
     ensures exact { (fault : CaptureFault) → IsFault file.now fault → Gives result (Err fault) }
+
+    // No memory is needed to find a fault of the header, or to read a file without frames.
+    ensures header { (fault : CaptureFault) → header_at file.now ≡ Err fault →
+        result ≡ Err fault }
+    ensures no_frames { (capture : Capture) → header_at file.now ≡ Ok capture →
+        length file.now ≡ file_header_length → IsOk result }
 {
     read_file(alloc, file)
 }
@@ -48,6 +60,10 @@ fn read_file(alloc: Global, file: &Bytes) -> Result<Capture, CaptureFault>
     requires { length file.now < 4294967295 }
     ensures found { IfOk result (λ capture. IsCapture file.now capture) }
     ensures fault { IfErr result (λ fault. fault ≢ CaptureFault.NoMemory → IsFault file.now fault) }
+    ensures header { (fault : CaptureFault) → header_at file.now ≡ Err fault →
+        result ≡ Err fault }
+    ensures no_frames { (capture : Capture) → header_at file.now ≡ Ok capture →
+        length file.now ≡ file_header_length → IsOk result }
 {
     let bytes = file.as_slice();
     let mut capture = read_header(alloc, bytes)?;
@@ -64,6 +80,7 @@ fn read_frames(capture: &mut Capture, file: &Bytes, bytes: &[u8]) -> Result<(), 
     ensures ok { OnOk result (IsCapture bytes.now capture.new) }
     ensures err { IfErr result (λ fault. fault ≢ CaptureFault.NoMemory →
         BreaksOff bytes.now fault) }
+    ensures none { length bytes.now ≡ file_header_length → IsOk result }
 {
     let mut at = FILE_HEADER_LENGTH;
     while at < bytes.len() {
