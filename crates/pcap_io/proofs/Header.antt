@@ -20,8 +20,8 @@ use Rattle.pcap_io.specs.Numbers.{microsecond_magic_swapped, nanosecond_magic_sw
 use Rattle.pcap_io.specs.Text.{field, magic_of, header_text, is_link_type, FrameFits, FieldsFit}
 use Rattle.pcap_io.specs.Text.{IsCapture}
 use Rattle.pcap_io.specs.Reading.{◌>>=◌, number_at, resolution_of, magic_at, fields_at, header_at}
-use Rattle.pcap_io.proofs.Fields.{IsBytes, IsBytes-take, joined, at_takes16, at_takes32, at_below}
-use Rattle.pcap_io.proofs.Fields.{guarded, bound, same_numbers, ok_is}
+use Rattle.pcap_io.proofs.FieldValues.{IsBytes, IsBytes-take, joined, at_takes16, at_takes32, at_below}
+use Rattle.pcap_io.proofs.FieldValues.{guarded, bound, same_numbers, ok_is}
 
 -- what holds of each resolution whose test may succeed holds of the one that was chosen
 picked : (P : Bool × Bool → Type 0) (a b c d e : Bool) (m : Bool × Bool) →

@@ -1,5 +1,5 @@
 pub mod Cuts
-pub mod Fields
+pub mod FieldValues
 pub mod Header
 pub mod Records
 pub mod Whole

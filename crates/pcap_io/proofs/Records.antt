@@ -11,8 +11,8 @@ use Rattle.pcap_io.specs.declared.capture.Frame.{Frame}
 use Rattle.pcap_io.specs.declared.fault.CaptureFault.TheVariants.{Cut, TooLong}
 use Rattle.pcap_io.specs.Text.{field, record_text, FrameFits}
 use Rattle.pcap_io.specs.Reading.{number_at, record_at}
-use Rattle.pcap_io.proofs.Fields.{IsBytes, joined, length-range, at_takes32, at_below, guarded}
-use Rattle.pcap_io.proofs.Fields.{ok_is}
+use Rattle.pcap_io.proofs.FieldValues.{IsBytes, joined, length-range, at_takes32, at_below, guarded}
+use Rattle.pcap_io.proofs.FieldValues.{ok_is}
 
 -- a frame that a record can hold
 pub record IsStored (f : Frame) : Type 0 where

@@ -14,7 +14,7 @@ use Rattle.pcap_io.specs.declared.fault.CaptureFault.{CaptureFault}
 use Rattle.pcap_io.specs.Text.{header_text, record_text, capture_text, FrameFits, IsHeld, FieldsFit}
 use Rattle.pcap_io.specs.Text.{IsCapture}
 use Rattle.pcap_io.specs.Reading.{header_at, record_at, BreaksOff, IsFault}
-use Rattle.pcap_io.proofs.Fields.{IsBytes, IsBytes-drop, joined}
+use Rattle.pcap_io.proofs.FieldValues.{IsBytes, IsBytes-drop, joined}
 use Rattle.pcap_io.proofs.Header.{bare, header_takes, header_again}
 use Rattle.pcap_io.proofs.Records.{IsStored, record_takes, record_again}
 

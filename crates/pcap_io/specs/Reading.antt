@@ -32,13 +32,13 @@ abbrev pub Gives : {A : Type 0} → Result A CaptureFault → Result A CaptureFa
 Gives (Ok x) wanted = wanted ≡ Ok x
 Gives (Err fault) wanted = Fails fault wanted
 
--- what the bytes of a field are worth
-abbrev pub number : Bool → Width → List ℕ → ℕ
-number big w bytes = if big then from_be_bytes w bytes else from_le_bytes w bytes
+-- the value of a field's bytes
+abbrev pub field_value : Bool → Width → List ℕ → ℕ
+field_value big w bytes = if big then from_be_bytes w bytes else from_le_bytes w bytes
 
 -- the number in the field that begins at a byte of a text
 abbrev pub number_at : Bool → Width → ℕ → List ℕ → ℕ
-number_at big w at text = number big w (slice_range text at (at + byte_len w))
+number_at big w at text = field_value big w (slice_range text at (at + byte_len w))
 
 -- byte order and resolution, by the first four bytes read as big-endian: whether the file is
 -- big-endian, and whether its fractions are nanoseconds. A pcapng file begins with its section
@@ -83,12 +83,12 @@ header_at text = magic_at text >>= λ magic. fields_at magic.0 magic.1 text
 -- the first record, of the frame with this number, at this byte of the file, or the first thing
 -- that is wrong with it
 unfoldable pub record_at : Bool → ℕ → ℕ → List ℕ → Result Frame CaptureFault
-record_at big number at text =
-    if nat_lt (length text) record_header_length then Err (Cut number at)
+record_at big frame_number at text =
+    if nat_lt (length text) record_header_length then Err (Cut frame_number at)
     else if nat_lt longest_packet (number_at big w32 captured_at text)
-    then Err (TooLong number (number_at big w32 captured_at text))
+    then Err (TooLong frame_number (number_at big w32 captured_at text))
     else if nat_lt (length text) (record_header_length + number_at big w32 captured_at text)
-    then Err (Cut number at)
+    then Err (Cut frame_number at)
     else Ok (record {
       seconds = number_at big w32 seconds_at text;
       fraction = number_at big w32 fraction_at text;

@@ -17,7 +17,7 @@ ghost use Rattle.pcap_io.specs.Reading.{magic_at, header_at};
 
 use crate::capture::{Capture, Frames};
 use crate::fault::CaptureFault;
-use crate::numbers::{put_u16, put_u32, u16_at, u32_at};
+use crate::fields::{put_u16, put_u32, u16_at, u32_at};
 use std::alloc::Global;
 
 /// The bytes of the header.

@@ -9,9 +9,9 @@
 
 mod capture;
 mod fault;
+mod fields;
 mod file_header;
 mod laws;
-mod numbers;
 mod reading;
 mod record;
 mod writing;

@@ -106,8 +106,8 @@ fn read_frame(
     ensures err { IfErr result (λ fault. fault ≢ CaptureFault.NoMemory →
         BreaksOff bytes.now fault) }
 {
-    let number = capture.frames.len() as u32 + 1;
-    let frame = read_record(file, &bytes[at..], capture.big, number, at)?;
+    let frame_number = capture.frames.len() as u32 + 1;
+    let frame = read_record(file, &bytes[at..], capture.big, frame_number, at)?;
     let end = at + RECORD_HEADER_LENGTH + frame.bytes.len();
     if capture.frames.push(frame).is_err() {
         return Err(CaptureFault::NoMemory);

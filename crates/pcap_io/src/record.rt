@@ -17,7 +17,7 @@ ghost use Rattle.pcap_io.specs.Reading.{Gives, record_at};
 
 use crate::capture::Frame;
 use crate::fault::CaptureFault;
-use crate::numbers::{put, put_u32, u32_at};
+use crate::fields::{put, put_u32, u32_at};
 use packet_entry::{Bytes, MAX_FRAME, NoMemory};
 
 /// The bytes of a record's header, which the captured bytes follow.
@@ -39,30 +39,30 @@ pub(crate) fn read_record(
     file: &Bytes,
     rest: &[u8],
     big: bool,
-    number: u32,
+    frame_number: u32,
     at: usize,
 ) -> Result<Frame, CaptureFault>
     requires same { rest.now ≡ drop at file.now }
     requires within { at ≤ length file.now }
-    ensures { Gives result (record_at big number at rest.now) }
+    ensures { Gives result (record_at big frame_number at rest.now) }
 {
     if rest.len() < RECORD_HEADER_LENGTH {
         return Err(CaptureFault::Cut {
-            frame: number,
+            frame: frame_number,
             at: at as u64,
         });
     }
     let length = u32_at(big, rest, CAPTURED_AT);
     if length as usize > MAX_FRAME {
         return Err(CaptureFault::TooLong {
-            frame: number,
+            frame: frame_number,
             length,
         });
     }
     let end = RECORD_HEADER_LENGTH + length as usize;
     if rest.len() < end {
         return Err(CaptureFault::Cut {
-            frame: number,
+            frame: frame_number,
             at: at as u64,
         });
     }

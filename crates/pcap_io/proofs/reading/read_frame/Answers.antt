@@ -7,8 +7,8 @@ use Rattle.pcap_io.proofs.Whole.{frames_below, next, Goes}
 use Rattle.pcap_io.proofs.reading.read_frame.Goals as goal
 use Rattle.pcap_io.proofs.reading.read_frame.Goals.{Else-is_err}
 
-pub overflow_cast-number : goal.overflow_cast-number
-overflow_cast-number c =
+pub overflow_cast-frame_number : goal.overflow_cast-frame_number
+overflow_cast-frame_number c =
     omega (
       arith,
       c.len.ensures,
@@ -17,8 +17,8 @@ overflow_cast-number c =
       length-take-le c.args.at c.args.bytes.now (omega arith),
     )
 
-pub overflow_add-number : goal.overflow_add-number
-overflow_add-number c =
+pub overflow_add-frame_number : goal.overflow_add-frame_number
+overflow_add-frame_number c =
     omega (
       arith,
       c.len.ensures,

@@ -11,7 +11,7 @@ use Rattle.std.proofs.lemmas.Nat.{be_bytes_2, be_bytes_4, le_bytes_2, le_bytes_4
 use Rattle.std.proofs.lemmas.Nat.{from_be_bytes-to_be_bytes_4, from_le_bytes-to_le_bytes_4}
 use Rattle.pcap_io.specs.declared.fault.CaptureFault.{CaptureFault}
 use Rattle.pcap_io.specs.Text.{field}
-use Rattle.pcap_io.specs.Reading.{◌>>=◌, number, number_at}
+use Rattle.pcap_io.specs.Reading.{◌>>=◌, field_value, number_at}
 
 -- ---- bytes, and parts of a text
 
@@ -49,20 +49,20 @@ joined text a b le =
 -- ---- numbers
 
 pub field_takes32 : (big : Bool) (bytes : List ℕ) → length bytes ≡ 4 → IsBytes bytes →
-    field big w32 (number big w32 bytes) ≡ bytes
+    field big w32 (field_value big w32 bytes) ≡ bytes
 field_takes32 true bytes len fits = be_bytes_4 bytes _ len fits refl
 field_takes32 false bytes len fits = le_bytes_4 bytes _ len fits refl
 
 pub field_takes16 : (big : Bool) (bytes : List ℕ) → length bytes ≡ 2 → IsBytes bytes →
-    field big w16 (number big w16 bytes) ≡ bytes
+    field big w16 (field_value big w16 bytes) ≡ bytes
 field_takes16 true bytes len fits = be_bytes_2 bytes _ len fits refl
 field_takes16 false bytes len fits = le_bytes_2 bytes _ len fits refl
 
-number_below : (big : Bool) (bytes : List ℕ) → IsBytes bytes → number big w32 bytes < 2 ^ 32
+number_below : (big : Bool) (bytes : List ℕ) → IsBytes bytes → field_value big w32 bytes < 2 ^ 32
 number_below true bytes fits = omega (arith, fits 0, fits 1, fits 2, fits 3)
 number_below false bytes fits = omega (arith, fits 0, fits 1, fits 2, fits 3)
 
-pub number_again : (big : Bool) (n : ℕ) → n < 2 ^ 32 → number big w32 (field big w32 n) ≡ n
+pub number_again : (big : Bool) (n : ℕ) → n < 2 ^ 32 → field_value big w32 (field big w32 n) ≡ n
 number_again true n lt = from_be_bytes-to_be_bytes_4 n lt
 number_again false n lt = from_le_bytes-to_le_bytes_4 n lt
 
