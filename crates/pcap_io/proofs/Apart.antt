@@ -7,8 +7,8 @@ use Rattle.pcap_io.specs.declared.fault.CaptureFault.TheVariants.{Magic, Pcapng,
 use Rattle.pcap_io.specs.declared.fault.CaptureFault.TheVariants.{Cut, TooLong, NoMemory}
 use Rattle.pcap_io.specs.Numbers.{pcapng_block, microsecond_magic, nanosecond_magic}
 use Rattle.pcap_io.specs.Numbers.{microsecond_magic_swapped, nanosecond_magic_swapped}
-use Rattle.pcap_io.specs.Reading.{◌>>=◌, number_at, resolution_of, magic_at, fields_at, header_at}
-use Rattle.pcap_io.specs.Reading.{record_at, IsFault}
+use Rattle.pcap_io.specs.Reading.{◌>>=◌, number_at, resolution_of, read_magic, fields_at, read_header}
+use Rattle.pcap_io.specs.Reading.{read_record, IsFault}
 use Rattle.pcap_io.proofs.Whole.{same_fault}
 
 no_fault : {A : Type 0} (x : A) → ◌≡◌ {A = Result A CaptureFault} (Ok x) (Err NoMemory) → ⊥
@@ -54,16 +54,16 @@ resolution_apart magic =
     tests_apart (eqb magic pcapng_block) (eqb magic microsecond_magic) (eqb magic nanosecond_magic)
     (eqb magic microsecond_magic_swapped) (eqb magic nanosecond_magic_swapped)
 
-header_apart : (text : List ℕ) → header_at text ≡ Err NoMemory → ⊥
-unfolding header_at
+header_apart : (text : List ℕ) → read_header text ≡ Err NoMemory → ⊥
+unfolding read_header
 header_apart text =
-    not_bound (magic_at text) (λ magic. fields_at magic.0 magic.1 text) NoMemory
+    not_bound (read_magic text) (λ magic. fields_at magic.0 magic.1 text) NoMemory
     (not_chosen _ _ _ _ (other_fault Magic (λ e. cc))
     (resolution_apart (number_at true w32 0 text))) (λ magic. fields_apart magic.0 magic.1 text)
 
 record_apart : (big : Bool) (n place : ℕ) (text : List ℕ) →
-    record_at big n place text ≡ Err NoMemory → ⊥
-unfolding record_at
+    read_record big n place text ≡ Err NoMemory → ⊥
+unfolding read_record
 record_apart big n place text =
     not_chosen _ _ _ _ (other_fault (Cut n place) (λ e. cc))
     (not_chosen _ _ _ _ (other_fault (TooLong n _) (λ e. cc))

@@ -19,7 +19,7 @@ use Rattle.pcap_io.specs.Numbers.{pcapng_block, microsecond_magic, nanosecond_ma
 use Rattle.pcap_io.specs.Numbers.{microsecond_magic_swapped, nanosecond_magic_swapped}
 use Rattle.pcap_io.specs.Text.{field, magic_of, header_text, is_link_type, FrameFits, FieldsFit}
 use Rattle.pcap_io.specs.Text.{IsCapture}
-use Rattle.pcap_io.specs.Reading.{◌>>=◌, number_at, resolution_of, magic_at, fields_at, header_at}
+use Rattle.pcap_io.specs.Reading.{◌>>=◌, number_at, resolution_of, read_magic, fields_at, read_header}
 use Rattle.pcap_io.proofs.FieldValues.{IsBytes, IsBytes-take, joined, at_takes16, at_takes32, at_below}
 use Rattle.pcap_io.proofs.FieldValues.{guarded, bound, same_numbers, ok_is}
 
@@ -37,7 +37,7 @@ picked P false false false true e m h pb pc pd pe = subst P (ok_is (false, false
 picked P false false false false true m h pb pc pd pe = subst P (ok_is (false, true) m h) (pe refl)
 picked P false false false false false m h pb pc pd pe = absurd cc
 
-pub magic_takes : (text : List ℕ) (m : Bool × Bool) → IsBytes text → magic_at text ≡ Ok m →
+pub magic_takes : (text : List ℕ) (m : Bool × Bool) → IsBytes text → read_magic text ≡ Ok m →
     field m.0 w32 (magic_of m.1) ≡ take 4 text
 magic_takes text m fits e =
     let g = guarded (ltb (length text) 4) Magic (resolution_of (number_at true w32 0 text)) m e in
@@ -127,17 +127,17 @@ fields_take big nanos text c fits magic e =
       };
     })
 
-pub header_takes : (text : List ℕ) (c : Capture) → IsBytes text → header_at text ≡ Ok c →
+pub header_takes : (text : List ℕ) (c : Capture) → IsBytes text → read_header text ≡ Ok c →
     Takes text c
-unfolding header_at
+unfolding read_header
 header_takes text c fits e =
-    let b = bound (magic_at text) (λ m. fields_at m.0 m.1 text) c e in
+    let b = bound (read_magic text) (λ m. fields_at m.0 m.1 text) c e in
     fields_take b.0.0 b.0.1 text c fits (magic_takes text b.0 fits b.1) b.2
 
 -- ---- what is spelled is read again
 
 magic_again : (big nanos : Bool) (rest : List ℕ) →
-    magic_at (field big w32 (magic_of nanos) ++ rest) ≡ Ok (big, nanos)
+    read_magic (field big w32 (magic_of nanos) ++ rest) ≡ Ok (big, nanos)
 magic_again true true rest =
     let long : ltb (length (field true w32 (magic_of true) ++ rest)) 4 ≡ false =
     le-ltb _ _ (omega arith) in rw long refl
@@ -200,9 +200,9 @@ bare c = record c { frames = [] }
 
 again : (big nanos : Bool) (zone sigfigs snap link : ℕ) (frames : List Frame) (rest : List ℕ) →
     zone < 2 ^ 32 → sigfigs < 2 ^ 32 → snap < 2 ^ 32 → link < 2 ^ 32 → is_link_type link ≡ true
-    → header_at (header_text (header_of big nanos zone sigfigs snap link frames) ++ rest)
+    → read_header (header_text (header_of big nanos zone sigfigs snap link frames) ++ rest)
     ≡ Ok (header_of big nanos zone sigfigs snap link [])
-unfolding header_at header_text
+unfolding read_header header_text
 again big nanos zone sigfigs snap link frames rest z g s l known =
     let behind =
     field big w16 2
@@ -210,13 +210,13 @@ again big nanos zone sigfigs snap link frames rest z g s l known =
     ++ (field big w32 sigfigs ++ (field big w32 snap ++ (field big w32 link ++ rest))))) in
     let text = header_text (header_of big nanos zone sigfigs snap link frames) ++ rest in
     let regrouped : text ≡ field big w32 (magic_of nanos) ++ behind = simp append_assoc in
-    let magic : magic_at text ≡ Ok (big, nanos) =
-    ap magic_at regrouped ∙ magic_again big nanos behind in
+    let magic : read_magic text ≡ Ok (big, nanos) =
+    ap read_magic regrouped ∙ magic_again big nanos behind in
     ap (λ (m : Result (Bool × Bool) CaptureFault). m >>= λ r. fields_at r.0 r.1 text) magic
     ∙ fields_again big nanos zone sigfigs snap link frames rest z g s l known
 
 pub header_again : (c : Capture) (rest : List ℕ) → FieldsFit c → is_link_type c.link ≡ true →
-    header_at (header_text c ++ rest) ≡ Ok (bare c)
+    read_header (header_text c ++ rest) ≡ Ok (bare c)
 unfolding header_text
 header_again c rest fits known =
     again c.big c.nanos c.zone c.sigfigs c.snap c.link c.frames rest fits.zone fits.sigfigs

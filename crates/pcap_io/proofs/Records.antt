@@ -10,7 +10,7 @@ use Rattle.packet_entry.specs.Numbers.{longest_packet}
 use Rattle.pcap_io.specs.declared.capture.Frame.{Frame}
 use Rattle.pcap_io.specs.declared.fault.CaptureFault.TheVariants.{Cut, TooLong}
 use Rattle.pcap_io.specs.Text.{field, record_text, FrameFits}
-use Rattle.pcap_io.specs.Reading.{number_at, record_at}
+use Rattle.pcap_io.specs.Reading.{number_at, read_record}
 use Rattle.pcap_io.proofs.FieldValues.{IsBytes, joined, length-range, at_takes32, at_below, guarded}
 use Rattle.pcap_io.proofs.FieldValues.{ok_is}
 
@@ -26,8 +26,8 @@ pub record Takes (big : Bool) (text : List ℕ) (f : Frame) : Type 0 where
   pub spelled : record_text big f ≡ take (16 + length f.bytes) text
 
 pub record_takes : (big : Bool) (n place : ℕ) (text : List ℕ) (f : Frame) → IsBytes text →
-    record_at big n place text ≡ Ok f → Takes big text f
-unfolding record_at record_text
+    read_record big n place text ≡ Ok f → Takes big text f
+unfolding read_record record_text
 record_takes big n place text f fits e =
     let captured = number_at big w32 8 text in
     let bytes = slice_range text 16 (16 + captured) in
@@ -81,9 +81,9 @@ frame_of seconds fraction original bytes =
 
 again : (big : Bool) (n place seconds fraction original : ℕ) (bytes rest : List ℕ) →
     seconds < 2 ^ 32 → fraction < 2 ^ 32 → original < 2 ^ 32 → length bytes ≤ longest_packet
-    → record_at big n place (record_text big (frame_of seconds fraction original bytes) ++ rest)
+    → read_record big n place (record_text big (frame_of seconds fraction original bytes) ++ rest)
     ≡ Ok (frame_of seconds fraction original bytes)
-unfolding record_at record_text
+unfolding read_record record_text
 again true n place seconds fraction original bytes rest s f o short =
     let text = record_text true (frame_of seconds fraction original bytes) ++ rest in
     let header : ltb (length text) 16 ≡ false = le-ltb _ _ (omega arith) in
@@ -124,7 +124,7 @@ again false n place seconds fraction original bytes rest s f o short =
     ) refl
 
 pub record_again : (big : Bool) (n place : ℕ) (f : Frame) (rest : List ℕ) → IsStored f →
-    record_at big n place (record_text big f ++ rest) ≡ Ok f
+    read_record big n place (record_text big f ++ rest) ≡ Ok f
 record_again big n place f rest s =
     again big n place f.seconds f.fraction f.original f.bytes rest s.fits.seconds s.fits.fraction
     s.fits.original s.short

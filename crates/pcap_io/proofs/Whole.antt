@@ -13,7 +13,7 @@ use Rattle.pcap_io.specs.declared.capture.Frame.{Frame}
 use Rattle.pcap_io.specs.declared.fault.CaptureFault.{CaptureFault}
 use Rattle.pcap_io.specs.Text.{header_text, record_text, capture_text, FrameFits, IsHeld, FieldsFit}
 use Rattle.pcap_io.specs.Text.{IsCapture}
-use Rattle.pcap_io.specs.Reading.{header_at, record_at, BreaksOff, IsFault}
+use Rattle.pcap_io.specs.Reading.{read_header, read_record, BreaksOff, IsFault}
 use Rattle.pcap_io.proofs.FieldValues.{IsBytes, IsBytes-drop, joined}
 use Rattle.pcap_io.proofs.Header.{bare, header_takes, header_again}
 use Rattle.pcap_io.proofs.Records.{IsStored, record_takes, record_again}
@@ -47,9 +47,9 @@ pub record BeginsWhole (big : Bool) (text : List ℕ) : Type 0 where
   pub parts : text ≡ record_text big frame ++ rest
 
 read_in_front : (big : Bool) (n place : ℕ) (text : List ℕ) (w : BeginsWhole big text) →
-    record_at big n place text ≡ Ok w.frame
+    read_record big n place text ≡ Ok w.frame
 read_in_front big n place text w =
-    ap (record_at big n place) w.parts ∙ record_again big n place w.frame w.rest w.stored
+    ap (read_record big n place) w.parts ∙ record_again big n place w.frame w.rest w.stored
 
 pub length-record : (big : Bool) (f : Frame) → length (record_text big f) ≡ 16 + length f.bytes
 unfolding record_text
@@ -93,9 +93,9 @@ two_fronts big (f ∷ fs) (g ∷ gs) r s p q e =
     let both : record_text big f ++ (records big fs ++ r) ≡ record_text big g
     ++ (records big gs ++ s) = sym left ∙ e ∙ right in
     let first : f ≡ g =
-    same_value (record_at big 0 0 (record_text big f ++ (records big fs ++ r))) f g
+    same_value (read_record big 0 0 (record_text big f ++ (records big fs ++ r))) f g
     (record_again big 0 0 f (records big fs ++ r) p.0)
-    (ap (record_at big 0 0) both ∙ record_again big 0 0 g (records big gs ++ s) q.0) in
+    (ap (read_record big 0 0) both ∙ record_again big 0 0 g (records big gs ++ s) q.0) in
     let others : records big fs ++ r ≡ records big gs ++ s =
     append_cancel_left (record_text big g) (records big fs ++ r) (records big gs ++ s)
     (ap (λ (h : Frame). record_text big h ++ (records big fs ++ r)) (sym first) ∙ both) in
@@ -116,12 +116,12 @@ stored_frames c held fits =
     (λ k d lt. record { fits = fits.frames k d lt; short = held.lengths k d lt })
 
 header_in_front : (x rest : List ℕ) (c : Capture) → IsCapture x c →
-    header_at (x ++ rest) ≡ Ok (bare c)
+    read_header (x ++ rest) ≡ Ok (bare c)
 header_in_front x rest c w =
     let regrouped : x ++ rest ≡ header_text c ++ (records c.big c.frames ++ rest) =
     ap (λ (t : List ℕ). t ++ rest) w.spelled
     ∙ append_assoc (header_text c) (records c.big c.frames) rest in
-    ap header_at regrouped ∙ header_again c (records c.big c.frames ++ rest) w.fits w.held.link
+    ap read_header regrouped ∙ header_again c (records c.big c.frames ++ rest) w.fits w.held.link
 
 header_of_bare : (c : Capture) → header_text (bare c) ≡ header_text c
 unfolding header_text
@@ -155,8 +155,8 @@ two_captures : (x y r s : List ℕ) (a b : Capture) → IsCapture x a → IsCapt
     x ++ r ≡ y ++ s → SameFronts a b r s ⊎ (BeginsWhole b.big r ⊎ BeginsWhole b.big s)
 two_captures x y r s a b v w e =
     let same : bare a ≡ bare b =
-    same_value (header_at (x ++ r)) (bare a) (bare b) (header_in_front x r a v)
-    (ap header_at e ∙ header_in_front y s b w) in
+    same_value (read_header (x ++ r)) (bare a) (bare b) (header_in_front x r a v)
+    (ap read_header e ∙ header_in_front y s b w) in
     let big : a.big ≡ b.big = ap (λ (c : Capture). c.big) same in
     let header : header_text a ≡ header_text b =
     sym (header_of_bare a) ∙ ap header_text same ∙ header_of_bare b in
@@ -190,14 +190,14 @@ one_capture text a b v w =
 -- ---- a capture and a fault, or two faults
 
 not_whole : (big : Bool) (n place : ℕ) (rest : List ℕ) (fault : CaptureFault) →
-    BeginsWhole big rest → record_at big n place rest ≡ Err fault → ⊥
+    BeginsWhole big rest → read_record big n place rest ≡ Err fault → ⊥
 not_whole big n place rest fault w e =
-    not_both (record_at big n place rest) w.frame fault (read_in_front big n place rest w) e
+    not_both (read_record big n place rest) w.frame fault (read_in_front big n place rest w) e
 
 header_of_front : (x rest text : List ℕ) (c : Capture) (fault : CaptureFault) → text ≡ x ++ rest →
-    IsCapture x c → header_at text ≡ Err fault → ⊥
+    IsCapture x c → read_header text ≡ Err fault → ⊥
 header_of_front x rest text c fault parts w e =
-    not_both (header_at text) (bare c) fault (ap header_at parts ∙ header_in_front x rest c w) e
+    not_both (read_header text) (bare c) fault (ap read_header parts ∙ header_in_front x rest c w) e
 
 pub never_both : (text : List ℕ) (c : Capture) (fault : CaptureFault) → IsCapture text c →
     IsFault text fault → ⊥
@@ -215,29 +215,29 @@ same_break : (text : List ℕ) (f g : CaptureFault) (a : BreaksOff text f) (b : 
 same_break text f g a b same =
     let before : a.before ≡ b.before =
     a.whole.spelled ∙ ap capture_text same.captures ∙ sym b.whole.spelled in
-    let moved : record_at a.capture.big (length a.capture.frames + 1) (length a.before) a.rest
-    ≡ record_at b.capture.big (length b.capture.frames + 1) (length b.before) b.rest =
-    ap (λ (c : Capture). record_at c.big (length c.frames + 1) (length a.before) a.rest)
+    let moved : read_record a.capture.big (length a.capture.frames + 1) (length a.before) a.rest
+    ≡ read_record b.capture.big (length b.capture.frames + 1) (length b.before) b.rest =
+    ap (λ (c : Capture). read_record c.big (length c.frames + 1) (length a.before) a.rest)
     same.captures
-    ∙ ap (λ (t : List ℕ). record_at b.capture.big (length b.capture.frames + 1) (length t) a.rest)
+    ∙ ap (λ (t : List ℕ). read_record b.capture.big (length b.capture.frames + 1) (length t) a.rest)
     before
-    ∙ ap (record_at b.capture.big (length b.capture.frames + 1) (length b.before)) same.rests in
-    same_fault (record_at b.capture.big (length b.capture.frames + 1) (length b.before) b.rest) f g
+    ∙ ap (read_record b.capture.big (length b.capture.frames + 1) (length b.before)) same.rests in
+    same_fault (read_record b.capture.big (length b.capture.frames + 1) (length b.before) b.rest) f g
     (sym moved ∙ a.broken) b.broken
 
 other_break : (text : List ℕ) (f g : CaptureFault) (a : BreaksOff text f) (b : BreaksOff text g) →
     BeginsWhole b.capture.big a.rest → ⊥
 other_break text f g a b longer =
     let same : bare a.capture ≡ bare b.capture =
-    same_value (header_at text) (bare a.capture) (bare b.capture)
-    (ap header_at a.parts ∙ header_in_front a.before a.rest a.capture a.whole)
-    (ap header_at b.parts ∙ header_in_front b.before b.rest b.capture b.whole) in
+    same_value (read_header text) (bare a.capture) (bare b.capture)
+    (ap read_header a.parts ∙ header_in_front a.before a.rest a.capture a.whole)
+    (ap read_header b.parts ∙ header_in_front b.before b.rest b.capture b.whole) in
     let big : b.capture.big ≡ a.capture.big = sym (ap (λ (c : Capture). c.big) same) in
     not_whole a.capture.big (length a.capture.frames + 1) (length a.before) a.rest f
     (subst (λ (t : Bool). BeginsWhole t a.rest) big longer) a.broken
 
 pub one_fault : (text : List ℕ) (f g : CaptureFault) → IsFault text f → IsFault text g → f ≡ g
-one_fault text f g (inl p) (inl q) = same_fault (header_at text) f g p q
+one_fault text f g (inl p) (inl q) = same_fault (read_header text) f g p q
 one_fault text f g (inl p) (inr b) =
     absurd (header_of_front b.before b.rest text b.capture f b.parts b.whole p)
 one_fault text f g (inr a) (inl q) =
@@ -266,7 +266,7 @@ pub record Goes (text : List ℕ) (at : ℕ) (c : Capture) (f : Frame) : Type 0 
   pub whole : IsCapture (take (at + (16 + length f.bytes)) text) (with_frame c f)
 
 pub next : (text : List ℕ) (at n place : ℕ) (c : Capture) (f : Frame) → IsBytes text →
-    at ≤ length text → IsCapture (take at text) c → record_at c.big n place (drop at text) ≡ Ok f →
+    at ≤ length text → IsCapture (take at text) c → read_record c.big n place (drop at text) ≡ Ok f →
     Goes text at c f
 next text at n place c f fits le w e =
     let t = record_takes c.big n place (drop at text) f (IsBytes-drop at text fits) e in
@@ -303,7 +303,7 @@ next text at n place c f fits le w e =
 
 -- what comes where the record at a place is wrong
 pub breaks : (text : List ℕ) (at : ℕ) (c : Capture) (fault : CaptureFault) → at < length text →
-    IsCapture (take at text) c → record_at c.big (length c.frames + 1) at (drop at text)
+    IsCapture (take at text) c → read_record c.big (length c.frames + 1) at (drop at text)
     ≡ Err fault → BreaksOff text fault
 breaks text at c fault lt w e = record {
   before = take at text;
@@ -313,7 +313,7 @@ breaks text at c fault lt w e = record {
   parts = sym (take-append-drop at text);
   more = omega (arith, length-drop at text);
   broken =
-      ap (λ (n : ℕ). record_at c.big (length c.frames + 1) n (drop at text))
+      ap (λ (n : ℕ). read_record c.big (length c.frames + 1) n (drop at text))
       (length-take-le at text (omega arith)) ∙ e;
 }
 
@@ -354,7 +354,7 @@ Look text at c = Answer text ⊎ ((f : Frame) × Goes text at c f)
 
 looked : (text : List ℕ) (at : ℕ) (c : Capture) (r : Result Frame CaptureFault) → IsBytes text →
     at < length text → IsCapture (take at text) c →
-    record_at c.big (length c.frames + 1) at (drop at text) ≡ r → Look text at c
+    read_record c.big (length c.frames + 1) at (drop at text) ≡ r → Look text at c
 looked text at c (Ok f) fits lt w e =
     inr (f, next text at (length c.frames + 1) at c f fits (omega arith) w e)
 looked text at c (Err fault) fits lt w e = inl (inr (fault, inr (breaks text at c fault lt w e)))
@@ -369,7 +369,7 @@ scanned zero text at c fits le w = at_end text at c (omega arith) w
 scanned (suc fuel) text at c fits le w =
     elim (cases_lt at (length text)) [
       | inr past ↦ at_end text at c past w
-      | inl lt ↦ elim (looked text at c (record_at c.big (length c.frames + 1) at (drop at text))
+      | inl lt ↦ elim (looked text at c (read_record c.big (length c.frames + 1) at (drop at text))
           fits lt w refl) [
             | inl answer ↦ answer
             | inr (f, goes) ↦ scanned fuel text (at + (16 + length f.bytes)) (with_frame c f) fits
@@ -377,11 +377,11 @@ scanned (suc fuel) text at c fits le w =
           ]
     ]
 
-answered : (text : List ℕ) (r : Result Capture CaptureFault) → IsBytes text → header_at text ≡ r →
+answered : (text : List ℕ) (r : Result Capture CaptureFault) → IsBytes text → read_header text ≡ r →
     Answer text
 answered text (Ok c) fits e =
     scanned (length text) text 24 c fits (omega arith) (header_takes text c fits e).whole
 answered text (Err fault) fits e = inr (fault, inl e)
 
 pub value_or_fault : (text : List ℕ) → IsBytes text → Answer text
-value_or_fault text fits = answered text (header_at text) fits refl
+value_or_fault text fits = answered text (read_header text) fits refl

@@ -11,15 +11,18 @@ file_header_length = 24
 abbrev pub magic_length : ℕ
 magic_length = 4
 
--- the magic number of a file whose fractions are microseconds, in the file's own byte order and in
--- the other one
+abbrev pub magic_at : ℕ
+magic_at = 0
+
+-- the magic number of a file whose fractions are microseconds, in the file's own byte order, and the
+-- same four bytes in the other order
 abbrev pub microsecond_magic : ℕ
 microsecond_magic = 0xa1b2_c3d4
 
 abbrev pub microsecond_magic_swapped : ℕ
 microsecond_magic_swapped = 0xd4c3_b2a1
 
--- the same for nanoseconds
+-- the same two for nanoseconds
 abbrev pub nanosecond_magic : ℕ
 nanosecond_magic = 0xa1b2_3c4d
 

@@ -14,7 +14,7 @@ use Rattle.pcap_io.specs.Numbers.{nanosecond_magic, microsecond_magic_swapped}
 use Rattle.pcap_io.specs.Numbers.{nanosecond_magic_swapped, pcapng_block, major_version}
 use Rattle.pcap_io.specs.Numbers.{minor_version, major_at, minor_at, zone_at, sigfigs_at, snap_at}
 use Rattle.pcap_io.specs.Numbers.{link_at, seconds_at, fraction_at, captured_at, original_at}
-use Rattle.pcap_io.specs.Numbers.{magic_length}
+use Rattle.pcap_io.specs.Numbers.{magic_length, magic_at}
 use Rattle.pcap_io.specs.Text.{is_link_type, IsCapture}
 
 infixl 10 ◌>>=◌
@@ -52,10 +52,10 @@ resolution_of magic =
     else if magic == nanosecond_magic_swapped then Ok (false, true)
     else Err Magic
 
-abbrev pub magic_at : List ℕ → Result (Bool × Bool) CaptureFault
-magic_at text =
+abbrev pub read_magic : List ℕ → Result (Bool × Bool) CaptureFault
+read_magic text =
     if nat_lt (length text) magic_length then Err Magic
-    else resolution_of (number_at true w32 0 text)
+    else resolution_of (number_at true w32 magic_at text)
 
 -- the header in this byte order, as a capture without frames, or the first thing that is
 -- wrong with it
@@ -77,13 +77,13 @@ fields_at big nanos text =
     })
 
 -- the same in the byte order that the magic number tells
-unfoldable pub header_at : List ℕ → Result Capture CaptureFault
-header_at text = magic_at text >>= λ magic. fields_at magic.0 magic.1 text
+unfoldable pub read_header : List ℕ → Result Capture CaptureFault
+read_header text = read_magic text >>= λ magic. fields_at magic.0 magic.1 text
 
 -- the first record, of the frame with this number, at this byte of the file, or the first thing
 -- that is wrong with it
-unfoldable pub record_at : Bool → ℕ → ℕ → List ℕ → Result Frame CaptureFault
-record_at big frame_number at text =
+unfoldable pub read_record : Bool → ℕ → ℕ → List ℕ → Result Frame CaptureFault
+read_record big frame_number at text =
     if nat_lt (length text) record_header_length then Err (Cut frame_number at)
     else if nat_lt longest_packet (number_at big w32 captured_at text)
     then Err (TooLong frame_number (number_at big w32 captured_at text))
@@ -106,8 +106,8 @@ pub record BreaksOff (text : List ℕ) (fault : CaptureFault) : Type 0 where
   pub rest : List ℕ
   pub parts : text ≡ before ++ rest
   pub more : 0 < length rest
-  pub broken : record_at capture.big (length capture.frames + 1) (length before) rest ≡ Err fault
+  pub broken : read_record capture.big (length capture.frames + 1) (length before) rest ≡ Err fault
 
 -- the first fault of a text
 abbrev pub IsFault : List ℕ → CaptureFault → Type 0
-IsFault text fault = (header_at text ≡ Err fault) ⊎ BreaksOff text fault
+IsFault text fault = (read_header text ≡ Err fault) ⊎ BreaksOff text fault

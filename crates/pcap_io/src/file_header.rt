@@ -13,7 +13,7 @@
 ghost use Rattle.std.specs.Prelude.{◌≡◌, ◌+◌, ◌≤◌, ◌++◌, ◌<◌, ◌^◌, vec_len, vec_capacity};
 ghost use Rattle.pcap_io.specs.Numbers.{file_header_length};
 ghost use Rattle.pcap_io.specs.Text.{is_link_type, header_text};
-ghost use Rattle.pcap_io.specs.Reading.{magic_at, header_at};
+ghost use Rattle.pcap_io.specs.Reading.{read_magic, read_header};
 
 use crate::capture::{Capture, Frames};
 use crate::fault::CaptureFault;
@@ -75,9 +75,9 @@ const LINK_IPV4: u32 = 228;
 const LINK_IPV6: u32 = 229;
 
 /// The header, as a capture without frames.
-#[tactic(auto, unfolding(crate::specs::Reading::header_at, crate::specs::Reading::fields_at))]
+#[tactic(auto, unfolding(crate::specs::Reading::read_header, crate::specs::Reading::fields_at))]
 pub(crate) fn read_header(alloc: Global, bytes: &[u8]) -> Result<Capture, CaptureFault>
-    ensures { result ≡ header_at bytes.now }
+    ensures { result ≡ read_header bytes.now }
 {
     let (big, nanos) = read_magic(bytes)?;
     if bytes.len() < FILE_HEADER_LENGTH {
@@ -105,7 +105,7 @@ pub(crate) fn read_header(alloc: Global, bytes: &[u8]) -> Result<Capture, Captur
 
 /// Whether the byte order is big-endian, and whether fractions are nanoseconds.
 fn read_magic(bytes: &[u8]) -> Result<(bool, bool), CaptureFault>
-    ensures { result ≡ magic_at bytes.now }
+    ensures { result ≡ read_magic bytes.now }
 {
     if bytes.len() < MAGIC_LENGTH {
         return Err(CaptureFault::Magic);

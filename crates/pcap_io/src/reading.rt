@@ -5,7 +5,7 @@ ghost use Rattle.std.specs.Prelude.{IfErr, IsOk};
 ghost use Rattle.pcap_io.specs.declared.capture.Capture.{Capture};
 ghost use Rattle.pcap_io.specs.Numbers.{file_header_length};
 ghost use Rattle.pcap_io.specs.Text.{IsCapture};
-ghost use Rattle.pcap_io.specs.Reading.{Gives, BreaksOff, IsFault, header_at};
+ghost use Rattle.pcap_io.specs.Reading.{Gives, BreaksOff, IsFault, read_header};
 
 use crate::capture::Capture;
 use crate::fault::CaptureFault;
@@ -31,7 +31,7 @@ pub fn read_capture(alloc: Global, bytes: &[u8]) -> Result<Capture, CaptureFault
     ensures exact { (fault : CaptureFault) → IsFault bytes.now fault → Gives result (Err fault) }
 
     // No memory is needed to find a fault of the header.
-    ensures header { (fault : CaptureFault) → header_at bytes.now ≡ Err fault →
+    ensures header { (fault : CaptureFault) → read_header bytes.now ≡ Err fault →
         result ≡ Err fault }
 {
     read_header(alloc, bytes)?;
@@ -48,9 +48,9 @@ pub fn read_shared_capture(alloc: Global, file: &Bytes) -> Result<Capture, Captu
     ensures exact { (fault : CaptureFault) → IsFault file.now fault → Gives result (Err fault) }
 
     // No memory is needed to find a fault of the header, or to read a file without frames.
-    ensures header { (fault : CaptureFault) → header_at file.now ≡ Err fault →
+    ensures header { (fault : CaptureFault) → read_header file.now ≡ Err fault →
         result ≡ Err fault }
-    ensures no_frames { (capture : Capture) → header_at file.now ≡ Ok capture →
+    ensures no_frames { (capture : Capture) → read_header file.now ≡ Ok capture →
         length file.now ≡ file_header_length → IsOk result }
 {
     read_file(alloc, file)
@@ -60,9 +60,9 @@ fn read_file(alloc: Global, file: &Bytes) -> Result<Capture, CaptureFault>
     requires { length file.now < 4294967295 }
     ensures found { IfOk result (λ capture. IsCapture file.now capture) }
     ensures fault { IfErr result (λ fault. fault ≢ CaptureFault.NoMemory → IsFault file.now fault) }
-    ensures header { (fault : CaptureFault) → header_at file.now ≡ Err fault →
+    ensures header { (fault : CaptureFault) → read_header file.now ≡ Err fault →
         result ≡ Err fault }
-    ensures no_frames { (capture : Capture) → header_at file.now ≡ Ok capture →
+    ensures no_frames { (capture : Capture) → read_header file.now ≡ Ok capture →
         length file.now ≡ file_header_length → IsOk result }
 {
     let bytes = file.as_slice();

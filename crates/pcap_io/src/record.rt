@@ -13,7 +13,7 @@ ghost use Rattle.std.specs.Prelude.{vec_capacity};
 ghost use Rattle.packet_entry.specs.Numbers.{longest_packet};
 ghost use Rattle.pcap_io.specs.Numbers.{record_header_length};
 ghost use Rattle.pcap_io.specs.Text.{record_text, FrameFits};
-ghost use Rattle.pcap_io.specs.Reading.{Gives, record_at};
+ghost use Rattle.pcap_io.specs.Reading.{Gives, read_record};
 
 use crate::capture::Frame;
 use crate::fault::CaptureFault;
@@ -34,7 +34,7 @@ const ORIGINAL_AT: usize = 12;
 
 /// The record that begins at this place of the file, of the frame of this number; `rest` is the
 /// file from there on. The frame's bytes are a cut of the file's.
-#[tactic(auto, unfolding(crate::specs::Reading::record_at))]
+#[tactic(auto, unfolding(crate::specs::Reading::read_record))]
 pub(crate) fn read_record(
     file: &Bytes,
     rest: &[u8],
@@ -44,7 +44,7 @@ pub(crate) fn read_record(
 ) -> Result<Frame, CaptureFault>
     requires same { rest.now ≡ drop at file.now }
     requires within { at ≤ length file.now }
-    ensures { Gives result (record_at big frame_number at rest.now) }
+    ensures { Gives result (read_record big frame_number at rest.now) }
 {
     if rest.len() < RECORD_HEADER_LENGTH {
         return Err(CaptureFault::Cut {
