@@ -25,7 +25,7 @@ pub enum CaptureFault {
     /// The file ends within its header, or within the record of this frame.
     #[error("record {frame} at byte {at} is cut")]
     Cut { frame: u32, at: u64 },
-    /// The record of this frame has more than 262,144 bytes of the frame, by its header.
+    /// By its header this record has more than 262,144 captured bytes.
     #[error("record {frame} has {length} bytes")]
     TooLong { frame: u32, length: u32 },
     /// Out of memory. The bytes may be a capture or not.

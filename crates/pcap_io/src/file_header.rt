@@ -1,6 +1,6 @@
 //! The header of a capture file (pcap-savefile(5)), in the byte order that its magic number tells.
 //!
-//! | at | bytes | field |
+//! | Place | Width | Field |
 //! |---|---|---|
 //! | 0 | 4 | magic number: the byte order, and whether fractions are micro- or nanoseconds |
 //! | 4 | 2 | major version, 2 |
@@ -42,24 +42,31 @@ const NANOSECOND_MAGIC_SWAPPED: u32 = 0x4d3c_b2a1;
 /// either byte order.
 const PCAPNG_BLOCK: u32 = 0x0a0d_0d0a;
 
-/// The version that is read and written, 2.4.
+/// The major number of the version that is read and written, 2.4.
 const MAJOR_VERSION: u16 = 2;
 
+/// The minor number of that version.
 const MINOR_VERSION: u16 = 4;
 
-// The fields' places, in bytes from the file's start.
+/// The place of the magic number, in bytes from the file's start.
 const MAGIC_AT: usize = 0;
 
+/// The place of the major version, in bytes from the file's start.
 const MAJOR_AT: usize = 4;
 
+/// The place of the minor version, in bytes from the file's start.
 const MINOR_AT: usize = 6;
 
+/// The place of the time zone, in bytes from the file's start.
 const ZONE_AT: usize = 8;
 
+/// The place of the accuracy of times, in bytes from the file's start.
 const SIGFIGS_AT: usize = 12;
 
+/// The place of the snap length, in bytes from the file's start.
 const SNAP_AT: usize = 16;
 
+/// The place of the link type, in bytes from the file's start.
 const LINK_AT: usize = 20;
 
 /// LINKTYPE_ETHERNET of the registry of link types.

@@ -1,7 +1,7 @@
 //! From bytes to a capture.
 
 ghost use Rattle.std.specs.Prelude.{◌≡◌, ◌≢◌, ◌+◌, ◌<◌, ◌≤◌, length, take, Ok, Err, IfOk, OnOk};
-ghost use Rattle.std.specs.Prelude.{IfErr, IsOk};
+ghost use Rattle.std.specs.Prelude.{IfErr, IsOk, ◌-◌, ◌^◌};
 ghost use Rattle.pcap_io.specs.declared.capture.Capture.{Capture};
 ghost use Rattle.pcap_io.specs.Numbers.{file_header_length};
 ghost use Rattle.pcap_io.specs.Text.{IsCapture};
@@ -19,7 +19,7 @@ use std::alloc::Global;
 /// a whole, and the frames are cuts of that copy: who has the file as [`Bytes`] calls
 /// [`read_shared_capture`].
 pub fn read_capture(alloc: Global, bytes: &[u8]) -> Result<Capture, CaptureFault>
-    requires { length bytes.now < 4294967295 }
+    requires { length bytes.now < 2 ^ 32 - 1 }
 
     // What is read is what the bytes are the file of, and it is read from no other bytes.
     ensures found { IfOk result (λ capture. IsCapture bytes.now capture) }
@@ -41,7 +41,7 @@ pub fn read_capture(alloc: Global, bytes: &[u8]) -> Result<Capture, CaptureFault
 
 /// The same of a file that is shared: its frames are cuts of its bytes, and nothing is copied.
 pub fn read_shared_capture(alloc: Global, file: &Bytes) -> Result<Capture, CaptureFault>
-    requires { length file.now < 4294967295 }
+    requires { length file.now < 2 ^ 32 - 1 }
     ensures found { IfOk result (λ capture. IsCapture file.now capture) }
     ensures only { (capture : Capture) → IsCapture file.now capture → Gives result (Ok capture) }
     ensures fault { IfErr result (λ fault. fault ≢ CaptureFault.NoMemory → IsFault file.now fault) }
@@ -57,7 +57,7 @@ pub fn read_shared_capture(alloc: Global, file: &Bytes) -> Result<Capture, Captu
 }
 
 fn read_file(alloc: Global, file: &Bytes) -> Result<Capture, CaptureFault>
-    requires { length file.now < 4294967295 }
+    requires { length file.now < 2 ^ 32 - 1 }
     ensures found { IfOk result (λ capture. IsCapture file.now capture) }
     ensures fault { IfErr result (λ fault. fault ≢ CaptureFault.NoMemory → IsFault file.now fault) }
     ensures header { (fault : CaptureFault) → read_header file.now ≡ Err fault →
@@ -74,7 +74,7 @@ fn read_file(alloc: Global, file: &Bytes) -> Result<Capture, CaptureFault>
 /// Reads the records after the header, to the end of the file.
 fn read_frames(capture: &mut Capture, file: &Bytes, bytes: &[u8]) -> Result<(), CaptureFault>
     requires same { bytes.now ≡ file.now }
-    requires small { length bytes.now < 4294967295 }
+    requires small { length bytes.now < 2 ^ 32 - 1 }
     requires header { IsCapture (take file_header_length bytes.now) capture.old }
     requires whole { file_header_length ≤ length bytes.now }
     ensures ok { OnOk result (IsCapture bytes.now capture.new) }
@@ -97,7 +97,7 @@ fn read_frame(
     at: usize,
 ) -> Result<usize, CaptureFault>
     requires same { bytes.now ≡ file.now }
-    requires small { length bytes.now < 4294967295 }
+    requires small { length bytes.now < 2 ^ 32 - 1 }
     requires more { at < length bytes.now }
     requires front { IsCapture (take at bytes.now) capture.old }
     ensures further { IfOk result (λ end. at < end) }

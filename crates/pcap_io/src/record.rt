@@ -1,6 +1,6 @@
 //! The record of a frame (pcap-savefile(5)), in the file's byte order.
 //!
-//! | at | bytes | field |
+//! | Place | Width | Field |
 //! |---|---|---|
 //! | 0 | 4 | seconds since 1970 |
 //! | 4 | 4 | fraction of that second, in the file's resolution |
@@ -23,13 +23,16 @@ use packet_entry::{Bytes, MAX_FRAME, NoMemory};
 /// The bytes of a record's header, which the captured bytes follow.
 pub(crate) const RECORD_HEADER_LENGTH: usize = 16;
 
-// The fields' places, in bytes from the record's start.
+/// The place of the seconds, in bytes from the record's start.
 const SECONDS_AT: usize = 0;
 
+/// The place of the fraction of a second, in bytes from the record's start.
 const FRACTION_AT: usize = 4;
 
+/// The place of the captured length, in bytes from the record's start.
 const CAPTURED_AT: usize = 8;
 
+/// The place of the original length, in bytes from the record's start.
 const ORIGINAL_AT: usize = 12;
 
 /// The record that begins at this place of the file, of the frame of this number; `rest` is the
@@ -89,6 +92,7 @@ fn cut_after(
     requires end { end ≤ length rest.now }
     ensures { IfOk result (λ part. part ≡ slice_range rest.now start end) }
 {
+    // The length is within `usize`, and so are the two sums below, which are within the file.
     let _length = file.len();
     file.cut(at + start, at + end)
 }
