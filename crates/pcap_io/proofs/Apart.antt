@@ -7,8 +7,8 @@ use Rattle.pcap_io.specs.declared.fault.CaptureFault.TheVariants.{Magic, Pcapng,
 use Rattle.pcap_io.specs.declared.fault.CaptureFault.TheVariants.{Cut, TooLong, NoMemory}
 use Rattle.pcap_io.specs.Numbers.{pcapng_block, microsecond_magic, nanosecond_magic}
 use Rattle.pcap_io.specs.Numbers.{microsecond_magic_swapped, nanosecond_magic_swapped}
-use Rattle.pcap_io.specs.Reading.{◌>>=◌, number_at, resolution_of, read_magic, fields_at, read_header}
-use Rattle.pcap_io.specs.Reading.{read_record, IsFault}
+use Rattle.pcap_io.specs.Reading.{◌>>=◌, number_at, resolution_of, read_magic, fields_at}
+use Rattle.pcap_io.specs.Reading.{read_header, read_record, IsFault}
 use Rattle.pcap_io.proofs.Whole.{same_fault}
 
 no_fault : {A : Type 0} (x : A) → ◌≡◌ {A = Result A CaptureFault} (Ok x) (Err NoMemory) → ⊥

@@ -19,9 +19,10 @@ use Rattle.pcap_io.specs.Numbers.{pcapng_block, microsecond_magic, nanosecond_ma
 use Rattle.pcap_io.specs.Numbers.{microsecond_magic_swapped, nanosecond_magic_swapped}
 use Rattle.pcap_io.specs.Text.{field, magic_of, header_text, is_link_type, FrameFits, FieldsFit}
 use Rattle.pcap_io.specs.Text.{IsCapture}
-use Rattle.pcap_io.specs.Reading.{◌>>=◌, number_at, resolution_of, read_magic, fields_at, read_header}
-use Rattle.pcap_io.proofs.FieldValues.{IsBytes, IsBytes-take, joined, at_takes16, at_takes32, at_below}
-use Rattle.pcap_io.proofs.FieldValues.{guarded, bound, same_numbers, ok_is}
+use Rattle.pcap_io.specs.Reading.{◌>>=◌, number_at, resolution_of, read_magic, fields_at}
+use Rattle.pcap_io.specs.Reading.{read_header}
+use Rattle.pcap_io.proofs.FieldValues.{IsBytes, IsBytes-take, joined, at_takes16, at_takes32}
+use Rattle.pcap_io.proofs.FieldValues.{at_below, guarded, bound, same_numbers, ok_is}
 
 -- what holds of each resolution whose test may succeed holds of the one that was chosen
 picked : (P : Bool × Bool → Type 0) (a b c d e : Bool) (m : Bool × Bool) →

@@ -222,7 +222,8 @@ same_break text f g a b same =
     ∙ ap (λ (t : List ℕ). read_record b.capture.big (length b.capture.frames + 1) (length t) a.rest)
     before
     ∙ ap (read_record b.capture.big (length b.capture.frames + 1) (length b.before)) same.rests in
-    same_fault (read_record b.capture.big (length b.capture.frames + 1) (length b.before) b.rest) f g
+    same_fault
+    (read_record b.capture.big (length b.capture.frames + 1) (length b.before) b.rest) f g
     (sym moved ∙ a.broken) b.broken
 
 other_break : (text : List ℕ) (f g : CaptureFault) (a : BreaksOff text f) (b : BreaksOff text g) →
@@ -266,7 +267,8 @@ pub record Goes (text : List ℕ) (at : ℕ) (c : Capture) (f : Frame) : Type 0 
   pub whole : IsCapture (take (at + (16 + length f.bytes)) text) (with_frame c f)
 
 pub next : (text : List ℕ) (at n place : ℕ) (c : Capture) (f : Frame) → IsBytes text →
-    at ≤ length text → IsCapture (take at text) c → read_record c.big n place (drop at text) ≡ Ok f →
+    at ≤ length text → IsCapture (take at text) c →
+    read_record c.big n place (drop at text) ≡ Ok f →
     Goes text at c f
 next text at n place c f fits le w e =
     let t = record_takes c.big n place (drop at text) f (IsBytes-drop at text fits) e in

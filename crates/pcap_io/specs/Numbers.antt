@@ -14,8 +14,8 @@ magic_length = 4
 abbrev pub magic_at : ℕ
 magic_at = 0
 
--- the magic number of a file whose fractions are microseconds, in the file's own byte order, and the
--- same four bytes in the other order
+-- the magic number of a file whose fractions are microseconds, in the file's own byte order, and
+-- the same four bytes in the other order
 abbrev pub microsecond_magic : ℕ
 microsecond_magic = 0xa1b2_c3d4
 

@@ -15,8 +15,8 @@ use packet_entry::Bytes;
 use std::alloc::Global;
 
 /// The capture that a file of these bytes is. `NoMemory` apart, a file that is none is answered
-/// with its first fault from the front. The header is read first; then the bytes are copied once, as
-/// a whole, and the frames are cuts of that copy: who has the file as [`Bytes`] calls
+/// with its first fault from the front. The header is read first. Then the bytes are copied once,
+/// as a whole, and the frames are cuts of that copy: who has the file as [`Bytes`] calls
 /// [`read_shared_capture`].
 pub fn read_capture(alloc: Global, bytes: &[u8]) -> Result<Capture, CaptureFault>
     requires { length bytes.now < 2 ^ 32 - 1 }

@@ -1,5 +1,5 @@
-//! Whole files in both byte orders, every cut of one, and the frames that are too long. The bytes
-//! were written out by hand from pcap-savefile(5).
+//! Whole files in both byte orders and resolutions, every cut of one, and the frames that are too
+//! long. The bytes were written out by hand from pcap-savefile(5).
 
 use super::*;
 use packet_entry::Bytes;
@@ -45,11 +45,20 @@ const BIG: [u8; 132] = [
     0x45, 0, 0, 0x14, 0, 3, 0, 0, 0x40, 6, 0, 0, 0x0a, 0, 0, 1, 0x0a, 0, 0, 2,
 ];
 
+/// Each magic number, with the byte order and the resolution that it tells.
 #[test]
 fn a_capture_is_read_and_written_back(rt: HostRuntime) -> Result<(), Fail> {
-    for (bytes, big) in [(&LITTLE, false), (&BIG, true)] {
-        let capture = read_capture(rt.alloc(), bytes)?;
-        assert_eq!(rt; (capture.big, capture.nanos), (big, big));
+    let table = [
+        (&LITTLE, [0xd4, 0xc3, 0xb2, 0xa1], false, false),
+        (&LITTLE, [0x4d, 0x3c, 0xb2, 0xa1], false, true),
+        (&BIG, [0xa1, 0xb2, 0xc3, 0xd4], true, false),
+        (&BIG, [0xa1, 0xb2, 0x3c, 0x4d], true, true),
+    ];
+    for (frames, magic, big, nanos) in table {
+        let mut bytes = *frames;
+        bytes[..4].copy_from_slice(&magic);
+        let capture = read_capture(rt.alloc(), &bytes)?;
+        assert_eq!(rt; (capture.big, capture.nanos), (big, nanos));
         assert_eq!(rt; (capture.zone, capture.sigfigs), (0, 0));
         assert_eq!(rt; (capture.snap, capture.link), (262_144, 101));
         assert_eq!(rt; capture.frames.len(), 3);
@@ -69,15 +78,56 @@ fn a_capture_is_read_and_written_back(rt: HostRuntime) -> Result<(), Fail> {
     Ok(())
 }
 
+/// Each link type that is taken, in a file with three frames and in one without frames.
+#[test]
+fn a_link_type_is_read_and_written_back(rt: HostRuntime) -> Result<(), Fail> {
+    let table = [
+        (1u8, 24usize, 0usize),
+        (1, 132, 3),
+        (101, 24, 0),
+        (101, 132, 3),
+        (228, 24, 0),
+        (228, 132, 3),
+        (229, 24, 0),
+        (229, 132, 3),
+    ];
+    for (link, length, frames) in table {
+        let mut bytes = LITTLE;
+        bytes[20] = link;
+        assert!(rt; length <= 132);
+        let capture = read_capture(rt.alloc(), &bytes[..length])?;
+        assert_eq!(rt; (capture.link, capture.frames.len()), (link as u32, frames));
+        let mut out = Vec::new(rt.alloc());
+        write_capture(&capture, &mut out)?;
+        assert_eq!(rt; out.as_slice(), &bytes[..length]);
+    }
+    Ok(())
+}
+
 /// What is read of a shared file is read of a copy of it too, and outlives the file.
 #[test]
 fn frames_are_cuts_of_a_shared_file(rt: HostRuntime) -> Result<(), Fail> {
     let file = Bytes::copy(rt.alloc(), &LITTLE)?;
     let capture = read_shared_capture(rt.alloc(), &file)?;
     drop(file);
+    let copied = read_capture(rt.alloc(), &LITTLE)?;
+    assert_eq!(rt; (capture.big, capture.nanos), (copied.big, copied.nanos));
+    assert_eq!(rt;
+        (capture.zone, capture.sigfigs),
+        (copied.zone, copied.sigfigs)
+    );
+    assert_eq!(rt; (capture.snap, capture.link), (copied.snap, copied.link));
+    assert_eq!(rt; (capture.frames.len(), copied.frames.len()), (3, 3));
+    for (frame, other) in capture.frames.iter().zip(copied.frames.iter()) {
+        assert_eq!(rt;
+            (frame.seconds, frame.fraction),
+            (other.seconds, other.fraction)
+        );
+        assert_eq!(rt; frame.original, other.original);
+        assert_eq!(rt; frame.bytes.as_slice(), other.bytes.as_slice());
+    }
     let last = capture.frames.get(2).ok_or("a frame")?;
     assert_eq!(rt; last.bytes.as_slice(), &LITTLE[112..]);
-    assert_eq!(rt; capture.frames.len(), 3);
     Ok(())
 }
 
