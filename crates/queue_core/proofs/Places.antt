@@ -1,5 +1,5 @@
 -- Where what waits stands, and what the list of it keeps.
-use Rattle.std.proofs.Common.{◌≡◌, ◌≤◌, ◌<◌, ℕ, suc, ◌+◌, ◌^◌, List, [], ◌∷◌, ◌++◌, length, get_or}
+use Rattle.std.proofs.Common.{◌≡◌, ◌≤◌, ◌<◌, ℕ, suc, ◌+◌, List, [], ◌∷◌, ◌++◌, length, get_or}
 use Rattle.std.proofs.Common.{take, drop, Some, None, true, false, cond, refl, sym, subst, ap, ◌∙◌}
 use Rattle.std.proofs.Common.{arith, inl, inr}
 use Rattle.std.proofs.Math.Seq.{drop-cons}
@@ -84,7 +84,7 @@ held_without h id is none = record {
 
 -- when an arrival begins
 pub held_begun : (q : Bound) (card : Card) → IsHeld (record { state = q; offer = None }) →
-    is_decided_early q ≡ false → length q.waiting + 1 < 2 ^ 32 →
+    is_decided_early q ≡ false → length q.waiting + 1 < id_count →
     IsHeld (record { state = q; offer = Some (next_id q, card) })
 held_begun q card is undecided few = record {
   apart = is.apart;

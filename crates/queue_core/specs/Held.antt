@@ -1,11 +1,12 @@
 -- A queue between its calls, and the two calls that make one arrival.
-use Rattle.std.specs.Prelude.{◌≡◌, ◌<◌, ◌+◌, ◌^◌, ◌||◌, ℕ, [], length, Option, Some, None, Bool}
+use Rattle.std.specs.Prelude.{◌≡◌, ◌<◌, ◌+◌, ◌||◌, ℕ, [], length, Option, Some, None, Bool}
 use Rattle.std.specs.Prelude.{false, nat_eq, ◌==◌, IfSome}
 use Rattle.std.specs.List.{IsDistinct}
 use Rattle.std.specs.Map.{keys_of}
 use Rattle.packet_entry.specs.declared.packet.Card.{Card}
 use Rattle.packet_entry.specs.declared.letter.Letter.{Letter}
 use Rattle.nfqa_msgs.specs.Numbers.{copy_none}
+use Rattle.queue_core.specs.Numbers.{id_count}
 use Rattle.queue_core.specs.State.{Bound}
 use Rattle.queue_core.specs.Step.{is_full, next_id}
 
@@ -31,7 +32,7 @@ pub record IsHeld (h : Held) : Type 0 where
   pub next : IfSome h.offer (λ o. o.0 ≡ next_id h.state)
   pub undecided : IfSome h.offer (λ _. is_decided_early h.state ≡ false)
   -- fewer packets than there are ids
-  pub few : length h.state.waiting + offers h.offer < 2 ^ 32
+  pub few : length h.state.waiting + offers h.offer < id_count
 
 -- the notice of a packet that gets this id here
 abbrev pub letter_of : ℕ → Card → Letter

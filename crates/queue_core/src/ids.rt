@@ -1,7 +1,8 @@
 //! The ids of what waits: the next one, and the place of one.
 
-ghost use Rattle.std.specs.Prelude.{◌≡◌, ◌<◌, ◌^◌, length, MatchOption, None};
+ghost use Rattle.std.specs.Prelude.{◌≡◌, ◌<◌, length, MatchOption, None};
 ghost use Rattle.std.specs.Map.{lookup, keys_of};
+ghost use Rattle.queue_core.specs.Numbers.{id_count};
 ghost use Rattle.queue_core.specs.Ids.{fresh, is_id, is_among};
 ghost use Rattle.queue_core.specs.Place.{IsPlace};
 
@@ -9,12 +10,11 @@ use packet_entry::Packet;
 
 /// The id that the next arrival gets.
 pub(crate) fn fresh_id(last: u32, waiting: &[(u32, Packet)]) -> u32
-    requires { length waiting.now < 2 ^ 32 }
+    requires { length waiting.now < id_count }
     ensures { result ≡ fresh last (keys_of waiting.now) }
 {
     let mut id = last.wrapping_add(1);
-    for look in 0..waiting.len() {
-        let _ = look;
+    for _ in 0..waiting.len() {
         if !is_waiting(waiting, id) {
             return id;
         }

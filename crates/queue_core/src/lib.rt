@@ -14,7 +14,7 @@ pub use decision::{
     ACCEPT, DROP, Decision, QUEUE, QUEUE_BYPASS, REPEAT, STOLEN, STOP, VERDICT_MASK,
 };
 pub use errno::{EBUSY, ENODEV, ENOENT, EPERM};
-pub use laws::{first_free_id, public_numbers_are_defined};
+pub use laws::{first_free_id, public_numbers};
 pub use offers::{Begun, NoRoom, Outcome, Settled};
 pub use queue::{DEFAULT_MAXIMUM, Queue};
 

@@ -6,7 +6,7 @@ ghost use Rattle.std.specs.Prelude.{false, true};
 ghost use Rattle.packet_entry.specs.Numbers.{longest_payload};
 ghost use Rattle.nfqa_msgs.specs.Numbers.{copy_packet};
 ghost use Rattle.queue_core.specs.Decision.{IsVerdict, decision_of};
-ghost use Rattle.queue_core.specs.Range as state;
+ghost use Rattle.queue_core.specs.Range as range;
 ghost use Rattle.packet_entry.specs.Card.{edited};
 
 use crate::{Begun, Decision, NoRoom, Settled, ids};
@@ -308,13 +308,13 @@ impl Queue {
 }
 
 /// The range that a request asks for: 0 and what is above the largest mean the largest.
-fn range_of(range: u32) -> u32
-    ensures { result ≡ state.range_of range }
+fn range_of(asked: u32) -> u32
+    ensures { result ≡ range.range_of asked }
 {
-    if range == 0 || range > MAX_RANGE {
+    if asked == 0 || asked > MAX_RANGE {
         MAX_RANGE
     } else {
-        range
+        asked
     }
 }
 

@@ -45,7 +45,8 @@ fn arrived(
     requires no_offer { queue.old.offer ≡ None }
     ensures no_offer { queue.new.offer ≡ None }
 {
-    let packet = Packet::new(alloc, number.max(1), 1, 0, IPV4, &[], &BYTES)?;
+    let mut packet = Packet::new(alloc, number.max(1), 1, 0, IPV4, &[], &BYTES)?;
+    packet.queued(1);
     if queue.mode() != PACKET || queue.waiting() >= queue.maximum() {
         packet.destroy();
         return Ok(None);
@@ -117,12 +118,12 @@ fn packets_wait_until_their_verdicts(rt: HostRuntime) -> Result<(), Fail> {
     let (port, letter, id) = first?.ok_or("no notice")?;
     assert_eq!(rt;
         (port, letter.queue, letter.number, letter.visit, id),
-        (7, 5, 1, 0, 1)
+        (7, 5, 1, 1, 1)
     );
     let (port, letter, id) = second?.ok_or("no notice")?;
     assert_eq!(rt;
         (port, letter.queue, letter.number, letter.visit, id),
-        (7, 5, 2, 0, 2)
+        (7, 5, 2, 1, 2)
     );
     assert_eq!(rt; waiting, (2, 2));
     assert!(rt; other?.is_none());

@@ -3,9 +3,9 @@ use Rattle.std.specs.Map.{keys_of}
 use Rattle.queue_core.proofs.FreeIds.{look_on}
 use Rattle.queue_core.proofs.ids.fresh_id.Goals as goal
 
-pub loop-look-preserved : goal.loop-look-preserved
-loop-look-preserved c =
-    sym (look_on (length c.args.waiting.now) c.loop-look.look c.loop-look.id
+pub loop-preserved : goal.loop-preserved
+loop-preserved c =
+    sym (look_on (length c.args.waiting.now) c.loop.counter c.loop.id
     (keys_of c.args.waiting.now) (omega arith) (sym c.is_waiting.ensures
     ∙ c.if-not-is_waiting.false))
-    ∙ c.loop-look.invariant
+    ∙ c.loop.invariant

@@ -4,6 +4,6 @@ use Rattle.queue_core.specs.Ids.{fresh, free_from}
 use Rattle.queue_core.proofs.ids.fresh_id.Given as goal
 
 -- so many looks are left from this id on
-abbrev pub invariant-loop-look : goal.invariant-loop-look
-invariant-loop-look l = free_from (length l.waiting - l.look) l.id (keys_of l.waiting)
+abbrev pub invariant-loop : goal.invariant-loop
+invariant-loop l = free_from (length l.waiting - l.counter) l.id (keys_of l.waiting)
     ≡ fresh l.last (keys_of l.waiting)
