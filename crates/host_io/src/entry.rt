@@ -5,7 +5,6 @@ ghost use Rattle.std.specs.Prelude.{IfOk, OnOk, OnErr, None};
 ghost use Rattle.host_io.specs.Host.{bytes_of};
 ghost use Rattle.host_io.specs.Machine.{bare_entry, is_named, with_fault, stored};
 
-use crate::Failed;
 use std::alloc::{AllocError, Global};
 use std::marker::Model;
 
