@@ -1,6 +1,6 @@
 -- The numbers of netlink's formats, each once. Places, widths and lengths count bytes. The source
 -- is the kernel's uapi header linux/netlink.h.
-use Rattle.std.specs.Prelude.{ℕ, ◌^◌}
+use Rattle.std.specs.Prelude.{ℕ, ◌-◌, ◌^◌}
 use Rattle.netlink_codec.specs.Fields.{Field}
 
 -- ---- the header of a message, `struct nlmsghdr`
@@ -29,6 +29,14 @@ message_port = record { at = 12; width = 4 }
 abbrev pub message_header_length : ℕ
 message_header_length = 16
 
+-- the flag of a message that asks for something, `NLM_F_REQUEST`
+abbrev pub request_flag : ℕ
+request_flag = 1
+
+-- kinds below are control messages, `NLMSG_MIN_TYPE`
+abbrev pub least_kind : ℕ
+least_kind = 16
+
 -- ---- the header of an attribute, `struct nlattr`
 
 -- `nla_len`: the length of header and content, without padding
@@ -50,7 +58,7 @@ kind_limit = 2 ^ 14
 
 -- the most bytes that a content can have: the length has 2 bytes and counts the header too
 abbrev pub longest_content : ℕ
-longest_content = 65531
+longest_content = 2 ^ 16 - 1 - attribute_header_length
 
 -- ---- both
 

@@ -14,19 +14,18 @@ use Rattle.netlink_codec.specs.Messages.{NetlinkMessage, FitsHeader, message_wit
 use Rattle.netlink_codec.specs.Messages.{first_message, pad}
 use Rattle.netlink_codec.specs.Attributes.{Attribute, AllFit, attributes_text}
 use Rattle.netlink_codec.specs.Numbers.{kind_limit}
+use Rattle.netlink_codec.specs.Fields.{Field}
 use Rattle.nfqa_msgs.specs.Kinds.{queue_kind}
-use Rattle.nfqa_msgs.specs.Numbers.{notice_number, queue_header_length, value_length}
-use Rattle.nfqa_msgs.specs.Numbers.{packet_header_length, packet_address_length, timestamp_length}
-use Rattle.nfqa_msgs.specs.Numbers.{packet_header_kind, mark_kind, timestamp_kind}
+use Rattle.nfqa_msgs.specs.Numbers.{notice_number, packet_header_kind, mark_kind, timestamp_kind}
 use Rattle.nfqa_msgs.specs.Numbers.{input_device_kind, output_device_kind, payload_kind}
 use Rattle.nfqa_msgs.specs.Numbers.{hardware_address_kind, full_length_kind, input_device}
 use Rattle.nfqa_msgs.specs.Numbers.{output_device, forward_hook, hardware_address_length}
-use Rattle.nfqa_msgs.specs.Headers.{Field, value_in, bytes_in, byte_text, zeros_text, low_half}
-use Rattle.nfqa_msgs.specs.Headers.{queue_in, packet_id_field, packet_protocol_field}
-use Rattle.nfqa_msgs.specs.Headers.{packet_hook_field, value_field, address_field}
-use Rattle.nfqa_msgs.specs.Headers.{address_filler_field, seconds_field, micros_field}
-use Rattle.nfqa_msgs.specs.Headers.{packet_head_content, address_content, stamp_content}
-use Rattle.nfqa_msgs.specs.Headers.{value_content}
+use Rattle.nfqa_msgs.specs.Headers.{value_in, bytes_in, byte_text, zeros_text, low_half, queue_in}
+use Rattle.nfqa_msgs.specs.Headers.{packet_id_field, packet_protocol_field, packet_hook_field}
+use Rattle.nfqa_msgs.specs.Headers.{value_field, address_field, address_filler_field, seconds_field}
+use Rattle.nfqa_msgs.specs.Headers.{micros_field, packet_head_content, address_content}
+use Rattle.nfqa_msgs.specs.Headers.{stamp_content, value_content, queue_header_length, value_length}
+use Rattle.nfqa_msgs.specs.Headers.{packet_header_length, packet_address_length, timestamp_length}
 use Rattle.nfqa_msgs.specs.RequestReading.{last_content, row_in}
 use Rattle.nfqa_msgs.specs.RequestWriting.{part}
 use Rattle.nfqa_msgs.specs.NoticeWriting.{Told, FitsTold, mark_content, payload_content}

@@ -10,21 +10,20 @@ use Rattle.byteorder.specs.Numbers.{big_number-reads_back}
 use Rattle.packet_entry.specs.Numbers.{longest_payload}
 use Rattle.netlink_codec.specs.Messages.{NetlinkMessage, FitsHeader, pad}
 use Rattle.netlink_codec.specs.Attributes.{Attribute, AllFit, attributes, attributes_text}
-use Rattle.netlink_codec.specs.Numbers.{kind_limit}
+use Rattle.netlink_codec.specs.Numbers.{kind_limit, request_flag, least_kind}
 use Rattle.nfqa_msgs.specs.declared.request.Head.{Head}
 use Rattle.nfqa_msgs.specs.declared.request.Params.{Params}
 use Rattle.nfqa_msgs.specs.declared.request.Request.{Request}
 use Rattle.nfqa_msgs.specs.declared.request.Request.TheVariants.{Config, Verdict, Batch}
 use Rattle.nfqa_msgs.specs.declared.request.Decoded.TheVariants.{Asked}
 use Rattle.nfqa_msgs.specs.Kinds.{queue_kind, subsystem_of, number_of}
-use Rattle.nfqa_msgs.specs.Numbers.{request_flag, least_kind, queue_subsystem, queue_header_length}
-use Rattle.nfqa_msgs.specs.Numbers.{config_number, verdict_number, batch_number, command_kind}
-use Rattle.nfqa_msgs.specs.Numbers.{params_kind, maxlen_kind, mask_kind, flags_kind}
-use Rattle.nfqa_msgs.specs.Numbers.{verdict_header_kind, mark_kind, payload_kind, command_length}
-use Rattle.nfqa_msgs.specs.Numbers.{params_length, verdict_header_length, value_length}
+use Rattle.nfqa_msgs.specs.Numbers.{queue_subsystem, config_number, verdict_number, batch_number}
+use Rattle.nfqa_msgs.specs.Numbers.{command_kind, params_kind, maxlen_kind, mask_kind, flags_kind}
+use Rattle.nfqa_msgs.specs.Numbers.{verdict_header_kind, mark_kind, payload_kind}
 use Rattle.nfqa_msgs.specs.Headers.{queue_header, value_in, value_field, value_content, command_in}
 use Rattle.nfqa_msgs.specs.Headers.{params_in, head_in, queue_in, command_content, params_content}
-use Rattle.nfqa_msgs.specs.Headers.{head_content}
+use Rattle.nfqa_msgs.specs.Headers.{head_content, queue_header_length, command_length}
+use Rattle.nfqa_msgs.specs.Headers.{params_length, verdict_header_length, value_length}
 use Rattle.nfqa_msgs.specs.RequestReading.{is_short, least_content, later, last_content, config_in}
 use Rattle.nfqa_msgs.specs.RequestReading.{verdict_in, batch_in, request_in, row_in, decoded}
 use Rattle.nfqa_msgs.specs.RequestReading.{PayloadFits}

@@ -6,13 +6,14 @@ use Rattle.std.specs.Option.{option_and_then}
 use Rattle.packet_entry.specs.Numbers.{ipv4_type, ipv6_type}
 use Rattle.netlink_codec.specs.Messages.{NetlinkMessage, first_message}
 use Rattle.netlink_codec.specs.Attributes.{Attribute}
-use Rattle.nfqa_msgs.specs.Numbers.{queue_header_length, value_length, packet_header_length}
-use Rattle.nfqa_msgs.specs.Numbers.{packet_address_length, timestamp_length, packet_header_kind}
-use Rattle.nfqa_msgs.specs.Numbers.{mark_kind, timestamp_kind, hardware_address_kind, payload_kind}
-use Rattle.nfqa_msgs.specs.Numbers.{full_length_kind}
-use Rattle.nfqa_msgs.specs.Headers.{Field, value_in, bytes_in, value_field, packet_id_field}
+use Rattle.netlink_codec.specs.Fields.{Field}
+use Rattle.nfqa_msgs.specs.Numbers.{packet_header_kind, mark_kind, timestamp_kind}
+use Rattle.nfqa_msgs.specs.Numbers.{hardware_address_kind, payload_kind, full_length_kind}
+use Rattle.nfqa_msgs.specs.Headers.{value_in, bytes_in, value_field, packet_id_field}
 use Rattle.nfqa_msgs.specs.Headers.{packet_protocol_field, address_field, seconds_field}
-use Rattle.nfqa_msgs.specs.Headers.{micros_field, low_half, queue_in}
+use Rattle.nfqa_msgs.specs.Headers.{micros_field, low_half, queue_in, queue_header_length}
+use Rattle.nfqa_msgs.specs.Headers.{value_length, packet_header_length, packet_address_length}
+use Rattle.nfqa_msgs.specs.Headers.{timestamp_length}
 use Rattle.nfqa_msgs.specs.RequestReading.{last_content, row_in}
 use Rattle.nfqa_msgs.specs.NoticeWriting.{Told}
 

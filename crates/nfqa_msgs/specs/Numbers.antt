@@ -1,19 +1,11 @@
--- The numbers of nfnetlink_queue messages, each once: uapi linux/netlink.h,
--- linux/netfilter/nfnetlink.h, linux/netfilter/nfnetlink_queue.h, linux/netfilter.h, linux/socket.h
--- and asm-generic/errno-base.h and errno.h. Kinds, numbers and places have no unit; lengths are in
--- bytes.
+-- The numbers of nfnetlink_queue messages, each once: uapi linux/netfilter/nfnetlink.h,
+-- linux/netfilter/nfnetlink_queue.h, linux/netfilter.h, linux/socket.h and asm-generic/errno-base.h
+-- and errno.h. Kinds, numbers and places have no unit; lengths are in bytes. The sizes of headers
+-- follow from their fields, in Headers.antt.
 use Rattle.std.specs.Prelude.{ℕ}
 use Rattle.packet_entry.specs.Numbers.{longest_payload}
 
 -- ---- messages
-
--- the flag of a message that asks for something, `NLM_F_REQUEST`
-abbrev pub request_flag : ℕ
-request_flag = 1
-
--- kinds below are control messages, `NLMSG_MIN_TYPE`
-abbrev pub least_kind : ℕ
-least_kind = 16
 
 -- the subsystem of queues, `NFNL_SUBSYS_QUEUE`
 abbrev pub queue_subsystem : ℕ
@@ -191,40 +183,6 @@ hardware_address_length = 6
 
 abbrev pub source_address_at : ℕ
 source_address_at = 6
-
--- ---- the sizes of headers and contents
-
--- `struct nfgenmsg`, before the attributes
-abbrev pub queue_header_length : ℕ
-queue_header_length = 4
-
--- `struct nfqnl_msg_config_cmd`
-abbrev pub command_length : ℕ
-command_length = 4
-
--- `struct nfqnl_msg_config_params`
-abbrev pub params_length : ℕ
-params_length = 5
-
--- `struct nfqnl_msg_verdict_hdr`
-abbrev pub verdict_header_length : ℕ
-verdict_header_length = 8
-
--- `struct nfqnl_msg_packet_hdr`
-abbrev pub packet_header_length : ℕ
-packet_header_length = 7
-
--- `struct nfqnl_msg_packet_hw`
-abbrev pub packet_address_length : ℕ
-packet_address_length = 12
-
--- `struct nfqnl_msg_packet_timestamp`
-abbrev pub timestamp_length : ℕ
-timestamp_length = 16
-
--- an attribute that is one number, such as a mark (`__be32`)
-abbrev pub value_length : ℕ
-value_length = 4
 
 -- ---- errnos
 

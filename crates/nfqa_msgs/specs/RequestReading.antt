@@ -8,19 +8,20 @@ use Rattle.std.specs.List.{list_any}
 use Rattle.packet_entry.specs.Numbers.{longest_payload}
 use Rattle.netlink_codec.specs.Messages.{NetlinkMessage}
 use Rattle.netlink_codec.specs.Attributes.{Attribute, attributes}
+use Rattle.netlink_codec.specs.Numbers.{request_flag, least_kind}
 use Rattle.nfqa_msgs.specs.declared.request.Head.{Head}
 use Rattle.nfqa_msgs.specs.declared.request.Request.{Request}
 use Rattle.nfqa_msgs.specs.declared.request.Request.TheVariants.{Config, Verdict, Batch}
 use Rattle.nfqa_msgs.specs.declared.request.Decoded.{Decoded}
 use Rattle.nfqa_msgs.specs.declared.request.Decoded.TheVariants.{Nothing, Refused, Asked}
-use Rattle.nfqa_msgs.specs.Numbers.{request_flag, least_kind, queue_subsystem, queue_header_length}
-use Rattle.nfqa_msgs.specs.Numbers.{notice_number, verdict_number, config_number, batch_number}
-use Rattle.nfqa_msgs.specs.Numbers.{command_kind, params_kind, maxlen_kind, mask_kind, flags_kind}
-use Rattle.nfqa_msgs.specs.Numbers.{verdict_header_kind, mark_kind, payload_kind, command_length}
-use Rattle.nfqa_msgs.specs.Numbers.{params_length, verdict_header_length, value_length, einval}
-use Rattle.nfqa_msgs.specs.Numbers.{erange, eopnotsupp}
+use Rattle.nfqa_msgs.specs.Numbers.{queue_subsystem, notice_number, verdict_number, config_number}
+use Rattle.nfqa_msgs.specs.Numbers.{batch_number, command_kind, params_kind, maxlen_kind, mask_kind}
+use Rattle.nfqa_msgs.specs.Numbers.{flags_kind, verdict_header_kind, mark_kind, payload_kind}
+use Rattle.nfqa_msgs.specs.Numbers.{einval, erange, eopnotsupp}
 use Rattle.nfqa_msgs.specs.Kinds.{subsystem_of, number_of}
 use Rattle.nfqa_msgs.specs.Headers.{value_in, value_field, queue_in, command_in, params_in, head_in}
+use Rattle.nfqa_msgs.specs.Headers.{queue_header_length, command_length, params_length}
+use Rattle.nfqa_msgs.specs.Headers.{verdict_header_length, value_length}
 
 -- how many bytes a known attribute of a config request needs, by its kind (`nfqa_cfg_policy`); an
 -- unknown one needs none

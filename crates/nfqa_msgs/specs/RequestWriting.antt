@@ -5,13 +5,13 @@ use Rattle.std.specs.Prelude.{None, IfSome, option_map}
 use Rattle.packet_entry.specs.Numbers.{longest_payload}
 use Rattle.netlink_codec.specs.Messages.{NetlinkMessage, message_text, message_with}
 use Rattle.netlink_codec.specs.Attributes.{Attribute, attributes_text}
-use Rattle.netlink_codec.specs.Numbers.{ack_flag}
+use Rattle.netlink_codec.specs.Numbers.{ack_flag, request_flag}
 use Rattle.nfqa_msgs.specs.declared.request.Head.{Head}
 use Rattle.nfqa_msgs.specs.declared.request.Params.{Params}
 use Rattle.nfqa_msgs.specs.declared.request.Request.{Request}
 use Rattle.nfqa_msgs.specs.declared.request.Request.TheVariants.{Config, Verdict, Batch}
-use Rattle.nfqa_msgs.specs.Numbers.{request_flag, verdict_number, config_number, batch_number}
-use Rattle.nfqa_msgs.specs.Numbers.{command_kind, params_kind, maxlen_kind, mask_kind, flags_kind}
+use Rattle.nfqa_msgs.specs.Numbers.{verdict_number, config_number, batch_number, command_kind}
+use Rattle.nfqa_msgs.specs.Numbers.{params_kind, maxlen_kind, mask_kind, flags_kind}
 use Rattle.nfqa_msgs.specs.Numbers.{verdict_header_kind, mark_kind, payload_kind, any_family}
 use Rattle.nfqa_msgs.specs.Kinds.{queue_kind}
 use Rattle.nfqa_msgs.specs.Headers.{queue_header, command_content, params_content, head_content}

@@ -1,13 +1,14 @@
 //! The known attributes of a message, checked for their length and found by their kind.
 
-ghost use Rattle.std.specs.Prelude.{◌≡◌, ℕ, ◌≤◌, length, Option, option_map, IfSome, IfOk, IsOk};
+ghost use Rattle.std.specs.Prelude.{◌≡◌, ◌≤◌, length, Option, option_map, IfSome, IfOk, IsOk};
 ghost use Rattle.std.specs.Prelude.{IsNone, false};
 ghost use Rattle.std.specs.List.{list_any};
 ghost use Rattle.packet_entry.specs.Numbers.{longest_payload};
 ghost use Rattle.netlink_codec.specs.Attributes.{attributes};
 ghost use Rattle.nfqa_msgs.specs.Numbers.{config_number, command_kind, params_kind, payload_kind};
-ghost use Rattle.nfqa_msgs.specs.Numbers.{verdict_header_kind, verdict_header_length, value_length};
-ghost use Rattle.nfqa_msgs.specs.Headers.{command_in, params_in};
+ghost use Rattle.nfqa_msgs.specs.Numbers.{verdict_header_kind};
+ghost use Rattle.nfqa_msgs.specs.Headers.{command_in, params_in, verdict_header_length};
+ghost use Rattle.nfqa_msgs.specs.Headers.{value_length};
 ghost use Rattle.nfqa_msgs.specs.RequestReading.{config_least, verdict_least, least_content};
 ghost use Rattle.nfqa_msgs.specs.RequestReading.{is_short, last_content, last_value, last_head};
 
@@ -140,7 +141,7 @@ pub(crate) fn head_of(number: u16, row: &[u8]) -> Option<Head>
     }
 }
 
-/// The bytes in the packet's place. Memory is taken where there are some.
+/// The bytes in the packet's place. Memory is taken where there is a payload, also an empty one.
 pub(crate) fn payload_of(alloc: Global, row: &[u8]) -> Result<Option<Bytes>, NoMemory>
     ensures value { IfOk result (λ payload.
         payload ≡ last_content payload_kind (attributes row.now)) }

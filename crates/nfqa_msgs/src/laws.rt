@@ -2,6 +2,8 @@
 
 ghost use Rattle.std.specs.Prelude.{◌≡◌, ℕ, ◌^◌, ◌<◌, List, [], ◌++◌, length, Some};
 ghost use Rattle.packet_entry.specs.declared.packet.Card.{Card};
+ghost use Rattle.packet_entry.specs.Numbers.{longest_payload};
+ghost use Rattle.netlink_codec.specs.Numbers.{longest_content};
 ghost use Rattle.netlink_codec.specs.Messages.{Front};
 ghost use Rattle.nfqa_msgs.specs.declared.request.Request.{Request};
 ghost use Rattle.nfqa_msgs.specs.declared.request.Decoded.TheVariants.{Asked};
@@ -60,10 +62,12 @@ pub fn packet_notices_are_told_apart()
     written_message_is_in_front();
 }
 
-/// The public numbers are the format's: copy modes, commands, the longest range and errnos.
+/// The public numbers are the format's: copy modes, commands, the longest range and errnos. And a
+/// packet's longest payload is one attribute's longest content.
 pub fn public_numbers()
     ensures modes { (NONE ≡ copy_none) × (META ≡ copy_meta) × (PACKET ≡ copy_packet) }
     ensures range { MAX_RANGE ≡ longest_range }
+    ensures payload { longest_payload ≡ longest_content }
     ensures binding { (BIND ≡ command_bind) × (UNBIND ≡ command_unbind) }
     ensures family { (PF_BIND ≡ command_pf_bind) × (PF_UNBIND ≡ command_pf_unbind) }
     ensures errnos { (EINVAL ≡ einval) × (ERANGE ≡ erange) × (EOPNOTSUPP ≡ eopnotsupp) }

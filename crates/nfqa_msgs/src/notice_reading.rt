@@ -1,7 +1,7 @@
 //! Notices, read from messages.
 
-ghost use Rattle.std.specs.Prelude.{◌≡◌, ◌≤◌, ◌+◌, ◌↔◌, ℕ, length, option_map, unwrap_or, IfSome};
-ghost use Rattle.std.specs.Prelude.{IfOk, IsNone, Some};
+ghost use Rattle.std.specs.Prelude.{◌≡◌, ◌≤◌, ◌+◌, ◌↔◌, length, option_map, IfSome, IfOk, IsOk};
+ghost use Rattle.std.specs.Prelude.{IsNone, None, Some, Ok};
 ghost use Rattle.packet_entry.specs.Numbers.{longest_payload};
 ghost use Rattle.packet_entry.specs.Fields.{IsProtocol};
 ghost use Rattle.netlink_codec.specs.Attributes.{attributes};
@@ -29,7 +29,8 @@ use packet_entry::{Bytes, IPV4, IPV6, NoMemory};
 use std::alloc::Global;
 
 /// What a notice tells, where the bytes are one: exactly the text that a queue writes for some id,
-/// packet and copy mode, without a byte more or less. `None` for all other bytes.
+/// packet and copy mode, without a byte more or less. `None` for all other bytes; those that tell
+/// nothing need no memory.
 pub fn decode_notice(alloc: Global, bytes: &[u8]) -> Result<Option<Notice>, NoMemory>
     ensures found { IfOk result (λ answer. IfSome answer (λ notice.
         (told : Told) × FitsTold told × (bytes.now ≡ notice_text told)
@@ -37,6 +38,7 @@ pub fn decode_notice(alloc: Global, bytes: &[u8]) -> Result<Option<Notice>, NoMe
     ensures only { (told : Told) → FitsTold told → bytes.now ≡ notice_text told →
         IfOk result (λ answer. answer ≡ Some (notice_of told)) }
     ensures none { IfOk result (λ answer. IsNone answer ↔ IsNoNotice bytes.now) }
+    ensures no_memory { read.told_by bytes.now ≡ None → IsOk result }
 {
     match told_exactly(alloc, bytes)? {
         None => Ok(None),
@@ -44,6 +46,7 @@ pub fn decode_notice(alloc: Global, bytes: &[u8]) -> Result<Option<Notice>, NoMe
     }
 }
 
+/// What is told, with a copy of the payload.
 fn owned(alloc: Global, told: &Telling<'_>) -> Result<Notice, NoMemory>
     requires { FitsTold (telling told.now) }
     ensures { IfOk result (λ notice. notice ≡ notice_of (telling told.now)) }
@@ -68,6 +71,7 @@ fn told_exactly(alloc: Global, bytes: &[u8]) -> Result<Option<Telling<'_>>, NoMe
         FitsTold (telling told) × (bytes.now ≡ notice_text (telling told)))) }
     ensures only { (told : Told) → FitsTold told → bytes.now ≡ notice_text told →
         IfOk result (λ answer. option_map telling answer ≡ Some told) }
+    ensures nothing { read.told_by bytes.now ≡ None → result ≡ Ok None }
 {
     // By this law what a notice tells is what is read from its text.
     notices_are_told_apart();
@@ -85,6 +89,7 @@ fn told_exactly(alloc: Global, bytes: &[u8]) -> Result<Option<Telling<'_>>, NoMe
     }
 }
 
+/// What the message that the bytes begin with tells, be it a notice or not.
 #[tactic(auto, unfolding(crate::specs::NoticeReading::told_by))]
 fn told_by(bytes: &[u8]) -> Option<Telling<'_>>
     ensures value { option_map telling result ≡ read.told_by bytes.now }
@@ -98,6 +103,7 @@ fn told_by(bytes: &[u8]) -> Option<Telling<'_>>
     Some(told_in(queue, &message.body[QUEUE_HEADER_LENGTH..]))
 }
 
+/// What the attributes of a message for this queue tell.
 #[tactic(auto, unfolding(crate::specs::NoticeReading::told_in))]
 fn told_in(queue: u16, row: &[u8]) -> Telling<'_>
     ensures value { telling result ≡ read.told_in queue (attributes row.now) }
@@ -117,6 +123,7 @@ fn told_in(queue: u16, row: &[u8]) -> Telling<'_>
     }
 }
 
+/// The content of this kind, where it has at least `least` bytes.
 fn long_of(row: &[u8], kind: u16, least: usize) -> Option<&[u8]>
     ensures value { option_map (λ content. content.now) result
         ≡ read.long_content kind least (attributes row.now) }
@@ -161,6 +168,7 @@ fn protocol_at(row: &[u8]) -> u16
     }
 }
 
+/// One of the two Ethernet types: IPv6's where it is told, else IPv4's.
 fn nearest_protocol(protocol: u16) -> u16
     ensures value { result ≡ read.nearest_protocol protocol }
     ensures one_of_two { IsProtocol result }
@@ -188,6 +196,7 @@ fn payload_at(row: &[u8]) -> &[u8]
     }
 }
 
+/// The number, where it is above the length.
 fn above(length: usize, number: u32) -> Option<u32>
     ensures { result ≡ read.above length number }
 {

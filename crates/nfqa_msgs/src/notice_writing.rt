@@ -154,6 +154,7 @@ fn family(protocol: u16) -> u8
     }
 }
 
+/// Appends the mark, unless it is 0.
 fn put_mark(body: &mut Vec<u8>, mark: u32) -> Result<(), AllocError>
     ensures { OnOk result (body.new.items ≡ body.old.items
         ++ attributes_text (part mark_kind (mark_content mark))) }
@@ -164,6 +165,7 @@ fn put_mark(body: &mut Vec<u8>, mark: u32) -> Result<(), AllocError>
     put_value(body, MARK, Some(mark))
 }
 
+/// Appends the packet's bytes, where some are told.
 fn put_payload(body: &mut Vec<u8>, payload: &[u8]) -> Result<(), AllocError>
     requires { length payload.now ≤ longest_payload }
     ensures { OnOk result (body.new.items ≡ body.old.items

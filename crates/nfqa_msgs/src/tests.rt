@@ -5,7 +5,7 @@ ghost use Rattle.nfqa_msgs.specs.RequestReading.{AskedFits};
 
 use super::*;
 use netlink_codec::next_message;
-use packet_entry::{Bytes, IPV4, IPV6, NoMemory, Packet};
+use packet_entry::{Bytes, IPV4, IPV6, MAX_FRAME, NoMemory, Packet};
 use std::alloc::Global;
 use std::test::Fail;
 
@@ -299,7 +299,7 @@ fn waiting(
     if !link.is_empty() && link.len() != 14 && link.len() != 18 {
         return Err(Fail::new("another link header"));
     }
-    if 100 < bytes.len() {
+    if MAX_FRAME < bytes.len() {
         return Err(Fail::new("a long packet"));
     }
     let mut packet = Packet::new(alloc, 1, 1, 0, protocol, link, bytes)?;
@@ -341,6 +341,38 @@ fn notices_are_written_and_read(rt: HostRuntime) -> Result<(), Fail> {
         );
         assert_eq!(rt; (notice.mark, notice.length), (mark, length));
         assert_eq!(rt; Some(notice.payload.as_slice()), bytes.get(..told));
+    }
+    Ok(())
+}
+
+/// The notice of a packet of 65,531 bytes up to its bytes, which one byte of padding follows.
+const LONGEST: &[u8] = b"\x44\0\x01\0\0\x03\0\0\0\0\0\0\0\0\0\0\x02\0\0\0\
+    \x0b\0\x01\0\0\0\0\x01\x08\0\x02\0\x08\0\x05\0\0\0\0\x01\x08\0\x06\0\0\0\0\x02\
+    \x14\0\x04\0\0\0\0\0\0\0\0\x01\0\0\0\0\0\0\0\0\xff\xff\x0a\0";
+/// The same of a packet of 65,532 bytes: the length, and all bytes but the last.
+const CUT_BY_ONE: &[u8] = b"\x4c\0\x01\0\0\x03\0\0\0\0\0\0\0\0\0\0\x02\0\0\0\
+    \x0b\0\x01\0\0\0\0\x01\x08\0\x02\0\x08\0\x05\0\0\0\0\x01\x08\0\x06\0\0\0\0\x02\
+    \x14\0\x04\0\0\0\0\0\0\0\0\x01\0\0\0\0\0\0\0\0\x08\0\x0d\0\0\0\xff\xfc\xff\xff\x0a\0";
+
+#[test]
+fn the_longest_payload_is_told(rt: HostRuntime) -> Result<(), Fail> {
+    let told = vec![in rt.alloc(); 0x45; 65_531]?;
+    for (size, front) in [(65_531, LONGEST), (65_532, CUT_BY_ONE)] {
+        let bytes = vec![in rt.alloc(); 0x45; size]?;
+        let packet = waiting(rt.alloc(), 0, IPV4, b"", &bytes)?;
+        let written = noticed(rt.alloc(), PACKET, MAX_RANGE, packet)?;
+        let mut text = Vec::from_slice(rt.alloc(), front)?;
+        text.extend_from_slice(&told)?;
+        text.push(0)?;
+        assert!(rt; written.as_slice() == text.as_slice(), "another notice");
+
+        let notice = decode_notice(rt.alloc(), &text)?.ok_or("no notice")?;
+        assert_eq!(rt; (notice.queue, notice.id, notice.protocol), (0, 1, IPV4));
+        assert_eq!(rt; notice.length, size as u32);
+        assert!(rt;
+            notice.payload.as_slice() == told.as_slice(),
+            "another payload"
+        );
     }
     Ok(())
 }

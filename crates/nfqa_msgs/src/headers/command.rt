@@ -8,8 +8,8 @@
 
 ghost use Rattle.std.specs.Prelude.{◌≡◌, ◌≤◌, ◌++◌, length, option_map, OnOk};
 ghost use Rattle.netlink_codec.specs.Attributes.{attributes_text};
-ghost use Rattle.nfqa_msgs.specs.Numbers.{command_kind, command_length};
-ghost use Rattle.nfqa_msgs.specs.Headers.{command_in, command_content};
+ghost use Rattle.nfqa_msgs.specs.Numbers.{command_kind};
+ghost use Rattle.nfqa_msgs.specs.Headers.{command_in, command_content, command_length};
 ghost use Rattle.nfqa_msgs.specs.RequestWriting.{part};
 
 use crate::attribute_writing::put_part;

@@ -7,8 +7,8 @@
 
 ghost use Rattle.std.specs.Prelude.{◌≡◌, ◌≤◌, ◌++◌, length, option_map, OnOk};
 ghost use Rattle.netlink_codec.specs.Attributes.{attributes_text};
-ghost use Rattle.nfqa_msgs.specs.Numbers.{params_kind, params_length};
-ghost use Rattle.nfqa_msgs.specs.Headers.{params_in, params_content};
+ghost use Rattle.nfqa_msgs.specs.Numbers.{params_kind};
+ghost use Rattle.nfqa_msgs.specs.Headers.{params_in, params_content, params_length};
 ghost use Rattle.nfqa_msgs.specs.RequestWriting.{part};
 
 use crate::Params;

@@ -2,13 +2,12 @@
 //!
 //! | Place | Width | Field |
 //! |---|---|---|
-//! | 0 | 1 | address family; nobody reads a request's |
-//! | 1 | 1 | version, 0; nobody reads it |
+//! | 0 | 1 | address family; a request's is ignored |
+//! | 1 | 1 | version, 0; ignored |
 //! | 2 | 2 | number of the queue |
 
 ghost use Rattle.std.specs.Prelude.{◌≡◌, ◌≤◌, length, IfOk};
-ghost use Rattle.nfqa_msgs.specs.Numbers.{queue_header_length};
-ghost use Rattle.nfqa_msgs.specs.Headers.{queue_header, queue_in};
+ghost use Rattle.nfqa_msgs.specs.Headers.{queue_header, queue_in, queue_header_length};
 
 use byteorder::{BigEndian, ByteOrder};
 use std::alloc::{AllocError, Global};

@@ -7,8 +7,7 @@
 
 ghost use Rattle.std.specs.Prelude.{◌≡◌, ◌≤◌, ◌++◌, length, OnOk};
 ghost use Rattle.netlink_codec.specs.Attributes.{attributes_text};
-ghost use Rattle.nfqa_msgs.specs.Numbers.{verdict_header_length};
-ghost use Rattle.nfqa_msgs.specs.Headers.{head_in};
+ghost use Rattle.nfqa_msgs.specs.Headers.{head_in, verdict_header_length};
 ghost use Rattle.nfqa_msgs.specs.RequestWriting.{head_part};
 
 use crate::Head;
