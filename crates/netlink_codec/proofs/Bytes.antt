@@ -1,8 +1,9 @@
 -- The bytes of the number that bytes read as are those bytes.
 use Rattle.std.proofs.Common.{◌/◌, ◌%◌, ◌≡◌, ℕ, zero, suc, ◌+◌, ◌*◌, ◌^◌, ◌<◌, ◌≤◌, List, [], ◌∷◌}
-use Rattle.std.proofs.Common.{length, take, drop, refl, sym, ap, ap₂, ◌∙◌, arith}
+use Rattle.std.proofs.Common.{◌++◌, length, take, drop, refl, sym, ap, ap₂, ◌∙◌, arith}
 use Rattle.std.proofs.Math.Nat.{div-div-eq-div-mul, pow-succ'}
-use Rattle.std.proofs.lemmas.List.{get_or-drop}
+use Rattle.std.proofs.Math.Seq.{take-add}
+use Rattle.std.proofs.lemmas.List.{get_or-drop, length-drop}
 use Rattle.std.specs.Int.{byte_at, bytes_low_first}
 use Rattle.byteorder.specs.Endian.{little_bytes, little_number}
 use Rattle.byteorder.specs.Numbers.{little_from-cons}
@@ -30,7 +31,7 @@ bytes_low_first-under i (suc k) x a h =
     ap₂ ◌∷◌ (byte_at-under i x a h) (bytes_low_first-under (suc i) k x a h)
 
 -- the bytes of the number in the first n bytes are those bytes
-pub little_bytes-number : (n : ℕ) (xs : List ℕ) → AreBytes xs → n ≤ length xs →
+little_bytes-number : (n : ℕ) (xs : List ℕ) → AreBytes xs → n ≤ length xs →
     little_bytes n (little_number n xs) ≡ take n xs
 little_bytes-number zero xs h l = refl
 little_bytes-number (suc n) [] h l = absurd (omega arith)
@@ -43,3 +44,12 @@ little_bytes-number (suc n) (a ∷ xs) h l =
     let first : byte_at 0 (a + 256 * little_number n xs) ≡ a = omega arith in
     rw number (ap₂ ◌∷◌ first (bytes_low_first-under 0 n (little_number n xs) a low
     ∙ little_bytes-number n xs rest (omega arith)))
+
+-- a field behind a front of the bytes makes a longer front
+pub field_behind : (at n : ℕ) (bytes : List ℕ) → AreBytes bytes → at + n ≤ length bytes →
+    take at bytes ++ little_bytes n (little_number n (drop at bytes)) ≡ take (at + n) bytes
+field_behind at n bytes h long =
+    let field : little_bytes n (little_number n (drop at bytes)) ≡ take n (drop at bytes) =
+    little_bytes-number n (drop at bytes) (AreBytes-drop at bytes h)
+    (omega (arith, length-drop at bytes)) in
+    ap (λ (xs : List ℕ). take at bytes ++ xs) field ∙ sym (take-add at n bytes)

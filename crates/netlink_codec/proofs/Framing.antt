@@ -1,11 +1,9 @@
 -- The message that a text begins with, and what reading finds there.
-use Rattle.std.proofs.Common.{◌≡◌, ℕ, ◌+◌, ◌^◌, ◌<◌, ◌≤◌, min, true, false, List, ◌++◌, length}
+use Rattle.std.proofs.Common.{◌≡◌, ℕ, ◌+◌, ◌^◌, ◌<◌, ◌≤◌, min, List, ◌++◌, length}
 use Rattle.std.proofs.Common.{take, drop, Option, Some, None, refl, sym, ap, ap₂, subst, ◌∙◌, arith}
-use Rattle.std.proofs.Common.{inl, inr, ◌⊎◌}
-use Rattle.std.proofs.lemmas.Bool.{le-leb, cases_lt, lt-leb}
+use Rattle.std.proofs.Common.{inl, inr}
 use Rattle.std.proofs.lemmas.List.{take-append-drop, take_at, length-append, length-drop}
 use Rattle.std.proofs.lemmas.List.{length-take-le, take-take}
-use Rattle.std.proofs.Math.Seq.{take-add}
 use Rattle.byteorder.specs.Endian.{little_bytes}
 use Rattle.byteorder.specs.Numbers.{little_from-lt, little_number-reads_back}
 use Rattle.std.specs.Prelude.{◌↔◌, option_map, IsNone, IfSome}
@@ -15,9 +13,10 @@ use Rattle.netlink_codec.specs.Numbers.{message_port, message_sequence}
 use Rattle.netlink_codec.specs.declared.messages.Message.{Message}
 use Rattle.netlink_codec.specs.Messages.{AreBytes, message_of, framed_of, NetlinkMessage}
 use Rattle.netlink_codec.specs.Messages.{FitsHeader, Front, HasNoMessage, header_text, message_text}
-use Rattle.netlink_codec.specs.Messages.{message_with, told_length, has_message, told_message}
+use Rattle.netlink_codec.specs.Messages.{message_with, told_length, told_message}
 use Rattle.netlink_codec.specs.Messages.{first_message, pad}
-use Rattle.netlink_codec.proofs.Bytes.{AreBytes-drop, little_bytes-number}
+use Rattle.netlink_codec.proofs.Bytes.{AreBytes-drop, field_behind}
+use Rattle.netlink_codec.proofs.Whole.{is_whole-true, is_whole-false, whole_or_not}
 
 abbrev pub message : ℕ → ℕ → ℕ → ℕ → List ℕ → List ℕ → NetlinkMessage
 message kind flags sequence port body whole =
@@ -34,16 +33,6 @@ message kind flags sequence port body whole =
 pub message_eq : (k k' f f' s s' p p' : ℕ) (b b' w w' : List ℕ) → k ≡ k' → f ≡ f' → s ≡ s' →
     p ≡ p' → b ≡ b' → w ≡ w' → message k f s p b w ≡ message k' f' s' p' b' w'
 message_eq k k' f f' s s' p p' b b' w w' ek ef es ep eb ew = rw (ek, ef, es, ep, eb, ew) refl
-
--- the test, from its three parts
-pub has_message-true : (bytes : List ℕ) → message_header_length ≤ length bytes →
-    message_header_length ≤ told_length bytes → told_length bytes ≤ length bytes →
-    has_message bytes ≡ true
-has_message-true bytes a b c =
-    let a' = le-leb message_header_length (length bytes) a in
-    let b' = le-leb message_header_length (told_length bytes) b in
-    let c' = le-leb (told_length bytes) (length bytes) c in
-    rw (a', b', c') refl
 
 -- reading what a message's parts were written as, with anything after it, finds those parts
 pub first_message-text : (kind flags sequence port : ℕ) (body behind : List ℕ) →
@@ -74,7 +63,9 @@ first_message-text kind flags sequence port body behind fits =
     let room : length bytes ≡ total + length behind = omega (arith, length-append body behind) in
     let w : take total bytes ≡ message_text kind flags sequence port body =
     take_at (message_text kind flags sequence port body) behind total size in
-    let yes = has_message-true bytes (omega arith) (omega arith) (omega arith) in
+    let yes =
+    is_whole-true message_header_length (told_length bytes) (length bytes) (omega arith)
+    (omega arith) (omega arith) in
     rw (yes, tells, k, f, s, p, w, size) refl
 
 -- the message that the bytes begin with is the one that reading finds
@@ -104,24 +95,15 @@ fields : (bytes : List ℕ) → AreBytes bytes → 16 ≤ length bytes →
     header_text (told message_kind bytes) (told message_flags bytes) (told message_sequence bytes)
     (told message_port bytes) (told_length bytes) ≡ take 16 bytes
 fields bytes h long =
-    let a : little_bytes 4 (told_length bytes) ≡ take 4 bytes =
-    little_bytes-number 4 bytes h (omega arith) in
-    let b : little_bytes 2 (told message_kind bytes) ≡ take 2 (drop 4 bytes) =
-    little_bytes-number 2 (drop 4 bytes) (AreBytes-drop 4 bytes h)
-    (omega (arith, length-drop 4 bytes)) in
-    let c : little_bytes 2 (told message_flags bytes) ≡ take 2 (drop 6 bytes) =
-    little_bytes-number 2 (drop 6 bytes) (AreBytes-drop 6 bytes h)
-    (omega (arith, length-drop 6 bytes)) in
-    let d : little_bytes 4 (told message_sequence bytes) ≡ take 4 (drop 8 bytes) =
-    little_bytes-number 4 (drop 8 bytes) (AreBytes-drop 8 bytes h)
-    (omega (arith, length-drop 8 bytes)) in
-    let e : little_bytes 4 (told message_port bytes) ≡ take 4 (drop 12 bytes) =
-    little_bytes-number 4 (drop 12 bytes) (AreBytes-drop 12 bytes h)
-    (omega (arith, length-drop 12 bytes)) in
-    let two = ap₂ (λ (x y : List ℕ). x ++ y) a b ∙ sym (take-add 4 2 bytes) in
-    let three = ap₂ (λ (x y : List ℕ). x ++ y) two c ∙ sym (take-add 6 2 bytes) in
-    let four = ap₂ (λ (x y : List ℕ). x ++ y) three d ∙ sym (take-add 8 4 bytes) in
-    ap₂ (λ (x y : List ℕ). x ++ y) four e ∙ sym (take-add 12 4 bytes)
+    let B : List ℕ = little_bytes 2 (told message_kind bytes) in
+    let C : List ℕ = little_bytes 2 (told message_flags bytes) in
+    let D : List ℕ = little_bytes 4 (told message_sequence bytes) in
+    let E : List ℕ = little_bytes 4 (told message_port bytes) in
+    ap (λ (front : List ℕ). front ++ B ++ C ++ D ++ E) (field_behind 0 4 bytes h (omega arith))
+    ∙ ap (λ (front : List ℕ). front ++ C ++ D ++ E) (field_behind 4 2 bytes h (omega arith))
+    ∙ ap (λ (front : List ℕ). front ++ D ++ E) (field_behind 6 2 bytes h (omega arith))
+    ∙ ap (λ (front : List ℕ). front ++ E) (field_behind 8 4 bytes h (omega arith))
+    ∙ field_behind 12 4 bytes h (omega arith)
 
 -- the bytes begin with a message where the test says so
 pub told-Front : (bytes : List ℕ) → AreBytes bytes → message_header_length ≤ length bytes →
@@ -152,62 +134,25 @@ told-Front bytes h long least most =
       uses = ap (λ (n : ℕ). min (pad n) (length bytes)) (sym size);
     }
 
--- the three parts of the test, or one of the three reasons why the bytes begin with no message
-record HasMessage (bytes : List ℕ) : Type 0 where
-  long : message_header_length ≤ length bytes
-  least : message_header_length ≤ told_length bytes
-  most : told_length bytes ≤ length bytes
-
-message_or_not : (bytes : List ℕ) → HasMessage bytes ⊎ HasNoMessage bytes
-message_or_not bytes =
-    elim (cases_lt (length bytes) message_header_length) [
-      | inl short ↦ inr (inl short)
-      | inr long ↦ elim (cases_lt (told_length bytes) message_header_length) [
-        | inl small ↦ inr (inr (inl small))
-        | inr least ↦ elim (cases_lt (length bytes) (told_length bytes)) [
-          | inl cut ↦ inr (inr (inr cut))
-          | inr most ↦ inl (record { long = long; least = least; most = most })
-        ]
-      ]
-    ]
-
-has_message-false : (bytes : List ℕ) → HasNoMessage bytes → has_message bytes ≡ false
-has_message-false bytes (inl short) = rw (lt-leb message_header_length (length bytes) short) refl
-has_message-false bytes (inr (inl small)) =
-    let e = lt-leb message_header_length (told_length bytes) small in
-    elim (cases_lt (length bytes) message_header_length) [
-      | inl short ↦ rw (lt-leb message_header_length (length bytes) short) refl
-      | inr long ↦ rw (le-leb message_header_length (length bytes) long, e) refl
-    ]
-has_message-false bytes (inr (inr cut)) =
-    let e = lt-leb (told_length bytes) (length bytes) cut in
-    elim (cases_lt (length bytes) message_header_length) [
-      | inl short ↦ rw (lt-leb message_header_length (length bytes) short) refl
-      | inr long ↦ elim (cases_lt (told_length bytes) message_header_length) [
-        | inl small ↦
-            let tests = le-leb message_header_length (length bytes) long in
-            rw (tests, lt-leb message_header_length (told_length bytes) small) refl
-        | inr least ↦
-            let tests = le-leb message_header_length (length bytes) long in
-            rw (tests, le-leb message_header_length (told_length bytes) least, e) refl
-      ]
-    ]
-
 pub first_message-none : (bytes : List ℕ) → HasNoMessage bytes → first_message bytes ≡ None
 unfolding first_message
-first_message-none bytes missing = rw (has_message-false bytes missing) refl
+first_message-none bytes missing =
+    rw (is_whole-false message_header_length (told_length bytes) (length bytes) missing) refl
 
 pub first_message-some : (bytes : List ℕ) → message_header_length ≤ length bytes →
     message_header_length ≤ told_length bytes → told_length bytes ≤ length bytes →
     first_message bytes ≡ Some (told_message bytes, min (pad (told_length bytes)) (length bytes))
 unfolding first_message
-first_message-some bytes long least most = rw (has_message-true bytes long least most) refl
+first_message-some bytes long least most =
+    let yes =
+    is_whole-true message_header_length (told_length bytes) (length bytes) long least most in
+    rw yes refl
 
 -- the bytes begin with what reading finds
 pub first_message-Front : (bytes : List ℕ) (m : NetlinkMessage) (used : ℕ) → AreBytes bytes →
     Some (m, used) ≡ first_message bytes → Front bytes m used
 first_message-Front bytes m used h e =
-    elim (message_or_not bytes) [
+    elim (whole_or_not message_header_length (told_length bytes) (length bytes)) [
       | inl has ↦
           let reads : NetlinkMessage × ℕ =
           (told_message bytes, min (pad (told_length bytes)) (length bytes)) in
@@ -230,7 +175,7 @@ found_stands bytes h (Some x) e = first_message-Front bytes (message_of x.0) x.1
 pub none_exactly : (bytes : List ℕ) (r : Option (Message × ℕ)) →
     option_map framed_of r ≡ first_message bytes → IsNone r ↔ HasNoMessage bytes
 none_exactly bytes None e =
-    elim (message_or_not bytes) [
+    elim (whole_or_not message_header_length (told_length bytes) (length bytes)) [
       | inl has ↦ let some = e ∙ first_message-some bytes has.long has.least has.most in absurd cc
       | inr missing ↦ (λ _. missing, λ _. refl)
     ]

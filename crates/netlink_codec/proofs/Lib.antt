@@ -1,3 +1,4 @@
 pub mod Bytes
+pub mod Whole
 pub mod Framing
 pub mod Rows

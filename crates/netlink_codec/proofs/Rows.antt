@@ -1,17 +1,17 @@
 -- The walk over a body: its steps, and what it finds where attributes were written.
-use Rattle.std.proofs.Common.{◌≡◌, ℕ, zero, suc, ◌+◌, ◌-◌, ◌%◌, ◌^◌, ◌<◌, ◌≤◌, Bool, true, false}
-use Rattle.std.proofs.Common.{◌&&◌, List, [], ◌∷◌, ◌++◌, length, take, drop, refl, sym, ap, ap₂}
+use Rattle.std.proofs.Common.{◌≡◌, ℕ, zero, suc, ◌+◌, ◌-◌, ◌%◌, ◌^◌, ◌<◌, ◌≤◌, true, false}
+use Rattle.std.proofs.Common.{List, [], ◌∷◌, ◌++◌, length, take, drop, refl, sym, ap, ap₂}
 use Rattle.std.proofs.Common.{subst, ◌∙◌, append_assoc, append-nil, arith, inl, inr}
 use Rattle.std.proofs.Math.Nat.{mod-eq_of_lt}
-use Rattle.std.proofs.lemmas.Bool.{le-leb, leb-true, cases_Bool, cases_lt}
+use Rattle.std.proofs.lemmas.Bool.{cases_Bool}
 use Rattle.std.proofs.lemmas.List.{take-append-drop, take-take, take_at, drop_at, length-append}
 use Rattle.std.proofs.lemmas.List.{length-drop, length-replicate, length-take-le}
-use Rattle.std.proofs.Math.Seq.{take-add}
 use Rattle.byteorder.specs.Endian.{little_bytes, little_number}
 use Rattle.byteorder.specs.Numbers.{little_from-lt, little_number-reads_back}
 use Rattle.netlink_codec.specs.Fields.{told}
 use Rattle.netlink_codec.specs.Numbers.{attribute_header_length, attribute_kind, kind_limit}
-use Rattle.netlink_codec.proofs.Bytes.{AreBytes-drop, little_bytes-number}
+use Rattle.netlink_codec.proofs.Bytes.{AreBytes-drop, field_behind}
+use Rattle.netlink_codec.proofs.Whole.{is_whole-true, is_whole-false, Limits, limits, why_not_whole}
 use Rattle.netlink_codec.specs.Messages.{AreBytes, pad}
 use Rattle.netlink_codec.specs.Attributes.{Attribute, AttributeFront, HasNoAttribute, Holds}
 use Rattle.netlink_codec.specs.Attributes.{attribute_header_text, FitsAttribute, AllFit}
@@ -22,52 +22,19 @@ use Rattle.netlink_codec.specs.Attributes.{after_attribute, attributes_up_to, at
 abbrev pub attribute : ℕ → List ℕ → Attribute
 attribute kind content = record { kind = kind; content = content }
 
--- the test, from its three parts
-pub has_attribute-true : (bytes : List ℕ) → attribute_header_length ≤ length bytes →
-    attribute_header_length ≤ attribute_length bytes → attribute_length bytes ≤ length bytes →
-    has_attribute bytes ≡ true
-has_attribute-true bytes a b c =
-    let a' = le-leb attribute_header_length (length bytes) a in
-    let b' = le-leb attribute_header_length (attribute_length bytes) b in
-    let c' = le-leb (attribute_length bytes) (length bytes) c in
-    rw (a', b', c') refl
-
--- a conjunction that holds, by its parts
-both : (a b : Bool) → (a && b) ≡ true → (a ≡ true) × (b ≡ true)
-both true b e = (refl, e)
-both false b e = absurd cc
-
 -- what the test tells
-record Limits (bytes : List ℕ) : Type 0 where
-  long : attribute_header_length ≤ length bytes
-  least : attribute_header_length ≤ attribute_length bytes
-  most : attribute_length bytes ≤ length bytes
+abbrev Known : List ℕ → Type 0
+Known bytes = Limits attribute_header_length (attribute_length bytes) (length bytes)
 
-limits : (bytes : List ℕ) → has_attribute bytes ≡ true → Limits bytes
-limits bytes e =
-    let parts = both _ _ e in
-    let ends = both _ _ parts.1 in
-    record { long = leb-true _ _ parts.0; least = leb-true _ _ ends.0; most = leb-true _ _ ends.1 }
-
--- the test fails for each of the three reasons
-pub has_attribute-false : (bytes : List ℕ) → HasNoAttribute bytes → has_attribute bytes ≡ false
-has_attribute-false bytes missing =
-    elim (cases_Bool (has_attribute bytes)) [
-      | inr fails ↦ fails
-      | inl stands ↦
-          let parts = limits bytes stands in
-          elim missing [
-            | inl short ↦ absurd (omega arith)
-            | inr tells ↦ elim tells
-                [ inl small ↦ absurd (omega arith) | inr cut ↦ absurd (omega arith) ]
-          ]
-    ]
+known_of : (bytes : List ℕ) → has_attribute bytes ≡ true → Known bytes
+known_of bytes stands =
+    limits attribute_header_length (attribute_length bytes) (length bytes) stands
 
 -- where the bytes begin with an attribute, fewer bytes follow it
 after-shorter : (bytes : List ℕ) → has_attribute bytes ≡ true →
     length (after_attribute bytes) < length bytes
 after-shorter bytes e =
-    let known = limits bytes e in
+    let known = known_of bytes e in
     omega (arith, length-drop (pad (attribute_length bytes)) bytes)
 
 -- more steps than there are bytes change nothing
@@ -128,7 +95,9 @@ AttributeFront-first bytes a front =
     ap (drop 4) (take_at head rest total size) in
     let room : length (head ++ rest) ≡ total + length rest = length-append head rest
     ∙ ap (λ (n : ℕ). n + length rest) size in
-    let yes = has_attribute-true (head ++ rest) (omega arith) (omega arith) (omega arith) in
+    let yes =
+    is_whole-true attribute_header_length (attribute_length (head ++ rest)) (length (head ++ rest))
+    (omega arith) (omega arith) (omega arith) in
     let parts =
     ap₂ attribute (ap (λ (n : ℕ). n % kind_limit) k ∙ front.kind)
     (ap (λ (n : ℕ). drop 4 (take n (head ++ rest))) tells ∙ content) in
@@ -141,7 +110,9 @@ AttributeFront-first bytes a front =
 -- the row that a body holds is the one that the walk gives
 pub Holds-attributes : (row : List Attribute) (body : List ℕ) → Holds body row →
     attributes body ≡ row
-Holds-attributes [] body ends = attributes-end body (has_attribute-false body ends)
+Holds-attributes [] body ends =
+    attributes-end body
+    (is_whole-false attribute_header_length (attribute_length body) (length body) ends)
 Holds-attributes (a ∷ row) body held =
     let reads = AttributeFront-first body a held.0 in
     attributes-step body reads.stands
@@ -151,7 +122,7 @@ Holds-attributes (a ∷ row) body held =
 content-size : (bytes : List ℕ) → has_attribute bytes ≡ true →
     attribute_header_length + length (first_attribute bytes).content ≡ attribute_length bytes
 content-size bytes stands =
-    let known = limits bytes stands in
+    let known = known_of bytes stands in
     omega (
       arith,
       length-drop 4 (take (attribute_length bytes) bytes),
@@ -162,18 +133,16 @@ content-size bytes stands =
 told-AttributeFront : (bytes : List ℕ) → AreBytes bytes → has_attribute bytes ≡ true →
     AttributeFront bytes (first_attribute bytes)
 told-AttributeFront bytes h stands =
-    let known = limits bytes stands in
+    let known = known_of bytes stands in
     let total : ℕ = attribute_length bytes in
     let told_kind : ℕ = told attribute_kind bytes in
     let whole : List ℕ = take total bytes in
     let size = content-size bytes stands in
     let below : total < 2 ^ 16 = little_from-lt 0 2 bytes h in
-    let a : little_bytes 2 total ≡ take 2 bytes = little_bytes-number 2 bytes h (omega arith) in
-    let b : little_bytes 2 told_kind ≡ take 2 (drop 2 bytes) =
-    little_bytes-number 2 (drop 2 bytes) (AreBytes-drop 2 bytes h)
-    (omega (arith, length-drop 2 bytes)) in
     let fields : attribute_header_text told_kind total ≡ take 4 bytes =
-    ap₂ (λ (x y : List ℕ). x ++ y) a b ∙ sym (take-add 2 2 bytes) in
+    ap (λ (front : List ℕ). front ++ little_bytes 2 told_kind)
+    (field_behind 0 2 bytes h (omega arith))
+    ∙ field_behind 2 2 bytes h (omega arith) in
     let header = take-take 4 total bytes known.least ∙ sym fields
     ∙ ap (attribute_header_text told_kind) (sym size) in
     let parts = sym (take-append-drop 4 whole) ∙ ap (λ (x : List ℕ). x ++ drop 4 whole) header in
@@ -189,26 +158,16 @@ told-AttributeFront bytes h stands =
       );
     }
 
--- where the test fails, one of the three reasons holds
 fails-HasNoAttribute : (bytes : List ℕ) → has_attribute bytes ≡ false → HasNoAttribute bytes
 fails-HasNoAttribute bytes fails =
-    elim (cases_lt (length bytes) attribute_header_length) [
-      | inl short ↦ inl short
-      | inr long ↦ elim (cases_lt (attribute_length bytes) attribute_header_length) [
-        | inl small ↦ inr (inl small)
-        | inr least ↦ elim (cases_lt (length bytes) (attribute_length bytes)) [
-          | inl cut ↦ inr (inr cut)
-          | inr most ↦ let stands = has_attribute-true bytes long least most in absurd cc
-        ]
-      ]
-    ]
+    why_not_whole attribute_header_length (attribute_length bytes) (length bytes) fails
 
 -- a body of bytes holds what the walk gives
 attributes-held : (n : ℕ) (body : List ℕ) → length body ≤ n → AreBytes body →
     Holds body (attributes body)
 attributes-held zero body most h =
     elim (cases_Bool (has_attribute body)) [
-      | inl stands ↦ let known = limits body stands in absurd (omega arith)
+      | inl stands ↦ let known = known_of body stands in absurd (omega arith)
       | inr fails ↦ let P : List Attribute → Type 0 = λ row. Holds body row in
           subst P (sym (attributes-end body fails)) (fails-HasNoAttribute body fails)
     ]

@@ -1,14 +1,13 @@
 -- Netlink attributes in the body of a message: uapi linux/netlink.h, `struct nlattr`, `NLA_ALIGN`
 -- and `NLA_TYPE_MASK`, and the kernel's `nla_ok` and `nla_next`.
-use Rattle.std.specs.Prelude.{◌≡◌, ℕ, zero, suc, ◌+◌, ◌-◌, ◌%◌, ◌^◌, ◌<◌, ◌≤◌, ◌⊎◌, Bool, ◌&&◌}
-use Rattle.std.specs.Prelude.{nat_le, if◌then◌else◌, List, [], ◌∷◌, ◌++◌, length, take, drop}
-use Rattle.std.specs.Prelude.{replicate}
+use Rattle.std.specs.Prelude.{◌≡◌, ℕ, zero, suc, ◌+◌, ◌-◌, ◌%◌, ◌^◌, ◌<◌, ◌≤◌, Bool}
+use Rattle.std.specs.Prelude.{if◌then◌else◌, List, [], ◌∷◌, ◌++◌, length, take, drop, replicate}
 use Rattle.std.specs.List.{flat_map, AllByRecursion}
 use Rattle.netlink_codec.specs.declared.attributes.Attr.{Attr}
 use Rattle.netlink_codec.specs.Fields.{field_text, told}
 use Rattle.netlink_codec.specs.Numbers.{attribute_header_length, attribute_kind, attribute_total}
 use Rattle.netlink_codec.specs.Numbers.{kind_limit, longest_content}
-use Rattle.netlink_codec.specs.Messages.{pad}
+use Rattle.netlink_codec.specs.Messages.{pad, is_whole, IsNotWhole}
 
 -- an attribute: its kind and its content
 pub record Attribute : Type 0 where
@@ -69,9 +68,7 @@ attribute_length bytes = told attribute_total bytes
 -- the bytes begin with no attribute: fewer than a header remain, or the length is below the
 -- header's or above what remains
 abbrev pub HasNoAttribute : List ℕ → Type 0
-HasNoAttribute bytes =
-    (length bytes < attribute_header_length)
-    ⊎ ((attribute_length bytes < attribute_header_length) ⊎ (length bytes < attribute_length bytes))
+HasNoAttribute bytes = IsNotWhole attribute_header_length (attribute_length bytes) (length bytes)
 
 -- the body holds this row of attributes: it begins with the first, and the bytes after that one and
 -- its padding, which may be cut, hold the others; what follows the last begins with no attribute
@@ -85,10 +82,7 @@ Holds body (a ∷ row) =
 
 -- there is a whole header, and its length is at least the header's and at most what remains
 abbrev pub has_attribute : List ℕ → Bool
-has_attribute bytes =
-    nat_le attribute_header_length (length bytes)
-    && (nat_le attribute_header_length (attribute_length bytes)
-    && nat_le (attribute_length bytes) (length bytes))
+has_attribute bytes = is_whole attribute_header_length (attribute_length bytes) (length bytes)
 
 -- the attribute that the bytes begin with: the low 14 bits of its kind, and the bytes after its
 -- header up to its length

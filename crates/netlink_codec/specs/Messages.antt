@@ -41,6 +41,17 @@ AreBytes bytes = (i : ℕ) → slice_index bytes i < 256
 abbrev pub pad : ℕ → ℕ
 pad n = (n + (alignment - 1)) / alignment * alignment
 
+-- what begins with a header stands whole: there is a whole header, and the total length that it
+-- tells is at least the header's and at most the bytes that remain (`NLMSG_OK`, `nla_ok`)
+abbrev pub is_whole : ℕ → ℕ → ℕ → Bool
+is_whole header total remaining =
+    nat_le header remaining && (nat_le header total && nat_le total remaining)
+
+-- the three reasons why it doesn't
+abbrev pub IsNotWhole : ℕ → ℕ → ℕ → Type 0
+IsNotWhole header total remaining =
+    (remaining < header) ⊎ ((total < header) ⊎ (remaining < total))
+
 -- ---- writing
 
 -- a header, field by field; `total` is the length of header and body
@@ -95,16 +106,11 @@ told_length bytes = told message_total bytes
 -- the bytes begin with no message: there is no whole header, the length is below the header's, or
 -- there are fewer bytes than the length says
 abbrev pub HasNoMessage : List ℕ → Type 0
-HasNoMessage bytes =
-    (length bytes < message_header_length)
-    ⊎ ((told_length bytes < message_header_length) ⊎ (length bytes < told_length bytes))
+HasNoMessage bytes = IsNotWhole message_header_length (told_length bytes) (length bytes)
 
 -- there is a whole header, and its length is at least the header's and at most the bytes there
 abbrev pub has_message : List ℕ → Bool
-has_message bytes =
-    nat_le message_header_length (length bytes)
-    && (nat_le message_header_length (told_length bytes)
-    && nat_le (told_length bytes) (length bytes))
+has_message bytes = is_whole message_header_length (told_length bytes) (length bytes)
 
 -- the parts that the header at the start of the bytes tells
 abbrev pub told_message : List ℕ → NetlinkMessage
