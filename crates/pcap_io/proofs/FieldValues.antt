@@ -1,9 +1,9 @@
 -- A number that is read is spelled by its bytes, and a number that is spelled is read again.
 use Rattle.std.proofs.Common.{◌≡◌, ℕ, ◌+◌, ◌-◌, ◌^◌, ◌<◌, ◌≤◌, Bool, true, false, cond, not, eqb}
-use Rattle.std.proofs.Common.{List, ◌++◌, length, get_or, take, drop, Result, Ok, Err, refl, sym}
-use Rattle.std.proofs.Common.{ap, ◌∙◌, arith, inl, inr, ◌⊎◌}
+use Rattle.std.proofs.Common.{List, [], ◌∷◌, ◌++◌, length, get_or, take, drop, Result, Ok, Err}
+use Rattle.std.proofs.Common.{refl, sym, ap, ◌∙◌, arith, inl, inr, ◌⊎◌}
 use Rattle.std.specs.Prelude.{slice_range, ◌&&◌}
-use Rattle.std.specs.Int.{w16, w32}
+use Rattle.std.specs.Int.{Width, w16, w32, byte_len}
 use Rattle.std.proofs.lemmas.Bool.{cases_lt, eqb-true, and_parts, not-false}
 use Rattle.std.proofs.lemmas.List.{take-append-drop, take-take, drop-take, length-take, length-drop}
 use Rattle.std.proofs.lemmas.List.{get_or-drop, get_or-take, get_or_past}
@@ -48,12 +48,12 @@ joined text a b le =
 
 -- ---- numbers
 
-pub field_takes32 : (big : Bool) (bytes : List ℕ) → length bytes ≡ 4 → IsBytes bytes →
+field_takes32 : (big : Bool) (bytes : List ℕ) → length bytes ≡ 4 → IsBytes bytes →
     field big w32 (field_value big w32 bytes) ≡ bytes
 field_takes32 true bytes len fits = be_bytes_4 bytes _ len fits refl
 field_takes32 false bytes len fits = le_bytes_4 bytes _ len fits refl
 
-pub field_takes16 : (big : Bool) (bytes : List ℕ) → length bytes ≡ 2 → IsBytes bytes →
+field_takes16 : (big : Bool) (bytes : List ℕ) → length bytes ≡ 2 → IsBytes bytes →
     field big w16 (field_value big w16 bytes) ≡ bytes
 field_takes16 true bytes len fits = be_bytes_2 bytes _ len fits refl
 field_takes16 false bytes len fits = le_bytes_2 bytes _ len fits refl
@@ -62,33 +62,55 @@ number_below : (big : Bool) (bytes : List ℕ) → IsBytes bytes → field_value
 number_below true bytes fits = omega (arith, fits 0, fits 1, fits 2, fits 3)
 number_below false bytes fits = omega (arith, fits 0, fits 1, fits 2, fits 3)
 
-pub number_again : (big : Bool) (n : ℕ) → n < 2 ^ 32 → field_value big w32 (field big w32 n) ≡ n
+-- the four bytes of a number, one by one: over them places compute, whatever the byte order
+abbrev pub four : Bool → ℕ → List ℕ
+four big n =
+    get_or (field big w32 n) 0 0 ∷ get_or (field big w32 n) 1 0 ∷ get_or (field big w32 n) 2 0
+    ∷ get_or (field big w32 n) 3 0 ∷ []
+
+pub four_is : (big : Bool) (n : ℕ) → field big w32 n ≡ four big n
+four_is true n = refl
+four_is false n = refl
+
+pub number_again : (big : Bool) (n : ℕ) → n < 2 ^ 32 → field_value big w32 (four big n) ≡ n
 number_again true n lt = from_be_bytes-to_be_bytes_4 n lt
 number_again false n lt = from_le_bytes-to_le_bytes_4 n lt
 
-pub length-field32 : (big : Bool) (n : ℕ) → length (field big w32 n) ≡ 4
-length-field32 true n = refl
-length-field32 false n = refl
+-- the two bytes of a shorter one
+abbrev pub two : Bool → ℕ → List ℕ
+two big n = get_or (field big w16 n) 0 0 ∷ get_or (field big w16 n) 1 0 ∷ []
 
-pub length-field16 : (big : Bool) (n : ℕ) → length (field big w16 n) ≡ 2
-length-field16 true n = refl
-length-field16 false n = refl
+pub two_is : (big : Bool) (n : ℕ) → field big w16 n ≡ two big n
+two_is true n = refl
+two_is false n = refl
+
+pub short_again : (big : Bool) (n : ℕ) → n < 2 ^ 16 → field_value big w16 (two big n) ≡ n
+short_again true n lt = omega arith
+short_again false n lt = omega arith
 
 IsBytes-range : (text : List ℕ) (a b : ℕ) → IsBytes text → IsBytes (slice_range text a b)
 IsBytes-range text a b fits = IsBytes-take (b - a) (drop a text) (IsBytes-drop a text fits)
 
--- the field at a place is the part of the text there
-pub at_takes32 : (big : Bool) (text : List ℕ) (at : ℕ) → IsBytes text → at + 4 ≤ length text →
-    field big w32 (number_at big w32 at text) ≡ slice_range text at (at + 4)
-at_takes32 big text at fits long =
-    field_takes32 big (slice_range text at (at + 4)) (omega (arith, length-range text at (at + 4)))
-    (IsBytes-range text at (at + 4) fits)
+-- a field behind a front of the text makes a longer front
+field_behind : (big : Bool) (w : Width) → ((bytes : List ℕ) → length bytes ≡ byte_len w →
+    IsBytes bytes → field big w (field_value big w bytes) ≡ bytes) → (text : List ℕ) (at : ℕ) →
+    IsBytes text → at + byte_len w ≤ length text →
+    take at text ++ field big w (number_at big w at text) ≡ take (at + byte_len w) text
+field_behind big w takes text at fits long =
+    let part = slice_range text at (at + byte_len w) in
+    let is : field big w (number_at big w at text) ≡ part =
+    takes part (omega (arith, length-range text at (at + byte_len w)))
+    (IsBytes-range text at (at + byte_len w) fits) in
+    ap (λ (back : List ℕ). take at text ++ back) is
+    ∙ joined text at (at + byte_len w) (omega arith)
 
-pub at_takes16 : (big : Bool) (text : List ℕ) (at : ℕ) → IsBytes text → at + 2 ≤ length text →
-    field big w16 (number_at big w16 at text) ≡ slice_range text at (at + 2)
-at_takes16 big text at fits long =
-    field_takes16 big (slice_range text at (at + 2)) (omega (arith, length-range text at (at + 2)))
-    (IsBytes-range text at (at + 2) fits)
+pub behind32 : (big : Bool) (text : List ℕ) (at : ℕ) → IsBytes text → at + 4 ≤ length text →
+    take at text ++ field big w32 (number_at big w32 at text) ≡ take (at + 4) text
+behind32 big text at fits long = field_behind big w32 (field_takes32 big) text at fits long
+
+pub behind16 : (big : Bool) (text : List ℕ) (at : ℕ) → IsBytes text → at + 2 ≤ length text →
+    take at text ++ field big w16 (number_at big w16 at text) ≡ take (at + 2) text
+behind16 big text at fits long = field_behind big w16 (field_takes16 big) text at fits long
 
 pub at_below : (big : Bool) (text : List ℕ) (at : ℕ) → IsBytes text →
     number_at big w32 at text < 2 ^ 32

@@ -1,14 +1,12 @@
 -- The header that is read is the front of the text, and a header that is spelled is read again.
-use Rattle.std.proofs.Common.{◌≡◌, ℕ, ◌<◌, ◌≤◌, ◌^◌, Bool, true, false, cond, not, eqb, ltb, List}
-use Rattle.std.proofs.Common.{[], ◌++◌, length, take, Result, Ok, Err, refl, sym, ap, subst, ◌∙◌}
-use Rattle.std.proofs.Common.{append_assoc, arith, lit≤}
-use Rattle.std.specs.Prelude.{slice_range}
+use Rattle.std.proofs.Common.{◌≡◌, ℕ, ◌+◌, ◌<◌, ◌≤◌, ◌^◌, Bool, true, false, cond, not, eqb, ltb}
+use Rattle.std.proofs.Common.{List, [], ◌++◌, length, take, Result, Ok, Err, refl, sym, ap, subst}
+use Rattle.std.proofs.Common.{◌∙◌, append_assoc, arith, lit≤}
 use Rattle.std.specs.Int.{w16, w32}
 use Rattle.std.proofs.lemmas.Bool.{eqb-true, ltb-false, le-ltb, not-false}
 use Rattle.std.proofs.lemmas.List.{length-take, append-nil}
 use Rattle.std.proofs.lemmas.List.Elements.{All-nil}
-use Rattle.std.proofs.lemmas.Nat.{be_bytes_4, from_be_bytes-to_be_bytes_4}
-use Rattle.std.proofs.lemmas.Nat.{from_le_bytes-to_le_bytes_4}
+use Rattle.std.proofs.lemmas.Nat.{be_bytes_4}
 use Rattle.packet_entry.specs.Numbers.{longest_packet}
 use Rattle.pcap_io.specs.declared.capture.Capture.{Capture}
 use Rattle.pcap_io.specs.declared.capture.Frame.{Frame}
@@ -21,8 +19,9 @@ use Rattle.pcap_io.specs.Text.{field, magic_of, header_text, is_link_type, Frame
 use Rattle.pcap_io.specs.Text.{IsCapture}
 use Rattle.pcap_io.specs.Reading.{◌>>=◌, number_at, resolution_of, read_magic, fields_at}
 use Rattle.pcap_io.specs.Reading.{read_header}
-use Rattle.pcap_io.proofs.FieldValues.{IsBytes, IsBytes-take, joined, at_takes16, at_takes32}
+use Rattle.pcap_io.proofs.FieldValues.{IsBytes, IsBytes-take, behind16, behind32}
 use Rattle.pcap_io.proofs.FieldValues.{at_below, guarded, bound, same_numbers, ok_is}
+use Rattle.pcap_io.proofs.FieldValues.{four, four_is, number_again, two, two_is, short_again}
 
 -- what holds of each resolution whose test may succeed holds of the one that was chosen
 picked : (P : Bool × Bool → Type 0) (a b c d e : Bool) (m : Bool × Bool) →
@@ -83,31 +82,24 @@ fields_take big nanos text c fits magic e =
     (LinkType (number_at big w32 20 text)) (Ok made) c h.1 in
     let long : 24 ≤ length text = ltb-false (length text) 24 g.0 in
     let version = same_numbers (number_at big w16 4 text) (number_at big w16 6 text) 2 4 h.0 in
-    let major : field big w16 2 ≡ slice_range text 4 6 =
-    ap (λ (n : ℕ). field big w16 n) (sym version.0)
-    ∙ at_takes16 big text 4 fits (omega arith) in
-    let minor : field big w16 4 ≡ slice_range text 6 8 =
-    ap (λ (n : ℕ). field big w16 n) (sym version.1)
-    ∙ at_takes16 big text 6 fits (omega arith) in
-    let zone = at_takes32 big text 8 fits (omega arith) in
-    let sigfigs = at_takes32 big text 12 fits (omega arith) in
-    let snap = at_takes32 big text 16 fits (omega arith) in
-    let link = at_takes32 big text 20 fits (omega arith) in
+    let major : take 4 text ++ field big w16 2 ≡ take 6 text =
+    ap (λ (n : ℕ). take 4 text ++ field big w16 n) (sym version.0)
+    ∙ behind16 big text 4 fits (omega arith) in
+    let minor : take 6 text ++ field big w16 4 ≡ take 8 text =
+    ap (λ (n : ℕ). take 6 text ++ field big w16 n) (sym version.1)
+    ∙ behind16 big text 6 fits (omega arith) in
+    let next : (at : ℕ) → at + 4 ≤ 24 →
+    take at text ++ field big w32 (number_at big w32 at text) ≡ take (at + 4) text =
+    λ at within. behind32 big text at fits (omega arith) in
     let spelled : header_text made ≡ take 24 text =
     rw (
       magic,
       major,
       minor,
-      zone,
-      sigfigs,
-      snap,
-      link,
-      joined text 4 6 (lit≤ tt),
-      joined text 6 8 (lit≤ tt),
-      joined text 8 12 (lit≤ tt),
-      joined text 12 16 (lit≤ tt),
-      joined text 16 20 (lit≤ tt),
-      joined text 20 24 (lit≤ tt),
+      next 8 (lit≤ tt),
+      next 12 (lit≤ tt),
+      next 16 (lit≤ tt),
+      next 20 (lit≤ tt),
     ) refl in
     subst (λ (d : Capture). Takes text d) (ok_is made c k.1) (record {
       long = long;
@@ -137,22 +129,17 @@ header_takes text c fits e =
 
 -- ---- what is spelled is read again
 
+not_short : (big : Bool) (n : ℕ) (rest : List ℕ) → ltb (length (field big w32 n ++ rest)) 4 ≡ false
+not_short big n rest = rw (four_is big n) (le-ltb _ _ (omega arith))
+
 magic_again : (big nanos : Bool) (rest : List ℕ) →
     read_magic (field big w32 (magic_of nanos) ++ rest) ≡ Ok (big, nanos)
-magic_again true true rest =
-    let long : ltb (length (field true w32 (magic_of true) ++ rest)) 4 ≡ false =
-    le-ltb _ _ (omega arith) in rw long refl
-magic_again true false rest =
-    let long : ltb (length (field true w32 (magic_of false) ++ rest)) 4 ≡ false =
-    le-ltb _ _ (omega arith) in rw long refl
-magic_again false true rest =
-    let long : ltb (length (field false w32 (magic_of true) ++ rest)) 4 ≡ false =
-    le-ltb _ _ (omega arith) in rw long refl
-magic_again false false rest =
-    let long : ltb (length (field false w32 (magic_of false) ++ rest)) 4 ≡ false =
-    le-ltb _ _ (omega arith) in rw long refl
+magic_again true true rest = rw (not_short true (magic_of true) rest) refl
+magic_again true false rest = rw (not_short true (magic_of false) rest) refl
+magic_again false true rest = rw (not_short false (magic_of true) rest) refl
+magic_again false false rest = rw (not_short false (magic_of false) rest) refl
 
-abbrev header_of : Bool → Bool → ℕ → ℕ → ℕ → ℕ → List Frame → Capture
+abbrev pub header_of : Bool → Bool → ℕ → ℕ → ℕ → ℕ → List Frame → Capture
 header_of big nanos zone sigfigs snap link frames =
     record {
       big = big;
@@ -170,29 +157,27 @@ fields_again : (big nanos : Bool) (zone sigfigs snap link : ℕ) (frames : List 
     → fields_at big nanos (header_text (header_of big nanos zone sigfigs snap link frames) ++ rest)
     ≡ Ok (header_of big nanos zone sigfigs snap link [])
 unfolding fields_at header_text
-fields_again true nanos zone sigfigs snap link frames rest z g s l known =
-    let long : ltb
-    (length (header_text (header_of true nanos zone sigfigs snap link frames) ++ rest)) 24
-    ≡ false = le-ltb _ _ (omega arith) in
+fields_again big nanos zone sigfigs snap link frames rest z g s l known =
+    let numbers =
+    ((four big zone ++ four big sigfigs) ++ four big snap) ++ four big link ++ rest in
+    let text = four big (magic_of nanos) ++ two big 2 ++ two big 4 ++ numbers in
+    let long : ltb (length text) 24 ≡ false = le-ltb _ _ (omega arith) in
     rw (
+      four_is big (magic_of nanos),
+      two_is big 2,
+      two_is big 4,
+      four_is big zone,
+      four_is big sigfigs,
+      four_is big snap,
+      four_is big link,
       long,
-      from_be_bytes-to_be_bytes_4 link l,
+      short_again big 2 (omega arith),
+      short_again big 4 (omega arith),
+      number_again big link l,
       known,
-      from_be_bytes-to_be_bytes_4 zone z,
-      from_be_bytes-to_be_bytes_4 sigfigs g,
-      from_be_bytes-to_be_bytes_4 snap s,
-    ) refl
-fields_again false nanos zone sigfigs snap link frames rest z g s l known =
-    let long : ltb
-    (length (header_text (header_of false nanos zone sigfigs snap link frames) ++ rest)) 24
-    ≡ false = le-ltb _ _ (omega arith) in
-    rw (
-      long,
-      from_le_bytes-to_le_bytes_4 link l,
-      known,
-      from_le_bytes-to_le_bytes_4 zone z,
-      from_le_bytes-to_le_bytes_4 sigfigs g,
-      from_le_bytes-to_le_bytes_4 snap s,
+      number_again big zone z,
+      number_again big sigfigs g,
+      number_again big snap s,
     ) refl
 
 -- a capture's header, without its frames

@@ -1,18 +1,17 @@
 -- A record that is read is the front of the text, and a record that is spelled is read again.
-use Rattle.std.proofs.Common.{◌≡◌, ℕ, ◌+◌, ◌-◌, ◌<◌, ◌≤◌, ◌^◌, Bool, true, false, ltb, List, ◌++◌}
+use Rattle.std.proofs.Common.{◌≡◌, ℕ, ◌+◌, ◌-◌, ◌<◌, ◌≤◌, ◌^◌, Bool, false, ltb, List, ◌++◌}
 use Rattle.std.proofs.Common.{length, take, Ok, refl, sym, ap, subst, ◌∙◌, arith, lit≤}
 use Rattle.std.specs.Prelude.{slice_range}
 use Rattle.std.specs.Int.{w32}
 use Rattle.std.proofs.lemmas.Bool.{ltb-false, le-ltb}
 use Rattle.std.proofs.lemmas.List.{length-append, take_at}
-use Rattle.std.proofs.lemmas.Nat.{from_be_bytes-to_be_bytes_4, from_le_bytes-to_le_bytes_4}
 use Rattle.packet_entry.specs.Numbers.{longest_packet}
 use Rattle.pcap_io.specs.declared.capture.Frame.{Frame}
 use Rattle.pcap_io.specs.declared.fault.CaptureFault.TheVariants.{Cut, TooLong}
 use Rattle.pcap_io.specs.Text.{field, record_text, FrameFits}
 use Rattle.pcap_io.specs.Reading.{number_at, read_record}
-use Rattle.pcap_io.proofs.FieldValues.{IsBytes, joined, length-range, at_takes32, at_below, guarded}
-use Rattle.pcap_io.proofs.FieldValues.{ok_is}
+use Rattle.pcap_io.proofs.FieldValues.{IsBytes, joined, length-range, behind32, at_below, guarded}
+use Rattle.pcap_io.proofs.FieldValues.{ok_is, four, four_is, number_again}
 
 -- a frame that a record can hold
 pub record IsStored (f : Frame) : Type 0 where
@@ -45,21 +44,17 @@ record_takes big n place text f fits e =
     let short : captured ≤ longest_packet = ltb-false longest_packet captured h.0 in
     let long : 16 + captured ≤ length text = ltb-false (length text) (16 + captured) k.0 in
     let len : length bytes ≡ captured = omega (arith, length-range text 16 (16 + captured)) in
-    let seconds = at_takes32 big text 0 fits (omega arith) in
-    let fraction = at_takes32 big text 4 fits (omega arith) in
-    let count : field big w32 (length bytes) ≡ slice_range text 8 12 =
-    ap (λ (m : ℕ). field big w32 m) len ∙ at_takes32 big text 8 fits (omega arith) in
-    let original = at_takes32 big text 12 fits (omega arith) in
+    let next : (at : ℕ) → at + 4 ≤ 16 →
+    take at text ++ field big w32 (number_at big w32 at text) ≡ take (at + 4) text =
+    λ at within. behind32 big text at fits (omega arith) in
     let behind : 16 ≤ 16 + captured = omega arith in
     let spelled : record_text big made ≡ take (16 + captured) text =
     rw (
-      seconds,
-      fraction,
-      count,
-      original,
-      joined text 4 8 (lit≤ tt),
-      joined text 8 12 (lit≤ tt),
-      joined text 12 16 (lit≤ tt),
+      len,
+      next 0 (lit≤ tt),
+      next 4 (lit≤ tt),
+      next 8 (lit≤ tt),
+      next 12 (lit≤ tt),
       joined text 16 (16 + captured) behind,
     ) refl in
     subst (λ (x : Frame). Takes big text x) (ok_is made f k.1) (record {
@@ -84,8 +79,10 @@ again : (big : Bool) (n place seconds fraction original : ℕ) (bytes rest : Lis
     → read_record big n place (record_text big (frame_of seconds fraction original bytes) ++ rest)
     ≡ Ok (frame_of seconds fraction original bytes)
 unfolding read_record record_text
-again true n place seconds fraction original bytes rest s f o short =
-    let text = record_text true (frame_of seconds fraction original bytes) ++ rest in
+again big n place seconds fraction original bytes rest s f o short =
+    let text =
+    ((four big seconds ++ four big fraction) ++ four big (length bytes)) ++ four big original
+    ++ bytes ++ rest in
     let header : ltb (length text) 16 ≡ false = le-ltb _ _ (omega arith) in
     let count : length bytes < 2 ^ 32 = omega arith in
     let few : ltb longest_packet (length bytes) ≡ false = le-ltb _ _ short in
@@ -93,32 +90,17 @@ again true n place seconds fraction original bytes rest s f o short =
     le-ltb _ _ (omega (arith, length-append bytes rest)) in
     let back : 16 + length bytes - 16 ≡ length bytes = omega arith in
     rw (
+      four_is big seconds,
+      four_is big fraction,
+      four_is big (length bytes),
+      four_is big original,
       header,
-      from_be_bytes-to_be_bytes_4 (length bytes) count,
+      number_again big (length bytes) count,
       few,
       long,
-      from_be_bytes-to_be_bytes_4 seconds s,
-      from_be_bytes-to_be_bytes_4 fraction f,
-      from_be_bytes-to_be_bytes_4 original o,
-      back,
-      take_at bytes rest (length bytes) refl,
-    ) refl
-again false n place seconds fraction original bytes rest s f o short =
-    let text = record_text false (frame_of seconds fraction original bytes) ++ rest in
-    let header : ltb (length text) 16 ≡ false = le-ltb _ _ (omega arith) in
-    let count : length bytes < 2 ^ 32 = omega arith in
-    let few : ltb longest_packet (length bytes) ≡ false = le-ltb _ _ short in
-    let long : ltb (length text) (16 + length bytes) ≡ false =
-    le-ltb _ _ (omega (arith, length-append bytes rest)) in
-    let back : 16 + length bytes - 16 ≡ length bytes = omega arith in
-    rw (
-      header,
-      from_le_bytes-to_le_bytes_4 (length bytes) count,
-      few,
-      long,
-      from_le_bytes-to_le_bytes_4 seconds s,
-      from_le_bytes-to_le_bytes_4 fraction f,
-      from_le_bytes-to_le_bytes_4 original o,
+      number_again big seconds s,
+      number_again big fraction f,
+      number_again big original o,
       back,
       take_at bytes rest (length bytes) refl,
     ) refl

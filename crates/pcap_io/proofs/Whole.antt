@@ -15,7 +15,7 @@ use Rattle.pcap_io.specs.Text.{header_text, record_text, capture_text, FrameFits
 use Rattle.pcap_io.specs.Text.{IsCapture}
 use Rattle.pcap_io.specs.Reading.{read_header, read_record, BreaksOff, IsFault}
 use Rattle.pcap_io.proofs.FieldValues.{IsBytes, IsBytes-drop, joined}
-use Rattle.pcap_io.proofs.Header.{bare, header_takes, header_again}
+use Rattle.pcap_io.proofs.Header.{bare, header_of, header_takes, header_again}
 use Rattle.pcap_io.proofs.Records.{IsStored, record_takes, record_again}
 
 abbrev pub records : Bool → List Frame → List ℕ
@@ -128,16 +128,7 @@ unfolding header_text
 header_of_bare c = refl
 
 header_len : (big nanos : Bool) (zone sigfigs snap link : ℕ) (frames : List Frame) →
-    length (header_text
-    (record {
-      big = big;
-      nanos = nanos;
-      zone = zone;
-      sigfigs = sigfigs;
-      snap = snap;
-      link = link;
-      frames = frames;
-    })) ≡ 24
+    length (header_text (header_of big nanos zone sigfigs snap link frames)) ≡ 24
 unfolding header_text
 header_len true nanos zone sigfigs snap link frames = refl
 header_len false nanos zone sigfigs snap link frames = refl

@@ -78,7 +78,7 @@ pub(crate) fn read_record(
 }
 
 /// The part of the file from `start` to before `end`, both counted from the place `at`.
-#[tactic(auto, using(crate::proofs::Cuts::cut_after))]
+#[tactic(auto, using(crate::proofs::Cuts::cut_after, crate::proofs::Cuts::rest_of))]
 fn cut_after(
     file: &Bytes,
     rest: &[u8],

@@ -1,31 +1,28 @@
-use Rattle.std.proofs.Common.{◌≡◌, ◌+◌, List, [], ◌∷◌, ◌++◌, take, Result, Ok, Err, arith}
+use Rattle.std.proofs.Common.{◌≡◌, ◌+◌, ◌<◌, ◌^◌, List, [], ◌∷◌, ◌++◌, take, Result, Ok, Err, arith}
 use Rattle.std.proofs.Common.{add_assoc, sym, ◌∙◌, false}
 use Rattle.std.specs.Prelude.{is_err, OnOk}
 use Rattle.std.proofs.lemmas.List.{length-take-le, take_rest}
 use Rattle.pcap_io.specs.declared.capture.Frame.{Frame}
 use Rattle.pcap_io.proofs.Whole.{frames_below, next, Goes}
 use Rattle.pcap_io.proofs.reading.read_frame.Goals as goal
-use Rattle.pcap_io.proofs.reading.read_frame.Goals.{Else-is_err}
+use Rattle.pcap_io.proofs.reading.read_frame.Goals.{After-len, Else-is_err}
+
+-- there are fewer frames than bytes before the place
+few : (c : After-len) → c.len.result + 1 < 2 ^ 32
+few c =
+    omega (
+      arith,
+      c.len.ensures,
+      frames_below (take c.args.at c.args.bytes.now) c.args.capture.now
+          c.requires.front,
+      length-take-le c.args.at c.args.bytes.now (omega arith),
+    )
 
 pub overflow_cast-frame_number : goal.overflow_cast-frame_number
-overflow_cast-frame_number c =
-    omega (
-      arith,
-      c.len.ensures,
-      frames_below (take c.args.at c.args.bytes.now) c.args.capture.now
-          c.requires.front,
-      length-take-le c.args.at c.args.bytes.now (omega arith),
-    )
+overflow_cast-frame_number c = omega (arith, few c)
 
 pub overflow_add-frame_number : goal.overflow_add-frame_number
-overflow_add-frame_number c =
-    omega (
-      arith,
-      c.len.ensures,
-      frames_below (take c.args.at c.args.bytes.now) c.args.capture.now
-          c.requires.front,
-      length-take-le c.args.at c.args.bytes.now (omega arith),
-    )
+overflow_add-frame_number c = omega (arith, few c)
 
 -- what stands there is the next record
 goes : (c : Else-is_err) → Goes c.args.bytes.now c.args.at c.args.capture.now c.in_ok-frame.frame
