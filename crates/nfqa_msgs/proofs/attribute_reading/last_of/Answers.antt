@@ -5,26 +5,28 @@ use Rattle.netlink_codec.specs.Attributes.{Attribute, Holds, attribute_of, attri
 use Rattle.nfqa_msgs.specs.RequestReading.{later, last_content}
 use Rattle.nfqa_msgs.proofs.LastContent.{IfSome-seen, last_content-fits, walked-own, walked-other}
 use Rattle.nfqa_msgs.proofs.attribute_reading.last_of.Goals as goal
+use Rattle.nfqa_msgs.proofs.attribute_reading.last_of.Goals.{In-Some}
+
+-- with this attribute as the first of those to come, the row says what it said
+said : (c : In-Some) → later
+    (last_content c.args.kind (attribute_of c.in-Some.attr ∷ c.next.new.self))
+    (option_map (λ content. content.now) c.loop-attr.last)
+    ≡ last_content c.args.kind (attributes c.args.row.now)
+said c =
+    let so_far : Option (List ℕ) = option_map (λ content. content.now) c.loop-attr.last in
+    ap (λ (row : List Attribute). later (last_content c.args.kind row) so_far)
+    (sym c.in-Some.ensures.steps)
+    ∙ c.loop-attr.invariant
 
 pub loop-attr-preserved-then-attr-kind : goal.loop-attr-preserved-then-attr-kind
 loop-attr-preserved-then-attr-kind c =
-    let so_far : Option (List ℕ) = option_map (λ content. content.now) c.loop-attr.last in
-    let step : c.loop-attr.attr-iterator ≡ attribute_of c.in-Some.attr ∷ c.next.new.self =
-    c.in-Some.ensures.steps in
-    sym (walked-own c.args.kind (attribute_of c.in-Some.attr) c.next.new.self so_far
-    c.if-attr-kind.true)
-    ∙ ap (λ (row : List Attribute). later (last_content c.args.kind row) so_far) (sym step)
-    ∙ c.loop-attr.invariant
+    sym (walked-own c.args.kind (attribute_of c.in-Some.attr) c.next.new.self _
+    c.if-attr-kind.true) ∙ said (goal.at.loop-attr-preserved-then-attr-kind c).In-Some
 
 pub loop-attr-preserved : goal.loop-attr-preserved
 loop-attr-preserved c =
-    let so_far : Option (List ℕ) = option_map (λ content. content.now) c.loop-attr.last in
-    let step : c.loop-attr.attr-iterator ≡ attribute_of c.in-Some.attr ∷ c.next.new.self =
-    c.in-Some.ensures.steps in
-    sym (walked-other c.args.kind (attribute_of c.in-Some.attr) c.next.new.self so_far
-    c.if-attr-kind.false)
-    ∙ ap (λ (row : List Attribute). later (last_content c.args.kind row) so_far) (sym step)
-    ∙ c.loop-attr.invariant
+    sym (walked-other c.args.kind (attribute_of c.in-Some.attr) c.next.new.self _
+    c.if-attr-kind.false) ∙ said (goal.at.loop-attr-preserved c).In-Some
 
 pub returns-clause-value : goal.returns-clause-value
 returns-clause-value c =
