@@ -1,17 +1,15 @@
 -- How long the texts of attributes are.
-use Rattle.std.proofs.Common.{◌≡◌, ℕ, ◌+◌, ◌-◌, ◌^◌, ◌<◌, ◌≤◌, List, [], ◌∷◌, ◌++◌, length, Option}
+use Rattle.std.proofs.Common.{◌≡◌, ℕ, ◌+◌, ◌^◌, ◌<◌, ◌≤◌, List, [], ◌∷◌, ◌++◌, length, Option}
 use Rattle.std.proofs.Common.{Some, None, refl, sym, ap, ◌∙◌, arith, append_assoc, length-append}
 use Rattle.std.proofs.Common.{inl, inr}
 use Rattle.std.specs.Prelude.{IfSome, option_map, ◌==◌}
 use Rattle.std.proofs.lemmas.Bool.{cases_Bool}
-use Rattle.std.proofs.lemmas.List.{length-replicate}
 use Rattle.std.proofs.lemmas.List.Concat.{flat_map-append}
 use Rattle.packet_entry.specs.Numbers.{longest_payload}
 use Rattle.netlink_codec.specs.Messages.{pad}
 use Rattle.netlink_codec.specs.Attributes.{Attribute}
 use Rattle.netlink_codec.specs.Numbers.{attribute_header_length}
-use Rattle.netlink_codec.specs.Attributes.{attribute_header_text, attribute_text, attributes_text}
-use Rattle.netlink_codec.specs.Attributes.{zero_padding}
+use Rattle.netlink_codec.specs.Attributes.{attribute_text, attributes_text}
 use Rattle.nfqa_msgs.specs.declared.request.Head.{Head}
 use Rattle.nfqa_msgs.specs.declared.request.Params.{Params}
 use Rattle.nfqa_msgs.specs.declared.request.Request.{Request}
@@ -29,28 +27,10 @@ use Rattle.nfqa_msgs.specs.RequestWriting.{part, request_body}
 use Rattle.nfqa_msgs.specs.NoticeWriting.{Told, FitsTold, notice_body, mark_content}
 use Rattle.nfqa_msgs.specs.NoticeWriting.{payload_content}
 
-pub length-attribute_text : (a : Attribute) →
+-- the text of an attribute is its length rounded up, as the codec's law says
+abbrev pub Sizes : Type 0
+Sizes = (a : Attribute) →
     length (attribute_text a) ≡ pad (attribute_header_length + length a.content)
-unfolding attribute_text
-length-attribute_text a =
-    let total : ℕ = attribute_header_length + length a.content in
-    let head : List ℕ = attribute_header_text a.kind total ++ a.content in
-    let size : length head ≡ total = omega arith in
-    omega (
-      arith,
-      length-append head (zero_padding total),
-      length-replicate {A = ℕ} (pad total - total) 0,
-    )
-
--- a row's text is padded
-pub padded-row : (row : List Attribute) →
-    pad (length (attributes_text row)) ≡ length (attributes_text row)
-padded-row [] = refl
-padded-row (a ∷ row) =
-    let size = length-append (attribute_text a) (attributes_text row) in
-    let first = length-attribute_text a in
-    let others = padded-row row in
-    omega arith
 
 -- the text of two rows
 pub length-rows : (xs ys : List Attribute) →
@@ -60,28 +40,6 @@ length-rows xs ys = rw flat_map-append (length-append (attributes_text xs) (attr
 -- a row's text has at most n bytes
 record IsWithin (n : ℕ) (row : List Attribute) : Type 0 where
   size : length (attributes_text row) ≤ n
-
--- a part is as long as its content and its header, padded
-one-part : (kind : ℕ) (content : Option (List ℕ))
-    → IfSome content (λ bytes. length bytes ≤ longest_payload) → IsWithin 65536 (part kind content)
-one-part kind None short = record { size = omega arith }
-one-part kind (Some content) short =
-    let a : Attribute = record { kind = kind; content = content } in
-    record { size = omega (arith, length-attribute_text a, length-append (attribute_text a) []) }
-
-one-more : (kind : ℕ) (row : List Attribute) (content : Option (List ℕ)) (n : ℕ) → IsWithin n row
-    → IfSome content (λ bytes. length bytes ≤ longest_payload)
-    → IsWithin (n + 65536) (row ++ part kind content)
-one-more kind row content n so_far short =
-    let part_short = one-part kind content short in
-    record {
-      size = omega (
-        arith,
-        length-rows row (part kind content),
-        so_far.size,
-        part_short.size,
-      );
-    }
 
 fits-command : (command : Option ℕ) →
     IfSome (option_map command_content command) (λ bytes. length bytes ≤ longest_payload)
@@ -102,26 +60,6 @@ pub fits-number : (number : Option ℕ) →
     IfSome (option_map value_content number) (λ bytes. length bytes ≤ longest_payload)
 fits-number None = tt
 fits-number (Some x) = omega arith
-
--- a body of a request is far shorter than a message can be
-pub request_body-short : (request : Request) → PayloadFits request
-    → length (request_body request) < 2 ^ 31
-request_body-short (Config queue command params maxlen flags mask) fits =
-    let a = one-part command_kind _ (fits-command command) in
-    let b = one-more params_kind _ _ _ a (fits-params params) in
-    let d = one-more maxlen_kind _ _ _ b (fits-number maxlen) in
-    let e = one-more mask_kind _ _ _ d (fits-number mask) in
-    let f = one-more flags_kind _ _ _ e (fits-number flags) in
-    omega arith
-request_body-short (Verdict queue head mark payload) fits =
-    let a = one-part verdict_header_kind _ (fits-head head) in
-    let b = one-more mark_kind _ _ _ a (fits-number mark) in
-    let d = one-more payload_kind _ payload _ b fits in
-    omega arith
-request_body-short (Batch queue head mark) fits =
-    let a = one-part verdict_header_kind _ (fits-head head) in
-    let b = one-more mark_kind _ _ _ a (fits-number mark) in
-    omega arith
 
 -- one more part behind a body's row
 pub row-goes-on : (head old new : List ℕ) (row more : List Attribute) →
@@ -148,19 +86,77 @@ pub fits-payload : (payload : List ℕ) → length payload ≤ longest_payload �
 fits-payload [] short = tt
 fits-payload (x ∷ payload) short = short
 
--- a body of a notice is far shorter than a message can be
-pub notice_body-short : (told : Told) → FitsTold told → length (notice_body told) < 2 ^ 31
-notice_body-short told fits =
-    let a = one-part packet_header_kind (Some (packet_head_content told.id told.protocol))
-    (omega arith) in
-    let b = one-more input_device_kind _ (Some (value_content input_device)) _ a (omega arith) in
-    let d = one-more output_device_kind _ (Some (value_content output_device)) _ b (omega arith) in
-    let e = one-more mark_kind _ (mark_content told.mark) _ d (fits-mark told.mark) in
-    let address = fits-address told.source fits.source_fits in
-    let f = one-more hardware_address_kind _ (option_map address_content told.source) _ e address in
-    let stamp : List ℕ = stamp_content told.seconds told.micros in
-    let g = one-more timestamp_kind _ (Some stamp) _ f (omega arith) in
-    let h = one-more full_length_kind _ _ _ g (fits-number told.cut_from) in
-    let payload = fits-payload told.payload fits.payload_fits in
-    let i = one-more payload_kind _ (payload_content told.payload) _ h payload in
-    omega arith
+-- ---- lengths, by the sizes of attributes
+
+module _ (sizes : Sizes) where
+  -- a row's text is padded
+  pub padded-row : (row : List Attribute) →
+      pad (length (attributes_text row)) ≡ length (attributes_text row)
+  padded-row [] = refl
+  padded-row (a ∷ row) =
+      let size = length-append (attribute_text a) (attributes_text row) in
+      let first = sizes a in
+      let others = padded-row row in
+      omega arith
+
+  -- a part is as long as its content and its header, padded
+  one-part : (kind : ℕ) (content : Option (List ℕ))
+      → IfSome content (λ bytes. length bytes ≤ longest_payload)
+      → IsWithin 65536 (part kind content)
+  one-part kind None short = record { size = omega arith }
+  one-part kind (Some content) short =
+      let a : Attribute = record { kind = kind; content = content } in
+      record { size = omega (arith, sizes a, length-append (attribute_text a) []) }
+
+  one-more : (kind : ℕ) (row : List Attribute) (content : Option (List ℕ)) (n : ℕ) → IsWithin n row
+      → IfSome content (λ bytes. length bytes ≤ longest_payload)
+      → IsWithin (n + 65536) (row ++ part kind content)
+  one-more kind row content n so_far short =
+      let part_short = one-part kind content short in
+      record {
+        size = omega (
+          arith,
+          length-rows row (part kind content),
+          so_far.size,
+          part_short.size,
+        );
+      }
+
+  -- a body of a request is far shorter than a message can be
+  pub request_body-short : (request : Request) → PayloadFits request
+      → length (request_body request) < 2 ^ 31
+  request_body-short (Config queue command params maxlen flags mask) fits =
+      let a = one-part command_kind _ (fits-command command) in
+      let b = one-more params_kind _ _ _ a (fits-params params) in
+      let d = one-more maxlen_kind _ _ _ b (fits-number maxlen) in
+      let e = one-more mask_kind _ _ _ d (fits-number mask) in
+      let f = one-more flags_kind _ _ _ e (fits-number flags) in
+      omega arith
+  request_body-short (Verdict queue head mark payload) fits =
+      let a = one-part verdict_header_kind _ (fits-head head) in
+      let b = one-more mark_kind _ _ _ a (fits-number mark) in
+      let d = one-more payload_kind _ payload _ b fits in
+      omega arith
+  request_body-short (Batch queue head mark) fits =
+      let a = one-part verdict_header_kind _ (fits-head head) in
+      let b = one-more mark_kind _ _ _ a (fits-number mark) in
+      omega arith
+
+  -- a body of a notice is far shorter than a message can be
+  pub notice_body-short : (told : Told) → FitsTold told → length (notice_body told) < 2 ^ 31
+  notice_body-short told fits =
+      let a = one-part packet_header_kind (Some (packet_head_content told.id told.protocol))
+      (omega arith) in
+      let b = one-more input_device_kind _ (Some (value_content input_device)) _ a (omega arith) in
+      let d = one-more output_device_kind _ (Some (value_content output_device)) _ b (omega arith)
+      in
+      let e = one-more mark_kind _ (mark_content told.mark) _ d (fits-mark told.mark) in
+      let address = fits-address told.source fits.source_fits in
+      let f = one-more hardware_address_kind _ (option_map address_content told.source) _ e address
+      in
+      let stamp : List ℕ = stamp_content told.seconds told.micros in
+      let g = one-more timestamp_kind _ (Some stamp) _ f (omega arith) in
+      let h = one-more full_length_kind _ _ _ g (fits-number told.cut_from) in
+      let payload = fits-payload told.payload fits.payload_fits in
+      let i = one-more payload_kind _ (payload_content told.payload) _ h payload in
+      omega arith

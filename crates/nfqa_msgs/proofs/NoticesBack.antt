@@ -33,8 +33,8 @@ use Rattle.nfqa_msgs.specs.NoticeWriting.{notice_parts, notice_body, notice_text
 use Rattle.nfqa_msgs.specs.NoticeReading.{at_least, value_at, nearest_protocol, protocol_at}
 use Rattle.nfqa_msgs.specs.NoticeReading.{source_at, payload_at, above, cut_at, told_in}
 use Rattle.nfqa_msgs.specs.NoticeReading.{told_by_message, told_by}
-use Rattle.nfqa_msgs.proofs.Lengths.{notice_body-short, fits-mark, fits-address, fits-number}
-use Rattle.nfqa_msgs.proofs.Lengths.{fits-payload}
+use Rattle.nfqa_msgs.proofs.Lengths.{Sizes, notice_body-short, fits-mark, fits-address}
+use Rattle.nfqa_msgs.proofs.Lengths.{fits-number, fits-payload}
 use Rattle.nfqa_msgs.proofs.RequestsBack.{Walks, later-nothing, last_content-append}
 use Rattle.nfqa_msgs.proofs.RequestsBack.{last_content-part, fit-append, fit-part}
 
@@ -312,9 +312,9 @@ parts-fit told fits =
 abbrev pub notice_message : Told → NetlinkMessage
 notice_message told = message_with (queue_kind notice_number) 0 0 0 (notice_body told)
 
-pub notice-fits : (told : Told) → FitsTold told → FitsHeader (notice_message told)
-notice-fits told fits =
-    let short = notice_body-short told fits in
+pub notice-fits : Sizes → (told : Told) → FitsTold told → FitsHeader (notice_message told)
+notice-fits sizes told fits =
+    let short = notice_body-short sizes told fits in
     record {
       kind = omega arith;
       flags = omega arith;
@@ -345,21 +345,21 @@ Fronts = (body behind : List ℕ) → FitsHeader (message_with (queue_kind notic
           (length (message_text (queue_kind notice_number) 0 0 0 body ++ behind)),
     )
 
-pub told_by-back : Walks → Fronts → (told : Told) → FitsTold told →
+pub told_by-back : Sizes → Walks → Fronts → (told : Told) → FitsTold told →
     told_by (notice_text told) ≡ Some told
 unfolding told_by notice_text
-told_by-back walks fronts told fits =
+told_by-back sizes walks fronts told fits =
     let text : List ℕ = message_text (queue_kind notice_number) 0 0 0 (notice_body told) in
-    let read = fronts (notice_body told) [] (notice-fits told fits) in
+    let read = fronts (notice_body told) [] (notice-fits sizes told fits) in
     ap told_by (sym (append-nil text)) ∙ ap (option_and_then told_by_message) read
     ∙ message-back walks told (min (pad (length text)) (length (text ++ []))) fits
 
-pub one_value : Walks → Fronts → (told other : Told) → FitsTold told → FitsTold other →
+pub one_value : Sizes → Walks → Fronts → (told other : Told) → FitsTold told → FitsTold other →
     notice_text told ≡ notice_text other → told ≡ other
-one_value walks fronts told other fits others same =
+one_value sizes walks fronts told other fits others same =
     let both =
-    sym (told_by-back walks fronts told fits) ∙ ap told_by same
-    ∙ told_by-back walks fronts other others in cc
+    sym (told_by-back sizes walks fronts told fits) ∙ ap told_by same
+    ∙ told_by-back sizes walks fronts other others in cc
 
 abbrev framed : NetlinkMessage × ℕ → Option (NetlinkMessage × ℕ)
 framed front = Some front
@@ -368,20 +368,21 @@ same-front : (front other : NetlinkMessage × ℕ) → framed front ≡ framed o
 same-front front other same = cc
 
 -- texts that begin alike are the same
-pub apart : Fronts → (told other : Told) (behind rest : List ℕ) → FitsTold told → FitsTold other
-    → notice_text told ++ behind ≡ notice_text other ++ rest → notice_text told ≡ notice_text other
+pub apart : Sizes → Fronts → (told other : Told) (behind rest : List ℕ) → FitsTold told
+    → FitsTold other → notice_text told ++ behind ≡ notice_text other ++ rest
+    → notice_text told ≡ notice_text other
 unfolding notice_text
-apart fronts told other behind rest fits others same =
-    let a = fronts (notice_body told) behind (notice-fits told fits) in
-    let b = fronts (notice_body other) rest (notice-fits other others) in
+apart sizes fronts told other behind rest fits others same =
+    let a = fronts (notice_body told) behind (notice-fits sizes told fits) in
+    let b = fronts (notice_body other) rest (notice-fits sizes other others) in
     let one = same-front _ _ (sym a ∙ ap first_message same ∙ b) in
     ap (λ (front : NetlinkMessage × ℕ). front.0.whole) one
 
-pub no_prefix : Fronts → (told other : Told) (behind : List ℕ) → FitsTold told → FitsTold other
-    → notice_text other ≡ notice_text told ++ behind → behind ≡ []
-no_prefix fronts told other behind fits others longer =
+pub no_prefix : Sizes → Fronts → (told other : Told) (behind : List ℕ) → FitsTold told
+    → FitsTold other → notice_text other ≡ notice_text told ++ behind → behind ≡ []
+no_prefix sizes fronts told other behind fits others longer =
     let text : List ℕ = notice_text told in
     let whole : List ℕ = notice_text other in
     let same : text ≡ whole =
-    apart fronts told other behind [] fits others (sym longer ∙ sym (append-nil whole)) in
+    apart sizes fronts told other behind [] fits others (sym longer ∙ sym (append-nil whole)) in
     append_cancel_left text behind [] (sym longer ∙ sym same ∙ sym (append-nil text))

@@ -12,6 +12,7 @@ use Rattle.nfqa_msgs.specs.Numbers.{longest_range, copy_packet, hardware_address
 use Rattle.nfqa_msgs.specs.Numbers.{source_address_at}
 use Rattle.nfqa_msgs.specs.NoticeWriting.{Told, FitsTold, IsNoticed, IsPacketNotice, told_of}
 use Rattle.nfqa_msgs.specs.NoticeWriting.{source_in}
+use Rattle.nfqa_msgs.proofs.Lengths.{Sizes}
 use Rattle.nfqa_msgs.proofs.NoticesBack.{Fronts, apart}
 
 -- a link header that isn't empty has room for two addresses
@@ -73,15 +74,15 @@ told-fits queue mode range id card fits = record {
   payload_fits = shown-by (mode == copy_packet) range card.bytes fits.range_fits;
 }
 
-pub packets-apart : Fronts → (text other behind rest : List ℕ) → IsPacketNotice text
+pub packets-apart : Sizes → Fronts → (text other behind rest : List ℕ) → IsPacketNotice text
     → IsPacketNotice other → text ++ behind ≡ other ++ rest → text ≡ other
-packets-apart fronts text other behind rest n m same =
+packets-apart sizes fronts text other behind rest n m same =
     let a : Told = told_of n.queue n.mode n.range n.id n.card in
     let b : Told = told_of m.queue m.mode m.range m.id m.card in
     let start =
     ap (λ (xs : List ℕ). xs ++ behind) (sym n.is) ∙ same
     ∙ ap (λ (xs : List ℕ). xs ++ rest) m.is in
     n.is
-    ∙ apart fronts a b behind rest (told-fits n.queue n.mode n.range n.id n.card n.noticed)
+    ∙ apart sizes fronts a b behind rest (told-fits n.queue n.mode n.range n.id n.card n.noticed)
     (told-fits m.queue m.mode m.range m.id m.card m.noticed) start
     ∙ sym m.is

@@ -30,7 +30,7 @@ use Rattle.nfqa_msgs.specs.RequestReading.{PayloadFits}
 use Rattle.nfqa_msgs.specs.RequestWriting.{part, value_part, head_part, parts_of, spelled}
 use Rattle.nfqa_msgs.specs.RequestWriting.{request_body, number_for, flags_for, FitsHead}
 use Rattle.nfqa_msgs.specs.RequestWriting.{FitsParams, FitsConfig, FitsVerdict, FitsRequest}
-use Rattle.nfqa_msgs.proofs.Lengths.{request_body-short, padded-row}
+use Rattle.nfqa_msgs.proofs.Lengths.{Sizes, request_body-short, padded-row}
 
 -- ---- the last content of a kind in a row of parts
 
@@ -312,10 +312,10 @@ payload-fits (Config queue command params maxlen flags mask) fits = tt
 payload-fits (Verdict queue head mark payload) fits = fits.payload_fits
 payload-fits (Batch queue head mark) fits = tt
 
-pub spelled-fits : (port call : ℕ) (request : Request) → port < 2 ^ 32 → call < 2 ^ 32 →
+pub spelled-fits : Sizes → (port call : ℕ) (request : Request) → port < 2 ^ 32 → call < 2 ^ 32 →
     FitsRequest request → FitsHeader (spelled port call request)
-spelled-fits port call request p q fits =
-    let short = request_body-short request (payload-fits request fits) in
+spelled-fits sizes port call request p q fits =
+    let short = request_body-short sizes request (payload-fits request fits) in
     record {
       kind = kind-small request;
       flags = flags-small request;
@@ -325,6 +325,6 @@ spelled-fits port call request p q fits =
     }
 
 -- a body is padded
-pub request_body-padded : (request : Request) →
+pub request_body-padded : Sizes → (request : Request) →
     pad (length (request_body request)) ≡ length (request_body request)
-request_body-padded request = omega (arith, padded-row (parts_of request))
+request_body-padded sizes request = omega (arith, padded-row sizes (parts_of request))

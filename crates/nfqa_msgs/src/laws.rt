@@ -60,6 +60,7 @@ pub fn packet_notices_are_told_apart()
         other ≡ text ++ behind → other ≡ text }
 {
     written_message_is_in_front();
+    written_attributes_are_walked();
 }
 
 /// The public numbers are the format's: copy modes, commands, the longest range and errnos. And a

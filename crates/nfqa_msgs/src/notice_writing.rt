@@ -23,7 +23,7 @@ use crate::kinds::{
     FULL_LENGTH, INPUT_DEVICE, MARK, NOTICE, NUMBERS, OUTPUT_DEVICE, PAYLOAD, QUEUE_SUBSYSTEM,
 };
 use crate::notice::Telling;
-use netlink_codec::put_message;
+use netlink_codec::{put_message, written_attributes_are_walked};
 use packet_entry::{IPV4, NoMemory, Packet};
 use std::alloc::{AllocError, Global};
 
@@ -123,6 +123,8 @@ pub(crate) fn put_notice(out: &mut Vec<u8>, told: &Telling<'_>) -> Result<(), Al
     ensures ok { OnOk result (out.new.items ≡ out.old.items ++ notice_text (telling told.now)) }
     ensures err { OnErr result (out.new.items ≡ out.old.items) }
 {
+    // By the codec's law the body is short enough for a message.
+    written_attributes_are_walked();
     let body = body_of(*out.allocator(), told)?;
     put_message(out, QUEUE_SUBSYSTEM * NUMBERS + NOTICE, 0, 0, 0, &body)
 }

@@ -19,7 +19,7 @@ use crate::kinds::{
     REQUEST_FLAG, VERDICT,
 };
 use crate::{Head, Params, Request};
-use netlink_codec::put_message;
+use netlink_codec::{put_message, written_attributes_are_walked};
 use packet_entry::{Bytes, NoMemory};
 use std::alloc::{AllocError, Global};
 
@@ -41,6 +41,8 @@ pub fn encode_request(
     ensures fits { FitsRequest request.now }
 {
     fits_its_fields(request);
+    // By the codec's law the body is short enough for a message.
+    written_attributes_are_walked();
     let body = body_of(*out.allocator(), request)?;
     put_message(out, kind_of(request), flags_of(request), call, port, &body)?;
     Ok(())

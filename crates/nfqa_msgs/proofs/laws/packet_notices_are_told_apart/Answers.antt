@@ -8,7 +8,7 @@ returns-clause-fits c =
 
 pub returns-clause-apart : goal.returns-clause-apart
 returns-clause-apart c =
-    λ text other behind rest n m same. packets-apart
+    λ text other behind rest n m same. packets-apart c.written_attributes_are_walked.ensures.size
     (λ body rest all. c.written_message_is_in_front.ensures.reading 768 0 0 0 body rest all)
     text other behind rest n m same
 

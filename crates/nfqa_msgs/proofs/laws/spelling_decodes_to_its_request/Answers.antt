@@ -13,13 +13,13 @@ returns-clause-front c =
     let size =
     c.written_message_is_in_front.ensures.size (queue_kind (number_for request))
     (flags_for request) call port (request_body request) in
-    let padded = request_body-padded request in
+    let padded = request_body-padded c.written_attributes_are_walked.ensures.size request in
     let uses : min (pad (length text)) (length (text ++ behind)) ≡ length text =
     omega (arith, length-append text behind) in
     subst (λ (used : ℕ). Front (text ++ behind) (spelled port call request) used) uses
     (c.written_message_is_in_front.ensures.front (queue_kind (number_for request))
     (flags_for request) call port (request_body request) behind
-    (spelled-fits port call request p q fits))
+    (spelled-fits c.written_attributes_are_walked.ensures.size port call request p q fits))
 
 pub returns-clause-request : goal.returns-clause-request
 returns-clause-request c =

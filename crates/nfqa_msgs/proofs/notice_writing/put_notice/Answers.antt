@@ -9,7 +9,8 @@ use Rattle.nfqa_msgs.proofs.notice_writing.put_notice.Goals as goal
 pub put_message-requires : goal.put_message-requires
 put_message-requires c =
     let body = c.deref.ensures.value ∙ c.in_ok-body.ensures in
-    let short = notice_body-short (telling c.args.told.now) c.requires in
+    let sizes = c.written_attributes_are_walked.ensures.size in
+    let short = notice_body-short sizes (telling c.args.told.now) c.requires in
     omega (arith, ap length body, short)
 
 pub returns-clause-ok : goal.returns-clause-ok
