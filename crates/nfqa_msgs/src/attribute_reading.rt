@@ -101,10 +101,7 @@ pub(crate) fn read_value(number: u16, row: &[u8], kind: u16) -> Option<u32>
     requires long { value_length ≤ least_content number kind }
     ensures { result ≡ last_value kind (attributes row.now) }
 {
-    match whole_last_of(number, row, kind) {
-        None => None,
-        Some(content) => Some(BigEndian::read_u32(content)),
-    }
+    whole_last_of(number, row, kind).map(BigEndian::read_u32)
 }
 
 /// The command of a config request.
@@ -112,10 +109,7 @@ pub(crate) fn command_of(row: &[u8]) -> Option<u8>
     requires { list_any (is_short config_number) (attributes row.now) ≡ false }
     ensures { result ≡ option_map command_in (last_content command_kind (attributes row.now)) }
 {
-    match whole_last_of(CONFIG, row, COMMAND) {
-        None => None,
-        Some(content) => Some(read_command(content)),
-    }
+    whole_last_of(CONFIG, row, COMMAND).map(read_command)
 }
 
 /// Range and mode of a config request.
@@ -123,10 +117,7 @@ pub(crate) fn params_of(row: &[u8]) -> Option<Params>
     requires { list_any (is_short config_number) (attributes row.now) ≡ false }
     ensures { result ≡ option_map params_in (last_content params_kind (attributes row.now)) }
 {
-    match whole_last_of(CONFIG, row, PARAMS) {
-        None => None,
-        Some(content) => Some(read_params(content)),
-    }
+    whole_last_of(CONFIG, row, PARAMS).map(read_params)
 }
 
 /// Verdict and id of a verdict or a batch.
@@ -135,10 +126,7 @@ pub(crate) fn head_of(number: u16, row: &[u8]) -> Option<Head>
     requires long { verdict_header_length ≤ least_content number verdict_header_kind }
     ensures { result ≡ last_head (attributes row.now) }
 {
-    match whole_last_of(number, row, VERDICT_HEADER) {
-        None => None,
-        Some(content) => Some(read_head(content)),
-    }
+    whole_last_of(number, row, VERDICT_HEADER).map(read_head)
 }
 
 /// The bytes in the packet's place. Memory is taken where there is a payload, also an empty one.
