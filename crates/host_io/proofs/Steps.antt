@@ -138,6 +138,15 @@ counts_stay part name change keeps up shared shared' le other entries =
     let step = share (find (is_named other) (changed entries name change)) in
     omega (arith, own, step)
 
+-- the same where the shared count stays
+own_stays : (part : Entry → ℕ) (name : List ℕ) (change : Entry → Entry) →
+    ((e : Entry) → (change e).name ≡ e.name) → ((e : Entry) → part e ≤ part (change e)) →
+    (shared : ℕ) (other : List ℕ) (entries : List Entry) →
+    unwrap_or (option_map part (find (is_named other) entries)) shared
+    ≤ unwrap_or (option_map part (find (is_named other) (changed entries name change))) shared
+own_stays part name change keeps up shared =
+    counts_stay part name change keeps up shared shared (le_refl shared)
+
 -- the count that a fault raises
 fault-rises : (part : Entry → ℕ) (name : List ℕ) (change : Entry → Entry) →
     ((e : Entry) → (change e).name ≡ e.name) → ((e : Entry) → part (change e) ≡ raised (part e)) →
@@ -156,42 +165,44 @@ shared-stays : (b : Bool) (shared : ℕ) → shared ≤ (if b then shared else r
 shared-stays true shared = le_refl shared
 shared-stays false shared = le-raised shared
 
+-- what holds of both machines holds of the one that a test picks
+either : (P : Machine → Type 0) (fails : Bool) (x y : Machine) → P x → P y →
+    P (if fails then x else y)
+either P true x y p q = p
+either P false x y p q = q
+
 -- ---- a read
 
 module _ (m : Machine) (name : List ℕ) where
+  -- the machine with the call counted
+  abbrev counted_read : Machine
+  counted_read = record m { calls = raised m.calls; reads = raised m.reads }
+
+  -- what holds with a fault counted, and without, holds after the read
+  by_read : (P : Machine → Type 0) → P (count_read_fault counted_read name) → P counted_read →
+      P (after_read m name)
+  by_read P = either P (read_fails m name) (count_read_fault counted_read name) counted_read
+
   pub files-after_read : SameFiles (content_of m) (content_of (after_read m name))
   files-after_read other =
-      let counted : Machine = record m { calls = raised m.calls; reads = raised m.reads } in
-      elim (read_fails m name) as (λ b. content_of
-      (if b then count_read_fault counted name else counted) other ≡ content_of m other) [
-        | true ↦ kept-changed name (with_fault call.Read) (λ e. refl)
-            (option_and_then (λ e. e.content)) (λ e. refl) other m.entries
-        | false ↦ refl
-      ]
+      by_read (λ n. content_of n other ≡ content_of m other)
+      (kept-changed name (with_fault call.Read) (λ e. refl)
+      (option_and_then (λ e. e.content)) (λ e. refl) other m.entries) refl
 
   read_faults-after_read : (other : List ℕ) → read_faults_of m other
       ≤ read_faults_of (after_read m name) other
   read_faults-after_read other =
-      let counted : Machine = record m { calls = raised m.calls; reads = raised m.reads } in
-      elim (read_fails m name) as (λ b. read_faults_of m other
-      ≤ read_faults_of (if b then count_read_fault counted name else counted) other) [
-        | true ↦ counts_stay (λ e. e.read_faults) name (with_fault call.Read) (λ e. refl)
-            (λ e. le-raised e.read_faults) m.other_read_faults _
-            (shared-stays (is_some (entry_of m name)) m.other_read_faults) other m.entries
-        | false ↦ le_refl _
-      ]
+      by_read (λ n. read_faults_of m other ≤ read_faults_of n other)
+      (counts_stay (λ e. e.read_faults) name (with_fault call.Read) (λ e. refl)
+      (λ e. le-raised e.read_faults) m.other_read_faults _
+      (shared-stays (is_some (entry_of m name)) m.other_read_faults) other m.entries) (le_refl _)
 
   write_faults-after_read : (other : List ℕ) → write_faults_of m other
       ≤ write_faults_of (after_read m name) other
   write_faults-after_read other =
-      let counted : Machine = record m { calls = raised m.calls; reads = raised m.reads } in
-      elim (read_fails m name) as (λ b. write_faults_of m other
-      ≤ write_faults_of (if b then count_read_fault counted name else counted) other) [
-        | true ↦ counts_stay (λ e. e.write_faults) name (with_fault call.Read) (λ e. refl)
-            (λ e. le_refl e.write_faults) m.other_write_faults m.other_write_faults
-            (le_refl _) other m.entries
-        | false ↦ le_refl _
-      ]
+      by_read (λ n. write_faults_of m other ≤ write_faults_of n other)
+      (own_stays (λ e. e.write_faults) name (with_fault call.Read) (λ e. refl)
+      (λ e. le_refl e.write_faults) m.other_write_faults other m.entries) (le_refl _)
 
   pub later-after_read : IsLater (λ _. true) read_faults_of write_faults_of m (after_read m name)
   later-after_read = record {
@@ -209,36 +220,37 @@ module _ (m : Machine) (name : List ℕ) where
 -- ---- a write
 
 module _ (m : Machine) (name : List ℕ) (at : ℕ) (piece : List ℕ) where
+  -- the machine with the call counted, and then with the bytes stored
+  abbrev counted_write : Machine
+  counted_write = record m { calls = raised m.calls; writes = raised m.writes }
+
+  abbrev store : Entry → Entry
+  store = stored at piece (taken m name at piece)
+
+  abbrev with_store : Machine
+  with_store = record counted_write { entries = changed m.entries name store }
+
+  -- what holds with a fault counted, and with the bytes stored, holds after the write
+  by_write : (P : Machine → Type 0) → P (count_write_fault counted_write name) → P with_store →
+      P (after_write m name at piece)
+  by_write P = either P (write_fails m name) (count_write_fault counted_write name) with_store
+
   pub files-after_write : ChangesOnly name (content_of m) (content_of (after_write m name at piece))
   files-after_write other ne =
-      let counted : Machine = record m { calls = raised m.calls; writes = raised m.writes } in
-      let store = changed m.entries name (stored at piece (taken m name at piece)) in
-      elim (write_fails m name) as
-      (λ b. content_of
-      (if b then count_write_fault counted name else record counted { entries = store }) other
-      ≡ content_of m other) [
-        | true ↦ kept-changed name (with_fault call.Write) (λ e. refl)
-            (option_and_then (λ e. e.content)) (λ e. refl) other m.entries
-        | false ↦ ap (option_and_then (λ (e : Entry). e.content))
-            (find-changed_other name (stored at piece (taken m name at piece))
-            (λ e. refl) other ne m.entries)
-      ]
+      by_write (λ n. content_of n other ≡ content_of m other)
+      (kept-changed name (with_fault call.Write) (λ e. refl)
+      (option_and_then (λ e. e.content)) (λ e. refl) other m.entries)
+      (ap (option_and_then (λ (e : Entry). e.content))
+      (find-changed_other name store (λ e. refl) other ne m.entries))
 
   read_faults-after_write : (other : List ℕ) → read_faults_of m other
       ≤ read_faults_of (after_write m name at piece) other
   read_faults-after_write other =
-      let counted : Machine = record m { calls = raised m.calls; writes = raised m.writes } in
-      let store = changed m.entries name (stored at piece (taken m name at piece)) in
-      elim (write_fails m name) as
-      (λ b. read_faults_of m other ≤ read_faults_of
-      (if b then count_write_fault counted name else record counted { entries = store }) other) [
-        | true ↦ counts_stay (λ e. e.read_faults) name (with_fault call.Write) (λ e. refl)
-            (λ e. le_refl e.read_faults) m.other_read_faults m.other_read_faults
-            (le_refl _) other m.entries
-        | false ↦ counts_stay (λ e. e.read_faults) name (stored at piece (taken m name at piece))
-            (λ e. refl) (λ e. le_refl e.read_faults) m.other_read_faults m.other_read_faults
-            (le_refl _) other m.entries
-      ]
+      by_write (λ n. read_faults_of m other ≤ read_faults_of n other)
+      (own_stays (λ e. e.read_faults) name (with_fault call.Write) (λ e. refl)
+      (λ e. le_refl e.read_faults) m.other_read_faults other m.entries)
+      (own_stays (λ e. e.read_faults) name store (λ e. refl)
+      (λ e. le_refl e.read_faults) m.other_read_faults other m.entries)
 
   stored-stays : (bytes : List ℕ) (e : Entry) →
       e.write_faults ≤ (stored at piece bytes e).write_faults
@@ -251,18 +263,12 @@ module _ (m : Machine) (name : List ℕ) (at : ℕ) (piece : List ℕ) where
   write_faults-after_write : (other : List ℕ) →
       write_faults_of m other ≤ write_faults_of (after_write m name at piece) other
   write_faults-after_write other =
-      let counted : Machine = record m { calls = raised m.calls; writes = raised m.writes } in
-      let store = changed m.entries name (stored at piece (taken m name at piece)) in
-      elim (write_fails m name) as
-      (λ b. write_faults_of m other ≤ write_faults_of
-      (if b then count_write_fault counted name else record counted { entries = store }) other) [
-        | true ↦ counts_stay (λ e. e.write_faults) name (with_fault call.Write) (λ e. refl)
-            (λ e. le-raised e.write_faults) m.other_write_faults _
-            (shared-stays (is_some (entry_of m name)) m.other_write_faults) other m.entries
-        | false ↦ counts_stay (λ e. e.write_faults) name (stored at piece (taken m name at piece))
-            (λ e. refl) (stored-stays (taken m name at piece)) m.other_write_faults
-            m.other_write_faults (le_refl _) other m.entries
-      ]
+      by_write (λ n. write_faults_of m other ≤ write_faults_of n other)
+      (counts_stay (λ e. e.write_faults) name (with_fault call.Write) (λ e. refl)
+      (λ e. le-raised e.write_faults) m.other_write_faults _
+      (shared-stays (is_some (entry_of m name)) m.other_write_faults) other m.entries)
+      (own_stays (λ e. e.write_faults) name store (λ e. refl)
+      (stored-stays (taken m name at piece)) m.other_write_faults other m.entries)
 
   pub later-after_write : IsLater (λ _. true) read_faults_of write_faults_of m
       (after_write m name at piece)
