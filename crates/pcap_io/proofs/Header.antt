@@ -1,5 +1,5 @@
 -- The header that is read is the front of the text, and a header that is spelled is read again.
-use Rattle.std.proofs.Common.{◌≡◌, ℕ, ◌+◌, ◌<◌, ◌≤◌, ◌^◌, Bool, true, false, cond, not, eqb, ltb}
+use Rattle.std.proofs.Common.{◌≡◌, ℕ, ◌+◌, ◌≤◌, Bool, true, false, cond, not, eqb, ltb}
 use Rattle.std.proofs.Common.{List, [], ◌++◌, length, take, Result, Ok, Err, refl, sym, ap, subst}
 use Rattle.std.proofs.Common.{◌∙◌, append_assoc, arith, lit≤}
 use Rattle.std.specs.Int.{w16, w32}
@@ -139,71 +139,49 @@ magic_again true false rest = rw (not_short true (magic_of false) rest) refl
 magic_again false true rest = rw (not_short false (magic_of true) rest) refl
 magic_again false false rest = rw (not_short false (magic_of false) rest) refl
 
-abbrev pub header_of : Bool → Bool → ℕ → ℕ → ℕ → ℕ → List Frame → Capture
-header_of big nanos zone sigfigs snap link frames =
-    record {
-      big = big;
-      nanos = nanos;
-      zone = zone;
-      sigfigs = sigfigs;
-      snap = snap;
-      link = link;
-      frames = frames;
-    }
-
-fields_again : (big nanos : Bool) (zone sigfigs snap link : ℕ) (frames : List Frame)
-    (rest : List ℕ) → zone < 2 ^ 32 → sigfigs < 2 ^ 32 → snap < 2 ^ 32 → link < 2 ^ 32 →
-    is_link_type link ≡ true
-    → fields_at big nanos (header_text (header_of big nanos zone sigfigs snap link frames) ++ rest)
-    ≡ Ok (header_of big nanos zone sigfigs snap link [])
-unfolding fields_at header_text
-fields_again big nanos zone sigfigs snap link frames rest z g s l known =
-    let numbers =
-    ((four big zone ++ four big sigfigs) ++ four big snap) ++ four big link ++ rest in
-    let text = four big (magic_of nanos) ++ two big 2 ++ two big 4 ++ numbers in
-    let long : ltb (length text) 24 ≡ false = le-ltb _ _ (omega arith) in
-    rw (
-      four_is big (magic_of nanos),
-      two_is big 2,
-      two_is big 4,
-      four_is big zone,
-      four_is big sigfigs,
-      four_is big snap,
-      four_is big link,
-      long,
-      short_again big 2 (omega arith),
-      short_again big 4 (omega arith),
-      number_again big link l,
-      known,
-      number_again big zone z,
-      number_again big sigfigs g,
-      number_again big snap s,
-    ) refl
-
 -- a capture's header, without its frames
 abbrev pub bare : Capture → Capture
 bare c = record c { frames = [] }
 
-again : (big nanos : Bool) (zone sigfigs snap link : ℕ) (frames : List Frame) (rest : List ℕ) →
-    zone < 2 ^ 32 → sigfigs < 2 ^ 32 → snap < 2 ^ 32 → link < 2 ^ 32 → is_link_type link ≡ true
-    → read_header (header_text (header_of big nanos zone sigfigs snap link frames) ++ rest)
-    ≡ Ok (header_of big nanos zone sigfigs snap link [])
-unfolding read_header header_text
-again big nanos zone sigfigs snap link frames rest z g s l known =
-    let behind =
-    field big w16 2
-    ++ (field big w16 4 ++ (field big w32 zone
-    ++ (field big w32 sigfigs ++ (field big w32 snap ++ (field big w32 link ++ rest))))) in
-    let text = header_text (header_of big nanos zone sigfigs snap link frames) ++ rest in
-    let regrouped : text ≡ field big w32 (magic_of nanos) ++ behind = simp append_assoc in
-    let magic : read_magic text ≡ Ok (big, nanos) =
-    ap read_magic regrouped ∙ magic_again big nanos behind in
-    ap (λ (m : Result (Bool × Bool) CaptureFault). m >>= λ r. fields_at r.0 r.1 text) magic
-    ∙ fields_again big nanos zone sigfigs snap link frames rest z g s l known
+fields_again : (c : Capture) (rest : List ℕ) → FieldsFit c → is_link_type c.link ≡ true →
+    fields_at c.big c.nanos (header_text c ++ rest) ≡ Ok (bare c)
+unfolding fields_at header_text
+fields_again c rest fits known =
+    let numbers =
+    ((four c.big c.zone ++ four c.big c.sigfigs) ++ four c.big c.snap) ++ four c.big c.link ++ rest
+    in
+    let text = four c.big (magic_of c.nanos) ++ two c.big 2 ++ two c.big 4 ++ numbers in
+    let long : ltb (length text) 24 ≡ false = le-ltb _ _ (omega arith) in
+    rw (
+      four_is c.big (magic_of c.nanos),
+      two_is c.big 2,
+      two_is c.big 4,
+      four_is c.big c.zone,
+      four_is c.big c.sigfigs,
+      four_is c.big c.snap,
+      four_is c.big c.link,
+      long,
+      short_again c.big 2 (omega arith),
+      short_again c.big 4 (omega arith),
+      number_again c.big c.link fits.link,
+      known,
+      number_again c.big c.zone fits.zone,
+      number_again c.big c.sigfigs fits.sigfigs,
+      number_again c.big c.snap fits.snap,
+    ) refl
 
 pub header_again : (c : Capture) (rest : List ℕ) → FieldsFit c → is_link_type c.link ≡ true →
     read_header (header_text c ++ rest) ≡ Ok (bare c)
-unfolding header_text
+unfolding read_header header_text
 header_again c rest fits known =
-    again c.big c.nanos c.zone c.sigfigs c.snap c.link c.frames rest fits.zone fits.sigfigs
-    fits.snap fits.link known
+    let behind =
+    field c.big w16 2
+    ++ (field c.big w16 4 ++ (field c.big w32 c.zone
+    ++ (field c.big w32 c.sigfigs ++ (field c.big w32 c.snap
+    ++ (field c.big w32 c.link ++ rest))))) in
+    let text = header_text c ++ rest in
+    let regrouped : text ≡ field c.big w32 (magic_of c.nanos) ++ behind = simp append_assoc in
+    let magic : read_magic text ≡ Ok (c.big, c.nanos) =
+    ap read_magic regrouped ∙ magic_again c.big c.nanos behind in
+    ap (λ (m : Result (Bool × Bool) CaptureFault). m >>= λ r. fields_at r.0 r.1 text) magic
+    ∙ fields_again c rest fits known

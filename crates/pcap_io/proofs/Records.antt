@@ -70,43 +70,32 @@ record_takes big n place text f fits e =
       spelled = spelled ∙ ap (λ (m : ℕ). take (16 + m) text) (sym len);
     })
 
-abbrev frame_of : ℕ → ℕ → ℕ → List ℕ → Frame
-frame_of seconds fraction original bytes =
-    record { seconds = seconds; fraction = fraction; original = original; bytes = bytes }
-
-again : (big : Bool) (n place seconds fraction original : ℕ) (bytes rest : List ℕ) →
-    seconds < 2 ^ 32 → fraction < 2 ^ 32 → original < 2 ^ 32 → length bytes ≤ longest_packet
-    → read_record big n place (record_text big (frame_of seconds fraction original bytes) ++ rest)
-    ≡ Ok (frame_of seconds fraction original bytes)
-unfolding read_record record_text
-again big n place seconds fraction original bytes rest s f o short =
-    let text =
-    ((four big seconds ++ four big fraction) ++ four big (length bytes)) ++ four big original
-    ++ bytes ++ rest in
-    let header : ltb (length text) 16 ≡ false = le-ltb _ _ (omega arith) in
-    let count : length bytes < 2 ^ 32 = omega arith in
-    let few : ltb longest_packet (length bytes) ≡ false = le-ltb _ _ short in
-    let long : ltb (length text) (16 + length bytes) ≡ false =
-    le-ltb _ _ (omega (arith, length-append bytes rest)) in
-    let back : 16 + length bytes - 16 ≡ length bytes = omega arith in
-    rw (
-      four_is big seconds,
-      four_is big fraction,
-      four_is big (length bytes),
-      four_is big original,
-      header,
-      number_again big (length bytes) count,
-      few,
-      long,
-      number_again big seconds s,
-      number_again big fraction f,
-      number_again big original o,
-      back,
-      take_at bytes rest (length bytes) refl,
-    ) refl
-
 pub record_again : (big : Bool) (n place : ℕ) (f : Frame) (rest : List ℕ) → IsStored f →
     read_record big n place (record_text big f ++ rest) ≡ Ok f
+unfolding read_record record_text
 record_again big n place f rest s =
-    again big n place f.seconds f.fraction f.original f.bytes rest s.fits.seconds s.fits.fraction
-    s.fits.original s.short
+    let size : ℕ = length f.bytes in
+    let text =
+    ((four big f.seconds ++ four big f.fraction) ++ four big size) ++ four big f.original
+    ++ f.bytes ++ rest in
+    let header : ltb (length text) 16 ≡ false = le-ltb _ _ (omega arith) in
+    let count : size < 2 ^ 32 = omega (arith, s.short) in
+    let few : ltb longest_packet size ≡ false = le-ltb _ _ s.short in
+    let long : ltb (length text) (16 + size) ≡ false =
+    le-ltb _ _ (omega (arith, length-append f.bytes rest)) in
+    let back : 16 + size - 16 ≡ size = omega arith in
+    rw (
+      four_is big f.seconds,
+      four_is big f.fraction,
+      four_is big size,
+      four_is big f.original,
+      header,
+      number_again big size count,
+      few,
+      long,
+      number_again big f.seconds s.fits.seconds,
+      number_again big f.fraction s.fits.fraction,
+      number_again big f.original s.fits.original,
+      back,
+      take_at f.bytes rest size refl,
+    ) refl

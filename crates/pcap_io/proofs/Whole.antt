@@ -15,7 +15,7 @@ use Rattle.pcap_io.specs.Text.{header_text, record_text, capture_text, FrameFits
 use Rattle.pcap_io.specs.Text.{IsCapture}
 use Rattle.pcap_io.specs.Reading.{read_header, read_record, BreaksOff, IsFault}
 use Rattle.pcap_io.proofs.FieldValues.{IsBytes, IsBytes-drop, joined}
-use Rattle.pcap_io.proofs.Header.{bare, header_of, header_takes, header_again}
+use Rattle.pcap_io.proofs.Header.{bare, header_takes, header_again}
 use Rattle.pcap_io.proofs.Records.{IsStored, record_takes, record_again}
 
 abbrev pub records : Bool → List Frame → List ℕ
@@ -127,11 +127,10 @@ header_of_bare : (c : Capture) → header_text (bare c) ≡ header_text c
 unfolding header_text
 header_of_bare c = refl
 
-header_len : (big nanos : Bool) (zone sigfigs snap link : ℕ) (frames : List Frame) →
-    length (header_text (header_of big nanos zone sigfigs snap link frames)) ≡ 24
+header_len : (big : Bool) (c : Capture) → length (header_text (record c { big = big })) ≡ 24
 unfolding header_text
-header_len true nanos zone sigfigs snap link frames = refl
-header_len false nanos zone sigfigs snap link frames = refl
+header_len true c = refl
+header_len false c = refl
 
 pub record SameFronts (a b : Capture) (r s : List ℕ) : Type 0 where
   pub captures : a ≡ b
@@ -323,7 +322,7 @@ length-records big (f ∷ fs) =
     )
 
 pub length-header : (c : Capture) → length (header_text c) ≡ 24
-length-header c = header_len c.big c.nanos c.zone c.sigfigs c.snap c.link c.frames
+length-header c = header_len c.big c
 
 pub frames_below : (text : List ℕ) (c : Capture) → IsCapture text c →
     24 + 16 * length c.frames ≤ length text
