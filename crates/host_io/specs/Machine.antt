@@ -7,6 +7,8 @@ use Rattle.std.specs.Str.{bytes_eq}
 use Rattle.host_io.specs.Host.{written}
 use Rattle.host_io.specs.declared.entry.Call.{Call}
 use Rattle.host_io.specs.declared.entry.Call.TheVariants as call
+use Rattle.host_io.specs.declared.entry.Held.{Held}
+use Rattle.host_io.specs.declared.entry.Held.TheVariants as held
 
 -- a name that has a file, or room for one
 pub record Entry : Type 0 where
@@ -134,6 +136,11 @@ abbrev pub read_fails : Machine → List ℕ → Bool
 read_fails machine name = is_next_among machine machine.failing || is_none (content_of machine name)
 
 -- the entry with one more failed call
+-- a name that holds this too: a file of these bytes in place of its own, or room for a file
+abbrev pub holding : Held → Entry → Entry
+holding (held.File bytes) entry = record entry { content = Some bytes.now }
+holding (held.Room bytes) entry = record entry { room = Some bytes }
+
 abbrev pub with_fault : Call → Entry → Entry
 with_fault call.Read entry = record entry { read_faults = raised entry.read_faults }
 with_fault call.Write entry = record entry { write_faults = raised entry.write_faults }

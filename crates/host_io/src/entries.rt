@@ -5,9 +5,9 @@ ghost use Rattle.std.specs.Prelude.{OnOk, OnErr, None};
 ghost use Rattle.std.specs.List.{find, position};
 ghost use Rattle.host_io.specs.Host.{bytes_of};
 ghost use Rattle.host_io.specs.Machine.{is_named, bare_entry, content_among, room_among, changed};
-ghost use Rattle.host_io.specs.Machine.{changed_or_new, with_fault, shared_raised, stored};
+ghost use Rattle.host_io.specs.Machine.{changed_or_new, holding, with_fault, shared_raised, stored};
 
-use crate::entry::{Call, Entry, Faults};
+use crate::entry::{Call, Entry, Faults, Held};
 use std::alloc::{AllocError, Global};
 
 /// The place of a name's entry.
@@ -37,52 +37,26 @@ pub(crate) fn room_in(entries: &[Entry], name: &str) -> Option<u64>
     }
 }
 
-/// Puts a file under a name, which gets a new entry with these counts if it has none.
-pub(crate) fn put_in(
+/// Makes a name hold this too. It gets a new entry with these counts if it has none.
+pub(crate) fn hold_in(
     alloc: Global,
     entries: &mut Vec<Entry>,
     name: &str,
     faults: Faults,
-    bytes: &[u8],
+    held: Held<'_>,
 ) -> Result<(), AllocError>
     ensures ok { OnOk result (entries.new.items ≡ changed_or_new entries.old.items
-        (bare_entry name.now faults.read faults.write)
-        (λ e. record e { content = Some bytes.now })) }
+        (bare_entry name.now faults.read faults.write) (holding held.entry)) }
     ensures err { OnErr result (entries.new.items ≡ entries.old.items) }
 {
     match place_of(entries, name) {
         Some(i) => {
             let entry = &mut entries[i];
-            entry.put(bytes)
+            entry.hold(held)
         }
         None => {
             let mut entry = Entry::new(alloc, name, faults)?;
-            entry.put(bytes)?;
-            Ok(entries.push(entry)?)
-        }
-    }
-}
-
-/// Gives room to a name, which gets a new entry with these counts if it has none.
-pub(crate) fn give_room_in(
-    alloc: Global,
-    entries: &mut Vec<Entry>,
-    name: &str,
-    faults: Faults,
-    bytes: u64,
-) -> Result<(), AllocError>
-    ensures ok { OnOk result (entries.new.items ≡ changed_or_new entries.old.items
-        (bare_entry name.now faults.read faults.write) (λ e. record e { room = Some bytes })) }
-    ensures err { OnErr result (entries.new.items ≡ entries.old.items) }
-{
-    match place_of(entries, name) {
-        Some(i) => {
-            let entry = &mut entries[i];
-            entry.give_room(bytes)
-        }
-        None => {
-            let mut entry = Entry::new(alloc, name, faults)?;
-            entry.give_room(bytes)?;
+            entry.hold(held)?;
             Ok(entries.push(entry)?)
         }
     }

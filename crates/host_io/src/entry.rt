@@ -3,7 +3,8 @@
 ghost use Rattle.std.specs.Prelude.{◌≡◌, ◌-◌, ◌≤◌, ◌⊎◌, length, take, unwrap_or, option_copied};
 ghost use Rattle.std.specs.Prelude.{IfOk, OnOk, OnErr, None};
 ghost use Rattle.host_io.specs.Host.{bytes_of};
-ghost use Rattle.host_io.specs.Machine.{bare_entry, is_named, with_fault, stored};
+ghost use Rattle.host_io.specs.Machine.{bare_entry, holding, is_named, with_fault};
+ghost use Rattle.host_io.specs.Machine.{stored};
 
 use std::alloc::{AllocError, Global};
 use std::marker::Model;
@@ -20,6 +21,15 @@ pub(crate) struct Faults {
 pub(crate) enum Call {
     Read,
     Write,
+}
+
+/// What a name is to hold.
+#[derive(Clone, Copy)]
+pub(crate) enum Held<'a> {
+    /// A file of these bytes, in place of the one that is there.
+    File(&'a [u8]),
+    /// Room for a file of so many bytes. The one that is there stays.
+    Room(u64),
 }
 
 /// What a name has. The vector keeps memory for the room, so that no write takes any.
@@ -89,8 +99,18 @@ impl Entry {
         self.room
     }
 
-    /// Makes a file of these bytes, in place of the one that is there.
-    pub(crate) fn put(&mut self, bytes: &[u8]) -> Result<(), AllocError>
+    /// Makes the name hold this too.
+    pub(crate) fn hold(&mut self, held: Held<'_>) -> Result<(), AllocError>
+        ensures ok { OnOk result (self.new ≡ holding held.entry self.old) }
+        ensures err { OnErr result (self.new ≡ self.old) }
+    {
+        match held {
+            Held::File(bytes) => self.put(bytes),
+            Held::Room(bytes) => self.give_room(bytes),
+        }
+    }
+
+    fn put(&mut self, bytes: &[u8]) -> Result<(), AllocError>
         ensures ok { OnOk result (self.new ≡ record self.old { content = Some bytes.now }) }
         ensures err { OnErr result (self.new ≡ self.old) }
     {
@@ -102,8 +122,7 @@ impl Entry {
         Ok(())
     }
 
-    /// Sets the room, and keeps the file.
-    pub(crate) fn give_room(&mut self, bytes: u64) -> Result<(), AllocError>
+    fn give_room(&mut self, bytes: u64) -> Result<(), AllocError>
         ensures ok { OnOk result (self.new ≡ record self.old { room = Some bytes }) }
         ensures err { OnErr result (self.new ≡ self.old) }
     {

@@ -10,8 +10,8 @@ ghost use Rattle.host_io.specs.Machine.{new_machine, put, give_room, content_of,
 ghost use Rattle.host_io.specs.Machine.{write_faults_of, read_fails, after_read, write_fails};
 ghost use Rattle.host_io.specs.Machine.{taken, after_write};
 
-use crate::entries::{content_in, count_fault, give_room_in, put_in, room_in, store_in};
-use crate::entry::{Call, Entry, Faults};
+use crate::entries::{content_in, count_fault, hold_in, room_in, store_in};
+use crate::entry::{Call, Entry, Faults, Held};
 use crate::{Failed, Host};
 use packet_entry::NoMemory;
 use std::alloc::Global;
@@ -73,7 +73,8 @@ impl MemoryHost {
         ensures ok { OnOk result (self.new ≡ put self.old name.now bytes.now) }
         ensures err { OnErr result (self.new ≡ self.old) }
     {
-        Ok(put_in(alloc, &mut self.entries, name, self.others, bytes)?)
+        let held = Held::File(bytes);
+        Ok(hold_in(alloc, &mut self.entries, name, self.others, held)?)
     }
 
     /// The bytes of a file; `None` where there is no such file.
@@ -106,7 +107,8 @@ impl MemoryHost {
         ensures ok { OnOk result (self.new ≡ give_room self.old name.now bytes) }
         ensures err { OnErr result (self.new ≡ self.old) }
     {
-        Ok(give_room_in(alloc, &mut self.entries, name, self.others, bytes)?)
+        let held = Held::Room(bytes);
+        Ok(hold_in(alloc, &mut self.entries, name, self.others, held)?)
     }
 
     /// A read, as the definitions of the machine have it.
