@@ -18,22 +18,6 @@ use Rattle.netlink_codec.specs.Messages.{first_message, pad}
 use Rattle.netlink_codec.proofs.Bytes.{AreBytes-drop, field_behind}
 use Rattle.netlink_codec.proofs.Whole.{is_whole-true, is_whole-false, whole_or_not}
 
-abbrev pub message : ℕ → ℕ → ℕ → ℕ → List ℕ → List ℕ → NetlinkMessage
-message kind flags sequence port body whole =
-    record {
-      kind = kind;
-      flags = flags;
-      sequence = sequence;
-      port = port;
-      body = body;
-      whole = whole;
-    }
-
--- messages with the same parts are the same
-pub message_eq : (k k' f f' s s' p p' : ℕ) (b b' w w' : List ℕ) → k ≡ k' → f ≡ f' → s ≡ s' →
-    p ≡ p' → b ≡ b' → w ≡ w' → message k f s p b w ≡ message k' f' s' p' b' w'
-message_eq k k' f f' s s' p p' b b' w w' ek ef es ep eb ew = rw (ek, ef, es, ep, eb, ew) refl
-
 -- reading what a message's parts were written as, with anything after it, finds those parts
 pub first_message-text : (kind flags sequence port : ℕ) (body behind : List ℕ) →
     FitsHeader (message_with kind flags sequence port body) →
@@ -86,7 +70,7 @@ Front-first bytes m used front =
     let uses : used ≡ min (pad (length text)) (length (text ++ rest)) =
     front.uses ∙ ap₂ (λ (w b : List ℕ). min (pad (length w)) (length b)) front.text is in
     let parts : m ≡ message_with m.kind m.flags m.sequence m.port m.body =
-    ap (λ (w : List ℕ). message m.kind m.flags m.sequence m.port m.body w) front.text in
+    ap (λ (w : List ℕ). record m { whole = w }) front.text in
     ap first_message is ∙ first_message-text m.kind m.flags m.sequence m.port m.body rest fits
     ∙ sym (ap₂ (λ (x : NetlinkMessage) (y : ℕ). Some (x, y)) parts uses)
 
