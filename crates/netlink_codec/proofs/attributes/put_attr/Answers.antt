@@ -1,7 +1,6 @@
-use Rattle.std.proofs.Common.{◌≡◌, ◌≤◌, ℕ, List, ◌+◌, ◌-◌, ◌++◌, length, take, replicate, ap, ap₂}
-use Rattle.std.proofs.Common.{subst, ◌∙◌, append_assoc, arith}
+use Rattle.std.proofs.Common.{◌≡◌, ◌≤◌, ℕ, List, ◌+◌, ◌-◌, ◌++◌, length, take, replicate, ap}
+use Rattle.std.proofs.Common.{◌∙◌, append_assoc, arith}
 use Rattle.std.proofs.lemmas.List.{take-replicate}
-use Rattle.std.specs.Prelude.{OnOk}
 use Rattle.netlink_codec.specs.Numbers.{alignment, attribute_header_length}
 use Rattle.netlink_codec.specs.Attributes.{attribute_text, zero_padding}
 use Rattle.netlink_codec.proofs.attributes.put_attr.Goals as goal
@@ -19,11 +18,7 @@ returns-clause-ok c =
     let padding : zeros ≡ zero_padding total =
     take-replicate count alignment 0 most
     ∙ ap (λ (n : ℕ). replicate (n - total) 0) c.padded.ensures in
-    let P : List ℕ → Type 0 =
-    λ xs. OnOk c.append_parts.result (c.append_parts.new.out.items ≡ xs) in
-    subst P
-    (ap (λ (xs : List ℕ). xs ++ zeros) (append_assoc old header body)
-    ∙ append_assoc old (header ++ body) zeros
-    ∙ ap₂ (λ (h p : List ℕ). old ++ ((h ++ body) ++ p)) c.put_attribute_header-header.ensures
-    padding)
-    c.append_parts.ensures.ok
+    let text : (old ++ header ++ body) ++ zeros ≡ old ++ ((header ++ body) ++ zeros) =
+    ap (λ (xs : List ℕ). xs ++ zeros) (append_assoc old header body)
+    ∙ append_assoc old (header ++ body) zeros in
+    rw (text, c.put_attribute_header-header.ensures, padding) at c.append_parts.ensures.ok
