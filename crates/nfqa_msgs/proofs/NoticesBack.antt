@@ -220,22 +220,8 @@ cut-back shown (Some n) fits =
 
 -- ---- the whole row
 
-made_told : ℕ → ℕ → ℕ → ℕ → Option (List ℕ) → ℕ → ℕ → Option ℕ → List ℕ → Told
-made_told queue id protocol mark source seconds micros cut payload =
-    record {
-      queue = queue;
-      id = id;
-      protocol = protocol;
-      mark = mark;
-      source = source;
-      seconds = seconds;
-      micros = micros;
-      cut_from = cut;
-      payload = payload;
-    }
-
 pub told_in-back : (told : Told) → FitsTold told → told_in told.queue (notice_parts told) ≡ told
-unfolding told_in made_told
+unfolding told_in
 told_in-back told fits =
     let id : value_at packet_header_kind packet_header_length packet_id_field (notice_parts told)
     ≡ told.id =
@@ -267,23 +253,7 @@ told_in-back told fits =
     ap₂ (λ (xs : List ℕ) (o : Option (List ℕ)). above (length xs)
     (long_value value_length value_field o)) payload (cut-there told)
     ∙ cut-back (length told.payload) told.cut_from fits.cut_fits in
-    ap (λ (x : ℕ). made_told told.queue x (protocol_at (notice_parts told))
-    (value_at mark_kind value_length value_field (notice_parts told))
-    (source_at (notice_parts told))
-    (value_at timestamp_kind timestamp_length (low_half seconds_field) (notice_parts told))
-    (value_at timestamp_kind timestamp_length (low_half micros_field) (notice_parts told))
-    (cut_at (notice_parts told)) (payload_at (notice_parts told))) id
-    ∙ ap₂ (λ (x y : ℕ). made_told told.queue told.id x y (source_at (notice_parts told))
-    (value_at timestamp_kind timestamp_length (low_half seconds_field) (notice_parts told))
-    (value_at timestamp_kind timestamp_length (low_half micros_field) (notice_parts told))
-    (cut_at (notice_parts told)) (payload_at (notice_parts told))) protocol mark
-    ∙ ap₂ (λ (x : Option (List ℕ)) (y : ℕ). made_told told.queue told.id told.protocol told.mark x y
-    (value_at timestamp_kind timestamp_length (low_half micros_field) (notice_parts told))
-    (cut_at (notice_parts told)) (payload_at (notice_parts told))) source seconds
-    ∙ ap₂ (λ (x : ℕ) (y : Option ℕ). made_told told.queue told.id told.protocol told.mark
-    told.source told.seconds x y (payload_at (notice_parts told))) micros cut
-    ∙ ap (λ (x : List ℕ). made_told told.queue told.id told.protocol told.mark told.source
-    told.seconds told.micros told.cut_from x) payload
+    rw (id, protocol, mark, source, seconds, micros, cut, payload) refl
 
 pub parts-fit : (told : Told) → FitsTold told → AllFit (notice_parts told)
 parts-fit told fits =
