@@ -58,19 +58,12 @@ pub Front-first : (bytes : List ℕ) (m : NetlinkMessage) (used : ℕ) → Front
 Front-first bytes m used front =
     let rest : List ℕ = front.behind.0 in
     let text : List ℕ = message_text m.kind m.flags m.sequence m.port m.body in
-    let fits : FitsHeader (message_with m.kind m.flags m.sequence m.port m.body) =
-    record {
-      kind = front.fits.kind;
-      flags = front.fits.flags;
-      sequence = front.fits.sequence;
-      port = front.fits.port;
-      length = front.fits.length;
-    } in
     let is : bytes ≡ text ++ rest = front.behind.1 ∙ ap (λ (w : List ℕ). w ++ rest) front.text in
     let uses : used ≡ min (pad (length text)) (length (text ++ rest)) =
     front.uses ∙ ap₂ (λ (w b : List ℕ). min (pad (length w)) (length b)) front.text is in
     let parts : m ≡ message_with m.kind m.flags m.sequence m.port m.body =
     ap (λ (w : List ℕ). record m { whole = w }) front.text in
+    let fits = subst FitsHeader parts front.fits in
     ap first_message is ∙ first_message-text m.kind m.flags m.sequence m.port m.body rest fits
     ∙ sym (ap₂ (λ (x : NetlinkMessage) (y : ℕ). Some (x, y)) parts uses)
 
