@@ -28,7 +28,8 @@ impl<T> Model for Stock<T> {
 impl<T> Stock<T> {
     /// No items and no room. Takes no memory.
     pub fn new(alloc: Global) -> Stock<T>
-        ensures { result.items ≡ [] }
+        ensures items { result.items ≡ [] }
+        ensures room { result.room ≡ 0 }
     {
         Stock {
             items: Vec::new(alloc),
