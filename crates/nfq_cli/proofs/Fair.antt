@@ -20,9 +20,9 @@ use Rattle.pcap_io.specs.declared.capture.Frame.{Frame}
 use Rattle.nfqa_msgs.specs.Numbers.{copy_packet}
 use Rattle.queue_core.specs.Numbers.{id_count}
 use Rattle.queue_core.specs.State.{Bound, bound_to, configured}
-use Rattle.queue_core.specs.Held.{Held}
+use Rattle.queue_core.specs.WithOffer.{WithOffer}
 use Rattle.queue_core.specs.Step as queue
-use Rattle.queue_core.specs.Step.{next_id, with_last, Way}
+use Rattle.queue_core.specs.Step.{next_id, with_last, Way, step}
 use Rattle.nfq_cli.specs.declared.script.Verdict.{Verdict}
 use Rattle.nfq_cli.specs.declared.script.Verdict.TheVariants as verdict
 use Rattle.nfq_cli.specs.declared.script.OnId.{OnId}
@@ -30,7 +30,7 @@ use Rattle.nfq_cli.specs.declared.histories.Entry.{Entry}
 use Rattle.nfq_cli.specs.declared.ledger.FateLine.{FateLine}
 use Rattle.nfq_cli.specs.Code.{code_of}
 use Rattle.nfq_cli.specs.Script.{answer}
-use Rattle.nfq_cli.specs.History.{step, replay, replay_from}
+use Rattle.nfq_cli.specs.History.{replay, replay_from}
 use Rattle.nfq_cli.specs.Schedule.{World, opened, queued_card, copy_packets, solo}
 use Rattle.nfq_cli.specs.Passing.{line_of}
 use Rattle.nfq_cli.specs.Released as released
@@ -127,7 +127,7 @@ leaves_once port lines rest number f q calls bound copies room empty =
 
 pub record SoFar (port : ℕ) (lines : List OnId) (rest : Verdict) (frames : List Frame) (at : ℕ) :
     Type 0 where
-  h : Held
+  h : WithOffer
   w : World
   told : List FateLine
   underway : IsUnderway port lines rest frames at h w told

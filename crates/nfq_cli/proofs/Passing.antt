@@ -13,18 +13,19 @@ use Rattle.nfq_cli.proofs.Texts.{left_at, taken_on, length_take_within, drop_all
 use Rattle.packet_entry.specs.declared.packet.Card.{Card}
 use Rattle.pcap_io.specs.declared.capture.Frame.{Frame}
 use Rattle.queue_core.specs.State.{Bound}
-use Rattle.queue_core.specs.Held.{Held}
+use Rattle.queue_core.specs.WithOffer.{WithOffer}
 use Rattle.queue_core.specs.declared.offers.Outcome.TheVariants.{Taken}
+use Rattle.queue_core.specs.declared.event.Event.TheVariants.{Arrive, Ask}
+use Rattle.queue_core.specs.declared.event.Reply.TheVariants.{Arrived, Answer}
 use Rattle.nfqa_msgs.specs.Numbers.{copy_packet}
+use Rattle.nfqa_msgs.specs.declared.request.Request.TheVariants as asked
 use Rattle.queue_core.specs.Decision.{decision_of}
 use Rattle.queue_core.specs.Step as queue
 use Rattle.queue_core.specs.Step.{arrive_bound, next_id, taken, with_last, way_of, Way, Gone}
-use Rattle.queue_core.specs.Step.{Decided}
+use Rattle.queue_core.specs.Step.{Decided, step, marking}
 use Rattle.nfq_cli.specs.declared.script.Verdict.{Verdict}
 use Rattle.nfq_cli.specs.declared.script.OnId.{OnId}
 use Rattle.nfq_cli.specs.declared.script.Verdict.TheVariants as verdict
-use Rattle.nfq_cli.specs.declared.histories.Request.TheVariants as asked
-use Rattle.nfq_cli.specs.declared.histories.Event.TheVariants.{Arrive, Ask}
 use Rattle.nfq_cli.specs.declared.histories.Entry.{Entry}
 use Rattle.nfq_cli.specs.declared.histories.Did.TheVariants.{Sent}
 use Rattle.nfq_cli.specs.declared.ledger.FateLine.{FateLine}
@@ -32,7 +33,7 @@ use Rattle.nfq_cli.specs.Code.{code_of}
 use Rattle.nfq_cli.specs.Script.{answer}
 use Rattle.nfq_cli.specs.declared.histories.Histories.{Histories}
 use Rattle.nfq_cli.specs.Solo.{solo_histories}
-use Rattle.nfq_cli.specs.History.{histories_of, step, replay, replay_from, IsLegal, IsLegalFrom}
+use Rattle.nfq_cli.specs.History.{histories_of, replay, replay_from, IsLegal, IsLegalFrom}
 use Rattle.nfq_cli.specs.Schedule.{World, Notice, at_first, queued_card, verdict_on, has_room}
 use Rattle.nfq_cli.specs.Schedule.{receive, arrive, emptied, over, solo}
 use Rattle.nfq_cli.specs.Ready.{IsReady}
@@ -100,7 +101,7 @@ none_yet number (x ∷ hs) h =
 pub arrives : (q : Bound) (card : Card) → q.mode ≡ copy_packet → 0 < q.maximum → q.waiting ≡ []
     → arrive_bound q card true ≡ record {
       state = Some (taken q (next_id q) card);
-      reply = Taken (next_id q);
+      reply = Arrived (Taken (next_id q));
       left = [];
     }
 arrives q card copies room empty = rw (copies, empty, lt-leb q.maximum 0 room) refl
@@ -108,10 +109,10 @@ arrives q card copies room empty = rw (copies, empty, lt-leb q.maximum 0 room) r
 -- its verdict finds it, and nothing waits
 pub decides : (q : Bound) (port id : ℕ) (card : Card) (v : Verdict) → q.port ≡ port → q.waiting ≡ []
     → queue.verdict (Some (taken q id card)) port (Some (record { verdict = code_of v; id = id }))
-    None None
+    (marking None)
     ≡ record {
       state = Some (with_last q id);
-      reply = 0;
+      reply = Answer 0 1;
       left = (card, way_of (decision_of (code_of v))) ∷ [];
     }
 decides q port id card verdict.Accept bound empty =
@@ -139,9 +140,10 @@ world_after port lines rest number f q w = record {
 }
 
 -- the mailbox has room for the packet's notice
-roomy : (q : Bound) (w : World) → replay w.entries ≡ Some q → w.notices ≡ [] →
-    q.mode ≡ copy_packet → 0 < q.maximum → q.waiting ≡ [] → has_room w ≡ true
-roomy q w replayed none copies room empty =
+roomy : (number : ℕ) (f : Frame) (q : Bound) (w : World) → replay w.entries ≡ Some q →
+    w.notices ≡ [] → q.mode ≡ copy_packet → 0 < q.maximum → q.waiting ≡ [] →
+    has_room (queued_card number f) w ≡ true
+roomy number f q w replayed none copies room empty =
     rw (replayed, none, copies, empty, lt-leb q.maximum 0 room) refl
 
 -- it arrives, and its notice waits to be received
@@ -153,7 +155,7 @@ arrived_world : (number : ℕ) (f : Frame) (q : Bound) (w : World) → replay w.
     }
 arrived_world number f q w replayed none copies room empty =
     rw (
-      roomy q w replayed none copies room empty,
+      roomy number f q w replayed none copies room empty,
       replayed,
       none,
       arrives q (queued_card number f) copies room empty,
@@ -279,7 +281,7 @@ last_event number at code card hs same below =
 
 -- A run that has come so far: the frames before this place have passed.
 pub record IsUnderway (port : ℕ) (lines : List OnId) (rest : Verdict) (frames : List Frame) (at : ℕ)
-    (h : Held) (w : World) (told : List FateLine) : Type 0 where
+    (h : WithOffer) (w : World) (told : List FateLine) : Type 0 where
   pub ready : IsReady h
   pub bound : h.state.port ≡ port
   pub empty : w.notices ≡ []
@@ -301,8 +303,8 @@ fit_on (k ∷ ls) l h small = (h.0, fit_on ls l h.1 small)
 pub pushed : (es : List Entry) (a b : Entry) → (es ++ a ∷ []) ++ b ∷ [] ≡ es ++ a ∷ b ∷ []
 pushed es a b = append_assoc es (a ∷ []) (b ∷ [])
 
-module _ (port : ℕ) (lines : List OnId) (rest : Verdict) (frames : List Frame) (at : ℕ) (h : Held)
-    (w : World) (told : List FateLine)
+module _ (port : ℕ) (lines : List OnId) (rest : Verdict) (frames : List Frame) (at : ℕ)
+    (h : WithOffer) (w : World) (told : List FateLine)
     (is : IsUnderway port lines rest frames at h w told) (f : Frame)
     (there : Some f ≡ slice_get frames at) where
   abbrev q : Bound
@@ -394,7 +396,7 @@ module _ (port : ℕ) (lines : List OnId) (rest : Verdict) (frames : List Frame)
       ∙ ap (λ l. told ++ l ∷ []) mine)
 
   -- the run has come one frame further
-  pub underway_on : (h' : Held) (w' : World) (told' : List FateLine) (line : FateLine) →
+  pub underway_on : (h' : WithOffer) (w' : World) (told' : List FateLine) (line : FateLine) →
       h'.state ≡ with_last q id → h'.offer ≡ None → w' ≡ next
       → line ≡ line_of (at + 1) (code_of (answer lines rest id)) (length w.entries + 2) card →
       told' ≡ told ++ line ∷ [] → length f.bytes ≤ longest_packet
@@ -423,8 +425,8 @@ module _ (port : ℕ) (lines : List OnId) (rest : Verdict) (frames : List Frame)
       })
 
 -- once all frames have passed, nothing is left to receive
-pub all_passed : (port : ℕ) (lines : List OnId) (rest : Verdict) (frames : List Frame) (h : Held)
-    (w : World) (told : List FateLine)
+pub all_passed : (port : ℕ) (lines : List OnId) (rest : Verdict) (frames : List Frame)
+    (h : WithOffer) (w : World) (told : List FateLine)
     → IsUnderway port lines rest frames (length frames) h w told → w ≡ solo port lines rest frames
 all_passed port lines rest frames h w told is =
     sym (ap (λ (ns : List Notice). at_first ns w
@@ -439,8 +441,8 @@ all_passed port lines rest frames h w told is =
     add-one' n = omega arith
 
 -- then the histories are the schedule's, they are legal, and the lines are the fates in them
-pub done : (port : ℕ) (lines : List OnId) (rest : Verdict) (frames : List Frame) (at : ℕ) (h : Held)
-    (w : World) (told : List FateLine) (hs : Histories)
+pub done : (port : ℕ) (lines : List OnId) (rest : Verdict) (frames : List Frame) (at : ℕ)
+    (h : WithOffer) (w : World) (told : List FateLine) (hs : Histories)
     → IsUnderway port lines rest frames at h w told → at ≡ length frames →
     hs ≡ histories_of port w.entries w.dids
     → (hs ≡ solo_histories port lines rest frames) × IsLegal hs.entries

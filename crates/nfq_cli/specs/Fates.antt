@@ -3,22 +3,21 @@ use Rattle.std.specs.Prelude.{ℕ, ◌+◌, List, [], ◌∷◌, ◌++◌, map, 
 use Rattle.std.specs.Prelude.{◌&&◌, ◌==◌, nat_le, if◌then◌else◌}
 use Rattle.packet_entry.specs.declared.packet.Card.{Card}
 use Rattle.pcap_io.specs.declared.capture.Frame.{Frame}
+use Rattle.hook_chain.specs.declared.chain.Decision.TheVariants as decision
+use Rattle.nfqa_msgs.specs.declared.request.Request.{Request}
+use Rattle.nfqa_msgs.specs.declared.request.Request.TheVariants as request
 use Rattle.queue_core.specs.declared.offers.Outcome.{Outcome}
 use Rattle.queue_core.specs.declared.offers.Outcome.TheVariants as outcome
-use Rattle.queue_core.specs.declared.decision.Decision.TheVariants as decision
+use Rattle.queue_core.specs.declared.event.Event.{Event}
+use Rattle.queue_core.specs.declared.event.Event.TheVariants as event
+use Rattle.queue_core.specs.declared.event.Reply.{Reply}
+use Rattle.queue_core.specs.declared.event.Reply.TheVariants as reply
 use Rattle.queue_core.specs.State.{Bound}
-use Rattle.queue_core.specs.Step.{Way, Gone, Open, Decided}
-use Rattle.nfq_cli.specs.declared.histories.Request.{Request}
-use Rattle.nfq_cli.specs.declared.histories.Request.TheVariants as request
-use Rattle.nfq_cli.specs.declared.histories.Event.{Event}
-use Rattle.nfq_cli.specs.declared.histories.Event.TheVariants as event
-use Rattle.nfq_cli.specs.declared.histories.Reply.{Reply}
-use Rattle.nfq_cli.specs.declared.histories.Reply.TheVariants as reply
+use Rattle.queue_core.specs.Step.{Way, Gone, Open, Decided, Stepped, step}
 use Rattle.nfq_cli.specs.declared.histories.Entry.{Entry}
 use Rattle.nfq_cli.specs.declared.ledger.Fate.{Fate}
 use Rattle.nfq_cli.specs.declared.ledger.Fate.TheVariants as fate
 use Rattle.nfq_cli.specs.declared.ledger.FateLine.{FateLine}
-use Rattle.nfq_cli.specs.History.{Moved, step}
 
 -- an event of a packet: its entry's queue and place in that queue's history, the fate that it is if
 -- it is the last, and the packet there, after its edits
@@ -54,18 +53,25 @@ fate_by_verdict Open = fate.FailOpen
 abbrev pub fate_by_request : Request → Way → Fate
 fate_by_request (request.Config queue command params maxlen flags mask) way = fate.Unbind
 fate_by_request (request.Verdict queue head mark payload) way = fate_by_verdict way
+fate_by_request (request.Batch queue head mark) way = fate_by_verdict way
 
+-- no other reply comes at an arrival
 abbrev pub arrival_fate : Reply → Fate
 arrival_fate (reply.Arrived o) = fate_at_arrival o
-arrival_fate (reply.Answer errno taken) = fate.Unhooked
+arrival_fate other = fate.Unhooked
+
+-- the events of what leaves, with the fate of each way
+abbrev pub departing : ℕ → ℕ → (Way → Fate) → List (Card × Way) → List Happening
+departing queue at fate_by left =
+    map (λ l. record { queue = queue; at = at; fate = fate_by l.1; card = l.0 }) left
 
 -- the packets that an entry is an event of
-abbrev pub happens : ℕ → ℕ → Event → Moved → List Happening
-happens queue at (event.Arrive card bypass room) moved =
-    record { queue = queue; at = at; fate = arrival_fate moved.reply; card = card } ∷ []
-happens queue at (event.Ask port call asked) moved =
-    map (λ l. record { queue = queue; at = at; fate = fate_by_request asked l.1; card = l.0 })
-    moved.left
+abbrev pub happens : ℕ → ℕ → Event → Stepped → List Happening
+happens queue at (event.Arrive card bypass room) s =
+    record { queue = queue; at = at; fate = arrival_fate s.reply; card = card } ∷ []
+happens queue at (event.Ask port call asked) s = departing queue at (fate_by_request asked) s.left
+happens queue at (event.PortClosed port) s = departing queue at (λ way. fate.PortClosed) s.left
+happens queue at (event.DeviceDown device) s = departing queue at (λ way. fate.DeviceDown) s.left
 
 -- the events of a history, from a state and a place on
 abbrev pub happenings_from : Option Bound → ℕ → List Entry → List Happening

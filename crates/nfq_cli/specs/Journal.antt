@@ -6,16 +6,16 @@ use Rattle.hex.specs.Hex.{encode_lower}
 use Rattle.packet_entry.specs.declared.packet.Card.{Card}
 use Rattle.nfqa_msgs.specs.declared.request.Params.{Params}
 use Rattle.nfqa_msgs.specs.declared.request.Head.{Head}
+use Rattle.nfqa_msgs.specs.declared.request.Request.{Request}
+use Rattle.nfqa_msgs.specs.declared.request.Request.TheVariants.{Config, Verdict, Batch}
 use Rattle.queue_core.specs.declared.offers.Outcome.{Outcome}
 use Rattle.queue_core.specs.declared.offers.Outcome.TheVariants.{Taken, Overflow, OverflowOpen}
 use Rattle.queue_core.specs.declared.offers.Outcome.TheVariants.{UserFull, UserFullOpen, NoQueue}
 use Rattle.queue_core.specs.declared.offers.Outcome.TheVariants.{Bypassed, CopyNone, Loop}
-use Rattle.nfq_cli.specs.declared.histories.Request.{Request}
-use Rattle.nfq_cli.specs.declared.histories.Request.TheVariants.{Config, Verdict}
-use Rattle.nfq_cli.specs.declared.histories.Event.{Event}
-use Rattle.nfq_cli.specs.declared.histories.Event.TheVariants.{Arrive, Ask}
-use Rattle.nfq_cli.specs.declared.histories.Reply.{Reply}
-use Rattle.nfq_cli.specs.declared.histories.Reply.TheVariants.{Arrived, Answer}
+use Rattle.queue_core.specs.declared.event.Event.{Event}
+use Rattle.queue_core.specs.declared.event.Event.TheVariants.{Arrive, Ask, PortClosed, DeviceDown}
+use Rattle.queue_core.specs.declared.event.Reply.{Reply}
+use Rattle.queue_core.specs.declared.event.Reply.TheVariants.{Arrived, Answer, Flushed}
 use Rattle.nfq_cli.specs.declared.histories.Entry.{Entry}
 use Rattle.nfq_cli.specs.declared.histories.Did.{Did}
 use Rattle.nfq_cli.specs.declared.histories.Did.TheVariants.{Received, Sent}
@@ -43,7 +43,7 @@ abbrev pub payload : Option (List ℕ) → List ℕ
 payload None = []
 payload (Some bytes) = codes " payload " ++ hexadecimal bytes
 
--- the verdict and the id, `-` where there is no verdict header
+-- the verdict and the id, of a batch the greatest; `-` where there is no verdict header
 abbrev pub head : Option Head → List ℕ
 head None = codes "-"
 head (Some h) = decimal h.verdict ++ codes " " ++ decimal h.id
@@ -55,6 +55,8 @@ request (Config queue command asked maxlen flags mask) =
 request (Verdict queue h mark bytes) =
     codes "verdict " ++ decimal queue ++ codes " " ++ head h ++ part (codes " mark ") mark
     ++ payload bytes
+request (Batch queue h mark) =
+    codes "batch " ++ decimal queue ++ codes " " ++ head h ++ part (codes " mark ") mark
 
 abbrev pub outcome : Outcome → List ℕ
 outcome (Taken id) = codes "taken:" ++ decimal id ++ codes "\n"
@@ -82,11 +84,12 @@ card c bypass room =
     ++ codes " "
     ++ hexadecimal c.bytes ++ codes " "
 
--- an outcome, or the errno and how many packets left
+-- an arrival's outcome, a request's errno and how many packets left, or this number alone
 abbrev pub reply : Reply → List ℕ
 reply (Arrived o) = outcome o
 reply (Answer errno taken) =
     codes " = " ++ decimal errno ++ codes " " ++ decimal taken ++ codes "\n"
+reply (Flushed taken) = codes " " ++ decimal taken ++ codes "\n"
 
 abbrev pub event : ℕ → Event → List ℕ
 event queue (Arrive c bypass room) =
@@ -94,6 +97,8 @@ event queue (Arrive c bypass room) =
 event queue (Ask port call asked) =
     codes "M " ++ decimal queue ++ codes " " ++ decimal port ++ codes " " ++ decimal call
     ++ codes " " ++ request asked
+event queue (PortClosed port) = codes "C " ++ decimal queue ++ codes " " ++ decimal port
+event queue (DeviceDown device) = codes "D " ++ decimal queue ++ codes " " ++ decimal device
 
 abbrev pub entry : Entry → List ℕ
 entry e = event e.queue e.event ++ reply e.reply

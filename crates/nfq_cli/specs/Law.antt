@@ -4,15 +4,14 @@ use Rattle.std.specs.Prelude.{None}
 use Rattle.packet_entry.specs.declared.packet.Card.{Card}
 use Rattle.pcap_io.specs.declared.capture.Frame.{Frame}
 use Rattle.queue_core.specs.State.{Bound}
-use Rattle.queue_core.specs.Step.{Way}
+use Rattle.queue_core.specs.Step.{Way, step}
+use Rattle.queue_core.specs.declared.event.Event.{Event}
+use Rattle.queue_core.specs.declared.event.Event.TheVariants.{Arrive}
 use Rattle.nfq_cli.specs.declared.script.Verdict.{Verdict}
 use Rattle.nfq_cli.specs.declared.script.Verdict.TheVariants as verdict
 use Rattle.nfq_cli.specs.declared.script.OnId.{OnId}
-use Rattle.nfq_cli.specs.declared.histories.Event.{Event}
-use Rattle.nfq_cli.specs.declared.histories.Event.TheVariants.{Arrive, Ask}
 use Rattle.nfq_cli.specs.declared.histories.Entry.{Entry}
 use Rattle.nfq_cli.specs.Script.{answer}
-use Rattle.nfq_cli.specs.History.{step}
 use Rattle.nfq_cli.specs.Solo.{solo_histories}
 use Rattle.nfq_cli.specs.Outputs.{solo_fates}
 use Rattle.nfq_cli.specs.Released as released
@@ -25,7 +24,7 @@ numbers first (suc count) = first ∷ numbers (first + 1) count
 -- the packet that arrives in an entry
 abbrev pub arriving : Event → List ℕ
 arriving (Arrive card bypass room) = card.number ∷ []
-arriving (Ask port call request) = []
+arriving other = []
 
 -- the packets that arrived, entry by entry
 abbrev pub arrivals : List Entry → List ℕ

@@ -2,12 +2,12 @@
 -- verdict is carried out.
 use Rattle.std.specs.Prelude.{◌+◌, ◌%◌, ℕ, false, true, ◌==◌, if◌then◌else◌}
 use Rattle.packet_entry.specs.declared.packet.Card.{Card}
+use Rattle.nfqa_msgs.specs.declared.request.Request.{Request}
 use Rattle.queue_core.specs.declared.offers.Outcome.TheVariants as outcome
+use Rattle.queue_core.specs.declared.event.Event.TheVariants as event
+use Rattle.queue_core.specs.declared.event.Reply.TheVariants as reply
 use Rattle.queue_core.specs.Numbers.{verdict_accept}
 use Rattle.nfq_cli.specs.Numbers.{call_count}
-use Rattle.nfq_cli.specs.declared.histories.Request.{Request}
-use Rattle.nfq_cli.specs.declared.histories.Event.TheVariants as event
-use Rattle.nfq_cli.specs.declared.histories.Reply.TheVariants as reply
 use Rattle.nfq_cli.specs.declared.histories.Entry.{Entry}
 use Rattle.nfq_cli.specs.declared.histories.Did.{Did}
 use Rattle.nfq_cli.specs.declared.histories.Did.TheVariants as did

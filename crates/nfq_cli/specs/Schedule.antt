@@ -2,29 +2,29 @@
 -- every packet at queue 0. The world is a list of entries, the notices that weren't received yet,
 -- and what the port did; the queue's state in it is the replay of the entries.
 use Rattle.std.specs.Prelude.{ℕ, zero, suc, ◌+◌, ◌*◌, ◌%◌, List, [], ◌∷◌, ◌++◌, length, Option}
-use Rattle.std.specs.Prelude.{Some, None, Bool, true, false, not, ◌&&◌, ◌==◌, nat_lt, if◌then◌else◌}
+use Rattle.std.specs.Prelude.{Some, None, Bool, true, false, not, ◌&&◌, ◌||◌, ◌==◌, nat_lt}
+use Rattle.std.specs.Prelude.{if◌then◌else◌}
 use Rattle.packet_entry.specs.declared.packet.Card.{Card}
 use Rattle.packet_entry.specs.Numbers.{ipv4_type}
 use Rattle.packet_entry.specs.Card.{opening_card}
 use Rattle.pcap_io.specs.declared.capture.Frame.{Frame}
-use Rattle.queue_core.specs.declared.offers.Outcome.TheVariants as outcome
 use Rattle.nfqa_msgs.specs.Numbers.{command_bind, copy_packet}
-use Rattle.queue_core.specs.State.{Bound}
-use Rattle.queue_core.specs.Held.{is_decided_early}
+use Rattle.nfqa_msgs.specs.declared.request.Request.{Request}
+use Rattle.nfqa_msgs.specs.declared.request.Request.TheVariants as request
+use Rattle.queue_core.specs.declared.offers.Outcome.TheVariants as outcome
+use Rattle.queue_core.specs.declared.event.Event.TheVariants as event
+use Rattle.queue_core.specs.declared.event.Reply.{Reply}
+use Rattle.queue_core.specs.declared.event.Reply.TheVariants as reply
+use Rattle.queue_core.specs.Step.{is_decided_early, step}
 use Rattle.nfq_cli.specs.declared.script.Verdict.{Verdict}
 use Rattle.nfq_cli.specs.declared.script.OnId.{OnId}
-use Rattle.nfq_cli.specs.declared.histories.Request.{Request}
-use Rattle.nfq_cli.specs.declared.histories.Request.TheVariants as request
-use Rattle.nfq_cli.specs.declared.histories.Event.TheVariants as event
-use Rattle.nfq_cli.specs.declared.histories.Reply.{Reply}
-use Rattle.nfq_cli.specs.declared.histories.Reply.TheVariants as reply
 use Rattle.nfq_cli.specs.declared.histories.Entry.{Entry}
 use Rattle.nfq_cli.specs.declared.histories.Did.{Did}
 use Rattle.nfq_cli.specs.declared.histories.Did.TheVariants as did
 use Rattle.nfq_cli.specs.Numbers.{mailbox_size, most_notices, call_count}
 use Rattle.nfq_cli.specs.Code.{code_of}
 use Rattle.nfq_cli.specs.Script.{answer}
-use Rattle.nfq_cli.specs.History.{step, replay}
+use Rattle.nfq_cli.specs.History.{replay}
 
 -- a notice that wasn't received yet: of which packet's visit, and under which id it waits
 pub record Notice : Type 0 where
@@ -47,16 +47,17 @@ abbrev pub next_call : World → ℕ
 next_call w = (w.calls + 1) % call_count
 
 -- whether the sender of a request wants an acknowledgement in any case: config requests do,
--- verdicts don't
+-- verdicts and batches don't
 abbrev pub wants_answer : Request → Bool
 wants_answer (request.Config queue command params maxlen flags mask) = true
 wants_answer (request.Verdict queue head mark payload) = false
+wants_answer (request.Batch queue head mark) = false
 
 -- the errno of the acknowledgement: a fault is always acknowledged
 abbrev pub answer_to : Request → Reply → Option ℕ
 answer_to asked (reply.Answer errno taken) =
     if (errno == 0) && not (wants_answer asked) then None else Some errno
-answer_to asked (reply.Arrived o) = None
+answer_to asked other = None
 
 -- The port sends a message: its entry, and what the port did. What left goes on with the table
 -- after the one that queued it, which there isn't, or is destroyed: nothing arrives again.
@@ -91,12 +92,9 @@ queued_card number f =
     record (opening_card number f.seconds f.fraction ipv4_type [] f.bytes) { visit = 1; table = 1 }
 
 -- whether the mailbox has room for the notice of an arrival, or none is sent
-abbrev pub has_room : World → Bool
-has_room w = room_of (replay w.entries)
-  where
-    room_of : Option Bound → Bool
-    room_of None = true
-    room_of (Some q) = if is_decided_early q then true else nat_lt (length w.notices) mailbox_size
+abbrev pub has_room : Card → World → Bool
+has_room card w =
+    is_decided_early (replay w.entries) card || nat_lt (length w.notices) mailbox_size
 
 -- an arrival that is taken sends a notice
 abbrev pub notices_of : Card → Reply → List Notice
@@ -110,8 +108,8 @@ arrive card w =
     let e : Entry =
     record {
       queue = 0;
-      event = event.Arrive card false (has_room w);
-      reply = (step (replay w.entries) (event.Arrive card false (has_room w))).reply;
+      event = event.Arrive card false (has_room card w);
+      reply = (step (replay w.entries) (event.Arrive card false (has_room card w))).reply;
     } in
     record w { entries = w.entries ++ e ∷ []; notices = w.notices ++ notices_of card e.reply }
 

@@ -1,53 +1,8 @@
 //! What happened at the queues and at the ports, entry by entry.
 
-use nfqa_msgs::{Head, Params};
-use packet_entry::{Bytes, Card, Sequence};
-use queue_core::Outcome;
-
-/// What a message asks of a queue.
-#[derive(Debug, Drop)]
-pub enum Request {
-    Config {
-        queue: u16,
-        command: Option<u8>,
-        params: Option<Params>,
-        maxlen: Option<u32>,
-        flags: Option<u32>,
-        mask: Option<u32>,
-    },
-    Verdict {
-        queue: u16,
-        head: Option<Head>,
-        mark: Option<u32>,
-        payload: Option<Bytes>,
-    },
-}
-
-/// What happens at a queue.
-#[derive(Debug, Drop)]
-pub enum Event {
-    /// A packet arrives. `bypass` is the rule's; `room` says whether the port's mailbox took the
-    /// notice, and is true where none was offered.
-    Arrive {
-        card: Card,
-        bypass: bool,
-        room: bool,
-    },
-    /// A port's message, with its number among the port's messages.
-    Ask {
-        port: u32,
-        call: u32,
-        request: Request,
-    },
-}
-
-/// What a queue answers.
-#[derive(Clone, Copy, Debug, PartialEq, Eq)]
-pub enum Reply {
-    Arrived { outcome: Outcome },
-    /// The errno, 0 for success, and how many packets left.
-    Answer { errno: u16, taken: u32 },
-}
+use nfqa_msgs::Request;
+use packet_entry::Sequence;
+use queue_core::{Event, Reply};
 
 /// One step of one queue.
 #[derive(Debug, Drop)]

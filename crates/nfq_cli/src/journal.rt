@@ -4,10 +4,10 @@ ghost use Rattle.std.specs.Prelude.{◌≡◌, ◌∷◌, ◌++◌, [], OnOk, If
 ghost use Rattle.std.specs.Prelude.{drop, length};
 ghost use Rattle.nfq_cli.specs.Journal as text;
 
-use crate::histories::{Did, Entry, Event, Histories, PortLog, Reply, Request};
-use nfqa_msgs::{Head, Params};
+use crate::histories::{Did, Entry, Histories, PortLog};
+use nfqa_msgs::{Head, Params, Request};
 use packet_entry::{Bytes, Card, Sequence};
-use queue_core::Outcome;
+use queue_core::{Event, Outcome, Reply};
 use std::alloc::{AllocError, Global};
 
 /// Appends the journal of these histories.
@@ -93,6 +93,14 @@ fn push_entry(alloc: Global, entry: &Entry, out: &mut String) -> Result<(), Allo
             write!(out, "M {queue} {port} {call} ")?;
             push_request(alloc, request, out)?;
         }
+        Event::PortClosed { port } => {
+            let port = *port;
+            write!(out, "C {queue} {port}")?;
+        }
+        Event::DeviceDown { device } => {
+            let device = *device;
+            write!(out, "D {queue} {device}")?;
+        }
     }
     push_reply(&entry.reply, out)
 }
@@ -171,6 +179,12 @@ fn push_request(alloc: Global, request: &Request, out: &mut String) -> Result<()
             push_number(" mark ", *mark, out)?;
             push_payload(alloc, payload, out)
         }
+        Request::Batch { queue, head, mark } => {
+            let queue = *queue;
+            write!(out, "batch {queue} ")?;
+            push_head(*head, out)?;
+            push_number(" mark ", *mark, out)
+        }
     }
 }
 
@@ -193,7 +207,7 @@ fn push_params(params: Option<Params>, out: &mut String) -> Result<(), AllocErro
     }
 }
 
-/// The verdict and the id, `-` where there is no verdict header.
+/// The verdict and the id, of a batch the greatest; `-` where there is no verdict header.
 fn push_head(head: Option<Head>, out: &mut String) -> Result<(), AllocError>
     ensures { OnOk result (string_bytes out.new ≡ string_bytes out.old ++ text.head head) }
 {
@@ -248,6 +262,10 @@ fn push_reply(reply: &Reply, out: &mut String) -> Result<(), AllocError>
             let errno = *errno;
             let taken = *taken;
             writeln!(out, " = {errno} {taken}")
+        }
+        Reply::Flushed { taken } => {
+            let taken = *taken;
+            writeln!(out, " {taken}")
         }
     }
 }

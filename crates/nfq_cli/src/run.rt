@@ -15,13 +15,14 @@ ghost use Rattle.nfq_cli.specs.Ready.{IsReady};
 ghost use Rattle.nfq_cli.specs.Passing as passing;
 ghost use Rattle.nfq_cli.specs.Run.{IsRunOf};
 
-use crate::histories::{Did, Entry, Event, Histories, PortLog, Reply, Request};
+use crate::histories::{Did, Entry, Histories, PortLog};
 use crate::ledger::{Fate, FateLine};
 use crate::script::Script;
-use nfqa_msgs::{BIND, Head, PACKET, Params};
+use hook_chain::Decision;
+use nfqa_msgs::{BIND, Head, PACKET, Params, Request};
 use packet_entry::{Bytes, Card, IPV4, NoMemory, Packet, Sequence};
 use pcap_io::{Capture, Frame};
-use queue_core::{Begun, Decision, NoRoom, Outcome, Queue, Settled};
+use queue_core::{Begun, Event, NoRoom, Outcome, Queue, Reply, Settled};
 use std::alloc::Global;
 
 /// What a run leaves: the histories, and what became of each frame.

@@ -2,8 +2,13 @@
 
 ghost use Rattle.std.specs.Prelude.{◌≡◌};
 
+use crate::histories::{Did, Entry, Histories, PortLog};
+use crate::journal::journal_text;
 use crate::play::play;
 use host_io::{Host, MemoryHost};
+use nfqa_msgs::{Head, Request};
+use packet_entry::Sequence;
+use queue_core::{Event, Reply};
 use std::alloc::{AllocError, Global};
 use std::process::Abort;
 use std::test::Fail;
@@ -42,6 +47,23 @@ R 0 2 1
 S 4 verdict 0 0 2 = -
 R 0 3 1
 S 5 verdict 0 1 3 = -
+end
+";
+
+/// Four batches of port 7 at queue 3, without a verdict header the last two; then the second device
+/// goes down, and the port is closed.
+const FLUSHING_JOURNAL: &str = "nfq-journal 1
+M 3 7 1 batch 3 1 4294967295 = 0 2
+M 3 7 2 batch 3 0 9 mark 5 = 0 1
+M 3 7 3 batch 3 - = 22 0
+M 3 7 4 batch 3 - mark 5 = 22 0
+D 3 2 0
+C 3 7 1
+P 7
+S 1 batch 3 1 4294967295 = -
+S 2 batch 3 0 9 mark 5 = -
+S 3 batch 3 - = 22
+S 4 batch 3 - mark 5 = 22
 end
 ";
 
@@ -253,5 +275,77 @@ fn words_that_are_no_command_touch_nothing(rt: HostRuntime) -> Result<(), Fail> 
         assert_eq!(rt; play(alloc, &words, &mut host), 1);
         no_output(&rt, &host);
     }
+    Ok(())
+}
+
+/// The entry of port 7's batch at queue 3.
+fn batch_entry(call: u32, head: Option<Head>, mark: Option<u32>, reply: Reply) -> Entry {
+    let queue = 3;
+    let request = Request::Batch { queue, head, mark };
+    let port = 7;
+    let event = Event::Ask {
+        port,
+        call,
+        request,
+    };
+    Entry {
+        queue,
+        event,
+        reply,
+    }
+}
+
+/// That port 7 sent a batch to queue 3, with its acknowledgement.
+fn sent_batch(call: u32, head: Option<Head>, mark: Option<u32>, answer: Option<u16>) -> Did {
+    let queue = 3;
+    let request = Request::Batch { queue, head, mark };
+    Did::Sent {
+        call,
+        request,
+        answer,
+    }
+}
+
+#[test]
+fn the_journal_tells_batches_a_closed_port_and_a_device(rt: HostRuntime) -> Result<(), Fail> {
+    let alloc = rt.alloc();
+    let queue = 3;
+    let head = |verdict, id| Some(Head { verdict, id });
+    let answer = |errno, taken| Reply::Answer { errno, taken };
+
+    let mut entries = Vec::new(alloc);
+    entries.push(batch_entry(1, head(1, u32::MAX), None, answer(0, 2)))?;
+    entries.push(batch_entry(2, head(0, 9), Some(5), answer(0, 1)))?;
+    entries.push(batch_entry(3, None, None, answer(22, 0)))?;
+    entries.push(batch_entry(4, None, Some(5), answer(22, 0)))?;
+    entries.push(Entry {
+        queue,
+        event: Event::DeviceDown { device: 2 },
+        reply: Reply::Flushed { taken: 0 },
+    })?;
+    entries.push(Entry {
+        queue,
+        event: Event::PortClosed { port: 7 },
+        reply: Reply::Flushed { taken: 1 },
+    })?;
+
+    let mut dids = Vec::new(alloc);
+    dids.push(sent_batch(1, head(1, u32::MAX), None, None))?;
+    dids.push(sent_batch(2, head(0, 9), Some(5), None))?;
+    dids.push(sent_batch(3, None, None, Some(22)))?;
+    dids.push(sent_batch(4, None, Some(5), Some(22)))?;
+
+    let mut logs = Vec::new(alloc);
+    logs.push(PortLog {
+        port: 7,
+        dids: Sequence::from_vec(dids),
+    })?;
+    let histories = Histories {
+        entries: Sequence::from_vec(entries),
+        logs: Sequence::from_vec(logs),
+    };
+    let mut text = String::new(alloc);
+    journal_text(alloc, &histories, &mut text)?;
+    assert_eq!(rt; text.as_str(), FLUSHING_JOURNAL);
     Ok(())
 }

@@ -1,2 +1,5 @@
 pub mod FreeIds
 pub mod Places
+pub mod Shares
+pub mod Handing
+pub mod Tables

@@ -1,6 +1,6 @@
 -- Where what waits stands, and what the list of it keeps.
-use Rattle.std.proofs.Common.{◌≡◌, ◌≤◌, ◌<◌, ℕ, suc, ◌+◌, List, [], ◌∷◌, ◌++◌, length, get_or}
-use Rattle.std.proofs.Common.{take, drop, Some, None, true, false, cond, refl, sym, subst, ap, ◌∙◌}
+use Rattle.std.proofs.Common.{◌≡◌, ◌≤◌, ◌<◌, ℕ, zero, suc, ◌+◌, List, [], ◌∷◌, ◌++◌, length, get_or}
+use Rattle.std.proofs.Common.{take, drop, length-drop, Some, None, true, false, cond, refl, sym, subst, ap, ◌∙◌}
 use Rattle.std.proofs.Common.{arith, inl, inr}
 use Rattle.std.proofs.Math.Seq.{drop-cons}
 use Rattle.std.proofs.lemmas.Option.{slice_get-get_or}
@@ -17,8 +17,9 @@ use Rattle.queue_core.specs.Numbers.{id_count}
 use Rattle.queue_core.specs.Ids.{is_id, is_among}
 use Rattle.queue_core.specs.Place.{IsPlace}
 use Rattle.queue_core.specs.State.{Bound}
-use Rattle.queue_core.specs.Step.{taken, without, next_id}
-use Rattle.queue_core.specs.Held.{Held, IsHeld, is_decided_early}
+use Rattle.queue_core.specs.Step.{taken, without, without_oldest, next_id, turns_away}
+use Rattle.queue_core.specs.WithOffer.{WithOffer, IsQueue, IsMode}
+use Rattle.nfqa_msgs.specs.Numbers.{longest_range}
 use Rattle.queue_core.proofs.FreeIds.{fresh_is_free}
 
 -- the first under the id, where what stands before it has other ids
@@ -56,7 +57,7 @@ apart_from id k (e ∷ es) h = elim (cases_Bool (is_id id e.0)) [
   | inr other ↦ rw other (h.0, apart_from id k es h.1)
 ]
 
-apart_without : (id : ℕ) (es : List (ℕ × Card)) → IsDistinct nat_eq (keys_of es) →
+pub apart_without : (id : ℕ) (es : List (ℕ × Card)) → IsDistinct nat_eq (keys_of es) →
     IsDistinct nat_eq (keys_of (remove_entry (is_id id) es))
 unfolding IsDistinct
 apart_without id [] h = tt
@@ -73,9 +74,11 @@ fewer id (e ∷ es) = elim (cases_Bool (is_id id e.0)) [
 ]
 
 -- a queue keeps what it keeps when a packet leaves
-pub held_without : (h : Held) (id : ℕ) → IsHeld h → h.offer ≡ None →
-    IsHeld (record { state = without h.state id; offer = None })
+pub held_without : (h : WithOffer) (id : ℕ) → IsQueue h → h.offer ≡ None →
+    IsQueue (record { state = without h.state id; offer = None })
 held_without h id is none = record {
+  mode = is.mode;
+  range = is.range;
   apart = apart_without id h.state.waiting is.apart;
   next = tt;
   undecided = tt;
@@ -83,10 +86,12 @@ held_without h id is none = record {
 }
 
 -- when an arrival begins
-pub held_begun : (q : Bound) (card : Card) → IsHeld (record { state = q; offer = None }) →
-    is_decided_early q ≡ false → length q.waiting + 1 < id_count →
-    IsHeld (record { state = q; offer = Some (next_id q, card) })
+pub held_begun : (q : Bound) (card : Card) → IsQueue (record { state = q; offer = None }) →
+    turns_away q ≡ false → length q.waiting + 1 < id_count →
+    IsQueue (record { state = q; offer = Some (next_id q, card) })
 held_begun q card is undecided few = record {
+  mode = is.mode;
+  range = is.range;
   apart = is.apart;
   next = refl;
   undecided = undecided;
@@ -95,9 +100,11 @@ held_begun q card is undecided few = record {
 
 -- and when it is settled
 pub held_taken : (q : Bound) (id : ℕ) (card : Card) → q.last < id_count →
-    IsHeld (record { state = q; offer = Some (id, card) }) →
-    IsHeld (record { state = taken q id card; offer = None })
+    IsQueue (record { state = q; offer = Some (id, card) }) →
+    IsQueue (record { state = taken q id card; offer = None })
 held_taken q id card last is = record {
+  mode = is.mode;
+  range = is.range;
   apart = rw (map_push (λ (w : ℕ × Card). w.0) q.waiting (id, card))
       (IsDistinct-push nat_eq_equiv (keys_of q.waiting) id is.apart free);
   next = tt;
@@ -111,9 +118,12 @@ held_taken q id card last is = record {
         (omega (arith, length-keys_of q.waiting, is.few))
 
 -- a queue where nothing waits keeps it
-pub held_empty : (q : Bound) → q.waiting ≡ [] → IsHeld (record { state = q; offer = None })
+pub held_empty : (q : Bound) → IsMode q.mode → q.range ≤ longest_range → q.waiting ≡ [] →
+    IsQueue (record { state = q; offer = None })
 unfolding IsDistinct
-held_empty q none = record {
+held_empty q mode range none = record {
+  mode = mode;
+  range = range;
   apart = subst (λ (es : List (ℕ × Card)). IsDistinct nat_eq (keys_of es)) (sym none) tt;
   next = tt;
   undecided = tt;
@@ -126,3 +136,23 @@ pub leaves : (waiting : List (ℕ × Card)) (id place : ℕ) (w : ℕ × Card) �
 leaves waiting id place w at_place taken_out =
     at_place.found ∙ ap (option_map (λ (v : ℕ × Card). v.1))
     (slice_get-get_or waiting place w at_place.within ∙ ap Some (sym taken_out))
+
+-- those that wait stay apart when the oldest leave
+pub apart_dropped : (n : ℕ) (es : List (ℕ × Card)) → IsDistinct nat_eq (keys_of es) →
+    IsDistinct nat_eq (keys_of (drop n es))
+unfolding IsDistinct
+apart_dropped zero es h = h
+apart_dropped (suc n) [] h = tt
+apart_dropped (suc n) (e ∷ es) h = apart_dropped n es h.1
+
+-- a queue keeps what it keeps when the oldest leave
+pub held_without_oldest : (w : WithOffer) (n : ℕ) → IsQueue w → w.offer ≡ None →
+    IsQueue (record { state = without_oldest w.state n; offer = None })
+held_without_oldest w n is none = record {
+  mode = is.mode;
+  range = is.range;
+  apart = apart_dropped n w.state.waiting is.apart;
+  next = tt;
+  undecided = tt;
+  few = omega (arith, length-drop n w.state.waiting, is.few);
+}

@@ -1,8 +1,11 @@
--- What a verdict decides (uapi netfilter.h: NF_DROP .. NF_STOP, NF_VERDICT_MASK, NF_VERDICT_QBITS).
+-- What a verdict decides (uapi netfilter.h: NF_DROP .. NF_STOP, NF_VERDICT_MASK, NF_VERDICT_QBITS),
+-- and what it changes of its packet.
 use Rattle.std.specs.Prelude.{ℕ, ◌+◌, ◌%◌, ◌/◌, ◌&&◌, not, Bool, ◌==◌, nat_le, IsTrue}
-use Rattle.std.specs.Prelude.{if◌then◌else◌}
-use Rattle.queue_core.specs.declared.decision.Decision.{Decision}
-use Rattle.queue_core.specs.declared.decision.Decision.TheVariants as way
+use Rattle.std.specs.Prelude.{if◌then◌else◌, List, Option}
+use Rattle.packet_entry.specs.declared.packet.Card.{Card}
+use Rattle.packet_entry.specs.Card as card
+use Rattle.hook_chain.specs.declared.chain.Decision.{Decision}
+use Rattle.hook_chain.specs.declared.chain.Decision.TheVariants as way
 use Rattle.queue_core.specs.Numbers.{verdict_mask, verdict_drop, verdict_accept, verdict_stolen}
 use Rattle.queue_core.specs.Numbers.{verdict_queue, verdict_repeat, verdict_stop, bypass_bit}
 use Rattle.queue_core.specs.Numbers.{queue_number_place}
@@ -29,3 +32,11 @@ decision_of verdict =
     then way.Queue (verdict / queue_number_place) (verdict / bypass_bit % 2 == 1)
     else if kind_of verdict == verdict_repeat then way.Repeat
     else way.Stop
+
+-- what a verdict changes of its packet: the mark and the bytes, as far as they are given
+pub record Edit : Type 0 where
+  pub mark : Option ℕ
+  pub payload : Option (List ℕ)
+
+abbrev pub edited : Edit → Card → Card
+edited edit c = card.edited c edit.mark edit.payload

@@ -3,7 +3,9 @@ pub mod Ids
 pub mod Decision
 pub mod Range
 pub mod State
+pub mod Share
 pub mod Step
-pub mod Held
+pub mod WithOffer
 pub mod Calls
+pub mod Laws
 pub mod Place

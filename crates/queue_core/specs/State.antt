@@ -42,6 +42,10 @@ bound_to port =
       waiting = [];
     }
 
+-- the queue, where nothing waits any more
+abbrev pub emptied : Bound → Bound
+emptied q = record q { waiting = [] }
+
 -- copy mode and range are set; an unknown mode changes neither (nfqnl_set_mode)
 abbrev pub with_params : Params → Bound → Bound
 with_params p q =

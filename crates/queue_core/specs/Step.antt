@@ -1,24 +1,32 @@
--- The steps of a queue, each by the table of its rule: the first line that applies decides.
-use Rattle.std.specs.Prelude.{ℕ, ◌+◌, ◌||◌, ◌&&◌, not, min, List, [], ◌∷◌, ◌++◌, length, Option}
-use Rattle.std.specs.Prelude.{Some, None, Bool, false, nat_le, ◌==◌, map, bit_and, is_some, is_none}
-use Rattle.std.specs.Prelude.{unwrap_or, if◌then◌else◌}
+-- The step of a queue: what one event makes of the state of a queue number, absent (`None`) or
+-- bound. Each table of the queue's rules is one definition, and its first line that applies
+-- decides.
+use Rattle.std.specs.Prelude.{ℕ, ◌+◌, ◌||◌, ◌&&◌, not, min, List, [], ◌∷◌, ◌++◌, length}
+use Rattle.std.specs.Prelude.{Option, Some, None, Bool, false, true, nat_le, ◌==◌, map, drop}
+use Rattle.std.specs.Prelude.{bit_and, is_some, is_none, unwrap_or, if◌then◌else◌}
 use Rattle.std.specs.Map.{lookup, remove_entry, keys_of}
 use Rattle.packet_entry.specs.declared.packet.Card.{Card}
 use Rattle.packet_entry.specs.Numbers.{last_visit}
-use Rattle.packet_entry.specs.Card.{edited}
-use Rattle.queue_core.specs.declared.decision.Decision.{Decision}
-use Rattle.queue_core.specs.declared.decision.Decision.TheVariants as decision
+use Rattle.hook_chain.specs.declared.chain.Decision.{Decision}
+use Rattle.hook_chain.specs.declared.chain.Decision.TheVariants as decision
 use Rattle.nfqa_msgs.specs.declared.request.Params.{Params}
 use Rattle.nfqa_msgs.specs.declared.request.Head.{Head}
+use Rattle.nfqa_msgs.specs.declared.request.Request.{Request}
+use Rattle.nfqa_msgs.specs.declared.request.Request.TheVariants as request
 use Rattle.queue_core.specs.declared.offers.Outcome.{Outcome}
 use Rattle.queue_core.specs.declared.offers.Outcome.TheVariants as outcome
+use Rattle.queue_core.specs.declared.event.Event.{Event}
+use Rattle.queue_core.specs.declared.event.Event.TheVariants as event
+use Rattle.queue_core.specs.declared.event.Reply.{Reply}
+use Rattle.queue_core.specs.declared.event.Reply.TheVariants as reply
 use Rattle.nfqa_msgs.specs.Numbers.{copy_none, command_bind, command_unbind, command_pf_bind}
 use Rattle.nfqa_msgs.specs.Numbers.{command_pf_unbind, flag_conntrack, flag_secctx, eperm, enoent}
-use Rattle.nfqa_msgs.specs.Numbers.{ebusy, enodev, einval, eopnotsupp}
+use Rattle.nfqa_msgs.specs.Numbers.{ebusy, enodev, einval, eopnotsupp, input_device, output_device}
 use Rattle.queue_core.specs.Numbers.{largest_count, first_unknown_flag}
 use Rattle.queue_core.specs.Ids.{fresh, is_id}
-use Rattle.queue_core.specs.Decision.{is_verdict, decision_of}
-use Rattle.queue_core.specs.State.{Bound, bound_to, configured, fails_open}
+use Rattle.queue_core.specs.Decision.{Edit, edited, is_verdict, decision_of}
+use Rattle.queue_core.specs.State.{Bound, bound_to, configured, emptied, fails_open}
+use Rattle.queue_core.specs.Share.{share}
 
 -- how a packet leaves a queue: destroyed, on to the next table, or as a verdict decided
 pub data Way : Type 0 where
@@ -27,10 +35,12 @@ pub data Way : Type 0 where
   Decided : Decision → Way
 
 -- what a step gives: the state after it, the reply, and what leaves, in order
-pub record Stepped (Reply : Type 0) : Type 0 where
+pub record Stepped : Type 0 where
   pub state : Option Bound
   pub reply : Reply
   pub left : List (Card × Way)
+
+-- ---- arrivals
 
 -- the id that the next arrival gets
 abbrev pub next_id : Bound → ℕ
@@ -40,22 +50,13 @@ next_id q = fresh q.last (keys_of q.waiting)
 abbrev pub one_more : ℕ → ℕ
 one_more n = min (n + 1) largest_count
 
+-- the id is used
 abbrev pub with_last : Bound → ℕ → Bound
 with_last q id = record q { last = id }
 
 -- the packet waits, last in the list, and its id is used
 abbrev pub taken : Bound → ℕ → Card → Bound
 taken q id card = record q { last = id; waiting = q.waiting ++ (id, card) ∷ [] }
-
-abbrev pub gone : Option Bound → Outcome → Card → Stepped Outcome
-gone q reply card = record { state = q; reply = reply; left = (card, Gone) ∷ [] }
-
-abbrev pub open_way : Option Bound → Outcome → Card → Stepped Outcome
-open_way q reply card = record { state = q; reply = reply; left = (card, Open) ∷ [] }
-
--- whether as many packets wait as may
-abbrev pub is_full : Bound → Bool
-is_full q = nat_le q.maximum (length q.waiting)
 
 -- one packet more was destroyed since too many wait, or since the port's mailbox was full
 abbrev pub one_dropped : Bound → Bound
@@ -64,36 +65,70 @@ one_dropped q = record q { dropped = one_more q.dropped }
 abbrev pub one_user_dropped : Bound → ℕ → Bound
 one_user_dropped q id = record q { last = id; user_dropped = one_more q.user_dropped }
 
--- the packet waits, and nothing leaves
-abbrev pub waits : Bound → ℕ → Card → Stepped Outcome
-waits q id card = record { state = Some (taken q id card); reply = outcome.Taken id; left = [] }
+-- the packet is destroyed
+abbrev pub gone : Option Bound → Outcome → Card → Stepped
+gone q o card = record { state = q; reply = reply.Arrived o; left = (card, Gone) ∷ [] }
 
--- an arrival at a bound queue (nfqnl_enqueue_packet); room says whether the port's mailbox took the
--- notice
-abbrev pub arrive_bound : Bound → Card → Bool → Stepped Outcome
+-- the packet goes on with the next table
+abbrev pub goes_on : Option Bound → Outcome → Card → Stepped
+goes_on q o card = record { state = q; reply = reply.Arrived o; left = (card, Open) ∷ [] }
+
+-- the packet waits, and nothing leaves
+abbrev pub waits : Bound → ℕ → Card → Stepped
+waits q id card = record {
+  state = Some (taken q id card);
+  reply = reply.Arrived (outcome.Taken id);
+  left = [];
+}
+
+-- whether as many packets wait as may
+abbrev pub is_full : Bound → Bool
+is_full q = nat_le q.maximum (length q.waiting)
+
+-- An arrival at a bound queue, in time: lines 4 to 9 (nfqnl_enqueue_packet). `room` says whether
+-- the port's mailbox took the notice.
+abbrev pub arrive_bound : Bound → Card → Bool → Stepped
 arrive_bound q card room =
     if q.mode == copy_none then gone (Some q) outcome.CopyNone card
-    else if is_full q && fails_open q then open_way (Some q) outcome.OverflowOpen card
+    else if is_full q && fails_open q then goes_on (Some q) outcome.OverflowOpen card
     else if is_full q then gone (Some (one_dropped q)) outcome.Overflow card
     else if not room && fails_open q
-    then open_way (Some (with_last q (next_id q))) (outcome.UserFullOpen (next_id q)) card
+    then goes_on (Some (with_last q (next_id q))) (outcome.UserFullOpen (next_id q)) card
     else if not room
     then gone (Some (one_user_dropped q (next_id q))) (outcome.UserFull (next_id q)) card
     else waits q (next_id q) card
 
--- an arrival (nf_queue, nfqnl_enqueue_packet)
-abbrev pub arrive : Option Bound → Card → Bool → Bool → Stepped Outcome
+-- lines 2 to 9
+abbrev pub arrive_in_time : Option Bound → Card → Bool → Bool → Stepped
+arrive_in_time None card false room = gone None outcome.NoQueue card
+arrive_in_time None card true room = goes_on None outcome.Bypassed card
+arrive_in_time (Some q) card bypass room = arrive_bound q card room
+
+-- an arrival (nf_queue, nfqnl_enqueue_packet): its nine lines
+abbrev pub arrive : Option Bound → Card → Bool → Bool → Stepped
 arrive q card bypass room =
-    if card.visit == last_visit then gone q outcome.Loop card else arrive_at q card bypass room
-  where
-    arrive_at : Option Bound → Card → Bool → Bool → Stepped Outcome
-    arrive_at None card bypass room =
-        if bypass then open_way None outcome.Bypassed card else gone None outcome.NoQueue card
-    arrive_at (Some q) card bypass room = arrive_bound q card room
+    if card.visit == last_visit then gone q outcome.Loop card
+    else arrive_in_time q card bypass room
+
+-- whether line 4, 5 or 6 decides, so that a bound queue offers no notice
+abbrev pub turns_away : Bound → Bool
+turns_away q = (q.mode == copy_none) || is_full q
+
+-- whether one of the first six lines decides, so that no notice is offered. A rule's bypass says
+-- how an absent queue decides, and not whether.
+abbrev pub is_decided_early : Option Bound → Card → Bool
+is_decided_early None card = true
+is_decided_early (Some q) card = (card.visit == last_visit) || turns_away q
+
+-- ---- requests
 
 -- a request that changes nothing: its state stays, and nothing leaves
-abbrev pub unchanged : Option Bound → ℕ → Stepped ℕ
-unchanged q errno = record { state = q; reply = errno; left = [] }
+abbrev pub unchanged : Option Bound → ℕ → Stepped
+unchanged q errno = record { state = q; reply = reply.Answer errno 0; left = [] }
+
+-- all that waits is destroyed
+abbrev pub all_gone : Bound → List (Card × Way)
+all_gone q = map (λ w. (w.1, Gone)) q.waiting
 
 -- what a config request asks for
 pub record ConfigAsk : Type 0 where
@@ -131,21 +166,26 @@ is_bound_elsewhere None port = false
 is_bound_elsewhere (Some q) port = not (q.port == port)
 
 -- the queue ends, and all that waited is destroyed (instance_destroy)
-abbrev pub ended : Option Bound → Stepped ℕ
-ended None = unchanged None 0
-ended (Some q) = record { state = None; reply = 0; left = map (λ w. (w.1, Gone)) q.waiting }
+abbrev pub ended : Bound → Stepped
+ended q =
+    record { state = None; reply = reply.Answer 0 (length q.waiting); left = all_gone q }
+
+-- lines 7 and 8: there is no such queue, or it ends
+abbrev pub unbind : Option Bound → Stepped
+unbind None = unchanged None enodev
+unbind (Some q) = ended q
 
 -- what the request asks for applies, and nothing leaves
-abbrev pub set_up : Bound → ConfigAsk → Stepped ℕ
+abbrev pub set_up : Bound → ConfigAsk → Stepped
 set_up q ask =
     record {
       state = Some (configured ask.params ask.maximum ask.flags ask.mask q);
-      reply = 0;
+      reply = reply.Answer 0 0;
       left = [];
     }
 
--- a config request (nfqnl_recv_config)
-abbrev pub config : Option Bound → ℕ → ConfigAsk → Stepped ℕ
+-- a config request (nfqnl_recv_config): its eleven lines
+abbrev pub config : Option Bound → ℕ → ConfigAsk → Stepped
 config q port ask =
     if is_command command_pf_bind ask.command || is_command command_pf_unbind ask.command
     then unchanged q 0
@@ -154,12 +194,27 @@ config q port ask =
     else if has_refused_flags ask.flags ask.mask then unchanged q eopnotsupp
     else if is_bound_elsewhere q port then unchanged q eperm
     else if is_command command_bind ask.command && is_some q then unchanged q ebusy
-    else if is_command command_unbind ask.command && is_none q then unchanged q enodev
-    else if is_command command_unbind ask.command then ended q
+    else if is_command command_unbind ask.command then unbind q
     else if is_some ask.command && not (is_command command_bind ask.command)
     then unchanged q eopnotsupp
     else if is_none ask.command && is_none q then unchanged q enodev
     else set_up (unwrap_or q (bound_to port)) ask
+
+-- whether a verdict or a batch is carried out: refused with an error, or allowed at this queue with
+-- this header
+pub data Ruling : Type 0 where
+  Refused : ℕ → Ruling
+  Allowed : Bound → Head → Ruling
+
+-- The refusals of a verdict and of a batch, in their order: no such queue, bound to another port,
+-- no header or a verdict that isn't known (nfqnl_recv_verdict, verdict_instance_lookup).
+abbrev pub refusal : Option Bound → ℕ → Option Head → Ruling
+refusal None port head = Refused enodev
+refusal (Some q) port None = Refused (if q.port == port then einval else eperm)
+refusal (Some q) port (Some head) =
+    if not (q.port == port) then Refused eperm
+    else if not (is_verdict head.verdict) then Refused einval
+    else Allowed q head
 
 -- the packet that waits under the id
 abbrev pub card_under : Bound → ℕ → Option Card
@@ -169,27 +224,107 @@ card_under q id = lookup (is_id id) q.waiting
 abbrev pub without : Bound → ℕ → Bound
 without q id = record q { waiting = remove_entry (is_id id) q.waiting }
 
+-- the queue without so many of the oldest
+abbrev pub without_oldest : Bound → ℕ → Bound
+without_oldest q n = record q { waiting = drop n q.waiting }
+
 -- the way of a decision: DROP destroys
 abbrev pub way_of : Decision → Way
 way_of decision.Drop = Gone
 way_of decided = Decided decided
 
+-- a packet as its verdict lets it leave
+abbrev pub leaving : Head → Edit → Card → Card × Way
+leaving head edit card = (edited edit card, way_of (decision_of head.verdict))
+
 -- a verdict on what waits under its id
-abbrev pub carried_out : Bound → Head → Option ℕ → Option (List ℕ) → Option Card → Stepped ℕ
-carried_out q head mark payload None = unchanged (Some q) enoent
-carried_out q head mark payload (Some card) =
+abbrev pub carried_out : Bound → Head → Edit → Option Card → Stepped
+carried_out q head edit None = unchanged (Some q) enoent
+carried_out q head edit (Some card) =
     record {
       state = Some (without q head.id);
-      reply = 0;
-      left = (edited card mark payload, way_of (decision_of head.verdict)) ∷ [];
+      reply = reply.Answer 0 1;
+      left = leaving head edit card ∷ [];
     }
 
+abbrev pub verdict_under : Ruling → Option Bound → Edit → Stepped
+verdict_under (Refused errno) q edit = unchanged q errno
+verdict_under (Allowed bound head) q edit =
+    carried_out bound head edit (card_under bound head.id)
+
 -- a verdict request (nfqnl_recv_verdict)
-abbrev pub verdict : Option Bound → ℕ → Option Head → Option ℕ → Option (List ℕ) → Stepped ℕ
-verdict None port head mark payload = unchanged None enodev
-verdict (Some q) port None mark payload =
-    unchanged (Some q) (if q.port == port then einval else eperm)
-verdict (Some q) port (Some head) mark payload =
-    if not (q.port == port) then unchanged (Some q) eperm
-    else if not (is_verdict head.verdict) then unchanged (Some q) einval
-    else carried_out q head mark payload (card_under q head.id)
+abbrev pub verdict : Option Bound → ℕ → Option Head → Edit → Stepped
+verdict q port head edit = verdict_under (refusal q port head) q edit
+
+-- a batch sets the mark of each, and replaces no bytes
+abbrev pub marking : Option ℕ → Edit
+marking mark = record { mark = mark; payload = None }
+
+-- a batch on its share
+abbrev pub shared_out : Bound → Head → Option ℕ → List (ℕ × Card) → Stepped
+shared_out q head mark [] = unchanged (Some q) enoent
+shared_out q head mark (w ∷ ws) =
+    record {
+      state = Some (without_oldest q (length (w ∷ ws)));
+      reply = reply.Answer 0 (length (w ∷ ws));
+      left = map (λ v. leaving head (marking mark) v.1) (w ∷ ws);
+    }
+
+abbrev pub batch_under : Ruling → Option Bound → Option ℕ → Stepped
+batch_under (Refused errno) q mark = unchanged q errno
+batch_under (Allowed bound head) q mark =
+    shared_out bound head mark (share bound.waiting head.id)
+
+-- a batch request (nfqnl_recv_verdict_batch)
+abbrev pub batch : Option Bound → ℕ → Option Head → Option ℕ → Stepped
+batch q port head mark = batch_under (refusal q port head) q mark
+
+-- a request of a port
+abbrev pub ask : Option Bound → ℕ → Request → Stepped
+ask q port (request.Config queue command params maximum flags mask) =
+    config q port
+    (record {
+      command = command;
+      params = params;
+      maximum = maximum;
+      flags = flags;
+      mask = mask;
+    })
+ask q port (request.Verdict queue head mark payload) =
+    verdict q port head (record { mark = mark; payload = payload })
+ask q port (request.Batch queue head mark) = batch q port head mark
+
+-- ---- ports and devices
+
+-- nothing happens to the queue
+abbrev pub untouched : Option Bound → Stepped
+untouched q = record { state = q; reply = reply.Flushed 0; left = [] }
+
+-- all that waits is destroyed (nfqnl_flush)
+abbrev pub flushed : Bound → Stepped
+flushed q = record {
+  state = Some (emptied q);
+  reply = reply.Flushed (length q.waiting);
+  left = all_gone q;
+}
+
+-- The port of the queue is closed: the queue is flushed, and absent (nfqnl_rcv_nl_event). It
+-- happens at queues of this port alone.
+abbrev pub port_closed : Option Bound → Stepped
+port_closed None = untouched None
+port_closed (Some q) = record (flushed q) { state = None }
+
+-- A device goes down: where it is one of the two by which every packet comes in and goes out, the
+-- queue is flushed (nfqnl_dev_drop).
+abbrev pub device_down : Option Bound → ℕ → Stepped
+device_down None device = untouched None
+device_down (Some q) device =
+    if (device == input_device) || (device == output_device) then flushed q else untouched (Some q)
+
+-- ---- the step
+
+abbrev pub step : Option Bound → Event → Stepped
+step q (event.Arrive card bypass room) = arrive q card bypass room
+step q (event.Ask port call request) = ask q port request
+step q (event.PortClosed port) = port_closed q
+step q (event.DeviceDown device) = device_down q device

@@ -1,23 +1,10 @@
-//! Verdicts, and where a packet goes after one. The numbers are those of uapi linux/netfilter.h.
+//! Verdicts, and what they decide. The numbers are those of uapi linux/netfilter.h.
 
 ghost use Rattle.std.specs.Prelude.{◌≡◌};
-ghost use Rattle.queue_core.specs.Decision.{IsVerdict, decision_of};
+ghost use Rattle.queue_core.specs.Decision as decision;
+ghost use Rattle.queue_core.specs.Decision.{IsVerdict};
 
-/// Where a packet goes after its verdict.
-#[derive(Clone, Copy, Debug, PartialEq, Eq)]
-pub enum Decision {
-    /// It is destroyed.
-    Drop,
-    /// It goes on with the next table.
-    Accept,
-    /// It goes on with the table that queued it.
-    Repeat,
-    /// It is released.
-    Stop,
-    /// It arrives at another queue, in the table that queued it. Where that queue is absent,
-    /// `bypass` lets it go on.
-    Queue { number: u16, bypass: bool },
-}
+use hook_chain::Decision;
 
 /// The bits of a verdict that say which decision it is. (`NF_VERDICT_MASK`)
 pub const VERDICT_MASK: u32 = 0xff;
@@ -47,21 +34,19 @@ pub const QUEUE_BYPASS: u32 = 0x8000;
 /// The place of the queue's number in a `QUEUE` verdict: its high 16 bits. (`NF_VERDICT_QBITS`)
 const QUEUE_NUMBER_PLACE: u32 = 65_536;
 
-impl Decision {
-    /// What a verdict decides that isn't refused.
-    pub(crate) fn of(verdict: u32) -> Decision
-        requires { IsVerdict verdict }
-        ensures { result ≡ decision_of verdict }
-    {
-        match verdict % (VERDICT_MASK + 1) {
-            DROP => Decision::Drop,
-            ACCEPT => Decision::Accept,
-            QUEUE => Decision::Queue {
-                number: (verdict / QUEUE_NUMBER_PLACE) as u16,
-                bypass: verdict / QUEUE_BYPASS % 2 == 1,
-            },
-            REPEAT => Decision::Repeat,
-            _ => Decision::Stop,
-        }
+/// What a verdict decides that isn't refused.
+pub(crate) fn decision_of(verdict: u32) -> Decision
+    requires { IsVerdict verdict }
+    ensures { result ≡ decision.decision_of verdict }
+{
+    match verdict % (VERDICT_MASK + 1) {
+        DROP => Decision::Drop,
+        ACCEPT => Decision::Accept,
+        QUEUE => Decision::Queue {
+            number: (verdict / QUEUE_NUMBER_PLACE) as u16,
+            bypass: verdict / QUEUE_BYPASS % 2 == 1,
+        },
+        REPEAT => Decision::Repeat,
+        _ => Decision::Stop,
     }
 }

@@ -1,11 +1,21 @@
 //! Laws of the definitions, each the contract of a function that does nothing.
 
-ghost use Rattle.std.specs.Prelude.{◌≡◌, ◌<◌, ℕ, List, length};
+ghost use Rattle.std.specs.Prelude.{◌≡◌, ◌≢◌, ◌<◌, ℕ, List, ◌∷◌, length, filter, not, Option, Some};
+ghost use Rattle.std.specs.Prelude.{Bool, false, true};
+ghost use Rattle.packet_entry.specs.declared.packet.Card.{Card};
 ghost use Rattle.nfqa_msgs.specs.Numbers.{eperm, enoent, ebusy, enodev};
+ghost use Rattle.nfqa_msgs.specs.declared.request.Request.{Request};
+ghost use Rattle.queue_core.specs.declared.event.Event.{Event};
+ghost use Rattle.queue_core.specs.declared.event.Event.TheVariants.{Arrive, Ask};
 ghost use Rattle.queue_core.specs.Numbers.{default_maximum, verdict_mask, bypass_bit, verdict_drop};
 ghost use Rattle.queue_core.specs.Numbers.{verdict_accept, verdict_stolen, verdict_queue};
 ghost use Rattle.queue_core.specs.Numbers.{verdict_repeat, verdict_stop, id_count};
-ghost use Rattle.queue_core.specs.Ids.{fresh, IsFirstFree};
+ghost use Rattle.queue_core.specs.Ids.{fresh, IsFirstFree, after};
+ghost use Rattle.queue_core.specs.State.{Bound};
+ghost use Rattle.queue_core.specs.Share.{share, IsLongestBefore, AscendFrom, AreIds};
+ghost use Rattle.queue_core.specs.Step.{step, config, port_closed, device_down, ConfigAsk};
+ghost use Rattle.queue_core.specs.Step.{is_decided_early};
+ghost use Rattle.queue_core.specs.Laws.{IsConserving, Tells, AllAreGone, IsUntouched, AreApart, HasIds};
 
 use crate::{
     ACCEPT, DEFAULT_MAXIMUM, DROP, EBUSY, ENODEV, ENOENT, EPERM, QUEUE, QUEUE_BYPASS, REPEAT,
@@ -17,6 +27,61 @@ use crate::{
 pub fn first_free_id()
     ensures { (last : ℕ) (ids : List ℕ) → last < id_count → length ids < id_count →
         IsFirstFree last ids (fresh last ids) }
+{}
+
+/// The share of a batch is the longest list of packets that stand first among those that wait and
+/// of which none has an id after the maximum.
+pub fn share_is_the_longest()
+    ensures { (waiting : List (ℕ × Card)) (maximum : ℕ) →
+        IsLongestBefore waiting maximum (share waiting maximum) }
+{}
+
+/// Where the first id isn't after the maximum, and the ids ascend from it on by less than half of
+/// all ids, the share is exactly the packets whose ids aren't after the maximum. Elsewhere the two
+/// differ: of ids 1 and 2147483650 with the maximum 2147483650 the share is empty, since 1 is after
+/// the maximum, and the second isn't.
+pub fn share_of_ascending_ids()
+    ensures { (first : ℕ × Card) (others : List (ℕ × Card)) (maximum : ℕ) → maximum < id_count →
+        AreIds (first ∷ others) → after first.0 maximum ≡ false →
+        AscendFrom first.0 0 (first ∷ others) →
+        share (first ∷ others) maximum
+        ≡ filter (λ w. not (after w.0 maximum)) (first ∷ others) }
+{}
+
+/// Whether the port's mailbox had room matters to an arrival only where a notice is offered.
+pub fn room_matters_where_a_notice_is_offered()
+    ensures { (q : Option Bound) (card : Card) (bypass : Bool) → is_decided_early q card ≡ true →
+        step q (Arrive card bypass true) ≡ step q (Arrive card bypass false) }
+{}
+
+/// A step loses no packet and doubles none: each that waited or arrives waits afterwards or leaves.
+pub fn each_packet_stays_or_leaves()
+    ensures { (q : Option Bound) (e : Event) → IsConserving q e }
+{}
+
+/// A reply to a request, a closed port or a device tells how many packets left.
+pub fn replies_tell_how_many_left()
+    ensures { (q : Option Bound) (e : Event) → let s = step q e in Tells s.reply (length s.left) }
+{}
+
+/// What waits is destroyed, and doesn't go on, where its queue is unbound, where its port is closed
+/// and where a device goes down.
+pub fn what_no_verdict_decided_is_destroyed()
+    ensures config { (q : Option Bound) (port : ℕ) (ask : ConfigAsk) →
+        AllAreGone (config q port ask) }
+    ensures port { (q : Option Bound) → AllAreGone (port_closed q) }
+    ensures device { (q : Option Bound) (device : ℕ) → AllAreGone (device_down q device) }
+{}
+
+/// A request of another port than the queue's changes nothing.
+pub fn another_port_changes_nothing()
+    ensures { (q : Bound) (port call : ℕ) (request : Request) → port ≢ q.port →
+        IsUntouched (Some q) (step (Some q) (Ask port call request)) }
+{}
+
+/// No two packets wait under one id after a step, where none did before.
+pub fn ids_stay_apart()
+    ensures { (q : Option Bound) (e : Event) → HasIds q → AreApart q → AreApart (step q e).state }
 {}
 
 /// The public numbers of this crate are those of the definitions.

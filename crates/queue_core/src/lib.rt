@@ -5,16 +5,22 @@
 
 mod decision;
 mod errno;
+mod event;
+mod handed;
 mod ids;
 mod laws;
 mod offers;
 mod queue;
 
-pub use decision::{
-    ACCEPT, DROP, Decision, QUEUE, QUEUE_BYPASS, REPEAT, STOLEN, STOP, VERDICT_MASK,
-};
+pub use decision::{ACCEPT, DROP, QUEUE, QUEUE_BYPASS, REPEAT, STOLEN, STOP, VERDICT_MASK};
 pub use errno::{EBUSY, ENODEV, ENOENT, EPERM};
-pub use laws::{first_free_id, public_numbers};
+pub use event::{Event, Reply};
+pub use handed::Handed;
+pub use laws::{
+    another_port_changes_nothing, each_packet_stays_or_leaves, first_free_id, ids_stay_apart,
+    public_numbers, replies_tell_how_many_left, room_matters_where_a_notice_is_offered,
+    share_is_the_longest, share_of_ascending_ids, what_no_verdict_decided_is_destroyed,
+};
 pub use offers::{Begun, NoRoom, Outcome, Settled};
 pub use queue::{DEFAULT_MAXIMUM, Queue};
 

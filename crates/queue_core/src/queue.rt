@@ -1,20 +1,23 @@
-//! The queue, and its calls.
+//! The queue: what it is, how it is set up, and what it tells.
 
-ghost use Rattle.std.specs.Prelude.{◌≡◌, ◌≢◌, ◌≤◌, ◌<◌, [], length, vec_len, vec_capacity, Some};
-ghost use Rattle.std.specs.Prelude.{None, IfOk, IfErr, IfSome, IfNone, OnSome, OnErr, option_map};
-ghost use Rattle.std.specs.Prelude.{false, true};
-ghost use Rattle.packet_entry.specs.Numbers.{longest_payload};
-ghost use Rattle.nfqa_msgs.specs.Numbers.{copy_packet};
-ghost use Rattle.queue_core.specs.Decision.{IsVerdict, decision_of};
+ghost use Rattle.std.specs.Prelude.{◌≡◌, ℕ, [], length, Some, None, false, option_map};
+ghost use Rattle.packet_entry.specs.declared.packet.Card.{Card};
+ghost use Rattle.nfqa_msgs.specs.Numbers.{command_bind};
+ghost use Rattle.nfqa_msgs.specs.declared.request.Request.TheVariants.{Config};
+ghost use Rattle.queue_core.specs.declared.event.Event.TheVariants.{Ask};
+ghost use Rattle.queue_core.specs.declared.event.Reply.TheVariants.{Answer};
 ghost use Rattle.queue_core.specs.Range as range;
-ghost use Rattle.packet_entry.specs.Card.{edited};
 
-use crate::{Begun, Decision, NoRoom, Settled, ids};
-use nfqa_msgs::{Head, MAX_RANGE, META, NONE, PACKET, Params};
-use packet_entry::{Bytes, Letter, Packet};
+mod arrivals;
+mod flushes;
+mod verdicts;
+
+use crate::ids::Waiting;
+use nfqa_msgs::{MAX_RANGE, META, NONE, PACKET, Params};
+use packet_entry::Packet;
 use std::alloc::Global;
+use std::collections::VecDeque;
 use std::marker::Model;
-use std::mem;
 
 /// How many packets may wait in a queue that was never told otherwise. (`NFQNL_QMAX_DEFAULT`)
 pub const DEFAULT_MAXIMUM: u32 = 1024;
@@ -29,17 +32,17 @@ pub struct Queue {
     last: u32,
     dropped: u32,
     user_dropped: u32,
-    /// What waits, oldest first, each under its id.
-    waiting: Vec<(u32, Packet)>,
-    /// What was begun and isn't settled. There is room for it in `waiting`.
+    waiting: Waiting,
+    /// What was begun and isn't settled, under its id. There is room for it in `waiting`.
     offer: Option<(u32, Packet)>,
 }
 
 impl Model for Queue {
-    ghost use Rattle.std.specs.Prelude.{◌<◌, IfSome, vec_len, vec_capacity};
-    ghost use Rattle.queue_core.specs.Held.{Held, IsHeld};
+    ghost use Rattle.std.specs.Prelude.{◌<◌, IfSome};
+    ghost use Rattle.std.specs.VecDeque.{deque_len, deque_capacity};
+    ghost use Rattle.queue_core.specs.WithOffer.{WithOffer, IsQueue};
 
-    ghost Value = { Held };
+    ghost Value = { WithOffer };
 
     ghost view = { λ q. record {
       state = record {
@@ -57,7 +60,7 @@ impl Model for Queue {
     } };
 
     ghost invariant = { λ q.
-        IsHeld (record {
+        IsQueue (record {
           state = record {
             port = q.port;
             mode = q.mode;
@@ -71,19 +74,22 @@ impl Model for Queue {
           };
           offer = q.offer;
         })
-        × IfSome q.offer (λ _. vec_len q.waiting < vec_capacity q.waiting) };
+        × IfSome q.offer (λ _. deque_len q.waiting < deque_capacity q.waiting) };
 }
 
 impl Queue {
     ghost use Rattle.queue_core.specs.State.{bound_to, configured};
-    ghost use Rattle.queue_core.specs.Step.{are_flags_refused, card_under, without};
-    ghost use Rattle.queue_core.specs.Calls.{BeginsArrival, SettlesArrival};
+    ghost use Rattle.queue_core.specs.Step.{are_flags_refused, step, with_last};
 
     /// The new queue of a port: mode `NONE`, range 65,531, maximum 1024, nothing else set, nothing
     /// waiting. Takes no memory.
     pub fn bind(alloc: Global, port: u32) -> Queue
         ensures state { result.state ≡ bound_to port }
         ensures no_offer { result.offer ≡ None }
+        // This is the step of a request to bind an absent queue.
+        ensures step { (queue call : ℕ) →
+            step None (Ask port call (Config queue (Some command_bind) None None None None))
+            ≡ record { state = Some result.state; reply = Answer 0 0; left = [] } }
     {
         Queue {
             port,
@@ -94,7 +100,7 @@ impl Queue {
             last: 0,
             dropped: 0,
             user_dropped: 0,
-            waiting: Vec::new(alloc),
+            waiting: VecDeque::new(alloc),
             offer: None,
         }
     }
@@ -112,6 +118,11 @@ impl Queue {
         requires no_offer { self.old.offer ≡ None }
         ensures state { self.new.state ≡ configured params maxlen flags mask self.old.state }
         ensures no_offer { self.new.offer ≡ None }
+        // This is the step of its port's request without a command.
+        ensures step { (queue call : ℕ) →
+            step (Some self.old.state)
+            (Ask self.old.state.port call (Config queue None params maxlen flags mask))
+            ≡ record { state = Some self.new.state; reply = Answer 0 0; left = [] } }
     {
         if let Some(params) = params {
             match params.mode {
@@ -134,88 +145,14 @@ impl Queue {
         }
     }
 
-    /// Begins the arrival of a packet: it stands offered under its id, and this is its notice, with
-    /// `queue` as the queue's number. The memory for settling it is taken too. Where there is none,
-    /// the packet comes back, and nothing has changed.
-    pub fn begin(&mut self, alloc: Global, queue: u16, packet: Packet) -> Result<Begun, NoRoom>
-        requires copies { self.old.state.mode ≡ copy_packet }
-        requires room { length self.old.state.waiting < self.old.state.maximum }
+    /// Sets the id that was used last. No message asks for this: it serves tests of what comes
+    /// after the largest id. Takes no memory.
+    pub fn skip_to(&mut self, last: u32)
         requires no_offer { self.old.offer ≡ None }
-        ensures begun { IfOk result (λ begun. BeginsArrival begun queue packet self.old self.new) }
-        ensures returned { IfErr result (λ back. back.packet ≡ packet) }
-        ensures err { OnErr result (self.new ≡ self.old) }
-    {
-        if self.waiting.reserve(1).is_err() {
-            return Err(NoRoom { packet });
-        }
-        let id = ids::fresh_id(self.last, &self.waiting);
-        let letter = Letter {
-            queue,
-            number: packet.number(),
-            visit: packet.visit(),
-            bytes: Bytes::new(alloc),
-        };
-        match mem::replace(&mut self.offer, Some((id, packet))) {
-            None => Ok(Begun::Offered {
-                port: self.port,
-                letter,
-            }),
-            Some(_) => unreachable!(),
-        }
-    }
-
-    /// Settles what was begun. `room` says whether the port's mailbox took the notice. Takes no
-    /// memory.
-    pub fn settle(&mut self, room: bool) -> Settled
-        requires offered { self.old.offer ≢ None }
-        requires room { room ≡ true }
-        ensures { IfSome self.old.offer (λ o. SettlesArrival result o.1 room self.old self.new) }
-    {
-        match self.offer.take() {
-            Some((id, packet)) => {
-                self.waiting.push_reserved((id, packet));
-                self.last = id;
-                Settled::Waiting { id }
-            }
-            None => unreachable!(),
-        }
-    }
-
-    /// Carries out a verdict that isn't refused: what waits under its id leaves, with the mark and
-    /// the bytes that are given, and goes where the verdict says. `None` where nothing waits under
-    /// this id; then nothing has changed. Takes no memory.
-    pub fn verdict(
-        &mut self,
-        head: Head,
-        mark: Option<u32>,
-        payload: Option<Bytes>,
-    ) -> Option<(Packet, Decision)>
-        requires known { IsVerdict head.verdict }
-        requires payload { IfSome payload (λ bytes. length bytes ≤ longest_payload) }
-        requires no_offer { self.old.offer ≡ None }
-        ensures packet { result ≡
-            option_map (λ card. (edited card mark payload, decision_of head.verdict))
-            (card_under self.old.state head.id) }
-        ensures state { OnSome result (self.new.state ≡ without self.old.state head.id) }
-        ensures unchanged { IfNone result (self.new.state ≡ self.old.state) }
+        ensures state { self.new.state ≡ with_last self.old.state last }
         ensures no_offer { self.new.offer ≡ None }
     {
-        let place = ids::place_of(&self.waiting, head.id)?;
-        let (_, mut packet) = self.waiting.remove(place);
-        packet.edit(mark, payload);
-        Some((packet, Decision::of(head.verdict)))
-    }
-
-    /// Destroys all that waits, and answers how much that was. Takes no memory.
-    pub fn flush(&mut self) -> u32
-        requires no_offer { self.old.offer ≡ None }
-        ensures count { result ≡ length self.old.state.waiting }
-        ensures state { self.new.state ≡ record self.old.state { waiting = [] } }
-        ensures no_offer { self.new.offer ≡ None }
-    {
-        let count = self.waiting.len() as u32;
-        destroy_all(&mut self.waiting);
-        count
+        self.last = last;
     }
 
     /// Spends the queue. Takes no memory.
@@ -235,7 +172,7 @@ impl Queue {
             waiting,
             offer,
         } = self;
-        waiting.destroy_empty();
+        waiting.into_vec().destroy_empty();
         match offer {
             None => {}
             Some(_) => unreachable!(),
@@ -285,14 +222,15 @@ impl Queue {
         self.last
     }
 
-    /// How many packets were destroyed since too many waited.
+    /// How many packets were destroyed since too many waited; it stops at 4,294,967,295.
     pub fn dropped(&self) -> u32
         ensures { result ≡ self.now.state.dropped }
     {
         self.dropped
     }
 
-    /// How many packets were destroyed since the port's mailbox was full.
+    /// How many packets were destroyed since the port's mailbox was full; it stops at
+    /// 4,294,967,295.
     pub fn user_dropped(&self) -> u32
         ensures { result ≡ self.now.state.user_dropped }
     {
@@ -315,14 +253,5 @@ fn range_of(asked: u32) -> u32
         MAX_RANGE
     } else {
         asked
-    }
-}
-
-/// Destroys all that waits.
-fn destroy_all(waiting: &mut Vec<(u32, Packet)>)
-    ensures { waiting.new.items ≡ [] }
-{
-    while let Some((_, packet)) = waiting.pop() {
-        packet.destroy();
     }
 }

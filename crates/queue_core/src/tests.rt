@@ -1,10 +1,15 @@
 //! What no contract says: that calls succeed where there is memory, on each kind of input, and that
-//! the numbers are those of the kernel's headers.
+//! the tables give the numbers of the kernel's headers.
 
-ghost use Rattle.std.specs.Prelude.{◌≡◌, None};
+ghost use Rattle.std.specs.Prelude.{◌≡◌, None, false, IfSome, IfNone, IfOk};
+ghost use Rattle.queue_core.specs.Step.{are_flags_refused};
 
 use super::*;
-use nfqa_msgs::{Head, META, NONE, PACKET, Params};
+use hook_chain::Decision;
+use nfqa_msgs::{
+    BIND, EINVAL, EOPNOTSUPP, Head, META, NONE, PACKET, PF_BIND, PF_UNBIND, Params, UNBIND,
+    decode_notice,
+};
 use packet_entry::{Bytes, IPV4, Letter, NoMemory, Packet};
 use std::alloc::Global;
 use std::test::Fail;
@@ -14,7 +19,16 @@ const BYTES: [u8; 20] = [
     0x45, 0, 0, 0x14, 0, 1, 0, 0, 0x40, 6, 0, 0, 10, 0, 0, 1, 10, 0, 0, 2,
 ];
 
-/// A queue of port 7 that copies packets.
+/// The packet with this number at its first visit.
+fn first_visit(alloc: Global, number: u32) -> Result<Packet, NoMemory>
+    ensures { IfOk result (λ packet. packet.visit ≡ 1) }
+{
+    let mut packet = Packet::new(alloc, number.max(1), 1, 0, IPV4, &[], &BYTES)?;
+    packet.queued(1);
+    Ok(packet)
+}
+
+/// A queue of port 7 that copies whole packets.
 fn copying(alloc: Global) -> Queue
     ensures { result.offer ≡ None }
 {
@@ -27,6 +41,7 @@ fn copying(alloc: Global) -> Queue
     queue
 }
 
+/// Ends a queue: how many packets waited.
 fn ended(mut queue: Queue) -> u32
     requires no_offer { queue.offer ≡ None }
 {
@@ -35,39 +50,362 @@ fn ended(mut queue: Queue) -> u32
     flushed
 }
 
-/// A packet arrives at queue 5: its notice and the id that it waits under, or nothing where the
-/// queue doesn't take it.
+/// An arrival at queue 5: what became of it, and the notice where one was offered.
 fn arrived(
     alloc: Global,
     queue: &mut Queue,
-    number: u32,
-) -> Result<Option<(u32, Letter, u32)>, NoMemory>
+    packet: Packet,
+    room: bool,
+) -> Result<(Outcome, Option<(u32, Letter)>), NoMemory>
     requires no_offer { queue.old.offer ≡ None }
     ensures no_offer { queue.new.offer ≡ None }
 {
-    let mut packet = Packet::new(alloc, number.max(1), 1, 0, IPV4, &[], &BYTES)?;
-    packet.queued(1);
-    if queue.mode() != PACKET || queue.waiting() >= queue.maximum() {
-        packet.destroy();
-        return Ok(None);
-    }
-    let (port, letter) = match queue.begin(alloc, 5, packet) {
+    let notice = match queue.begin(alloc, 5, packet) {
         Ok(Begun::Offered { port, letter }) => (port, letter),
-        Ok(Begun::Back { outcome: _, packet }) => {
+        Ok(Begun::Back { outcome, packet }) => {
             packet.destroy();
-            return Ok(None);
+            return Ok((outcome, None));
         }
         Err(NoRoom { packet }) => {
             packet.destroy();
-            return Ok(None);
+            return Err(NoMemory);
         }
     };
-    match queue.settle(true) {
-        Settled::Waiting { id } => Ok(Some((port, letter, id))),
-        Settled::Back { outcome: _, packet } => {
+    match queue.settle(room) {
+        Settled::Waiting { id } => Ok((Outcome::Taken { id }, Some(notice))),
+        Settled::Back { outcome, packet } => {
             packet.destroy();
-            Ok(None)
+            Ok((outcome, Some(notice)))
         }
+    }
+}
+
+/// An arrival at a queue number, by the nine lines of its table.
+fn arrive(
+    alloc: Global,
+    bound: &mut Option<Queue>,
+    packet: Packet,
+    bypass: bool,
+    room: bool,
+) -> Result<Outcome, NoMemory>
+    requires no_offer { IfSome bound.old (λ q. q.offer ≡ None) }
+    ensures no_offer { IfSome bound.new (λ q. q.offer ≡ None) }
+{
+    if packet.visit() == 33 {
+        packet.destroy();
+        return Ok(Outcome::Loop);
+    }
+    match bound {
+        None => {
+            packet.destroy();
+            Ok(if bypass {
+                Outcome::Bypassed
+            } else {
+                Outcome::NoQueue
+            })
+        }
+        Some(queue) => Ok(arrived(alloc, queue, packet, room)?.0),
+    }
+}
+
+#[test]
+fn each_arrival_has_its_outcome(rt: HostRuntime) -> Result<(), Fail> {
+    let alloc = rt.alloc();
+    let (taken, full) = (Outcome::Taken { id: 1 }, Outcome::UserFull { id: 1 });
+    let full_open = Outcome::UserFullOpen { id: 1 };
+    // The queue's mode, maximum and flags, where it is bound; whether the visit is the 33rd, the
+    // rule's bypass, and whether there is room; and then the outcome, the last id, and how many
+    // were dropped and user dropped.
+    let rows = [
+        (None, true, true, true, Outcome::Loop, (0, 0, 0)),
+        (
+            Some((PACKET, 9, 0)),
+            true,
+            false,
+            true,
+            Outcome::Loop,
+            (0, 0, 0),
+        ),
+        (None, false, false, true, Outcome::NoQueue, (0, 0, 0)),
+        (None, false, true, true, Outcome::Bypassed, (0, 0, 0)),
+        (
+            Some((NONE, 0, 1)),
+            false,
+            true,
+            true,
+            Outcome::CopyNone,
+            (0, 0, 0),
+        ),
+        (
+            Some((PACKET, 0, 1)),
+            false,
+            false,
+            true,
+            Outcome::OverflowOpen,
+            (0, 0, 0),
+        ),
+        (
+            Some((META, 0, 9)),
+            false,
+            false,
+            false,
+            Outcome::OverflowOpen,
+            (0, 0, 0),
+        ),
+        (
+            Some((PACKET, 0, 8)),
+            false,
+            true,
+            true,
+            Outcome::Overflow,
+            (0, 1, 0),
+        ),
+        (
+            Some((PACKET, 1, 1)),
+            false,
+            false,
+            false,
+            full_open,
+            (1, 0, 0),
+        ),
+        (Some((PACKET, 1, 8)), false, true, false, full, (1, 0, 1)),
+        (Some((META, 1, 1)), false, false, true, taken, (1, 0, 0)),
+        (Some((PACKET, 1, 0)), false, true, true, taken, (1, 0, 0)),
+    ];
+    for (i, (bound, last_visit, bypass, room, outcome, counts)) in rows.into_iter().enumerate() {
+        let answer = outcome_of(alloc, bound, last_visit, bypass, room)?;
+        assert_eq!(rt; answer, (outcome, counts), "row {i}");
+    }
+    Ok(())
+}
+
+/// One arrival at a queue of this mode, maximum and flags, or at an absent one: the outcome, and
+/// the queue's last id, dropped and user dropped then.
+fn outcome_of(
+    alloc: Global,
+    bound: Option<(u8, u32, u32)>,
+    last_visit: bool,
+    bypass: bool,
+    room: bool,
+) -> Result<(Outcome, (u32, u32, u32)), NoMemory> {
+    let mut packet = first_visit(alloc, 1)?;
+    if last_visit {
+        visit_often(&mut packet);
+    }
+    let mut bound = match bound {
+        Some((mode, maximum, flags)) => {
+            let mut queue = Queue::bind(alloc, 7);
+            let params = Params { range: 0, mode };
+            queue.configure(Some(params), Some(maximum), None, None);
+            set_flags(&mut queue, flags);
+            Some(queue)
+        }
+        None => None,
+    };
+    let outcome = arrive(alloc, &mut bound, packet, bypass, room);
+    let counts = match bound {
+        Some(queue) => {
+            let counts = (queue.last(), queue.dropped(), queue.user_dropped());
+            ended(queue);
+            counts
+        }
+        None => (0, 0, 0),
+    };
+    Ok((outcome?, counts))
+}
+
+/// Visits queues until the 33rd visit.
+fn visit_often(packet: &mut Packet) {
+    for _ in 0..32 {
+        if packet.visit() < 33 {
+            packet.queued(1);
+        }
+    }
+}
+
+/// Sets these flags, where none of them is refused.
+fn set_flags(queue: &mut Queue, flags: u32)
+    requires no_offer { queue.old.offer ≡ None }
+    ensures no_offer { queue.new.offer ≡ None }
+{
+    if flags_refused(Some(flags), Some(flags)).is_none() {
+        queue.configure(None, None, Some(flags), Some(flags));
+    }
+}
+
+/// Why a config request's flags and mask are refused.
+fn flags_refused(flags: Option<u32>, mask: Option<u32>) -> Option<u16>
+    ensures { IfNone result (are_flags_refused flags mask ≡ false) }
+{
+    match (flags, mask) {
+        (Some(_), None) => Some(EINVAL),
+        (Some(flags), Some(mask)) => {
+            if flags >= 32 || flags & mask & 18 != 0 {
+                Some(EOPNOTSUPP)
+            } else {
+                None
+            }
+        }
+        (None, _) => None,
+    }
+}
+
+/// What a config request has: a command, mode and range, a maximum, flags and a mask.
+type Asked = (
+    Option<u8>,
+    Option<(u8, u32)>,
+    Option<u32>,
+    Option<u32>,
+    Option<u32>,
+);
+
+/// A config request of a port, by the eleven lines of its table.
+fn config(alloc: Global, bound: Option<Queue>, port: u32, asked: Asked) -> (u16, Option<Queue>)
+    requires no_offer { IfSome bound (λ q. q.offer ≡ None) }
+    ensures no_offer { IfSome result.1 (λ q. q.offer ≡ None) }
+{
+    let (command, params, maxlen, flags, mask) = asked;
+    let params = params.map(|(mode, range)| Params { range, mode });
+    if command == Some(PF_BIND) || command == Some(PF_UNBIND) {
+        return (0, bound);
+    }
+    if let Some(errno) = flags_refused(flags, mask) {
+        return (errno, bound);
+    }
+    match (bound, command) {
+        (Some(queue), _) if queue.port() != port => (EPERM, Some(queue)),
+        (Some(queue), Some(BIND)) => (EBUSY, Some(queue)),
+        (None, Some(UNBIND)) => (ENODEV, None),
+        (Some(queue), Some(UNBIND)) => {
+            ended(queue);
+            (0, None)
+        }
+        (None, Some(BIND)) => {
+            let mut queue = Queue::bind(alloc, port);
+            queue.configure(params, maxlen, flags, mask);
+            (0, Some(queue))
+        }
+        (bound, Some(_)) => (EOPNOTSUPP, bound),
+        (None, None) => (ENODEV, None),
+        (Some(mut queue), None) => {
+            queue.configure(params, maxlen, flags, mask);
+            (0, Some(queue))
+        }
+    }
+}
+
+#[test]
+fn each_config_request_has_its_answer(rt: HostRuntime) -> Result<(), Fail> {
+    let alloc = rt.alloc();
+    let new = Some((NONE, 65_531, 1024, 0));
+    let set = |mode, range| Some((mode, range, 1024, 0));
+    // Whether the queue is bound, to port 7; the port that asks, and what it asks; and then the
+    // errno, and the queue's mode, range, maximum and flags.
+    let rows = [
+        (false, 7, (Some(3), None, None, None, None), 0, None),
+        (true, 8, (Some(4), None, None, Some(2), None), 0, new),
+        (true, 7, (None, None, None, Some(1), None), 22, new),
+        (true, 8, (None, None, None, Some(32), None), 22, new),
+        (true, 7, (None, None, None, Some(32), Some(0)), 95, new),
+        (true, 8, (None, None, None, Some(2), Some(2)), 95, new),
+        (
+            false,
+            7,
+            (Some(1), None, None, Some(31), Some(16)),
+            95,
+            None,
+        ),
+        (true, 8, (None, None, Some(5), None, None), 1, new),
+        (true, 8, (Some(1), None, None, None, None), 1, new),
+        (true, 7, (Some(1), None, Some(5), None, None), 16, new),
+        (false, 7, (Some(2), None, None, None, None), 19, None),
+        (true, 7, (Some(2), None, Some(5), None, None), 0, None),
+        (false, 7, (Some(9), None, None, None, None), 95, None),
+        (true, 7, (Some(0), None, None, None, None), 95, new),
+        (false, 7, (None, Some((2, 9)), None, None, None), 19, None),
+        (false, 7, (Some(1), None, None, None, None), 0, new),
+        (
+            false,
+            7,
+            (Some(1), Some((2, 40)), Some(3), Some(1), Some(1)),
+            0,
+            Some((2, 40, 3, 1)),
+        ),
+        (
+            true,
+            7,
+            (None, Some((0, 9)), None, None, None),
+            0,
+            set(0, 0),
+        ),
+        (
+            true,
+            7,
+            (None, Some((1, 9)), None, None, None),
+            0,
+            set(1, 0),
+        ),
+        (
+            true,
+            7,
+            (None, Some((2, 0)), None, None, None),
+            0,
+            set(2, 65_531),
+        ),
+        (
+            true,
+            7,
+            (None, Some((2, 65_531)), None, None, None),
+            0,
+            set(2, 65_531),
+        ),
+        (
+            true,
+            7,
+            (None, Some((2, 65_532)), None, None, None),
+            0,
+            set(2, 65_531),
+        ),
+        (true, 7, (None, Some((3, 9)), None, None, None), 0, new),
+        (
+            true,
+            7,
+            (None, None, Some(u32::MAX), None, None),
+            0,
+            Some((0, 65_531, u32::MAX, 0)),
+        ),
+        (
+            true,
+            7,
+            (None, None, None, Some(31), Some(13)),
+            0,
+            Some((0, 65_531, 1024, 13)),
+        ),
+        (true, 7, (None, None, None, None, Some(1)), 0, new),
+    ];
+    for (i, (is_bound, port, asked, errno, then)) in rows.into_iter().enumerate() {
+        let bound = if is_bound {
+            Some(Queue::bind(alloc, 7))
+        } else {
+            None
+        };
+        let (answer, bound) = config(alloc, bound, port, asked);
+        assert_eq!(rt; (answer, told(bound)), (errno, then), "row {i}");
+    }
+    Ok(())
+}
+
+/// Ends a queue: its mode, range, maximum and flags.
+fn told(bound: Option<Queue>) -> Option<(u8, u32, u32, u32)>
+    requires no_offer { IfSome bound (λ q. q.offer ≡ None) }
+{
+    match bound {
+        Some(queue) => {
+            let told = (queue.mode(), queue.range(), queue.maximum(), queue.flags());
+            ended(queue);
+            Some(told)
+        }
+        None => None,
     }
 }
 
@@ -100,64 +438,6 @@ fn decided(
 }
 
 #[test]
-fn packets_wait_until_their_verdicts(rt: HostRuntime) -> Result<(), Fail> {
-    let alloc = rt.alloc();
-    let mut queue = copying(alloc);
-    let first = arrived(alloc, &mut queue, 1);
-    let second = arrived(alloc, &mut queue, 2);
-    let waiting = (queue.waiting(), queue.last());
-    let head = |id| Head {
-        verdict: ACCEPT,
-        id,
-    };
-    let other = decided(alloc, &mut queue, head(3), None, None);
-    let taken = decided(alloc, &mut queue, head(1), None, None);
-    let again = decided(alloc, &mut queue, head(1), None, None);
-    let flushed = ended(queue);
-
-    let (port, letter, id) = first?.ok_or("no notice")?;
-    assert_eq!(rt;
-        (port, letter.queue, letter.number, letter.visit, id),
-        (7, 5, 1, 1, 1)
-    );
-    let (port, letter, id) = second?.ok_or("no notice")?;
-    assert_eq!(rt;
-        (port, letter.queue, letter.number, letter.visit, id),
-        (7, 5, 2, 1, 2)
-    );
-    assert_eq!(rt; waiting, (2, 2));
-    assert!(rt; other?.is_none());
-    assert!(rt; taken?.is_some());
-    assert!(rt; again?.is_none());
-    assert_eq!(rt; flushed, 1);
-    Ok(())
-}
-
-#[test]
-fn a_queue_takes_as_many_as_it_may(rt: HostRuntime) -> Result<(), Fail> {
-    let alloc = rt.alloc();
-    let mut queue = copying(alloc);
-    let taken = filled(alloc, &mut queue, 1100);
-    let flushed = ended(queue);
-    assert_eq!(rt; (taken?, flushed), (1024, 1024));
-    Ok(())
-}
-
-/// So many packets arrive: how many the queue takes.
-fn filled(alloc: Global, queue: &mut Queue, count: u32) -> Result<u32, NoMemory>
-    requires no_offer { queue.old.offer ≡ None }
-    ensures no_offer { queue.new.offer ≡ None }
-{
-    let mut taken = 0u32;
-    for number in 0..count {
-        if arrived(alloc, queue, number)?.is_some() {
-            taken = taken.saturating_add(1);
-        }
-    }
-    Ok(taken)
-}
-
-#[test]
 fn each_verdict_goes_its_way(rt: HostRuntime) -> Result<(), Fail> {
     let alloc = rt.alloc();
     let to = |number, bypass| Decision::Queue { number, bypass };
@@ -171,19 +451,21 @@ fn each_verdict_goes_its_way(rt: HostRuntime) -> Result<(), Fail> {
         (1, Some(u32::MAX), Some(b""), Decision::Accept, u32::MAX, 0),
         (4, None, None, Decision::Repeat, 0, 20),
         (5, None, None, Decision::Stop, 0, 20),
-        (0x0000_0003, None, None, to(0, false), 0, 20),
-        (0x0009_0003, None, None, to(9, false), 0, 20),
-        (0x0009_8003, Some(9), None, to(9, true), 9, 20),
-        (0xffff_8003, None, None, to(65_535, true), 0, 20),
-        (0x0000_8001, None, None, Decision::Accept, 0, 20),
+        (3, None, None, to(0, false), 0, 20),
+        (589_827, None, None, to(9, false), 0, 20),
+        (622_595, Some(9), None, to(9, true), 9, 20),
+        (4_294_934_531, None, None, to(65_535, true), 0, 20),
+        (32_769, None, None, Decision::Accept, 0, 20),
     ];
     for (verdict, mark, payload, decision, marked, length) in rows {
         let mut queue = copying(alloc);
-        let waits = arrived(alloc, &mut queue, 1);
+        let waits = arrivals(alloc, &mut queue, 1);
         let head = Head { verdict, id: 1 };
+        let other = decided(alloc, &mut queue, Head { verdict, id: 2 }, mark, payload);
         let taken = decided(alloc, &mut queue, head, mark, payload);
         let left = ended(queue);
-        assert!(rt; waits?.is_some());
+        assert_eq!(rt; waits?, 1);
+        assert!(rt; other?.is_none());
         let (way, mark, bytes) = taken?.ok_or("nothing waits")?;
         assert_eq!(rt;
             (way, mark, bytes.len(), left),
@@ -194,51 +476,140 @@ fn each_verdict_goes_its_way(rt: HostRuntime) -> Result<(), Fail> {
     Ok(())
 }
 
-/// A new queue's mode, range, maximum and flags, once it was told this; nothing where the flags are
-/// refused.
-fn set(
+/// So many packets arrive: how many the queue takes.
+fn arrivals(alloc: Global, queue: &mut Queue, count: u32) -> Result<u32, NoMemory>
+    requires no_offer { queue.old.offer ≡ None }
+    ensures no_offer { queue.new.offer ≡ None }
+{
+    let mut taken = 0u32;
+    for number in 0..count {
+        let packet = first_visit(alloc, number)?;
+        if let (Outcome::Taken { id: _ }, _) = arrived(alloc, queue, packet, true)? {
+            taken = taken.saturating_add(1);
+        }
+    }
+    Ok(taken)
+}
+
+/// Takes out what a batch that accepts hands out: how many, and their marks added up.
+fn batched(
     alloc: Global,
-    params: Option<(u8, u32)>,
-    maxlen: Option<u32>,
-    flags: Option<(u32, u32)>,
-) -> Option<(u8, u32, u32, u32)> {
-    let (flags, mask) = match flags {
-        Some((flags, mask)) if flags < 32 && flags & mask & 18 == 0 => (Some(flags), Some(mask)),
-        Some(_) => return None,
-        None => (None, None),
+    queue: &mut Queue,
+    maximum: u32,
+    mark: Option<u32>,
+) -> Result<(u32, u64), NoMemory>
+    requires no_offer { queue.old.offer ≡ None }
+    ensures no_offer { queue.new.offer ≡ None }
+{
+    let mut handed = Handed::new(alloc);
+    let head = Head {
+        verdict: 1,
+        id: maximum,
     };
-    let mut queue = Queue::bind(alloc, 7);
-    let params = params.map(|(mode, range)| Params { range, mode });
-    queue.configure(params, maxlen, flags, mask);
-    let set = (queue.mode(), queue.range(), queue.maximum(), queue.flags());
-    ended(queue);
-    Some(set)
+    let count = queue.batch(head, mark, &mut handed);
+    let mut marks = 0u64;
+    while let Some((packet, _)) = handed.take() {
+        marks = marks.saturating_add(packet.mark() as u64);
+        packet.release();
+    }
+    handed.finish();
+    Ok((count?, marks))
 }
 
 #[test]
-fn a_queue_is_set_up_as_it_is_told(rt: HostRuntime) -> Result<(), Fail> {
-    // Mode and range, maximum, flags and mask; and the queue's mode, range, maximum and flags then.
+fn batches_take_their_share(rt: HostRuntime) -> Result<(), Fail> {
+    let alloc = rt.alloc();
+    // The id that was used last, after how many waiting arrivals it is set again, and how many more
+    // arrive; the batch's maximum and mark; and then how many it takes, their marks added up, how
+    // many wait, and the last id.
     let rows = [
-        (None, None, None, (NONE, 65_531, 1024, 0)),
-        (Some((0, 9)), None, None, (NONE, 0, 1024, 0)),
-        (Some((1, 9)), None, None, (META, 0, 1024, 0)),
-        (Some((2, 9)), None, None, (PACKET, 9, 1024, 0)),
-        (Some((2, 0)), None, None, (PACKET, 65_531, 1024, 0)),
-        (Some((2, 65_531)), None, None, (PACKET, 65_531, 1024, 0)),
-        (Some((2, 65_532)), None, None, (PACKET, 65_531, 1024, 0)),
-        (Some((3, 9)), None, None, (NONE, 65_531, 1024, 0)),
-        (None, Some(0), None, (NONE, 65_531, 0, 0)),
-        (None, Some(u32::MAX), None, (NONE, 65_531, u32::MAX, 0)),
-        (None, None, Some((1, 1)), (NONE, 65_531, 1024, 1)),
-        (None, None, Some((13, 9)), (NONE, 65_531, 1024, 9)),
-        (None, None, Some((31, 1)), (NONE, 65_531, 1024, 1)),
+        (4_294_967_294, 3, None, 0, None, (2, 0), 1, 1),
+        (2, 2, None, 2, None, (0, 0), 2, 4),
+        (
+            0,
+            1,
+            Some((2_147_483_649, 1)),
+            2_147_483_650,
+            None,
+            (0, 0),
+            2,
+            2_147_483_650,
+        ),
+        (0, 1, Some((0, 1)), 1, None, (1, 0), 1, 2),
+        (0, 3, None, 3, Some(7), (3, 21), 0, 3),
+        (0, 0, None, 9, None, (0, 0), 0, 0),
+        (0, 1024, None, 1000, Some(1), (1000, 1000), 24, 1024),
     ];
-    for (i, (params, maxlen, flags, told)) in rows.into_iter().enumerate() {
+    for (i, row) in rows.into_iter().enumerate() {
+        let (last, count, again, maximum, mark, taken, waits, then) = row;
+        let mut queue = copying(alloc);
+        queue.skip_to(last);
+        let first = arrivals(alloc, &mut queue, count);
+        let second = match again {
+            Some((last, count)) => {
+                queue.skip_to(last);
+                arrivals(alloc, &mut queue, count)
+            }
+            None => Ok(0),
+        };
+        let answer = batched(alloc, &mut queue, maximum, mark);
+        let used = queue.last();
+        let left = ended(queue);
         assert_eq!(rt;
-            set(rt.alloc(), params, maxlen, flags),
-            Some(told),
+            (first?, second?),
+            (count, again.map_or(0, |a| a.1)),
             "row {i}"
         );
+        assert_eq!(rt; (answer?, left, used), (taken, waits, then), "row {i}");
+    }
+    Ok(())
+}
+
+#[test]
+fn a_notice_tells_of_the_packet(rt: HostRuntime) -> Result<(), Fail> {
+    let alloc = rt.alloc();
+    // Mode and range; and then the length and the bytes that the notice tells.
+    let rows = [
+        (META, 9, 0, 0),
+        (PACKET, 0, 20, 20),
+        (PACKET, 8, 20, 8),
+        (PACKET, 20, 20, 20),
+    ];
+    for (mode, range, length, bytes) in rows {
+        let mut queue = Queue::bind(alloc, 7);
+        queue.configure(Some(Params { range, mode }), None, None, None);
+        let packet = first_visit(alloc, 3);
+        let answer = match packet {
+            Ok(packet) => arrived(alloc, &mut queue, packet, true),
+            Err(NoMemory) => Err(NoMemory),
+        };
+        ended(queue);
+        let (port, letter) = answer?.1.ok_or("no notice")?;
+        let notice = decode_notice(alloc, letter.bytes.as_slice())?.ok_or("no notice")?;
+        assert_eq!(rt;
+            (port, letter.queue, letter.number, letter.visit),
+            (7, 5, 3, 1)
+        );
+        assert_eq!(rt;
+            (notice.queue, notice.id, notice.length, notice.payload.len()),
+            (5, 1, length, bytes)
+        );
+    }
+    Ok(())
+}
+
+#[test]
+fn what_goes_down_destroys_what_waits(rt: HostRuntime) -> Result<(), Fail> {
+    let alloc = rt.alloc();
+    // The device, and how many packets of 1100 arrivals it destroys: 1024 wait at most.
+    for (device, destroyed) in [(0, 0), (1, 1024), (2, 1024), (3, 0), (u32::MAX, 0)] {
+        let mut queue = copying(alloc);
+        let taken = arrivals(alloc, &mut queue, 1100);
+        let dropped = queue.dropped();
+        let down = queue.device_down(device);
+        let left = ended(queue);
+        assert_eq!(rt; (taken?, dropped), (1024, 76));
+        assert_eq!(rt; (down, left), (destroyed, 1024 - destroyed));
     }
     Ok(())
 }

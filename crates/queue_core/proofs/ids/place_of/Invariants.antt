@@ -6,6 +6,6 @@ use Rattle.queue_core.proofs.ids.place_of.Given as goal
 -- what has been passed has another id
 abbrev pub invariant-loop-place : goal.invariant-loop-place
 invariant-loop-place l =
-    (lookup (is_id l.id) l.waiting ≡ lookup (is_id l.id) (drop l.place l.waiting))
-    × (remove_entry (is_id l.id) l.waiting ≡ take l.place l.waiting
-    ++ remove_entry (is_id l.id) (drop l.place l.waiting))
+    (lookup (is_id l.id) l.waiting.items ≡ lookup (is_id l.id) (drop l.place l.waiting.items))
+    × (remove_entry (is_id l.id) l.waiting.items ≡ take l.place l.waiting.items
+    ++ remove_entry (is_id l.id) (drop l.place l.waiting.items))

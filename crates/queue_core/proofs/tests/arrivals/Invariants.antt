@@ -1,5 +1,5 @@
 use Rattle.std.proofs.Common.{◌≡◌, None}
-use Rattle.queue_core.proofs.tests.filled.Given as goal
+use Rattle.queue_core.proofs.tests.arrivals.Given as goal
 
 -- nothing stands offered between two arrivals
 abbrev pub invariant-loop-number : goal.invariant-loop-number

@@ -1,0 +1,59 @@
+-- What a verdict and a batch make of the queue's state, by the step.
+use Rattle.std.proofs.Common.{◌≡◌, ℕ, suc, List, [], ◌∷◌, length, map, Some, refl}
+use Rattle.std.proofs.Common.{ap, ◌∙◌, Option}
+use Rattle.std.proofs.lemmas.Bool.{eq-eqb}
+use Rattle.packet_entry.specs.declared.packet.Card.{Card}
+use Rattle.nfqa_msgs.specs.declared.request.Head.{Head}
+use Rattle.queue_core.specs.declared.event.Reply.TheVariants.{Answer}
+use Rattle.queue_core.specs.Decision.{Edit, IsVerdict}
+use Rattle.queue_core.specs.State.{Bound}
+use Rattle.queue_core.specs.Share.{share}
+use Rattle.queue_core.specs.Step.{Stepped, verdict, batch, card_under, without, without_oldest}
+use Rattle.queue_core.specs.Step.{leaving, marking, shared_out, Way}
+use Rattle.queue_core.specs.Calls.{hands_out, ways_of, handed_as, batch_handed}
+
+-- a verdict that isn't refused finds what waits under its id
+pub verdict_found : (q : Bound) (head : Head) (edit : Edit) (card : Card) → IsVerdict head.verdict →
+    card_under q head.id ≡ Some card
+    → verdict (Some q) q.port (Some head) edit ≡ record {
+      state = Some (without q head.id);
+      reply = Answer 0 1;
+      left = leaving head edit card ∷ [];
+    }
+verdict_found q head edit card known found =
+    rw (eq-eqb q.port q.port refl, known, found) refl
+
+-- each packet of a share leaves as it is handed out
+same_ways : (head : Head) (mark : Option ℕ) (ws : List (ℕ × Card)) →
+    map (λ (v : ℕ × Card). leaving head (marking mark) v.1) ws
+    ≡ ways_of (map (handed_as head mark) ws)
+same_ways head mark [] = refl
+same_ways head mark (w ∷ ws) =
+    ap (λ ls. leaving head (marking mark) w.1 ∷ ls) (same_ways head mark ws)
+
+as_many : (head : Head) (mark : Option ℕ) (ws : List (ℕ × Card)) →
+    length ws ≡ length (map (handed_as head mark) ws)
+as_many head mark [] = refl
+as_many head mark (w ∷ ws) = ap suc (as_many head mark ws)
+
+-- a share that is handed out is the step's
+handed_out : (q : Bound) (head : Head) (mark : Option ℕ) (ws : List (ℕ × Card)) →
+    shared_out q head mark ws
+    ≡ hands_out (without_oldest q (length ws)) (map (handed_as head mark) ws)
+handed_out q head mark [] = refl
+handed_out q head mark (w ∷ ws) =
+    ap (λ n. given (without_oldest q (length (w ∷ ws))) n
+    (map (λ (v : ℕ × Card). leaving head (marking mark) v.1) (w ∷ ws)))
+    (as_many head mark (w ∷ ws))
+    ∙ ap (given (without_oldest q (length (w ∷ ws)))
+    (length (map (handed_as head mark) (w ∷ ws)))) (same_ways head mark (w ∷ ws))
+  where
+    given : Bound → ℕ → List (Card × Way) → Stepped
+    given q n left = record { state = Some q; reply = Answer 0 n; left = left }
+
+-- a batch that isn't refused hands out its share
+pub batch_shares : (q : Bound) (head : Head) (mark : Option ℕ) → IsVerdict head.verdict →
+    batch (Some q) q.port (Some head) mark
+    ≡ hands_out (without_oldest q (length (share q.waiting head.id))) (batch_handed q head mark)
+batch_shares q head mark known =
+    rw (eq-eqb q.port q.port refl, known) (handed_out q head mark (share q.waiting head.id))

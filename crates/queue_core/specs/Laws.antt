@@ -1,0 +1,63 @@
+-- The step in the subject's own words.
+use Rattle.std.specs.Prelude.{◌≡◌, ◌<◌, ℕ, ◌+◌, List, [], ◌∷◌, length, map, Option, Some, None}
+use Rattle.std.specs.Prelude.{Bool, if◌then◌else◌, All, nat_eq, IfSome}
+use Rattle.std.specs.List.{IsDistinct}
+use Rattle.std.specs.Map.{keys_of}
+use Rattle.packet_entry.specs.declared.packet.Card.{Card}
+use Rattle.queue_core.specs.declared.event.Event.{Event}
+use Rattle.queue_core.specs.declared.event.Event.TheVariants.{Arrive}
+use Rattle.queue_core.specs.declared.event.Reply.{Reply}
+use Rattle.queue_core.specs.declared.event.Reply.TheVariants.{Arrived, Answer, Flushed}
+use Rattle.queue_core.specs.Numbers.{id_count}
+use Rattle.queue_core.specs.State.{Bound}
+use Rattle.queue_core.specs.Step.{Gone, Stepped, step}
+
+-- the packets that wait
+abbrev pub waiting_in : Option Bound → List Card
+waiting_in None = []
+waiting_in (Some q) = map (λ w. w.1) q.waiting
+
+-- the packet that arrives
+abbrev pub arriving : Event → List Card
+arriving (Arrive card bypass room) = card ∷ []
+arriving other = []
+
+-- the packets that leave
+abbrev pub leaving_in : Stepped → List Card
+leaving_in s = map (λ l. l.0) s.left
+
+-- how many of these packets pass a test of their number and visit
+abbrev pub times : (ℕ → ℕ → Bool) → List Card → ℕ
+times test [] = 0
+times test (c ∷ cs) = if test c.number c.visit then times test cs + 1 else times test cs
+
+-- A step loses no packet and doubles none: each that waited or arrives waits afterwards or leaves,
+-- with its number and visit. So whatever test tells them apart, as many pass it.
+abbrev pub IsConserving : Option Bound → Event → Type 0
+IsConserving q e = (test : ℕ → ℕ → Bool) →
+    times test (waiting_in (step q e).state) + times test (leaving_in (step q e))
+    ≡ times test (waiting_in q) + times test (arriving e)
+
+-- A reply to a request, a closed port or a device tells how many packets left; one to an arrival
+-- tells of no number.
+abbrev pub Tells : Reply → ℕ → Type 0
+Tells (Arrived outcome) n = Unit {0}
+Tells (Answer errno taken) n = taken ≡ n
+Tells (Flushed taken) n = taken ≡ n
+
+-- what leaves is destroyed
+abbrev pub AllAreGone : Stepped → Type 0
+AllAreGone s = All (λ l. l.1 ≡ Gone) s.left
+
+-- the queue stays as it was, and nothing leaves
+pub record IsUntouched (q : Option Bound) (s : Stepped) : Type 0 where
+  pub state : s.state ≡ q
+  pub left : s.left ≡ []
+
+-- no two packets wait under one id
+abbrev pub AreApart : Option Bound → Type 0
+AreApart q = IfSome q (λ q. IsDistinct nat_eq (keys_of q.waiting))
+
+-- a queue whose ids are of 32 bits, and where fewer packets wait than there are ids
+abbrev pub HasIds : Option Bound → Type 0
+HasIds q = IfSome q (λ q. (q.last < id_count) × (length q.waiting < id_count))

@@ -1,0 +1,139 @@
+//! Arrivals: the lines of the table from the copy mode on, in its order.
+
+ghost use Rattle.std.specs.Prelude.{◌≡◌, ◌≢◌, ◌<◌, ◌≤◌, None, IfOk, IfErr, OnOk, OnErr, IfSome};
+ghost use Rattle.std.specs.Prelude.{false, length};
+ghost use Rattle.std.specs.VecDeque.{deque_len, deque_capacity};
+ghost use Rattle.nfqa_msgs.specs.NoticeWriting.{FitsTold, told_of};
+ghost use Rattle.queue_core.specs.State as state;
+ghost use Rattle.queue_core.specs.Step as queue_step;
+ghost use Rattle.queue_core.specs.WithOffer.{letter_of};
+ghost use Rattle.queue_core.specs.Calls.{BeginsArrival, SettlesArrival};
+
+use super::Queue;
+use crate::{Begun, NoRoom, Outcome, Settled, ids};
+use bitflags::Flags;
+use nfqa_msgs::{NONE, QueueFlags, encode_notice};
+use packet_entry::{Bytes, Letter, NoMemory, Packet};
+use std::alloc::Global;
+use std::mem;
+
+impl Queue {
+    /// Begins the arrival of a packet. Where the queue copies nothing or is full, it comes back.
+    /// Otherwise it stands offered under its id, and this is its notice, with `queue` as the
+    /// queue's number; the memory for settling it is taken too. Where there is none, the packet
+    /// comes back, and nothing has changed.
+    pub fn begin(&mut self, alloc: Global, queue: u16, packet: Packet) -> Result<Begun, NoRoom>
+        requires no_offer { self.old.offer ≡ None }
+        ensures begun { IfOk result (λ begun. BeginsArrival begun queue packet self.old self.new) }
+        ensures returned { IfErr result (λ back. back.packet ≡ packet) }
+        ensures err { OnErr result (self.new ≡ self.old) }
+    {
+        // Nothing is copied to the port: destroyed.
+        if self.mode == NONE {
+            let outcome = Outcome::CopyNone;
+            return Ok(Begun::Back { outcome, packet });
+        }
+        // As many wait as may, and the queue fails open: it goes on.
+        if self.is_full() && self.fails_open() {
+            let outcome = Outcome::OverflowOpen;
+            return Ok(Begun::Back { outcome, packet });
+        }
+        // As many wait as may: destroyed.
+        if self.is_full() {
+            self.dropped = self.dropped.saturating_add(1);
+            let outcome = Outcome::Overflow;
+            return Ok(Begun::Back { outcome, packet });
+        }
+        self.offered(alloc, queue, packet)
+    }
+
+    /// Offers a packet that the queue doesn't turn away.
+    fn offered(&mut self, alloc: Global, queue: u16, packet: Packet) -> Result<Begun, NoRoom>
+        requires no_offer { self.old.offer ≡ None }
+        requires undecided { queue_step.turns_away self.old.state ≡ false }
+        ensures begun { IfOk result (λ begun. BeginsArrival begun queue packet self.old self.new) }
+        ensures returned { IfErr result (λ back. back.packet ≡ packet) }
+        ensures err { OnErr result (self.new ≡ self.old) }
+    {
+        if self.waiting.reserve(1).is_err() {
+            return Err(NoRoom { packet });
+        }
+        let id = ids::fresh_id(self.last, &self.waiting);
+        let Ok(letter) = self.letter(alloc, queue, id, &packet) else {
+            return Err(NoRoom { packet });
+        };
+        match mem::replace(&mut self.offer, Some((id, packet))) {
+            None => Ok(Begun::Offered {
+                port: self.port,
+                letter,
+            }),
+            Some(_) => unreachable!(),
+        }
+    }
+
+    /// The notice of a packet, on its way to the queue's port.
+    fn letter(
+        &self,
+        alloc: Global,
+        queue: u16,
+        id: u32,
+        packet: &Packet,
+    ) -> Result<Letter, NoMemory>
+        requires undecided { queue_step.turns_away self.now.state ≡ false }
+        ensures letter { IfOk result (λ letter.
+            letter ≡ letter_of queue self.now.state id packet.now) }
+        ensures fits { OnOk result
+            (FitsTold (told_of queue self.now.state.mode self.now.state.range id packet.now)) }
+    {
+        let mut bytes = Vec::new(alloc);
+        encode_notice(queue, id, self.mode, self.range, packet, &mut bytes)?;
+        Ok(Letter {
+            queue,
+            number: packet.number(),
+            visit: packet.visit(),
+            bytes: Bytes::from_vec(bytes)?,
+        })
+    }
+
+    /// Settles what was begun. `room` says whether the port's mailbox took the notice. The id is
+    /// used in each case. Takes no memory.
+    pub fn settle(&mut self, room: bool) -> Settled
+        requires offered { self.old.offer ≢ None }
+        ensures { IfSome self.old.offer (λ o. SettlesArrival result o.1 room self.old self.new) }
+    {
+        match self.offer.take() {
+            Some((id, packet)) => {
+                self.last = id;
+                // No room, and the queue fails open: it goes on.
+                if !room && self.fails_open() {
+                    let outcome = Outcome::UserFullOpen { id };
+                    return Settled::Back { outcome, packet };
+                }
+                // No room: destroyed.
+                if !room {
+                    self.user_dropped = self.user_dropped.saturating_add(1);
+                    let outcome = Outcome::UserFull { id };
+                    return Settled::Back { outcome, packet };
+                }
+                // It waits, last in the list.
+                self.waiting.push_back_reserved((id, packet));
+                Settled::Waiting { id }
+            }
+            None => unreachable!(),
+        }
+    }
+
+    /// Whether as many packets wait as may.
+    fn is_full(&self) -> bool
+        ensures { result ≡ queue_step.is_full self.now.state }
+    {
+        self.maximum as usize <= self.waiting.len()
+    }
+
+    /// Whether a queue that is full, or whose port's mailbox is, lets packets go on.
+    fn fails_open(&self) -> bool
+        ensures { result ≡ state.fails_open self.now.state }
+    {
+        QueueFlags::from_bits_retain(self.flags).contains(QueueFlags::FAIL_OPEN)
+    }
+}

@@ -1,0 +1,115 @@
+//! Verdicts on one packet, and on all up to an id.
+
+ghost use Rattle.std.specs.Prelude.{◌≡◌, ◌≤◌, ◌+◌, ◌++◌, ℕ, length, map, take, drop, Some, None};
+ghost use Rattle.std.specs.Prelude.{IfOk, IfSome, IfNone};
+ghost use Rattle.std.specs.VecDeque.{deque_len, deque_capacity};
+ghost use Rattle.std.specs.Prelude.{OnOk, OnErr, OnSome, option_map, option_to_list};
+ghost use Rattle.packet_entry.specs.Numbers.{longest_payload};
+ghost use Rattle.packet_entry.specs.Card.{edited};
+ghost use Rattle.nfqa_msgs.specs.declared.request.Request.TheVariants.{Verdict, Batch};
+ghost use Rattle.queue_core.specs.declared.event.Event.TheVariants.{Ask};
+ghost use Rattle.queue_core.specs.Decision.{IsVerdict};
+ghost use Rattle.queue_core.specs.Decision as decision;
+ghost use Rattle.queue_core.specs.Step.{card_under, without, without_oldest, step};
+ghost use Rattle.queue_core.specs.Share.{share};
+ghost use Rattle.queue_core.specs.Calls.{hands_out, batch_handed};
+
+use super::Queue;
+use crate::decision::decision_of;
+use crate::ids::Waiting;
+use crate::{Handed, ids};
+use hook_chain::Decision;
+use nfqa_msgs::Head;
+use packet_entry::{Bytes, NoMemory, Packet};
+use std::collections::VecDeque;
+
+impl Queue {
+    /// Carries out a verdict that isn't refused: what waits under its id leaves, with the mark and
+    /// the bytes that are given, and goes where the verdict says. `None` exactly where nothing
+    /// waits under this id; then nothing has changed. Takes no memory.
+    pub fn verdict(
+        &mut self,
+        head: Head,
+        mark: Option<u32>,
+        payload: Option<Bytes>,
+    ) -> Option<(Packet, Decision)>
+        requires known { IsVerdict head.verdict }
+        requires payload { IfSome payload (λ bytes. length bytes ≤ longest_payload) }
+        requires no_offer { self.old.offer ≡ None }
+        ensures packet { result ≡
+            option_map (λ card. (edited card mark payload, decision.decision_of head.verdict))
+            (card_under self.old.state head.id) }
+        ensures state { OnSome result (self.new.state ≡ without self.old.state head.id) }
+        ensures unchanged { IfNone result (self.new.state ≡ self.old.state) }
+        ensures no_offer { self.new.offer ≡ None }
+        // This is the step of its port's verdict.
+        ensures step { (queue call : ℕ) →
+            step (Some self.old.state)
+            (Ask self.old.state.port call (Verdict queue (Some head) mark payload))
+            ≡ hands_out self.new.state (option_to_list result) }
+    {
+        let place = ids::place_of(&self.waiting, head.id)?;
+        let Some((_, mut packet)) = self.waiting.remove(place) else {
+            unreachable!()
+        };
+        packet.edit(mark, payload);
+        Some((packet, decision_of(head.verdict)))
+    }
+
+    /// Carries out a batch that isn't refused: from the oldest on, what waits before the first id
+    /// after the one of `head` leaves with the mark that is given, and is appended to `out`, each
+    /// with the decision of `head`. Answers how many. `NoMemory` leaves the queue and `out` as they
+    /// were.
+    pub fn batch(
+        &mut self,
+        head: Head,
+        mark: Option<u32>,
+        out: &mut Handed,
+    ) -> Result<u32, NoMemory>
+        requires known { IsVerdict head.verdict }
+        requires no_offer { self.old.offer ≡ None }
+        ensures count { IfOk result (λ count.
+            count ≡ length (share self.old.state.waiting head.id)) }
+        ensures handed { OnOk result
+            (out.new ≡ out.old ++ batch_handed self.old.state head mark) }
+        ensures state { OnOk result (self.new.state ≡ without_oldest self.old.state
+            (length (share self.old.state.waiting head.id))) }
+        ensures err { OnErr result (self.new ≡ self.old) }
+        ensures out { OnErr result (out.new ≡ out.old) }
+        ensures no_offer { self.new.offer ≡ None }
+        // This is the step of its port's batch.
+        ensures step { OnOk result ((queue call : ℕ) →
+            step (Some self.old.state)
+            (Ask self.old.state.port call (Batch queue (Some head) mark))
+            ≡ hands_out self.new.state (batch_handed self.old.state head mark)) }
+    {
+        let count = ids::share_length(&self.waiting, head.id);
+        out.packets.reserve(count)?;
+        let decision = decision_of(head.verdict);
+        hand_out(&mut self.waiting, count, mark, decision, &mut out.packets);
+        Ok(count as u32)
+    }
+}
+
+/// Moves so many of the oldest that wait to what is handed out, each with the mark that is given.
+fn hand_out(
+    waiting: &mut Waiting,
+    count: usize,
+    mark: Option<u32>,
+    decision: Decision,
+    out: &mut VecDeque<(Packet, Decision)>,
+)
+    requires count { count ≤ length waiting.old.items }
+    requires room { deque_len out.old + count ≤ deque_capacity out.old }
+    ensures waiting { waiting.new.items ≡ drop count waiting.old.items }
+    ensures out { out.new.items ≡ out.old.items
+        ++ map (λ w. (edited w.1 mark None, decision)) (take count waiting.old.items) }
+{
+    for _ in 0..count {
+        let Some((_, mut packet)) = waiting.pop_front() else {
+            unreachable!()
+        };
+        packet.edit(mark, None);
+        out.push_back_reserved((packet, decision));
+    }
+}
