@@ -26,15 +26,18 @@ use Rattle.queue_core.specs.Step.{next_id, with_last, Way, step}
 use Rattle.nfq_cli.specs.declared.script.Verdict.{Verdict}
 use Rattle.nfq_cli.specs.declared.script.Verdict.TheVariants as verdict
 use Rattle.nfq_cli.specs.declared.script.OnId.{OnId}
-use Rattle.nfq_cli.specs.declared.histories.Entry.{Entry}
+use Rattle.place_history.specs.declared.entry.Entry.{Entry}
 use Rattle.nfq_cli.specs.declared.ledger.FateLine.{FateLine}
 use Rattle.nfq_cli.specs.Code.{code_of}
 use Rattle.nfq_cli.specs.Script.{answer}
-use Rattle.nfq_cli.specs.History.{replay, replay_from}
+use Rattle.place_history.specs.History.{replay, replay_from}
 use Rattle.nfq_cli.specs.Schedule.{World, opened, queued_card, copy_packets, solo}
 use Rattle.nfq_cli.specs.Passing.{line_of}
 use Rattle.nfq_cli.specs.Released as released
-use Rattle.nfq_cli.specs.Law.{numbers, arrivals, arriving, departures, departures_from, accepted}
+use Rattle.nfq_cli.specs.Law.{numbers, numbers_of, accepted}
+use Rattle.place_history.specs.Stays.{arrivals, departures_from}
+use Rattle.queue_core.specs.Laws.{arriving, leaving_in}
+use Rattle.std.proofs.lemmas.List.{map-append}
 use Rattle.nfq_cli.specs.Law.{if_accepted, IsFair}
 use Rattle.nfq_cli.proofs.Passing.{IsUnderway, AreBelow, underway_on, all_passed, entries_of}
 use Rattle.nfq_cli.proofs.Passing.{world_after, pushed, arrives, decides}
@@ -42,22 +45,41 @@ use Rattle.nfq_cli.proofs.Texts.{taken_on, take_all, at_place, length_take_withi
 
 -- ---- lists, piece by piece
 
-arrivals_on : (es fs : List Entry) → arrivals (es ++ fs) ≡ arrivals es ++ arrivals fs
-arrivals_on [] fs = refl
-arrivals_on (e ∷ es) fs =
-    ap (λ ns. arriving e.event ++ ns) (arrivals_on es fs)
-    ∙ sym (append_assoc (arriving e.event) (arrivals es) (arrivals fs))
+-- the numbers of the packets that came, and of those that left
+abbrev came : List Entry → List ℕ
+came es = numbers_of (arrivals es)
 
-departures_on : (q : Option Bound) (es fs : List Entry) →
-    departures_from q (es ++ fs) ≡ departures_from q es ++ departures_from (replay_from q es) fs
-departures_on q [] fs = refl
-departures_on q (e ∷ es) fs =
-    ap (λ ns. leaving ++ ns) (departures_on (step q e.event).state es fs)
-    ∙ sym (append_assoc leaving (departures_from (step q e.event).state es)
-    (departures_from (replay_from (step q e.event).state es) fs))
+abbrev gone_from : Option Bound → List Entry → List ℕ
+gone_from q es = numbers_of (departures_from q es)
+
+abbrev gone : List Entry → List ℕ
+gone es = gone_from None es
+
+came_on : (es fs : List Entry) → came (es ++ fs) ≡ came es ++ came fs
+came_on es fs =
+    ap numbers_of (cards_on es) ∙ map-append (λ (c : Card). c.number) (arrivals es) (arrivals fs)
   where
-    leaving : List ℕ
-    leaving = map (λ (l : Card × Way). l.0.number) (step q e.event).left
+    cards_on : (es : List Entry) → arrivals (es ++ fs) ≡ arrivals es ++ arrivals fs
+    cards_on [] = refl
+    cards_on (e ∷ es) =
+        ap (λ cs. arriving e.event ++ cs) (cards_on es)
+        ∙ sym (append_assoc (arriving e.event) (arrivals es) (arrivals fs))
+
+gone_on : (q : Option Bound) (es fs : List Entry) →
+    gone_from q (es ++ fs) ≡ gone_from q es ++ gone_from (replay_from q es) fs
+gone_on q es fs =
+    ap numbers_of (cards_on q es)
+    ∙ map-append (λ (c : Card). c.number) (departures_from q es)
+    (departures_from (replay_from q es) fs)
+  where
+    cards_on : (q : Option Bound) (es : List Entry) → departures_from q (es ++ fs)
+        ≡ departures_from q es ++ departures_from (replay_from q es) fs
+    cards_on q [] = refl
+    cards_on q (e ∷ es) =
+        ap (λ cs. leaving_in (step q e.event) ++ cs) (cards_on (step q e.event).state es)
+        ∙ sym (append_assoc (leaving_in (step q e.event))
+        (departures_from (step q e.event).state es)
+        (departures_from (replay_from (step q e.event).state es) fs))
 
 numbers_on : (first count : ℕ) →
     numbers first (count + 1) ≡ numbers first count ++ (first + count) ∷ []
@@ -117,7 +139,7 @@ one_frame verdict.Drop number at f = refl
 leaves_once : (port : ℕ) (lines : List OnId) (rest : Verdict) (number : ℕ) (f : Frame) (q : Bound)
     (calls : ℕ)
     → q.port ≡ port → q.mode ≡ copy_packet → 0 < q.maximum → q.waiting ≡ []
-    → departures_from (Some q) (entries_of port lines rest number f q calls) ≡ number ∷ []
+    → gone_from (Some q) (entries_of port lines rest number f q calls) ≡ number ∷ []
 leaves_once port lines rest number f q calls bound copies room empty =
     rw (arrives q (queued_card number f) copies room empty)
     (rw (decides q port (next_id q) (queued_card number f) (answer lines rest (next_id q)) bound
@@ -132,8 +154,8 @@ pub record SoFar (port : ℕ) (lines : List OnId) (rest : Verdict) (frames : Lis
   told : List FateLine
   underway : IsUnderway port lines rest frames at h w told
   last : h.state.last ≡ at
-  arrived : arrivals w.entries ≡ numbers 1 at
-  left : departures w.entries ≡ numbers 1 at
+  arrived : came w.entries ≡ numbers 1 at
+  left : gone w.entries ≡ numbers 1 at
   written : released.frames (take at frames) told ≡ accepted lines rest 1 (take at frames)
 
 -- the next id is the next frame's number
@@ -169,16 +191,16 @@ module _ (port : ℕ) (lines : List OnId) (rest : Verdict) (frames : List Frame)
   entries_are : (world_after port lines rest (at + 1) f q s.w).entries ≡ s.w.entries ++ two
   entries_are = pushed s.w.entries _ _
 
-  arrived_on : arrivals (s.w.entries ++ two) ≡ numbers 1 (at + 1)
+  arrived_on : came (s.w.entries ++ two) ≡ numbers 1 (at + 1)
   arrived_on =
-      arrivals_on s.w.entries two ∙ ap (λ ns. ns ++ (at + 1) ∷ []) s.arrived
+      came_on s.w.entries two ∙ ap (λ ns. ns ++ (at + 1) ∷ []) s.arrived
       ∙ ap (λ n. numbers 1 at ++ n ∷ []) (sym on_by_one) ∙ sym (numbers_on 1 at)
 
-  left_on : departures (s.w.entries ++ two) ≡ numbers 1 (at + 1)
+  left_on : gone (s.w.entries ++ two) ≡ numbers 1 (at + 1)
   left_on =
-      departures_on None s.w.entries two
-      ∙ ap (λ st. departures s.w.entries ++ departures_from st two) s.underway.replayed
-      ∙ ap (λ ns. departures s.w.entries ++ ns)
+      gone_on None s.w.entries two
+      ∙ ap (λ st. gone s.w.entries ++ gone_from st two) s.underway.replayed
+      ∙ ap (λ ns. gone s.w.entries ++ ns)
       (leaves_once port lines rest (at + 1) f q s.w.calls s.underway.bound
       s.underway.ready.copies s.underway.ready.room s.underway.ready.empty)
       ∙ ap (λ ns. ns ++ (at + 1) ∷ []) s.left ∙ ap (λ n. numbers 1 at ++ n ∷ []) (sym on_by_one)
@@ -216,8 +238,8 @@ module _ (port : ℕ) (lines : List OnId) (rest : Verdict) (frames : List Frame)
         (world_after port lines rest (at + 1) f q s.w) (s.told ++ line ∷ []) line refl refl refl
         refl refl small;
     last = id_is;
-    arrived = ap arrivals entries_are ∙ arrived_on;
-    left = ap departures entries_are ∙ left_on;
+    arrived = ap came entries_are ∙ arrived_on;
+    left = ap gone entries_are ∙ left_on;
     written = written_on;
   }
 
@@ -259,9 +281,9 @@ opened_happenings port =
     = rw (eq-eqb port port refl) refl in
     second
 
-opened_departures : (port : ℕ) → departures (opened port).entries ≡ []
+opened_departures : (port : ℕ) → gone (opened port).entries ≡ []
 opened_departures port =
-    let second : map (λ (l : Card × Way). l.0.number)
+    let second : numbers_of (map (λ (l : Card × Way). l.0)
     (queue.config (Some (bound_to port)) port
     (record {
       command = None;
@@ -269,7 +291,7 @@ opened_departures port =
       maximum = None;
       flags = None;
       mask = None;
-    })).left ++ [] ≡ []
+    })).left ++ []) ≡ []
     = rw (eq-eqb port port refl) refl in
     second
 
@@ -284,7 +306,10 @@ none_so_far port lines rest frames = record {
     bound = refl;
     empty = refl;
     replayed = opened_replay port;
-    legal = (refl, (refl, tt));
+    legal = (
+      record { reply = refl; allowed = tt },
+      (record { reply = refl; allowed = tt }, tt),
+    );
     onward = refl;
     below = subst (AreBelow 1) (sym (opened_happenings port)) tt;
     lines_are = refl;
@@ -320,8 +345,8 @@ fair port lines rest frames small few =
     let es : s.w.entries ≡ (solo port lines rest frames).entries =
     ap (λ (w : World). w.entries) same in
     record {
-      arrive_once = ap arrivals (sym es) ∙ s.arrived;
-      leave_once = ap departures (sym es) ∙ s.left;
+      arrive_once = ap came (sym es) ∙ s.arrived;
+      leave_once = ap gone (sym es) ∙ s.left;
       written =
           ap (λ (ks : List Entry). released.frames frames (fates ks frames)) (sym es)
           ∙ ap (λ (fs : List Frame). released.frames frames (fates s.w.entries fs))

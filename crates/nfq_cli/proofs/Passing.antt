@@ -22,18 +22,21 @@ use Rattle.nfqa_msgs.specs.declared.request.Request.TheVariants as asked
 use Rattle.queue_core.specs.Decision.{decision_of}
 use Rattle.queue_core.specs.Step as queue
 use Rattle.queue_core.specs.Step.{arrive_bound, next_id, taken, with_last, way_of, Way, Gone}
+use Rattle.queue_core.specs.Step.{Stepped}
 use Rattle.queue_core.specs.Step.{Decided, step, marking}
 use Rattle.nfq_cli.specs.declared.script.Verdict.{Verdict}
 use Rattle.nfq_cli.specs.declared.script.OnId.{OnId}
 use Rattle.nfq_cli.specs.declared.script.Verdict.TheVariants as verdict
-use Rattle.nfq_cli.specs.declared.histories.Entry.{Entry}
-use Rattle.nfq_cli.specs.declared.histories.Did.TheVariants.{Sent}
+use Rattle.place_history.specs.declared.entry.Entry.{Entry}
+use Rattle.place_history.specs.declared.log.Did.TheVariants.{Sent}
+use Rattle.place_history.specs.declared.log.AskWords.TheVariants.{Plain}
 use Rattle.nfq_cli.specs.declared.ledger.FateLine.{FateLine}
 use Rattle.nfq_cli.specs.Code.{code_of}
 use Rattle.nfq_cli.specs.Script.{answer}
-use Rattle.nfq_cli.specs.declared.histories.Histories.{Histories}
+use Rattle.place_history.specs.declared.histories.Histories.{Histories}
 use Rattle.nfq_cli.specs.Solo.{solo_histories}
-use Rattle.nfq_cli.specs.History.{histories_of, replay, replay_from, IsLegal, IsLegalFrom}
+use Rattle.place_history.specs.History.{replay, replay_from, IsStep, IsLegal, IsLegalFrom}
+use Rattle.nfq_cli.specs.Histories.{histories_of}
 use Rattle.nfq_cli.specs.Schedule.{World, Notice, at_first, queued_card, verdict_on, has_room}
 use Rattle.nfq_cli.specs.Schedule.{receive, arrive, emptied, over, solo}
 use Rattle.nfq_cli.specs.Ready.{IsReady}
@@ -135,7 +138,7 @@ world_after port lines rest number f q w = record {
       ++ asked_entry port (call_behind w.calls) (verdict_on lines rest (next_id q)) 1 ∷ [];
   notices = [];
   dids = (w.dids ++ received (queued_card number f) ∷ [])
-      ++ Sent (call_behind w.calls) (verdict_on lines rest (next_id q)) None ∷ [];
+      ++ Sent (call_behind w.calls) (Plain (verdict_on lines rest (next_id q))) None ∷ [];
   calls = call_behind w.calls;
 }
 
@@ -209,16 +212,27 @@ events at port lines rest number f q calls bound copies room empty =
     (rw (decides q port (next_id q) (queued_card number f) (answer lines rest (next_id q)) bound
     empty) (rw (verdict_fate (answer lines rest (next_id q)) (next_id q)) refl))
 
--- both entries have the replies of their steps
+-- both entries are steps that may happen, with their replies
 pub legal : (port : ℕ) (lines : List OnId) (rest : Verdict) (number : ℕ) (f : Frame) (q : Bound)
     (calls : ℕ)
     → q.port ≡ port → q.mode ≡ copy_packet → 0 < q.maximum → q.waiting ≡ []
     → IsLegalFrom (Some q) (entries_of port lines rest number f q calls)
 legal port lines rest number f q calls bound copies room empty =
-    rw (arrives q (queued_card number f) copies room empty) (
-      refl,
-      rw (decides q port (next_id q) (queued_card number f) (answer lines rest (next_id q))
-          bound empty) (refl, tt),
+    let taken_is = arrives q (queued_card number f) copies room empty in (
+      record {
+        reply = rw taken_is refl;
+        allowed = (omega arith, omega arith, λ early. refl);
+      },
+      (
+        subst (λ (s : Option Bound). IsStep s (asked_entry port (call_behind calls)
+            (verdict_on lines rest (next_id q)) 1)) (sym (ap (λ (r : Stepped). r.state) taken_is))
+            (record {
+              reply = rw (decides q port (next_id q) (queued_card number f)
+                  (answer lines rest (next_id q)) bound empty) refl;
+              allowed = tt;
+            }),
+        tt,
+      ),
     )
 
 -- and lead on to the queue as it was, with its last id

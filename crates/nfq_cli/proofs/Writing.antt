@@ -9,7 +9,7 @@ use Rattle.pcap_io.specs.declared.capture.Capture.{Capture}
 use Rattle.pcap_io.specs.declared.capture.Frame.{Frame}
 use Rattle.pcap_io.specs.Text.{IsHeld}
 use Rattle.nfq_cli.specs.declared.ledger.FateLine.{FateLine}
-use Rattle.nfq_cli.specs.declared.histories.Entry.{Entry}
+use Rattle.place_history.specs.declared.entry.Entry.{Entry}
 use Rattle.nfq_cli.specs.Ledger.{is_release}
 use Rattle.nfq_cli.specs.Released as released
 use Rattle.nfq_cli.specs.Fates.{Happening, happenings, fates, fates_from}

@@ -14,7 +14,7 @@ use Rattle.queue_core.specs.declared.event.Reply.{Reply}
 use Rattle.queue_core.specs.declared.event.Reply.TheVariants as reply
 use Rattle.queue_core.specs.State.{Bound}
 use Rattle.queue_core.specs.Step.{Way, Gone, Open, Decided, Stepped, step}
-use Rattle.nfq_cli.specs.declared.histories.Entry.{Entry}
+use Rattle.place_history.specs.declared.entry.Entry.{Entry}
 use Rattle.nfq_cli.specs.declared.ledger.Fate.{Fate}
 use Rattle.nfq_cli.specs.declared.ledger.Fate.TheVariants as fate
 use Rattle.nfq_cli.specs.declared.ledger.FateLine.{FateLine}

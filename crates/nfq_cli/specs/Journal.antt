@@ -16,11 +16,13 @@ use Rattle.queue_core.specs.declared.event.Event.{Event}
 use Rattle.queue_core.specs.declared.event.Event.TheVariants.{Arrive, Ask, PortClosed, DeviceDown}
 use Rattle.queue_core.specs.declared.event.Reply.{Reply}
 use Rattle.queue_core.specs.declared.event.Reply.TheVariants.{Arrived, Answer, Flushed}
-use Rattle.nfq_cli.specs.declared.histories.Entry.{Entry}
-use Rattle.nfq_cli.specs.declared.histories.Did.{Did}
-use Rattle.nfq_cli.specs.declared.histories.Did.TheVariants.{Received, Sent}
-use Rattle.nfq_cli.specs.declared.histories.PortLog.{PortLog}
-use Rattle.nfq_cli.specs.declared.histories.Histories.{Histories}
+use Rattle.place_history.specs.declared.entry.Entry.{Entry}
+use Rattle.place_history.specs.declared.log.Did.{Did}
+use Rattle.place_history.specs.declared.log.Did.TheVariants.{Received, Sent, Closed}
+use Rattle.place_history.specs.declared.log.AskWords.{AskWords}
+use Rattle.place_history.specs.declared.log.AskWords.TheVariants.{Plain, Raw}
+use Rattle.place_history.specs.declared.log.PortLog.{PortLog}
+use Rattle.place_history.specs.declared.histories.Histories.{Histories}
 
 abbrev pub yes_no : Bool → List ℕ
 yes_no true = codes "y"
@@ -108,12 +110,18 @@ abbrev pub answer : Option ℕ → List ℕ
 answer None = codes " = -\n"
 answer (Some errno) = codes " = " ++ decimal errno ++ codes "\n"
 
+-- what a port sent: a request, or the bytes of another message
+abbrev pub ask : AskWords → List ℕ
+ask (Plain asked) = request asked
+ask (Raw bytes) = codes "raw " ++ hexadecimal bytes
+
 abbrev pub did : Did → List ℕ
 did (Received queue number visit) =
     codes "R " ++ decimal queue ++ codes " " ++ decimal number ++ codes " " ++ decimal visit
     ++ codes "\n"
 did (Sent call asked answered) =
-    codes "S " ++ decimal call ++ codes " " ++ request asked ++ answer answered
+    codes "S " ++ decimal call ++ codes " " ++ ask asked ++ answer answered
+did Closed = codes "X\n"
 
 abbrev pub entries : List Entry → List ℕ
 entries [] = []

@@ -1,16 +1,11 @@
 -- The run in the subject's own words: who arrived, who left, and which frames were written.
-use Rattle.std.specs.Prelude.{◌≡◌, ℕ, zero, suc, ◌+◌, List, [], ◌∷◌, ◌++◌, length, map, Option}
-use Rattle.std.specs.Prelude.{None}
+use Rattle.std.specs.Prelude.{◌≡◌, ℕ, zero, suc, ◌+◌, List, [], ◌∷◌, ◌++◌, length, map}
 use Rattle.packet_entry.specs.declared.packet.Card.{Card}
 use Rattle.pcap_io.specs.declared.capture.Frame.{Frame}
-use Rattle.queue_core.specs.State.{Bound}
-use Rattle.queue_core.specs.Step.{Way, step}
-use Rattle.queue_core.specs.declared.event.Event.{Event}
-use Rattle.queue_core.specs.declared.event.Event.TheVariants.{Arrive}
+use Rattle.place_history.specs.Stays.{arrivals, departures}
 use Rattle.nfq_cli.specs.declared.script.Verdict.{Verdict}
 use Rattle.nfq_cli.specs.declared.script.Verdict.TheVariants as verdict
 use Rattle.nfq_cli.specs.declared.script.OnId.{OnId}
-use Rattle.nfq_cli.specs.declared.histories.Entry.{Entry}
 use Rattle.nfq_cli.specs.Script.{answer}
 use Rattle.nfq_cli.specs.Solo.{solo_histories}
 use Rattle.nfq_cli.specs.Outputs.{solo_fates}
@@ -21,25 +16,9 @@ abbrev pub numbers : ℕ → ℕ → List ℕ
 numbers first zero = []
 numbers first (suc count) = first ∷ numbers (first + 1) count
 
--- the packet that arrives in an entry
-abbrev pub arriving : Event → List ℕ
-arriving (Arrive card bypass room) = card.number ∷ []
-arriving other = []
-
--- the packets that arrived, entry by entry
-abbrev pub arrivals : List Entry → List ℕ
-arrivals [] = []
-arrivals (e ∷ es) = arriving e.event ++ arrivals es
-
--- the packets that left the queue, step by step, from a state on
-abbrev pub departures_from : Option Bound → List Entry → List ℕ
-departures_from q [] = []
-departures_from q (e ∷ es) =
-    map (λ (l : Card × Way). l.0.number) (step q e.event).left
-    ++ departures_from (step q e.event).state es
-
-abbrev pub departures : List Entry → List ℕ
-departures es = departures_from None es
+-- the numbers of packets
+abbrev pub numbers_of : List Card → List ℕ
+numbers_of cards = map (λ c. c.number) cards
 
 -- a frame, where the script accepts its packet
 abbrev pub if_accepted : Verdict → Frame → List Frame
@@ -56,9 +35,9 @@ accepted lines rest number (f ∷ fs) =
 -- are written are those that the script accepts by their numbers, unchanged and in order.
 pub record IsFair (port : ℕ) (lines : List OnId) (rest : Verdict) (frames : List Frame) : Type 0
   where
-    pub arrive_once : arrivals (solo_histories port lines rest frames).entries
+    pub arrive_once : numbers_of (arrivals (solo_histories port lines rest frames).entries)
         ≡ numbers 1 (length frames)
-    pub leave_once : departures (solo_histories port lines rest frames).entries
+    pub leave_once : numbers_of (departures (solo_histories port lines rest frames).entries)
         ≡ numbers 1 (length frames)
     pub written : released.frames frames (solo_fates port lines rest frames)
         ≡ accepted lines rest 1 frames

@@ -2,7 +2,7 @@ pub mod Numbers
 pub mod Code
 pub mod Fates
 pub mod Forms
-pub mod History
+pub mod Histories
 pub mod Journal
 pub mod Law
 pub mod Ledger

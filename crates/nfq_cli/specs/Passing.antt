@@ -8,9 +8,9 @@ use Rattle.queue_core.specs.declared.event.Event.TheVariants as event
 use Rattle.queue_core.specs.declared.event.Reply.TheVariants as reply
 use Rattle.queue_core.specs.Numbers.{verdict_accept}
 use Rattle.nfq_cli.specs.Numbers.{call_count}
-use Rattle.nfq_cli.specs.declared.histories.Entry.{Entry}
-use Rattle.nfq_cli.specs.declared.histories.Did.{Did}
-use Rattle.nfq_cli.specs.declared.histories.Did.TheVariants as did
+use Rattle.place_history.specs.declared.entry.Entry.{Entry}
+use Rattle.place_history.specs.declared.log.Did.{Did}
+use Rattle.place_history.specs.declared.log.Did.TheVariants as did
 use Rattle.nfq_cli.specs.declared.ledger.Fate.{Fate}
 use Rattle.nfq_cli.specs.declared.ledger.Fate.TheVariants as fate
 use Rattle.nfq_cli.specs.declared.ledger.FateLine.{FateLine}

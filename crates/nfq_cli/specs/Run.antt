@@ -3,7 +3,7 @@ use Rattle.std.specs.Prelude.{◌≡◌}
 use Rattle.pcap_io.specs.declared.capture.Capture.{Capture}
 use Rattle.nfq_cli.specs.declared.script.Script.{Script}
 use Rattle.nfq_cli.specs.declared.run.Run.{Run}
-use Rattle.nfq_cli.specs.History.{IsLegal}
+use Rattle.place_history.specs.History.{IsLegal}
 use Rattle.nfq_cli.specs.Solo.{solo_histories}
 use Rattle.nfq_cli.specs.Fates.{fates}
 

@@ -18,13 +18,14 @@ use Rattle.queue_core.specs.declared.event.Reply.TheVariants as reply
 use Rattle.queue_core.specs.Step.{is_decided_early, step}
 use Rattle.nfq_cli.specs.declared.script.Verdict.{Verdict}
 use Rattle.nfq_cli.specs.declared.script.OnId.{OnId}
-use Rattle.nfq_cli.specs.declared.histories.Entry.{Entry}
-use Rattle.nfq_cli.specs.declared.histories.Did.{Did}
-use Rattle.nfq_cli.specs.declared.histories.Did.TheVariants as did
+use Rattle.place_history.specs.declared.entry.Entry.{Entry}
+use Rattle.place_history.specs.declared.log.Did.{Did}
+use Rattle.place_history.specs.declared.log.Did.TheVariants as did
+use Rattle.place_history.specs.declared.log.AskWords.TheVariants as words
 use Rattle.nfq_cli.specs.Numbers.{mailbox_size, most_notices, call_count}
 use Rattle.nfq_cli.specs.Code.{code_of}
 use Rattle.nfq_cli.specs.Script.{answer}
-use Rattle.nfq_cli.specs.History.{replay}
+use Rattle.place_history.specs.History.{replay}
 
 -- a notice that wasn't received yet: of which packet's visit, and under which id it waits
 pub record Notice : Type 0 where
@@ -71,7 +72,7 @@ send port asked w =
     } in
     record w {
       entries = w.entries ++ e ∷ [];
-      dids = w.dids ++ did.Sent (next_call w) asked (answer_to asked e.reply) ∷ [];
+      dids = w.dids ++ did.Sent (next_call w) (words.Plain asked) (answer_to asked e.reply) ∷ [];
       calls = next_call w;
     }
 

@@ -7,7 +7,7 @@ use Rattle.nfq_cli.specs.Rules.{rules_text}
 use Rattle.nfq_cli.specs.Script.{IsScript}
 use Rattle.nfq_cli.specs.Forms.{AreRules, AScript, AnInput, IsInput}
 use Rattle.nfq_cli.specs.Arguments.{PlayFiles}
-use Rattle.nfq_cli.specs.History.{IsLegal}
+use Rattle.place_history.specs.History.{IsLegal}
 use Rattle.nfq_cli.specs.Solo.{solo_histories}
 use Rattle.nfq_cli.specs.Law.{IsFair}
 use Rattle.nfq_cli.specs.Outputs.{output_text, ledger_text, journal_text}

@@ -4,10 +4,12 @@ ghost use Rattle.std.specs.Prelude.{◌≡◌, ◌∷◌, ◌++◌, [], OnOk, If
 ghost use Rattle.std.specs.Prelude.{drop, length};
 ghost use Rattle.nfq_cli.specs.Journal as text;
 
-use crate::histories::{Did, Entry, Histories, PortLog};
 use nfqa_msgs::{Head, Params, Request};
-use packet_entry::{Bytes, Card, Sequence};
-use queue_core::{Event, Outcome, Reply};
+use packet_entry::{Bytes, Card};
+use place_history::{
+    AskWords, Did, Dids, Entries, Entry, Event, Histories, Logs, PortLog, Reply,
+};
+use queue_core::Outcome;
 use std::alloc::{AllocError, Global};
 
 /// Appends the journal of these histories.
@@ -34,7 +36,7 @@ fn push_histories(alloc: Global, histories: &Histories, out: &mut String) -> Res
 
 fn push_entries(
     alloc: Global,
-    entries: &Sequence<Entry>,
+    entries: &Entries,
     out: &mut String,
 ) -> Result<(), AllocError>
     ensures { OnOk result (string_bytes out.new ≡ string_bytes out.old
@@ -46,7 +48,7 @@ fn push_entries(
     Ok(())
 }
 
-fn push_logs(alloc: Global, logs: &Sequence<PortLog>, out: &mut String) -> Result<(), AllocError>
+fn push_logs(alloc: Global, logs: &Logs, out: &mut String) -> Result<(), AllocError>
     ensures { OnOk result (string_bytes out.new ≡ string_bytes out.old ++ text.logs logs.now) }
 {
     for log in logs {
@@ -63,7 +65,7 @@ fn push_log(alloc: Global, log: &PortLog, out: &mut String) -> Result<(), AllocE
     push_dids(alloc, &log.dids, out)
 }
 
-fn push_dids(alloc: Global, dids: &Sequence<Did>, out: &mut String) -> Result<(), AllocError>
+fn push_dids(alloc: Global, dids: &Dids, out: &mut String) -> Result<(), AllocError>
     ensures { OnOk result (string_bytes out.new ≡ string_bytes out.old ++ text.dids dids.now) }
 {
     for did in dids {
@@ -300,22 +302,36 @@ fn push_did(alloc: Global, did: &Did, out: &mut String) -> Result<(), AllocError
             let visit = *visit;
             writeln!(out, "R {queue} {number} {visit}")
         }
-        Did::Sent {
-            call,
-            request,
-            answer,
-        } => {
+        Did::Sent { call, ask, answer } => {
             let call = *call;
             write!(out, "S {call} ")?;
-            push_request(alloc, request, out)?;
-            match answer {
-                Some(answer) => {
-                    let answer = *answer;
-                    writeln!(out, " = {answer}")
-                }
-                None => out.push_str(" = -\n"),
-            }
+            push_ask(alloc, ask, out)?;
+            push_answer(*answer, out)
         }
+        Did::Closed => out.push_str("X\n"),
+    }
+}
+
+/// What a port sent: a request, or the bytes of another message.
+fn push_ask(alloc: Global, ask: &AskWords, out: &mut String) -> Result<(), AllocError>
+    ensures { OnOk result (string_bytes out.new ≡ string_bytes out.old ++ text.ask ask.now) }
+{
+    match ask {
+        AskWords::Plain { request } => push_request(alloc, request, out),
+        AskWords::Raw { bytes } => {
+            out.push_str("raw ")?;
+            push_bytes(alloc, bytes.as_slice(), out)
+        }
+    }
+}
+
+/// The errno of an acknowledgement, `-` where there was none, and the line's end.
+fn push_answer(answer: Option<u16>, out: &mut String) -> Result<(), AllocError>
+    ensures { OnOk result (string_bytes out.new ≡ string_bytes out.old ++ text.answer answer) }
+{
+    match answer {
+        Some(answer) => writeln!(out, " = {answer}"),
+        None => out.push_str(" = -\n"),
     }
 }
 

@@ -5,7 +5,6 @@
 mod arguments;
 mod fault;
 mod forms;
-mod histories;
 mod journal;
 mod laws;
 mod ledger;

@@ -5,7 +5,7 @@ ghost use Rattle.std.specs.String.{string_bytes};
 ghost use Rattle.packet_entry.specs.Numbers.{longest_packet};
 ghost use Rattle.nfq_cli.specs.Numbers.{most_frames};
 ghost use Rattle.pcap_io.specs.Text.{IsHeld};
-ghost use Rattle.nfq_cli.specs.History.{IsLegal};
+ghost use Rattle.place_history.specs.History.{IsLegal};
 ghost use Rattle.nfq_cli.specs.Solo.{solo_histories};
 ghost use Rattle.nfq_cli.specs.Law.{IsFair};
 ghost use Rattle.nfq_cli.specs.Outputs.{output_text, ledger_text, journal_text};

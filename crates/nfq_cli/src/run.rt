@@ -10,19 +10,21 @@ ghost use Rattle.queue_core.specs.Step as queue_step;
 ghost use Rattle.nfq_cli.specs.Schedule as schedule;
 ghost use Rattle.nfq_cli.specs.Code.{IsAnswer, code_of};
 ghost use Rattle.nfq_cli.specs.Script.{answer};
-ghost use Rattle.nfq_cli.specs.History.{replay, histories_of};
+ghost use Rattle.place_history.specs.declared.log.AskWords.TheVariants.{Plain};
+ghost use Rattle.place_history.specs.History.{replay};
+ghost use Rattle.nfq_cli.specs.Histories.{histories_of};
 ghost use Rattle.nfq_cli.specs.Ready.{IsReady};
 ghost use Rattle.nfq_cli.specs.Passing as passing;
 ghost use Rattle.nfq_cli.specs.Run.{IsRunOf};
 
-use crate::histories::{Did, Entry, Histories, PortLog};
 use crate::ledger::{Fate, FateLine};
 use crate::script::Script;
 use hook_chain::Decision;
 use nfqa_msgs::{BIND, Head, PACKET, Params, Request};
 use packet_entry::{Bytes, Card, IPV4, NoMemory, Packet, Sequence};
 use pcap_io::{Capture, Frame};
-use queue_core::{Begun, Event, NoRoom, Outcome, Queue, Reply, Settled};
+use place_history::{AskWords, Did, Entry, Event, Histories, PortLog, Reply};
+use queue_core::{Begun, NoRoom, Outcome, Queue, Settled};
 use std::alloc::Global;
 
 /// What a run leaves: the histories, and what became of each frame.
@@ -172,7 +174,7 @@ impl Story {
             ≡ self.old.entries.items ++ passing.asked_entry port
             (passing.call_behind self.old.calls) asked taken ∷ []) }
         ensures dids { OnOk result (self.new.dids.items
-            ≡ self.old.dids.items ++ Did.Sent (passing.call_behind self.old.calls) told answer
+            ≡ self.old.dids.items ++ Did.Sent (passing.call_behind self.old.calls) (Plain told) answer
             ∷ []) }
         ensures calls { self.new.calls ≡ passing.call_behind self.old.calls }
     {
@@ -189,7 +191,7 @@ impl Story {
         })?;
         self.dids.push(Did::Sent {
             call,
-            request: told,
+            ask: AskWords::Plain { request: told },
             answer,
         })?;
         Ok(())
@@ -207,6 +209,7 @@ impl Story {
         Ok(Histories {
             entries: Sequence::from_vec(self.entries),
             logs: Sequence::from_vec(logs),
+            lost: Sequence::new(alloc),
         })
     }
 }
@@ -275,8 +278,8 @@ fn pass(
     ensures dids { OnOk result (story.new.dids.items
         ≡ (story.old.dids.items ++ passing.received (schedule.queued_card number frame.now) ∷ [])
         ++ Did.Sent (passing.call_behind story.old.calls)
-        (schedule.verdict_on script.now.lines.items script.now.rest
-        (queue_step.next_id queue.old.state)) None ∷ []) }
+        (Plain (schedule.verdict_on script.now.lines.items script.now.rest
+        (queue_step.next_id queue.old.state))) None ∷ []) }
     ensures calls { OnOk result (story.new.calls ≡ passing.call_behind story.old.calls) }
     ensures line { IfOk result (λ line. line ≡ passing.line_of number
         (code_of (answer script.now.lines.items script.now.rest

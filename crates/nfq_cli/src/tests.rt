@@ -2,13 +2,12 @@
 
 ghost use Rattle.std.specs.Prelude.{◌≡◌};
 
-use crate::histories::{Did, Entry, Histories, PortLog};
 use crate::journal::journal_text;
 use crate::play::play;
 use host_io::{Host, MemoryHost};
 use nfqa_msgs::{Head, Request};
-use packet_entry::Sequence;
-use queue_core::{Event, Reply};
+use packet_entry::{Bytes, Sequence};
+use place_history::{AskWords, Did, Entry, Event, Histories, PortLog, Reply};
 use std::alloc::{AllocError, Global};
 use std::process::Abort;
 use std::test::Fail;
@@ -64,6 +63,8 @@ S 1 batch 3 1 4294967295 = -
 S 2 batch 3 0 9 mark 5 = -
 S 3 batch 3 - = 22
 S 4 batch 3 - mark 5 = 22
+S 5 raw 1c00ff = 34
+X
 end
 ";
 
@@ -301,7 +302,7 @@ fn sent_batch(call: u32, head: Option<Head>, mark: Option<u32>, answer: Option<u
     let request = Request::Batch { queue, head, mark };
     Did::Sent {
         call,
-        request,
+        ask: AskWords::Plain { request },
         answer,
     }
 }
@@ -334,6 +335,13 @@ fn the_journal_tells_batches_a_closed_port_and_a_device(rt: HostRuntime) -> Resu
     dids.push(sent_batch(2, head(0, 9), Some(5), None))?;
     dids.push(sent_batch(3, None, None, Some(22)))?;
     dids.push(sent_batch(4, None, Some(5), Some(22)))?;
+    let bytes = Bytes::copy(alloc, &[0x1c, 0, 0xff])?;
+    dids.push(Did::Sent {
+        call: 5,
+        ask: AskWords::Raw { bytes },
+        answer: Some(34),
+    })?;
+    dids.push(Did::Closed)?;
 
     let mut logs = Vec::new(alloc);
     logs.push(PortLog {
@@ -343,6 +351,7 @@ fn the_journal_tells_batches_a_closed_port_and_a_device(rt: HostRuntime) -> Resu
     let histories = Histories {
         entries: Sequence::from_vec(entries),
         logs: Sequence::from_vec(logs),
+        lost: Sequence::new(alloc),
     };
     let mut text = String::new(alloc);
     journal_text(alloc, &histories, &mut text)?;

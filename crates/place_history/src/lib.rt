@@ -1,0 +1,19 @@
+//! What happened at the queues of one place and at their ports: entries, logs and histories, what
+//! a history leads to, and which histories are legal.
+#![tactic(auto)]
+
+mod entry;
+mod histories;
+mod laws;
+mod log;
+
+pub use entry::{Entries, Entry};
+pub use histories::{Histories, Logs, Lost, Losts};
+pub use laws::{
+    a_legal_history_goes_on, each_front_of_a_legal_history_is_legal, each_stay_ends_once,
+};
+pub use log::{AskWords, Did, Dids, PortLog};
+pub use queue_core::{Event, Reply};
+
+#[cfg(test)]
+mod tests;
