@@ -6,9 +6,7 @@ ghost use Rattle.nfq_cli.specs.Journal as text;
 
 use nfqa_msgs::{Head, Params, Request};
 use packet_entry::{Bytes, Card};
-use place_history::{
-    AskWords, Did, Dids, Entries, Entry, Event, Histories, Logs, PortLog, Reply,
-};
+use place_history::{AskWords, Did, Dids, Entries, Entry, Event, Histories, Logs, PortLog, Reply};
 use queue_core::Outcome;
 use std::alloc::{AllocError, Global};
 
@@ -34,11 +32,7 @@ fn push_histories(alloc: Global, histories: &Histories, out: &mut String) -> Res
     push_logs(alloc, &histories.logs, out)
 }
 
-fn push_entries(
-    alloc: Global,
-    entries: &Entries,
-    out: &mut String,
-) -> Result<(), AllocError>
+fn push_entries(alloc: Global, entries: &Entries, out: &mut String) -> Result<(), AllocError>
     ensures { OnOk result (string_bytes out.new ≡ string_bytes out.old
         ++ text.entries entries.now) }
 {

@@ -1,7 +1,6 @@
 -- Stays: over a history as many packets left or still wait as arrived.
-use Rattle.std.proofs.Common.{◌≡◌, ℕ, ◌+◌, List, [], ◌∷◌, ◌++◌, Option, None, Bool, refl, arith, inl}
-use Rattle.std.proofs.Common.{inr}
-use Rattle.std.proofs.lemmas.Bool.{cases_Bool}
+use Rattle.std.proofs.Common.{◌≡◌, ℕ, ◌+◌, List, [], ◌∷◌, ◌++◌, Option, Bool, refl, arith}
+use Rattle.std.proofs.lemmas.List.Sums.{sum_by-append}
 use Rattle.packet_entry.specs.declared.packet.Card.{Card}
 use Rattle.queue_core.specs.declared.event.Event.{Event}
 use Rattle.queue_core.specs.State.{Bound}
@@ -13,11 +12,7 @@ use Rattle.place_history.specs.Stays.{arrivals, departures_from}
 
 times_on : (test : ℕ → ℕ → Bool) (xs ys : List Card) →
     times test (xs ++ ys) ≡ times test xs + times test ys
-times_on test [] ys = omega arith
-times_on test (x ∷ xs) ys = elim (cases_Bool (test x.number x.visit)) [
-  | inl e ↦ rw e (omega (arith, times_on test xs ys))
-  | inr e ↦ rw e (times_on test xs ys)
-]
+times_on test xs ys = sum_by-append _ xs ys
 
 pub stays : ((q : Option Bound) (e : Event) → IsConserving q e) → (q : Option Bound)
     (es : List Entry) (test : ℕ → ℕ → Bool)

@@ -1,7 +1,6 @@
 -- A history written out by hand, to read the definitions against.
-use Rattle.std.specs.Prelude.{ℕ, List, [], ◌∷◌, Some, None, Bool, true, false}
+use Rattle.std.specs.Prelude.{ℕ, List, [], ◌∷◌, Some, None, true, false}
 use Rattle.packet_entry.specs.declared.packet.Card.{Card}
-use Rattle.nfqa_msgs.specs.declared.request.Request.{Request}
 use Rattle.nfqa_msgs.specs.declared.request.Request.TheVariants.{Config, Verdict, Batch}
 use Rattle.queue_core.specs.declared.offers.Outcome.TheVariants.{Taken}
 use Rattle.queue_core.specs.declared.event.Event.{Event}

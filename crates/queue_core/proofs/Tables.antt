@@ -7,6 +7,7 @@ use Rattle.std.specs.Map.{lookup, remove_entry, keys_of}
 use Rattle.std.specs.List.{IsDistinct, AllByRecursion}
 use Rattle.std.specs.Cmp.{nat_eq_equiv}
 use Rattle.std.proofs.lemmas.Bool.{cases_Bool, ne_eqb}
+use Rattle.std.proofs.lemmas.List.Sums.{sum_by-append, sum_by-cons}
 use Rattle.std.proofs.lemmas.List.{map_push, length-map, take-append-drop}
 use Rattle.std.proofs.lemmas.List.Elements.{All-nil, All-from_recursion}
 use Rattle.std.proofs.lemmas.Map.Keys.{IsDistinct-push}
@@ -78,17 +79,23 @@ configured_waiting params maximum flags mask q =
 
 -- ---- each packet stays or leaves
 
+-- 1 where the test passes
+abbrev once : Bool → ℕ
+once b = cond b 1 0
+
 -- the packets with a number that wait afterwards or leave are those that waited or arrived
 abbrev Keeps : Option Bound → List Card → Stepped → Type 0
 Keeps q came s = (test : ℕ → ℕ → Bool) → times test (waiting_in s.state) + times test (leaving_in s)
     ≡ times test (waiting_in q) + times test came
 
-times_on : (test : ℕ → ℕ → Bool) (xs ys : List Card) → times test (xs ++ ys) ≡ times test xs + times test ys
-times_on test [] ys = omega arith
-times_on test (x ∷ xs) ys = elim (cases_Bool (test x.number x.visit)) [
-  | inl e ↦ rw e (omega (arith, times_on test xs ys))
-  | inr e ↦ rw e (times_on test xs ys)
-]
+times_on : (test : ℕ → ℕ → Bool) (xs ys : List Card) →
+    times test (xs ++ ys) ≡ times test xs + times test ys
+times_on test xs ys = sum_by-append _ xs ys
+
+-- the first of some packets, and the others
+times_first : (test : ℕ → ℕ → Bool) (c : Card) (cs : List Card) →
+    times test (c ∷ cs) ≡ once (test c.number c.visit) + times test cs
+times_first test c cs = sum_by-cons _ c cs
 
 gone_cards : (ws : List (ℕ × Card)) →
     map (λ (l : Card × Way). l.0) (map (λ (w : ℕ × Card). (w.1, Gone)) ws)
@@ -162,28 +169,22 @@ found_and_others : (id : ℕ) (ws : List (ℕ × Card)) (card : Card) (test : �
 found_and_others id [] card test h = absurd (cc)
 found_and_others id (w ∷ ws) card test h = elim (cases_Bool (is_id id w.0)) [
   | inl e ↦ (let same : w.1 ≡ card = found_here (rw e at h) in
-      rw (e, same) (one_more_of test card (times test (map (λ (w : ℕ × Card). w.1) ws))))
+      rw (e, same) (omega (
+        arith,
+        times_first test card (map (λ (v : ℕ × Card). v.1) ws),
+        times_first test card [],
+      )))
   | inr e ↦ (let rest = found_and_others id ws card test (rw e at h) in
-      rw e (past test w.1 card _ _ rest))
+      rw e (omega (
+        arith,
+        rest,
+        times_first test w.1 (map (λ (v : ℕ × Card). v.1) ws),
+        times_first test w.1 (map (λ (v : ℕ × Card). v.1) (remove_entry (is_id id) ws)),
+      )))
 ]
   where
     found_here : Some w.1 ≡ Some card → w.1 ≡ card
     found_here e = cc
-
-    one_more_of : (test : ℕ → ℕ → Bool) (card : Card) (k : ℕ) →
-        k + times test (card ∷ []) ≡ cond (test card.number card.visit) (k + 1) k
-    one_more_of test card k = elim (cases_Bool (test card.number card.visit)) [
-      | inl e ↦ rw e refl
-      | inr e ↦ rw e (omega arith)
-    ]
-
-    past : (test : ℕ → ℕ → Bool) (passed card : Card) (k m : ℕ) → k + times test (card ∷ []) ≡ m →
-        cond (test passed.number passed.visit) (k + 1) k + times test (card ∷ [])
-        ≡ cond (test passed.number passed.visit) (m + 1) m
-    past test passed card k m h = elim (cases_Bool (test passed.number passed.visit)) [
-      | inl e ↦ rw e (omega (arith, h))
-      | inr e ↦ rw e h
-    ]
 
 keeps_carried : (q : Bound) (head : Head) (edit : Edit) (o : Option Card) →
     card_under q head.id ≡ o → Keeps (Some q) [] (carried_out q head edit o)
@@ -208,7 +209,10 @@ left_alike : (head : Head) (mark : Option ℕ) (ws : List (ℕ × Card)) (test :
     ≡ times test (map (λ (w : ℕ × Card). w.1) ws)
 left_alike head mark [] test = refl
 left_alike head mark (w ∷ ws) test =
-    ap (λ k. cond (test w.1.number w.1.visit) (k + 1) k) (left_alike head mark ws test)
+    times_first test (leaving head (marking mark) w.1).0 (map (λ (l : Card × Way). l.0)
+    (map (λ (v : ℕ × Card). leaving head (marking mark) v.1) ws))
+    ∙ ap (λ k. once (test w.1.number w.1.visit) + k) (left_alike head mark ws test)
+    ∙ sym (times_first test w.1 (map (λ (v : ℕ × Card). v.1) ws))
 
 mapped_on : (xs ys : List (ℕ × Card)) →
     map (λ (w : ℕ × Card). w.1) (xs ++ ys)

@@ -1,6 +1,6 @@
 -- The step in the subject's own words.
 use Rattle.std.specs.Prelude.{◌≡◌, ◌<◌, ℕ, ◌+◌, List, [], ◌∷◌, length, map, Option, Some, None}
-use Rattle.std.specs.Prelude.{Bool, if◌then◌else◌, All, nat_eq, IfSome}
+use Rattle.std.specs.Prelude.{Bool, count_by, All, nat_eq, IfSome}
 use Rattle.std.specs.List.{IsDistinct}
 use Rattle.std.specs.Map.{keys_of}
 use Rattle.packet_entry.specs.declared.packet.Card.{Card}
@@ -28,8 +28,7 @@ leaving_in s = map (λ l. l.0) s.left
 
 -- how many of these packets pass a test of their number and visit
 abbrev pub times : (ℕ → ℕ → Bool) → List Card → ℕ
-times test [] = 0
-times test (c ∷ cs) = if test c.number c.visit then times test cs + 1 else times test cs
+times test cards = count_by (λ c. test c.number c.visit) cards
 
 -- A step loses no packet and doubles none: each that waited or arrives waits afterwards or leaves,
 -- with its number and visit. So whatever test tells them apart, as many pass it.
