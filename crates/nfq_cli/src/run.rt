@@ -174,8 +174,8 @@ impl Story {
             ≡ self.old.entries.items ++ passing.asked_entry port
             (passing.call_behind self.old.calls) asked taken ∷ []) }
         ensures dids { OnOk result (self.new.dids.items
-            ≡ self.old.dids.items ++ Did.Sent (passing.call_behind self.old.calls) (Plain told) answer
-            ∷ []) }
+            ≡ self.old.dids.items
+            ++ Did.Sent (passing.call_behind self.old.calls) (Plain told) answer ∷ []) }
         ensures calls { self.new.calls ≡ passing.call_behind self.old.calls }
     {
         self.calls = self.calls.wrapping_add(1);

@@ -6,7 +6,7 @@ use crate::journal::journal_text;
 use crate::play::play;
 use host_io::{Host, MemoryHost};
 use nfqa_msgs::{Head, Request};
-use packet_entry::{Bytes, Sequence};
+use packet_entry::{Bytes, NoMemory, Sequence};
 use place_history::{AskWords, Did, Entry, Event, Histories, PortLog, Reply};
 use std::alloc::{AllocError, Global};
 use std::process::Abort;
@@ -307,13 +307,11 @@ fn sent_batch(call: u32, head: Option<Head>, mark: Option<u32>, answer: Option<u
     }
 }
 
-#[test]
-fn the_journal_tells_batches_a_closed_port_and_a_device(rt: HostRuntime) -> Result<(), Fail> {
-    let alloc = rt.alloc();
+/// What queue 3 did: four batches, a device that goes down, its port that closes.
+fn flushing_entries(alloc: Global) -> Result<Vec<Entry>, NoMemory> {
     let queue = 3;
     let head = |verdict, id| Some(Head { verdict, id });
     let answer = |errno, taken| Reply::Answer { errno, taken };
-
     let mut entries = Vec::new(alloc);
     entries.push(batch_entry(1, head(1, u32::MAX), None, answer(0, 2)))?;
     entries.push(batch_entry(2, head(0, 9), Some(5), answer(0, 1)))?;
@@ -329,7 +327,12 @@ fn the_journal_tells_batches_a_closed_port_and_a_device(rt: HostRuntime) -> Resu
         event: Event::PortClosed { port: 7 },
         reply: Reply::Flushed { taken: 1 },
     })?;
+    Ok(entries)
+}
 
+/// What port 7 did: it sent the four batches and bytes that are no message, and closed.
+fn flushing_dids(alloc: Global) -> Result<Vec<Did>, NoMemory> {
+    let head = |verdict, id| Some(Head { verdict, id });
     let mut dids = Vec::new(alloc);
     dids.push(sent_batch(1, head(1, u32::MAX), None, None))?;
     dids.push(sent_batch(2, head(0, 9), Some(5), None))?;
@@ -342,14 +345,19 @@ fn the_journal_tells_batches_a_closed_port_and_a_device(rt: HostRuntime) -> Resu
         answer: Some(34),
     })?;
     dids.push(Did::Closed)?;
+    Ok(dids)
+}
 
+#[test]
+fn the_journal_tells_batches_a_closed_port_and_a_device(rt: HostRuntime) -> Result<(), Fail> {
+    let alloc = rt.alloc();
     let mut logs = Vec::new(alloc);
     logs.push(PortLog {
         port: 7,
-        dids: Sequence::from_vec(dids),
+        dids: Sequence::from_vec(flushing_dids(alloc)?),
     })?;
     let histories = Histories {
-        entries: Sequence::from_vec(entries),
+        entries: Sequence::from_vec(flushing_entries(alloc)?),
         logs: Sequence::from_vec(logs),
         lost: Sequence::new(alloc),
     };

@@ -1,5 +1,6 @@
 -- Histories: what happened at queues, entry by entry, and the state that it leads to.
-use Rattle.std.specs.Prelude.{◌≡◌, ◌≤◌, ℕ, List, [], ◌∷◌, Option, None, Bool, true, ◌==◌, option_map}
+use Rattle.std.specs.Prelude.{◌≡◌, ◌≤◌, ℕ, List, [], ◌∷◌, Option, None, Bool, true, ◌==◌}
+use Rattle.std.specs.Prelude.{option_map}
 use Rattle.std.specs.Prelude.{filter, IsSome, Some}
 use Rattle.packet_entry.specs.Numbers.{last_visit}
 use Rattle.queue_core.specs.declared.event.Event.{Event}

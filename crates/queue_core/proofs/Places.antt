@@ -1,6 +1,7 @@
 -- Where what waits stands, and what the list of it keeps.
 use Rattle.std.proofs.Common.{◌≡◌, ◌≤◌, ◌<◌, ℕ, zero, suc, ◌+◌, List, [], ◌∷◌, ◌++◌, length, get_or}
-use Rattle.std.proofs.Common.{take, drop, length-drop, Some, None, true, false, cond, refl, sym, subst, ap, ◌∙◌}
+use Rattle.std.proofs.Common.{take, drop, length-drop, Some, None, true, false, cond, refl, sym}
+use Rattle.std.proofs.Common.{subst, ap, ◌∙◌}
 use Rattle.std.proofs.Common.{arith, inl, inr}
 use Rattle.std.proofs.Math.Seq.{drop-cons}
 use Rattle.std.proofs.lemmas.Option.{slice_get-get_or}

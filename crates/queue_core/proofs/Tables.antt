@@ -1,6 +1,7 @@
 -- The tables of the step, line by line: what each of their lines says holds of what they give.
 use Rattle.std.proofs.Common.{◌≡◌, ◌≢◌, ◌<◌, ℕ, ◌+◌, List, [], ◌∷◌, ◌++◌, length, map, drop}
-use Rattle.std.proofs.Common.{Option, Some, None, Bool, true, false, cond, refl, sym, ap, ◌∙◌, arith}
+use Rattle.std.proofs.Common.{Option, Some, None, Bool, true, false, cond, refl, sym, ap, ◌∙◌}
+use Rattle.std.proofs.Common.{arith}
 use Rattle.std.proofs.Common.{inl, inr, subst}
 use Rattle.std.specs.Prelude.{nat_eq, is_some, is_none, ◌&&◌, ◌||◌, ◌==◌, not, unwrap_or, All}
 use Rattle.std.specs.Map.{lookup, remove_entry, keys_of}
@@ -103,7 +104,8 @@ gone_cards : (ws : List (ℕ × Card)) →
 gone_cards [] = refl
 gone_cards (w ∷ ws) = ap (λ cs. w.1 ∷ cs) (gone_cards ws)
 
-kept_gone : (test : ℕ → ℕ → Bool) (q : Bound) → times test (map (λ (l : Card × Way). l.0) (all_gone q))
+kept_gone : (test : ℕ → ℕ → Bool) (q : Bound) →
+    times test (map (λ (l : Card × Way). l.0) (all_gone q))
     ≡ times test (map (λ (w : ℕ × Card). w.1) q.waiting)
 kept_gone test q = ap (times test) (gone_cards q.waiting)
 
@@ -499,8 +501,8 @@ apart_verdict None port head edit apart = tt
 apart_verdict (Some q) port None edit apart = apart
 apart_verdict (Some q) port (Some head) edit apart =
     either (λ r. AreApart (verdict_under r (Some q) edit).state) (not (q.port == port)) _ _ apart
-    (either (λ r. AreApart (verdict_under r (Some q) edit).state) (not (is_verdict head.verdict)) _ _
-    apart (apart_carried q head edit (card_under q head.id) apart))
+    (either (λ r. AreApart (verdict_under r (Some q) edit).state) (not (is_verdict head.verdict)) _
+    _ apart (apart_carried q head edit (card_under q head.id) apart))
 
 apart_batch : (q : Option Bound) (port : ℕ) (head : Option Head) (mark : Option ℕ) → AreApart q →
     AreApart (batch q port head mark).state

@@ -15,7 +15,8 @@ ghost use Rattle.queue_core.specs.State.{Bound};
 ghost use Rattle.queue_core.specs.Share.{share, IsLongestBefore, AscendFrom, AreIds};
 ghost use Rattle.queue_core.specs.Step.{step, config, port_closed, device_down, ConfigAsk};
 ghost use Rattle.queue_core.specs.Step.{is_decided_early};
-ghost use Rattle.queue_core.specs.Laws.{IsConserving, Tells, AllAreGone, IsUntouched, AreApart, HasIds};
+ghost use Rattle.queue_core.specs.Laws.{IsConserving, Tells, AllAreGone, IsUntouched, AreApart};
+ghost use Rattle.queue_core.specs.Laws.{HasIds};
 
 use crate::{
     ACCEPT, DEFAULT_MAXIMUM, DROP, EBUSY, ENODEV, ENOENT, EPERM, QUEUE, QUEUE_BYPASS, REPEAT,

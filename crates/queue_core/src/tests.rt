@@ -108,72 +108,38 @@ fn arrive(
     }
 }
 
+/// What an arrival can have beside its queue: the 33rd visit, the rule's bypass, room in the port's
+/// mailbox.
+const LAST: u8 = 4;
+
+const BYPASS: u8 = 2;
+
+const ROOM: u8 = 1;
+
 #[test]
 fn each_arrival_has_its_outcome(rt: HostRuntime) -> Result<(), Fail> {
     let alloc = rt.alloc();
-    let (taken, full) = (Outcome::Taken { id: 1 }, Outcome::UserFull { id: 1 });
-    let full_open = Outcome::UserFullOpen { id: 1 };
-    // The queue's mode, maximum and flags, where it is bound; whether the visit is the 33rd, the
-    // rule's bypass, and whether there is room; and then the outcome, the last id, and how many
-    // were dropped and user dropped.
+    let taken = Outcome::Taken { id: 1 };
+    let (full, full_open) = (Outcome::UserFull { id: 1 }, Outcome::UserFullOpen { id: 1 });
+    let (over, over_open) = (Outcome::Overflow, Outcome::OverflowOpen);
+    // The queue's mode, maximum and flags, where it is bound, and what the arrival has; and then
+    // the outcome, the last id, and how many were dropped and user dropped.
     let rows = [
-        (None, true, true, true, Outcome::Loop, (0, 0, 0)),
-        (
-            Some((PACKET, 9, 0)),
-            true,
-            false,
-            true,
-            Outcome::Loop,
-            (0, 0, 0),
-        ),
-        (None, false, false, true, Outcome::NoQueue, (0, 0, 0)),
-        (None, false, true, true, Outcome::Bypassed, (0, 0, 0)),
-        (
-            Some((NONE, 0, 1)),
-            false,
-            true,
-            true,
-            Outcome::CopyNone,
-            (0, 0, 0),
-        ),
-        (
-            Some((PACKET, 0, 1)),
-            false,
-            false,
-            true,
-            Outcome::OverflowOpen,
-            (0, 0, 0),
-        ),
-        (
-            Some((META, 0, 9)),
-            false,
-            false,
-            false,
-            Outcome::OverflowOpen,
-            (0, 0, 0),
-        ),
-        (
-            Some((PACKET, 0, 8)),
-            false,
-            true,
-            true,
-            Outcome::Overflow,
-            (0, 1, 0),
-        ),
-        (
-            Some((PACKET, 1, 1)),
-            false,
-            false,
-            false,
-            full_open,
-            (1, 0, 0),
-        ),
-        (Some((PACKET, 1, 8)), false, true, false, full, (1, 0, 1)),
-        (Some((META, 1, 1)), false, false, true, taken, (1, 0, 0)),
-        (Some((PACKET, 1, 0)), false, true, true, taken, (1, 0, 0)),
+        (None, LAST | BYPASS | ROOM, Outcome::Loop, (0, 0, 0)),
+        (Some((2, 9, 0)), LAST | ROOM, Outcome::Loop, (0, 0, 0)),
+        (None, ROOM, Outcome::NoQueue, (0, 0, 0)),
+        (None, BYPASS | ROOM, Outcome::Bypassed, (0, 0, 0)),
+        (Some((0, 0, 1)), BYPASS, Outcome::CopyNone, (0, 0, 0)),
+        (Some((2, 0, 1)), ROOM, over_open, (0, 0, 0)),
+        (Some((1, 0, 9)), 0, over_open, (0, 0, 0)),
+        (Some((2, 0, 8)), BYPASS | ROOM, over, (0, 1, 0)),
+        (Some((2, 1, 1)), 0, full_open, (1, 0, 0)),
+        (Some((2, 1, 8)), BYPASS, full, (1, 0, 1)),
+        (Some((1, 1, 1)), ROOM, taken, (1, 0, 0)),
+        (Some((2, 1, 0)), BYPASS | ROOM, taken, (1, 0, 0)),
     ];
-    for (i, (bound, last_visit, bypass, room, outcome, counts)) in rows.into_iter().enumerate() {
-        let answer = outcome_of(alloc, bound, last_visit, bypass, room)?;
+    for (i, (bound, has, outcome, counts)) in rows.into_iter().enumerate() {
+        let answer = outcome_of(alloc, bound, has)?;
         assert_eq!(rt; answer, (outcome, counts), "row {i}");
     }
     Ok(())
@@ -184,12 +150,10 @@ fn each_arrival_has_its_outcome(rt: HostRuntime) -> Result<(), Fail> {
 fn outcome_of(
     alloc: Global,
     bound: Option<(u8, u32, u32)>,
-    last_visit: bool,
-    bypass: bool,
-    room: bool,
+    has: u8,
 ) -> Result<(Outcome, (u32, u32, u32)), NoMemory> {
     let mut packet = first_visit(alloc, 1)?;
-    if last_visit {
+    if has & LAST != 0 {
         visit_often(&mut packet);
     }
     let mut bound = match bound {
@@ -202,7 +166,13 @@ fn outcome_of(
         }
         None => None,
     };
-    let outcome = arrive(alloc, &mut bound, packet, bypass, room);
+    let outcome = arrive(
+        alloc,
+        &mut bound,
+        packet,
+        has & BYPASS != 0,
+        has & ROOM != 0,
+    );
     let counts = match bound {
         Some(queue) => {
             let counts = (queue.last(), queue.dropped(), queue.user_dropped());
@@ -297,100 +267,79 @@ fn config(alloc: Global, bound: Option<Queue>, port: u32, asked: Asked) -> (u16,
 #[test]
 fn each_config_request_has_its_answer(rt: HostRuntime) -> Result<(), Fail> {
     let alloc = rt.alloc();
-    let new = Some((NONE, 65_531, 1024, 0));
-    let set = |mode, range| Some((mode, range, 1024, 0));
-    // Whether the queue is bound, to port 7; the port that asks, and what it asks; and then the
-    // errno, and the queue's mode, range, maximum and flags.
+    // Whether the queue is bound, to port 7; the port that asks, its command, flags and mask; and
+    // then the errno, and whether the queue is bound.
     let rows = [
-        (false, 7, (Some(3), None, None, None, None), 0, None),
-        (true, 8, (Some(4), None, None, Some(2), None), 0, new),
-        (true, 7, (None, None, None, Some(1), None), 22, new),
-        (true, 8, (None, None, None, Some(32), None), 22, new),
-        (true, 7, (None, None, None, Some(32), Some(0)), 95, new),
-        (true, 8, (None, None, None, Some(2), Some(2)), 95, new),
-        (
-            false,
-            7,
-            (Some(1), None, None, Some(31), Some(16)),
-            95,
-            None,
-        ),
-        (true, 8, (None, None, Some(5), None, None), 1, new),
-        (true, 8, (Some(1), None, None, None, None), 1, new),
-        (true, 7, (Some(1), None, Some(5), None, None), 16, new),
-        (false, 7, (Some(2), None, None, None, None), 19, None),
-        (true, 7, (Some(2), None, Some(5), None, None), 0, None),
-        (false, 7, (Some(9), None, None, None, None), 95, None),
-        (true, 7, (Some(0), None, None, None, None), 95, new),
-        (false, 7, (None, Some((2, 9)), None, None, None), 19, None),
-        (false, 7, (Some(1), None, None, None, None), 0, new),
-        (
-            false,
-            7,
-            (Some(1), Some((2, 40)), Some(3), Some(1), Some(1)),
-            0,
-            Some((2, 40, 3, 1)),
-        ),
-        (
-            true,
-            7,
-            (None, Some((0, 9)), None, None, None),
-            0,
-            set(0, 0),
-        ),
-        (
-            true,
-            7,
-            (None, Some((1, 9)), None, None, None),
-            0,
-            set(1, 0),
-        ),
-        (
-            true,
-            7,
-            (None, Some((2, 0)), None, None, None),
-            0,
-            set(2, 65_531),
-        ),
-        (
-            true,
-            7,
-            (None, Some((2, 65_531)), None, None, None),
-            0,
-            set(2, 65_531),
-        ),
-        (
-            true,
-            7,
-            (None, Some((2, 65_532)), None, None, None),
-            0,
-            set(2, 65_531),
-        ),
-        (true, 7, (None, Some((3, 9)), None, None, None), 0, new),
-        (
-            true,
-            7,
-            (None, None, Some(u32::MAX), None, None),
-            0,
-            Some((0, 65_531, u32::MAX, 0)),
-        ),
-        (
-            true,
-            7,
-            (None, None, None, Some(31), Some(13)),
-            0,
-            Some((0, 65_531, 1024, 13)),
-        ),
-        (true, 7, (None, None, None, None, Some(1)), 0, new),
+        (false, 7, Some(3), None, None, 0, false),
+        (true, 8, Some(4), Some(2), None, 0, true),
+        (true, 7, None, Some(1), None, 22, true),
+        (true, 8, None, Some(32), None, 22, true),
+        (true, 7, None, Some(32), Some(0), 95, true),
+        (true, 8, None, Some(2), Some(2), 95, true),
+        (false, 7, Some(1), Some(31), Some(16), 95, false),
+        (true, 8, None, None, None, 1, true),
+        (true, 8, Some(1), None, None, 1, true),
+        (true, 7, Some(1), None, None, 16, true),
+        (false, 7, Some(2), None, None, 19, false),
+        (true, 7, Some(2), None, None, 0, false),
+        (false, 7, Some(9), None, None, 95, false),
+        (true, 7, Some(0), None, None, 95, true),
+        (false, 7, None, Some(1), Some(1), 19, false),
+        (false, 7, Some(1), Some(1), Some(1), 0, true),
+        (true, 7, None, None, Some(2), 0, true),
     ];
-    for (i, (is_bound, port, asked, errno, then)) in rows.into_iter().enumerate() {
-        let bound = if is_bound {
-            Some(Queue::bind(alloc, 7))
-        } else {
-            None
-        };
-        let (answer, bound) = config(alloc, bound, port, asked);
-        assert_eq!(rt; (answer, told(bound)), (errno, then), "row {i}");
+    for (i, row) in rows.into_iter().enumerate() {
+        let (is_bound, port, command, flags, mask, errno, stays) = row;
+        let asked = (command, None, Some(5), flags, mask);
+        let answer = answer_of(alloc, is_bound, port, asked);
+        assert_eq!(rt; (answer.0, answer.1.is_some()), (errno, stays), "row {i}");
+    }
+    Ok(())
+}
+
+/// A config request to a queue that is bound to port 7, or to an absent one: the errno, and the
+/// queue's mode, range, maximum and flags then.
+fn answer_of(
+    alloc: Global,
+    is_bound: bool,
+    port: u32,
+    asked: Asked,
+) -> (u16, Option<(u8, u32, u32, u32)>) {
+    let bound = if is_bound {
+        Some(Queue::bind(alloc, 7))
+    } else {
+        None
+    };
+    let (errno, bound) = config(alloc, bound, port, asked);
+    (errno, told(bound))
+}
+
+#[test]
+fn a_config_request_sets_the_queue_up(rt: HostRuntime) -> Result<(), Fail> {
+    // Mode and range, maximum, flags and mask; and the new queue's mode, range, maximum and flags.
+    let rows = [
+        (None, None, (None, None), (0, 65_531, 1024, 0)),
+        (Some((0, 9)), None, (None, None), (0, 0, 1024, 0)),
+        (Some((1, 9)), None, (None, None), (1, 0, 1024, 0)),
+        (Some((2, 9)), None, (None, None), (2, 9, 1024, 0)),
+        (Some((2, 0)), None, (None, None), (2, 65_531, 1024, 0)),
+        (Some((2, 65_531)), None, (None, None), (2, 65_531, 1024, 0)),
+        (Some((2, 65_532)), None, (None, None), (2, 65_531, 1024, 0)),
+        (Some((3, 9)), None, (None, None), (0, 65_531, 1024, 0)),
+        (None, Some(0), (None, None), (0, 65_531, 0, 0)),
+        (None, Some(u32::MAX), (None, None), (0, 65_531, u32::MAX, 0)),
+        (None, None, (Some(1), Some(1)), (0, 65_531, 1024, 1)),
+        (None, None, (Some(13), Some(9)), (0, 65_531, 1024, 9)),
+        (None, None, (Some(31), Some(13)), (0, 65_531, 1024, 13)),
+        (Some((2, 40)), Some(3), (Some(1), Some(1)), (2, 40, 3, 1)),
+    ];
+    for (i, (params, maxlen, (flags, mask), then)) in rows.into_iter().enumerate() {
+        let asked = (Some(BIND), params, maxlen, flags, mask);
+        let bound = answer_of(rt.alloc(), false, 7, asked);
+        assert_eq!(rt; bound, (0, Some(then)), "row {i}");
+        let asked = (None, params, maxlen, flags, mask);
+        let set = answer_of(rt.alloc(), true, 7, asked);
+        assert_eq!(rt; set, (0, Some(then)), "row {i}");
     }
     Ok(())
 }
@@ -516,50 +465,46 @@ fn batched(
     Ok((count?, marks))
 }
 
+/// So many packets arrive after this last id, and so many more after that one.
+fn waiting_after(alloc: Global, queue: &mut Queue, first: Ids, then: Ids) -> Result<(), NoMemory>
+    requires no_offer { queue.old.offer ≡ None }
+    ensures no_offer { queue.new.offer ≡ None }
+{
+    queue.skip_to(first.0);
+    arrivals(alloc, queue, first.1)?;
+    if then.1 != 0 {
+        queue.skip_to(then.0);
+        arrivals(alloc, queue, then.1)?;
+    }
+    Ok(())
+}
+
+/// A last id, and how many packets arrive after it.
+type Ids = (u32, u32);
+
 #[test]
 fn batches_take_their_share(rt: HostRuntime) -> Result<(), Fail> {
     let alloc = rt.alloc();
-    // The id that was used last, after how many waiting arrivals it is set again, and how many more
-    // arrive; the batch's maximum and mark; and then how many it takes, their marks added up, how
-    // many wait, and the last id.
+    let (half, none) = (2_147_483_649, (0, 0));
+    // The last id and how many arrive after it, and once more; the batch's maximum and mark; and
+    // then how many it takes, their marks added up, how many wait, and the last id.
     let rows = [
-        (4_294_967_294, 3, None, 0, None, (2, 0), 1, 1),
-        (2, 2, None, 2, None, (0, 0), 2, 4),
-        (
-            0,
-            1,
-            Some((2_147_483_649, 1)),
-            2_147_483_650,
-            None,
-            (0, 0),
-            2,
-            2_147_483_650,
-        ),
-        (0, 1, Some((0, 1)), 1, None, (1, 0), 1, 2),
-        (0, 3, None, 3, Some(7), (3, 21), 0, 3),
-        (0, 0, None, 9, None, (0, 0), 0, 0),
-        (0, 1024, None, 1000, Some(1), (1000, 1000), 24, 1024),
+        ((4_294_967_294, 3), none, 0, None, (2, 0), 1, 1),
+        ((2, 2), none, 2, None, (0, 0), 2, 4),
+        ((0, 1), (half, 1), half + 1, None, (0, 0), 2, half + 1),
+        ((0, 1), (0, 1), 1, None, (1, 0), 1, 2),
+        ((0, 3), none, 3, Some(7), (3, 21), 0, 3),
+        ((0, 0), none, 9, None, (0, 0), 0, 0),
+        ((0, 1024), none, 1000, Some(1), (1000, 1000), 24, 1024),
     ];
     for (i, row) in rows.into_iter().enumerate() {
-        let (last, count, again, maximum, mark, taken, waits, then) = row;
+        let (first, again, maximum, mark, taken, waits, then) = row;
         let mut queue = copying(alloc);
-        queue.skip_to(last);
-        let first = arrivals(alloc, &mut queue, count);
-        let second = match again {
-            Some((last, count)) => {
-                queue.skip_to(last);
-                arrivals(alloc, &mut queue, count)
-            }
-            None => Ok(0),
-        };
+        let arrived = waiting_after(alloc, &mut queue, first, again);
         let answer = batched(alloc, &mut queue, maximum, mark);
         let used = queue.last();
         let left = ended(queue);
-        assert_eq!(rt;
-            (first?, second?),
-            (count, again.map_or(0, |a| a.1)),
-            "row {i}"
-        );
+        arrived?;
         assert_eq!(rt; (answer?, left, used), (taken, waits, then), "row {i}");
     }
     Ok(())
