@@ -135,12 +135,13 @@ is_next_among machine numbers = list_any (λ n. n == raised machine.calls) numbe
 abbrev pub read_fails : Machine → List ℕ → Bool
 read_fails machine name = is_next_among machine machine.failing || is_none (content_of machine name)
 
--- the entry with one more failed call
--- a name that holds this too: a file of these bytes in place of its own, or room for a file
+-- the entry of a name that holds this too: a file of these bytes in place of its own, or room for a
+-- file
 abbrev pub holding : Held → Entry → Entry
 holding (held.File bytes) entry = record entry { content = Some bytes.now }
 holding (held.Room bytes) entry = record entry { room = Some bytes }
 
+-- the entry with one more failed call
 abbrev pub with_fault : Call → Entry → Entry
 with_fault call.Read entry = record entry { read_faults = raised entry.read_faults }
 with_fault call.Write entry = record entry { write_faults = raised entry.write_faults }

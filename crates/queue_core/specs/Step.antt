@@ -42,6 +42,17 @@ pub record Stepped : Type 0 where
 
 -- ---- arrivals
 
+-- An arrival's table. Of these lines the first that applies decides:
+--   1  it is the packet's 33rd visit: destroyed
+--   2  the queue is absent, and the rule has no bypass: destroyed
+--   3  the queue is absent, and the rule has the bypass: goes on with the next table
+--   4  the copy mode is NONE: destroyed
+--   5  as many wait as may, and the queue fails open: goes on
+--   6  as many wait as may: destroyed, counted as dropped
+--   7  the port's mailbox has no room, and the queue fails open: goes on, its id is used
+--   8  the port's mailbox has no room: destroyed, counted as user dropped, its id is used
+--   9  otherwise: it waits, last in the list, its id is used
+
 -- the id that the next arrival gets
 abbrev pub next_id : Bound → ℕ
 next_id q = fresh q.last (keys_of q.waiting)
@@ -85,8 +96,7 @@ waits q id card = record {
 abbrev pub is_full : Bound → Bool
 is_full q = nat_le q.maximum (length q.waiting)
 
--- An arrival at a bound queue, in time: lines 4 to 9 (nfqnl_enqueue_packet). `room` says whether
--- the port's mailbox took the notice.
+-- lines 4 to 9 (nfqnl_enqueue_packet); `room` says whether the port's mailbox took the notice
 abbrev pub arrive_bound : Bound → Card → Bool → Stepped
 arrive_bound q card room =
     if q.mode == copy_none then gone (Some q) outcome.CopyNone card
@@ -104,7 +114,7 @@ arrive_in_time None card false room = gone None outcome.NoQueue card
 arrive_in_time None card true room = goes_on None outcome.Bypassed card
 arrive_in_time (Some q) card bypass room = arrive_bound q card room
 
--- an arrival (nf_queue, nfqnl_enqueue_packet): its nine lines
+-- an arrival (nf_queue, nfqnl_enqueue_packet)
 abbrev pub arrive : Option Bound → Card → Bool → Bool → Stepped
 arrive q card bypass room =
     if card.visit == last_visit then gone q outcome.Loop card
@@ -121,6 +131,21 @@ is_decided_early None card = true
 is_decided_early (Some q) card = (card.visit == last_visit) || turns_away q
 
 -- ---- requests
+
+-- A config request's table. Of these lines the first that applies decides:
+--   1   the command is PF_BIND or PF_UNBIND: 0, no effect
+--   2   flags without a mask: EINVAL
+--   3   flags that nobody knows: EOPNOTSUPP
+--   4   connection tracking or security contexts are asked for: EOPNOTSUPP
+--   5   the queue is bound to another port: EPERM
+--   6   BIND of a bound queue: EBUSY
+--   7   UNBIND of an absent queue: ENODEV
+--   8   UNBIND of a bound queue: 0; all that waits is destroyed, the queue is absent, and the other
+--       parts of the request aren't read
+--   9   any other command than BIND: EOPNOTSUPP
+--   10  no command, and the queue is absent: ENODEV
+--   11  otherwise: 0; BIND makes a new queue for the sender, and then params, maximum and flags
+--       apply, in this order
 
 -- a request that changes nothing: its state stays, and nothing leaves
 abbrev pub unchanged : Option Bound → ℕ → Stepped
@@ -184,7 +209,7 @@ set_up q ask =
       left = [];
     }
 
--- a config request (nfqnl_recv_config): its eleven lines
+-- a config request (nfqnl_recv_config)
 abbrev pub config : Option Bound → ℕ → ConfigAsk → Stepped
 config q port ask =
     if is_command command_pf_bind ask.command || is_command command_pf_unbind ask.command
