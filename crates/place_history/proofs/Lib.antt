@@ -1,2 +1,4 @@
 pub mod Legal
 pub mod Staying
+pub mod Journeying
+pub mod Ending

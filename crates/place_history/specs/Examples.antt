@@ -1,6 +1,8 @@
 -- A history written out by hand, to read the definitions against.
-use Rattle.std.specs.Prelude.{ℕ, List, [], ◌∷◌, Some, None, true, false}
+use Rattle.std.specs.Prelude.{ℕ, List, [], ◌∷◌, ◌++◌, Some, None, true, false}
 use Rattle.packet_entry.specs.declared.packet.Card.{Card}
+use Rattle.hook_chain.specs.declared.rule.Rule.{Rule}
+use Rattle.hook_chain.specs.declared.rule.Pick.TheVariants.{Number}
 use Rattle.nfqa_msgs.specs.declared.request.Request.TheVariants.{Config, Verdict, Batch}
 use Rattle.queue_core.specs.declared.offers.Outcome.TheVariants.{Taken}
 use Rattle.queue_core.specs.declared.event.Event.{Event}
@@ -55,3 +57,21 @@ legal_history = told (Answer 0 1)
 -- with a verdict of which no packet is said to have left
 abbrev pub altered_history : List Entry
 altered_history = told (Answer 0 0)
+
+-- ---- the same as journeys
+
+-- one table with one rule, which queues every packet at queue 0
+abbrev pub one_rule : List (List Rule)
+one_rule =
+    (record { protocol = None; mark = None; pick = Number 0; bypass = false } ∷ []) ∷ []
+
+-- the packet with this number before it meets a table
+abbrev pub entering_packet : ℕ → Card
+entering_packet number = record (packet number) { visit = 0; table = 0 }
+
+abbrev pub three_packets : List Card
+three_packets = entering_packet 1 ∷ entering_packet 2 ∷ entering_packet 3 ∷ []
+
+-- a fourth one that never arrived
+abbrev pub four_packets : List Card
+four_packets = three_packets ++ entering_packet 4 ∷ []

@@ -4,11 +4,15 @@
 
 mod entry;
 mod histories;
+mod journeys;
 mod laws;
 mod log;
 
 pub use entry::{Entries, Entry};
 pub use histories::{Histories, Logs, Lost, Losts};
+pub use journeys::{
+    an_entry_is_a_move, each_packet_waits_is_lost_or_is_over, soundness_is_kept_move_by_move,
+};
 pub use laws::{
     a_legal_history_goes_on, each_front_of_a_legal_history_is_legal, each_stay_ends_once,
 };

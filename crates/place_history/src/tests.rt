@@ -3,7 +3,9 @@
 ghost use Rattle.std.specs.Prelude.{◌≡◌, None, map, [], ◌∷◌};
 ghost use Rattle.place_history.specs.History.{replay, IsLegal};
 ghost use Rattle.place_history.specs.Stays.{departures};
-ghost use Rattle.place_history.specs.Examples.{legal_history, altered_history};
+ghost use Rattle.place_history.specs.Examples.{legal_history, altered_history, one_rule};
+ghost use Rattle.place_history.specs.Examples.{three_packets, four_packets};
+ghost use Rattle.place_history.specs.Journeys.{AreSound};
 
 use std::test::Fail;
 
@@ -16,8 +18,16 @@ fn read_by_hand()
     ensures altered { IsLegal altered_history → ⊥ }
 {}
 
+/// The three packets' journeys are sound with nothing lost, and aren't with a fourth packet that
+/// never arrived.
+fn journeys_by_hand()
+    ensures sound { AreSound one_rule 0 three_packets legal_history [] }
+    ensures missing { AreSound one_rule 0 four_packets legal_history [] → ⊥ }
+{}
+
 #[test]
 fn a_history_is_read_as_it_was_written(_rt: HostRuntime) -> Result<(), Fail> {
     read_by_hand();
+    journeys_by_hand();
     Ok(())
 }
