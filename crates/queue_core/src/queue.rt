@@ -1,7 +1,6 @@
 //! The queue: what it is, how it is set up, and what it tells.
 
-ghost use Rattle.std.specs.Prelude.{◌≡◌, ℕ, [], length, Some, None, false, option_map};
-ghost use Rattle.packet_entry.specs.declared.packet.Card.{Card};
+ghost use Rattle.std.specs.Prelude.{◌≡◌, ℕ, [], length, Some, None, false};
 ghost use Rattle.nfqa_msgs.specs.Numbers.{command_bind};
 ghost use Rattle.nfqa_msgs.specs.declared.request.Request.TheVariants.{Config};
 ghost use Rattle.queue_core.specs.declared.event.Event.TheVariants.{Ask};

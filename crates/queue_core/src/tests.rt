@@ -558,3 +558,29 @@ fn what_goes_down_destroys_what_waits(rt: HostRuntime) -> Result<(), Fail> {
     }
     Ok(())
 }
+
+/// Puts packets with the numbers from 1 to `count` in.
+fn put_all(alloc: Global, handed: &mut Handed, count: u32) -> Result<(), NoMemory> {
+    for number in 0..count {
+        handed.make_room(1)?;
+        let packet = first_visit(alloc, number + 1)?;
+        handed.put(packet, Decision::Stop);
+    }
+    Ok(())
+}
+
+#[test]
+fn what_is_put_comes_out_in_its_order(rt: HostRuntime) -> Result<(), Fail> {
+    let alloc = rt.alloc();
+    let mut handed = Handed::new(alloc);
+    let put = put_all(alloc, &mut handed, 3);
+    let mut numbers = 0u32;
+    while let Some((packet, _)) = handed.take() {
+        numbers = numbers.wrapping_mul(10).wrapping_add(packet.number());
+        packet.release();
+    }
+    handed.finish();
+    put?;
+    assert_eq!(rt; numbers, 123);
+    Ok(())
+}

@@ -1,8 +1,6 @@
 //! Arrivals: the lines of the table from the copy mode on, in its order.
 
-ghost use Rattle.std.specs.Prelude.{◌≡◌, ◌≢◌, ◌<◌, ◌≤◌, None, IfOk, IfErr, OnOk, OnErr, IfSome};
-ghost use Rattle.std.specs.Prelude.{false, length};
-ghost use Rattle.std.specs.VecDeque.{deque_len, deque_capacity};
+ghost use Rattle.std.specs.Prelude.{◌≡◌, ◌≢◌, None, false, IfOk, IfErr, OnOk, OnErr, IfSome};
 ghost use Rattle.nfqa_msgs.specs.NoticeWriting.{FitsTold, told_of};
 ghost use Rattle.queue_core.specs.State as state;
 ghost use Rattle.queue_core.specs.Step as queue_step;

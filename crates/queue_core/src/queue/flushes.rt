@@ -1,10 +1,12 @@
 //! What destroys all that waits.
 
-ghost use Rattle.std.specs.Prelude.{◌≡◌, [], length, Some, None};
-ghost use Rattle.queue_core.specs.declared.event.Event.TheVariants.{DeviceDown};
-ghost use Rattle.queue_core.specs.declared.event.Reply.TheVariants.{Flushed};
+ghost use Rattle.std.specs.Prelude.{◌≡◌, ℕ, [], length, Some, None};
+ghost use Rattle.nfqa_msgs.specs.Numbers.{command_unbind, input_device};
+ghost use Rattle.nfqa_msgs.specs.declared.request.Request.TheVariants.{Config};
+ghost use Rattle.queue_core.specs.declared.event.Event.TheVariants.{Ask, PortClosed, DeviceDown};
+ghost use Rattle.queue_core.specs.declared.event.Reply.TheVariants.{Answer, Flushed};
 ghost use Rattle.queue_core.specs.State.{emptied};
-ghost use Rattle.queue_core.specs.Step.{all_gone, flushed, step};
+ghost use Rattle.queue_core.specs.Step.{all_gone, step};
 
 use super::Queue;
 use crate::ids::Waiting;
@@ -37,12 +39,26 @@ impl Queue {
         ensures count { result ≡ length self.old.state.waiting }
         ensures state { self.new.state ≡ emptied self.old.state }
         ensures no_offer { self.new.offer ≡ None }
-        // This is what a closed port and an unbinding do before the queue ends.
-        ensures step { flushed self.old.state ≡ record {
+        // This is the step of its input device that goes down.
+        ensures step { step (Some self.old.state) (DeviceDown input_device) ≡ record {
           state = Some self.new.state;
           reply = Flushed result;
           left = all_gone self.old.state;
         } }
+        // This is what leaves in the step of its port that is closed, after which it is absent.
+        ensures closed { step (Some self.old.state) (PortClosed self.old.state.port) ≡ record {
+          state = None;
+          reply = Flushed result;
+          left = all_gone self.old.state;
+        } }
+        // And so it is in the step of its port's request to unbind it.
+        ensures unbound { (queue call : ℕ) → step (Some self.old.state)
+            (Ask self.old.state.port call
+            (Config queue (Some command_unbind) None None None None)) ≡ record {
+              state = None;
+              reply = Answer 0 result;
+              left = all_gone self.old.state;
+            } }
     {
         let count = self.waiting.len() as u32;
         destroy_all(&mut self.waiting);

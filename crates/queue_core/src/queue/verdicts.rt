@@ -71,11 +71,11 @@ impl Queue {
         ensures count { IfOk result (λ count.
             count ≡ length (share self.old.state.waiting head.id)) }
         ensures handed { OnOk result
-            (out.new ≡ out.old ++ batch_handed self.old.state head mark) }
+            (out.new.items ≡ out.old.items ++ batch_handed self.old.state head mark) }
         ensures state { OnOk result (self.new.state ≡ without_oldest self.old.state
             (length (share self.old.state.waiting head.id))) }
         ensures err { OnErr result (self.new ≡ self.old) }
-        ensures out { OnErr result (out.new ≡ out.old) }
+        ensures out { OnErr result (out.new.items ≡ out.old.items) }
         ensures no_offer { self.new.offer ≡ None }
         // This is the step of its port's batch.
         ensures step { OnOk result ((queue call : ℕ) →
