@@ -37,6 +37,7 @@ use Rattle.queue_core.specs.Step.{verdict_under, batch_under}
 use Rattle.queue_core.specs.Step.{carried_out, shared_out, card_under, leaving, marking, next_id}
 use Rattle.queue_core.specs.Step.{port_closed, device_down, is_full, all_gone, taken, unchanged}
 use Rattle.queue_core.specs.Laws.{waiting_in, leaving_in, times, IsConserving, Tells}
+use Rattle.queue_core.specs.Laws.{TellsArrival, TellsAsk, TellsFlush}
 use Rattle.queue_core.specs.Laws.{AllAreGone, IsUntouched, AreApart, HasIds}
 use Rattle.queue_core.proofs.FreeIds.{fresh_is_free}
 use Rattle.queue_core.proofs.Places.{apart_without, apart_dropped}
@@ -274,21 +275,27 @@ conserving q (event.DeviceDown device) = keeps_device q device
 
 -- ---- how many left
 
-abbrev pub Counts : Stepped → Type 0
-Counts s = Tells s.reply (length s.left)
+abbrev CountsArrival : Stepped → Type 0
+CountsArrival s = TellsArrival s.reply (length s.left)
+
+abbrev Counts : Stepped → Type 0
+Counts s = TellsAsk s.reply (length s.left)
+
+abbrev CountsFlush : Stepped → Type 0
+CountsFlush s = TellsFlush s.reply (length s.left)
 
 as_many_gone : (q : Bound) → length q.waiting ≡ length (all_gone q)
 as_many_gone q = sym (length-map q.waiting (λ (w : ℕ × Card). (w.1, Gone)))
 
 counts_in_time : (q : Option Bound) (card : Card) (bypass room : Bool) →
-    Counts (arrive_in_time q card bypass room)
-counts_in_time None card true room = tt
-counts_in_time None card false room = tt
+    CountsArrival (arrive_in_time q card bypass room)
+counts_in_time None card true room = refl
+counts_in_time None card false room = refl
 counts_in_time (Some q) card bypass room =
-    either Counts (q.mode == copy_none) _ _ tt
-    (either Counts (is_full q && fails_open q) _ _ tt
-    (either Counts (is_full q) _ _ tt
-    (either Counts (not room && fails_open q) _ _ tt (either Counts (not room) _ _ tt tt))))
+    either CountsArrival (q.mode == copy_none) _ _ refl
+    (either CountsArrival (is_full q && fails_open q) _ _ refl
+    (either CountsArrival (is_full q) _ _ refl
+    (either CountsArrival (not room && fails_open q) _ _ refl (either CountsArrival (not room) _ _ refl refl))))
 
 counts_unbind : (q : Option Bound) → Counts (unbind q)
 counts_unbind None = refl
@@ -336,18 +343,19 @@ counts_batch (Some q) port (Some head) mark =
     (either (λ r. Counts (batch_under r (Some q) mark)) (not (is_verdict head.verdict)) _ _ refl
     (counts_shared q head mark (share q.waiting head.id)))
 
-counts_port : (q : Option Bound) → Counts (port_closed q)
+counts_port : (q : Option Bound) → CountsFlush (port_closed q)
 counts_port None = refl
 counts_port (Some q) = as_many_gone q
 
-counts_device : (q : Option Bound) (device : ℕ) → Counts (device_down q device)
+counts_device : (q : Option Bound) (device : ℕ) → CountsFlush (device_down q device)
 counts_device None device = refl
 counts_device (Some q) device =
-    either Counts ((device == input_device) || (device == output_device)) _ _ (as_many_gone q) refl
+    either CountsFlush ((device == input_device) || (device == output_device)) _ _ (as_many_gone q) refl
 
-pub counting : (q : Option Bound) (e : Event) → Counts (step q e)
+pub counting : (q : Option Bound) (e : Event) →
+    Tells e (step q e).reply (length (step q e).left)
 counting q (event.Arrive card bypass room) =
-    either Counts (card.visit == last_visit) _ _ tt (counts_in_time q card bypass room)
+    either CountsArrival (card.visit == last_visit) _ _ refl (counts_in_time q card bypass room)
 counting q (event.Ask port call (request.Config queue command params maximum flags mask)) =
     counts_config q port (asking command params maximum flags mask)
 counting q (event.Ask port call (request.Verdict queue head mark payload)) =

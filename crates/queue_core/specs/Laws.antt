@@ -5,9 +5,11 @@ use Rattle.std.specs.List.{IsDistinct}
 use Rattle.std.specs.Map.{keys_of}
 use Rattle.packet_entry.specs.declared.packet.Card.{Card}
 use Rattle.queue_core.specs.declared.event.Event.{Event}
-use Rattle.queue_core.specs.declared.event.Event.TheVariants.{Arrive}
+use Rattle.queue_core.specs.declared.event.Event.TheVariants.{Arrive, Ask, PortClosed, DeviceDown}
 use Rattle.queue_core.specs.declared.event.Reply.{Reply}
 use Rattle.queue_core.specs.declared.event.Reply.TheVariants.{Arrived, Answer, Flushed}
+use Rattle.queue_core.specs.declared.offers.Outcome.{Outcome}
+use Rattle.queue_core.specs.declared.offers.Outcome.TheVariants.{Taken}
 use Rattle.queue_core.specs.Numbers.{id_count}
 use Rattle.queue_core.specs.State.{Bound}
 use Rattle.queue_core.specs.Step.{Gone, Stepped, step}
@@ -37,12 +39,32 @@ IsConserving q e = (test : ℕ → ℕ → Bool) →
     times test (waiting_in (step q e).state) + times test (leaving_in (step q e))
     ≡ times test (waiting_in q) + times test (arriving e)
 
--- A reply to a request, a closed port or a device tells how many packets left; one to an arrival
--- tells of no number.
-abbrev pub Tells : Reply → ℕ → Type 0
-Tells (Arrived outcome) n = Unit {0}
-Tells (Answer errno taken) n = taken ≡ n
-Tells (Flushed taken) n = taken ≡ n
+-- how many packets an arrival lets wait
+abbrev pub stays_in : Outcome → ℕ
+stays_in (Taken id) = 1
+stays_in other = 0
+
+-- A reply to an arrival tells whether its packet waits or left.
+abbrev pub TellsArrival : Reply → ℕ → Type 0
+TellsArrival (Arrived outcome) n = stays_in outcome + n ≡ 1
+TellsArrival other n = ⊥
+
+-- A reply to a request tells how many packets left,
+abbrev pub TellsAsk : Reply → ℕ → Type 0
+TellsAsk (Answer errno taken) n = taken ≡ n
+TellsAsk other n = ⊥
+
+-- and so does one to a closed port or to a device that goes down.
+abbrev pub TellsFlush : Reply → ℕ → Type 0
+TellsFlush (Flushed taken) n = taken ≡ n
+TellsFlush other n = ⊥
+
+-- a reply is of its event's kind, and tells how many packets left
+abbrev pub Tells : Event → Reply → ℕ → Type 0
+Tells (Arrive card bypass room) reply n = TellsArrival reply n
+Tells (Ask port call request) reply n = TellsAsk reply n
+Tells (PortClosed port) reply n = TellsFlush reply n
+Tells (DeviceDown device) reply n = TellsFlush reply n
 
 -- what leaves is destroyed
 abbrev pub AllAreGone : Stepped → Type 0

@@ -60,9 +60,11 @@ pub fn each_packet_stays_or_leaves()
     ensures { (q : Option Bound) (e : Event) → IsConserving q e }
 {}
 
-/// A reply to a request, a closed port or a device tells how many packets left.
+/// A reply is of its event's kind, and tells how many packets left: one to a request, a closed port
+/// or a device has the number, and one to an arrival says whether its packet waits or left.
 pub fn replies_tell_how_many_left()
-    ensures { (q : Option Bound) (e : Event) → let s = step q e in Tells s.reply (length s.left) }
+    ensures { (q : Option Bound) (e : Event) →
+        let s = step q e in Tells e s.reply (length s.left) }
 {}
 
 /// What waits is destroyed, and doesn't go on, where its queue is unbound, where its port is closed
