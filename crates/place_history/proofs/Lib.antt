@@ -2,3 +2,8 @@ pub mod Legal
 pub mod Staying
 pub mod Journeying
 pub mod Ending
+pub mod Replaying
+pub mod Stepping
+pub mod Arriving
+pub mod Handing
+pub mod Requesting

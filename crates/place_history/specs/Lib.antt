@@ -1,6 +1,12 @@
+pub mod Numbers
 pub mod History
 pub mod Stays
 pub mod Moves
 pub mod Journeys
 pub mod Endings
 pub mod Examples
+pub mod Kept
+pub mod Happenings
+pub mod Changes
+pub mod Replayed
+pub mod Lines

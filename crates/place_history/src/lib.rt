@@ -2,11 +2,16 @@
 //! a history leads to, and which histories are legal.
 #![tactic(auto)]
 
+mod arrivals;
+mod bound;
 mod entry;
+mod held;
 mod histories;
 mod journeys;
 mod laws;
+mod lines;
 mod log;
+mod requests;
 
 pub use entry::{Entries, Entry};
 pub use histories::{Histories, Logs, Lost, Losts};
