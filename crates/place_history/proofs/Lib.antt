@@ -7,3 +7,4 @@ pub mod Stepping
 pub mod Arriving
 pub mod Handing
 pub mod Requesting
+pub mod Sweeping

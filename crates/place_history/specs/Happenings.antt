@@ -21,7 +21,7 @@ use Rattle.queue_core.specs.Step.{Way, Gone, Open, Decided, is_decided_early, ne
 use Rattle.queue_core.specs.WithOffer.{letter_of}
 use Rattle.place_history.specs.declared.entry.Entry.{Entry}
 use Rattle.place_history.specs.Journeys.{Arrival}
-use Rattle.place_history.specs.Kept.{Kept, state_of, step_of, entry_of, after_event, every_number}
+use Rattle.place_history.specs.Kept.{Kept, state_of, step_of, entry_in, after_event, every_number}
 
 -- ---- arrivals
 
@@ -92,23 +92,24 @@ all_handed left = flat_map handed_of left
 
 -- ---- ports and devices
 
--- the entry of a port's closing at a queue, where the queue is bound to it
-abbrev pub closing_of : ℕ → List Entry → ℕ → Option Bound → List Entry
-closing_of port es queue None = []
-closing_of port es queue (Some q) =
-    if q.port == port then entry_of es queue (PortClosed port) ∷ [] else []
+-- the entry of a port's closing at a queue in this state: it stands where the queue is bound to the
+-- port
+abbrev pub closing_of : ℕ → ℕ → Option Bound → List Entry
+closing_of port queue None = []
+closing_of port queue (Some q) =
+    if q.port == port then entry_in queue (Some q) (PortClosed port) ∷ [] else []
+
+-- the entry of a device that goes down at a queue in this state: it stands where the queue is bound
+abbrev pub down_of : ℕ → ℕ → Option Bound → List Entry
+down_of device queue None = []
+down_of device queue (Some q) = entry_in queue (Some q) (DeviceDown device) ∷ []
 
 -- at all queues, ascending
 abbrev pub closings : ℕ → List Entry → List Entry
-closings port es = flat_map (λ q. closing_of port es q (state_of es q)) every_number
-
--- the entry of a device that goes down at a queue, where the queue is bound
-abbrev pub down_of : ℕ → List Entry → ℕ → Option Bound → List Entry
-down_of device es queue None = []
-down_of device es queue (Some q) = entry_of es queue (DeviceDown device) ∷ []
+closings port es = flat_map (λ q. closing_of port q (state_of es q)) every_number
 
 abbrev pub downs : ℕ → List Entry → List Entry
-downs device es = flat_map (λ q. down_of device es q (state_of es q)) every_number
+downs device es = flat_map (λ q. down_of device q (state_of es q)) every_number
 
 -- the place once all these happened
 abbrev pub with_all : Kept → List Entry → Kept

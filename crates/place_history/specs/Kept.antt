@@ -35,10 +35,14 @@ state_of es queue = replay (history queue es)
 abbrev pub step_of : List Entry → ℕ → Event → Stepped
 step_of es queue event = step (state_of es queue) event
 
--- its entry
+-- the entry of an event at a queue in this state
+abbrev pub entry_in : ℕ → Option Bound → Event → Entry
+entry_in queue state event =
+    record { queue = queue; event = event; reply = (step state event).reply }
+
+-- and of one that happens now
 abbrev pub entry_of : List Entry → ℕ → Event → Entry
-entry_of es queue event =
-    record { queue = queue; event = event; reply = (step_of es queue event).reply }
+entry_of es queue event = entry_in queue (state_of es queue) event
 
 -- the place once it happened
 abbrev pub after_event : Kept → ℕ → Event → Kept
@@ -81,5 +85,5 @@ abbrev pub told : ℕ → ℕ
 told n = min n largest_total
 
 -- what all these took out together
-abbrev pub taken_in_all : List Entry → ℕ
-taken_in_all es = told (sum_by (λ (e : Entry). taken_by e.reply) es)
+abbrev pub taken_in : List Entry → ℕ
+taken_in es = sum_by (λ (e : Entry). taken_by e.reply) es

@@ -4,6 +4,7 @@
 
 mod arrivals;
 mod bound;
+mod endings;
 mod entry;
 mod held;
 mod histories;
