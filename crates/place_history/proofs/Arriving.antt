@@ -72,12 +72,15 @@ tells_back h new o packet outcome back replayed same in_time c =
     let before : state_of h.entries.items o.queue ≡ Some c.before.state =
     state_before h o.queue c.before replayed c.was in
     record {
-      tells = (rw (before, c.by.0) (or_true (o.card.visit == last_visit)), record {
-        same = c.by.1 ∙ sym same;
-        reply = rw (before, is) refl;
-        way = c.by.3;
-        leaves = rw (before, is, same) refl;
-      });
+      tells = (
+        rw (before, c.by.0) (or_true (o.card.visit == last_visit)),
+        record {
+          same = c.by.1 ∙ sym same;
+          reply = rw (before, is) refl;
+          way = c.by.3;
+          leaves = rw (before, is, same) refl;
+        },
+      );
       entry = rw (before, is) refl;
     }
   where
@@ -159,8 +162,11 @@ settled_makes h o before after room outcome left at settled arrives =
     record {
       state = ap (λ (s : Stepped). s.state) is;
       reply = sym (ap (λ (s : Stepped). s.reply) is);
-      allowed = (at.first, at.last,
-          λ early. let wrong : true ≡ false = sym early ∙ at.undecided in cc);
+      allowed = (
+        at.first,
+        at.last,
+        λ early. let wrong : true ≡ false = sym early ∙ at.undecided in cc,
+      );
       settled = settled;
     }
 

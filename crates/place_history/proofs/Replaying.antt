@@ -87,7 +87,7 @@ sum_changed f g k a (suc n) others from below = elim (cases_Bool (k == a)) [
     sum_by-cons g a (range_with_len (a + 1) n),
     others a other,
     sum_changed f g k (a + 1) n others (omega (arith, from, eqb-false k a other))
-      (omega (arith, below)),
+        (omega (arith, below)),
   )
 ]
 
@@ -130,11 +130,11 @@ states_on : (h : Held) (es : List Entry) (e : Entry) (queue : ℕ) →
     queue_at h.queues queue ≡ held_as None queue (state_of (es ++ e ∷ []) queue)
 states_on h es e queue own others = elim (cases_Bool (is_at (nat_cmp e.queue) queue)) [
   | inl here ↦ subst
-    (λ n. queue_at h.queues n ≡ held_as None n (state_of (es ++ e ∷ []) n))
-    (at_own e.queue queue here)
-    (own ∙ ap (held_as None e.queue) (sym (state_own es e)))
+      (λ n. queue_at h.queues n ≡ held_as None n (state_of (es ++ e ∷ []) n))
+      (at_own e.queue queue here)
+      (own ∙ ap (held_as None e.queue) (sym (state_own es e)))
   | inr other ↦ others other
-    ∙ ap (held_as None queue) (sym (state_other es e queue (not_of e.queue queue other)))
+      ∙ ap (held_as None queue) (sym (state_other es e queue (not_of e.queue queue other)))
 ]
 
 -- ---- how many wait
@@ -202,11 +202,10 @@ waits_then h e ahead lawful =
     let es = h.entries.items in
     let so = counted (state_of es e.queue) e.event (waiting_in_all es)
     (waiting_in_all (es ++ e ∷ [])) lawful.1 (total_on waiting_at es e ahead.number)
-    (as_many (state_of es e.queue) e.event lawful.0) in
-    (
+    (as_many (state_of es e.queue) e.event lawful.0) in (
       so.0 ∙ ap (waiting_after (waiting_in_all es)) (sym ahead.one.reply)
           ∙ ap (λ n. waiting_after n e.reply) (sym ahead.waiting),
-      omega (arith, so.1, ap taken_by ahead.one.reply, ahead.waiting)
+      omega (arith, so.1, ap taken_by ahead.one.reply, ahead.waiting),
     )
 
 -- no more leave than wait

@@ -1,7 +1,7 @@
 -- A call at one queue makes the step of its event.
 use Rattle.std.proofs.Common.{◌≡◌, ◌≤◌, ◌<◌, ℕ, ◌+◌, Option, None, Some, Bool, true, false, refl}
 use Rattle.std.proofs.Common.{sym, ap, ◌∙◌, subst, arith, length, length-append}
-use Rattle.std.specs.Prelude.{IfSome, ◌==◌, nat_eq}
+use Rattle.std.specs.Prelude.{IfSome, ◌==◌, nat_eq, option_map}
 use Rattle.std.specs.BTreeMap.{is_at, btree_map_len}
 use Rattle.std.specs.Ordering.{nat_cmp}
 use Rattle.packet_entry.specs.declared.packet.Card.{Card}
@@ -88,3 +88,16 @@ ahead h new e is only number c makes =
       bound = rw (before, makes.state) (omega (arith, c.as_many, is.bound));
       few = is.few;
     }
+
+-- what is held has the states of the histories
+pub states_alike : (h : Held) (queue : ℕ) → IsReplayed h →
+    option_map (λ (w : WithOffer). w.state) (queue_at h.queues queue)
+    ≡ state_of h.entries.items queue
+states_alike h queue is =
+    ap (option_map (λ (w : WithOffer). w.state)) (is.states queue)
+    ∙ held_alike h.offer queue (state_of h.entries.items queue)
+  where
+    held_alike : (offer : Option Offer) (queue : ℕ) (s : Option Bound) →
+        option_map (λ (w : WithOffer). w.state) (held_as offer queue s) ≡ s
+    held_alike offer queue None = refl
+    held_alike offer queue (Some b) = refl

@@ -107,7 +107,7 @@ sweeps_on at before es new from n taken more is up below gap only appended count
         is.count,
         ap taken_in all,
         sum_by-append (λ (e : Entry). taken_by e.reply) (flat_map at (range_with_len 0 from))
-          (at n),
+            (at n),
       );
     }
 
@@ -119,10 +119,9 @@ pub sweeps_all : (at : ℕ → List Entry) (before es : List Entry) (from taken 
 unfolding every_number
 sweeps_all at before es from taken is none =
     let all : flat_map at (range_with_len 0 queue_count) ≡ flat_map at (range_with_len 0 from) =
-    flat_to at from queue_count is.within none in
-    (
+    flat_to at from queue_count is.within none in (
       is.swept ∙ ap (λ xs. before ++ xs) (sym all),
-      is.count ∙ ap (λ xs. told (taken_in xs)) (sym all)
+      is.count ∙ ap (λ xs. told (taken_in xs)) (sym all),
     )
 
 -- ---- entries that each queue's state asks for
@@ -214,9 +213,9 @@ flat_grows f from n up =
     (omega (
       arith,
       ap length (ap (flat_map f) (range_on 0 from (n - from))
-        ∙ flat_map-append f (range_with_len 0 from) (range_with_len (0 + from) (n - from))),
+          ∙ flat_map-append f (range_with_len 0 from) (range_with_len (0 + from) (n - from))),
       length-append (flat_map f (range_with_len 0 from))
-        (flat_map f (range_with_len (0 + from) (n - from))),
+          (flat_map f (range_with_len (0 + from) (n - from))),
     ))
 
 -- one more comes from a number that wasn't reached
@@ -305,3 +304,10 @@ room_at_end device before es from taken len all room is count enough kept =
       ap length is.swept,
       length-append before (flat_map at (range_with_len 0 from)),
     )
+
+-- where nothing more comes, that is all
+pub all_over : {X : Type 0} (f : ℕ → List X) (from : ℕ) → from ≤ queue_count →
+    ((q : ℕ) → from ≤ q → q < queue_count → f q ≡ []) →
+    flat_map f (range_with_len 0 from) ≡ flat_map f every_number
+unfolding every_number
+all_over f from within none = sym (flat_to f from queue_count within none)

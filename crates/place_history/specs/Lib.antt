@@ -10,3 +10,4 @@ pub mod Happenings
 pub mod Changes
 pub mod Replayed
 pub mod Lines
+pub mod Listing

@@ -1,6 +1,6 @@
 -- The queues of a place beside their entries: each is the replay of its history.
 use Rattle.std.specs.Prelude.{◌≡◌, ◌≤◌, ◌<◌, ◌+◌, ◌-◌, ◌++◌, ℕ, List, [], ◌∷◌, Option, Some, None, false}
-use Rattle.std.specs.Prelude.{length, IfSome, if◌then◌else◌, nat_eq, true}
+use Rattle.std.specs.Prelude.{length, IfSome, if◌then◌else◌, nat_eq, Bool, true}
 use Rattle.std.specs.BTreeMap.{btree_map_len, is_at}
 use Rattle.std.specs.Ordering.{nat_cmp}
 use Rattle.packet_entry.specs.declared.packet.Card.{Card}
@@ -16,7 +16,7 @@ use Rattle.queue_core.specs.State.{Bound}
 use Rattle.queue_core.specs.Step.{is_decided_early, next_id}
 use Rattle.queue_core.specs.Laws.{stays_in}
 use Rattle.queue_core.specs.WithOffer.{WithOffer}
-use Rattle.place_history.specs.Numbers.{queue_count}
+use Rattle.place_history.specs.Numbers.{queue_count, most_places}
 use Rattle.place_history.specs.declared.entry.Entry.{Entry}
 use Rattle.place_history.specs.declared.held.Held.{Held}
 use Rattle.place_history.specs.declared.held.Offer.{Offer}
@@ -118,3 +118,13 @@ pub record HandsOut (old new : Held) (queue : ℕ) (event : Event) (errno : ℕ)
   pub handed : List (Card × Decision)
   pub entered : Enters old new queue event errno handed
   pub appended : after ≡ before ++ handed
+
+-- what each place keeps
+pub record IsPlace (number places : ℕ) (is_left : Bool) (h : Held) : Type 0 where
+  pub among : number < places
+  pub few_places : places ≤ most_places
+  pub replayed : is_left ≡ false → IsReplayed h
+  pub room : is_left ≡ false → HasRoom h 0
+  -- where the waiting packets were given up, nothing is held but the entries
+  pub given_up : is_left ≡ true → (h.queues.entries ≡ []) × (h.offer ≡ None)
+  pub legal : AreLegal h.entries.items

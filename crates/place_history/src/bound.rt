@@ -194,3 +194,14 @@ pub(crate) fn first_from(queues: &Queues, from: u16) -> Option<u16>
         None => None,
     }
 }
+
+/// Ends all queues, with all that waits in them destroyed. Takes no memory.
+pub(crate) fn end_all(queues: &mut Queues)
+    requires no_offers { (q : ℕ) → IfSome (queue_at queues.old q) (λ w. w.offer ≡ None) }
+    ensures { queues.new.entries ≡ [] }
+{
+    while let Some((number, _)) = queues.first_key_value() {
+        let number = *number;
+        take_out(queues, number);
+    }
+}

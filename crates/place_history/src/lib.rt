@@ -11,7 +11,9 @@ mod histories;
 mod journeys;
 mod laws;
 mod lines;
+mod listing;
 mod log;
+mod place;
 mod requests;
 
 pub use entry::{Entries, Entry};
@@ -23,6 +25,7 @@ pub use laws::{
     a_legal_history_goes_on, each_front_of_a_legal_history_is_legal, each_stay_ends_once,
 };
 pub use log::{AskWords, Did, Dids, PortLog};
+pub use place::Place;
 pub use queue_core::{Event, Reply};
 
 #[cfg(test)]

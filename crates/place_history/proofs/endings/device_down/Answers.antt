@@ -20,11 +20,11 @@ loop-number-preserved c =
         c.down_at.ensures.room,
         ap length c.down_at.ensures.entries,
         length-append c.loop-number.held.entries.items
-          (down_of c.args.device c.in-Some.number
-          (state_of c.loop-number.held.entries.items c.in-Some.number)),
+            (down_of c.args.device c.in-Some.number
+            (state_of c.loop-number.held.entries.items c.in-Some.number)),
         down_length c.args.device c.in-Some.number
-          (state_of c.loop-number.held.entries.items c.in-Some.number)
-          c.in-Some.ensures.found.1,
+            (state_of c.loop-number.held.entries.items c.in-Some.number)
+            c.in-Some.ensures.found.1,
       );
       sweeps = next_swept (down_of c.args.device) c.args.held.now.entries.items
           c.loop-number.held.entries.items c.down_at.new.held.entries.items c.loop-number.from

@@ -1,0 +1,296 @@
+//! A place: queues by number, with all that happened at them.
+
+ghost use Rattle.std.specs.Prelude.{◌≡◌, ◌≢◌, ◌≤◌, ◌<◌, ◌%◌, ◌++◌, ◌⊎◌, ◌∷◌, [], None, true, false};
+ghost use Rattle.std.specs.Prelude.{length, IfSome, IfOk, IfErr, OnOk, OnErr};
+ghost use Rattle.packet_entry.specs.Numbers.{longest_payload, last_visit};
+ghost use Rattle.queue_core.specs.declared.event.Event.TheVariants.{Ask};
+ghost use Rattle.queue_core.specs.declared.event.Reply.TheVariants.{Answer};
+ghost use Rattle.place_history.specs.Numbers.{most_places};
+ghost use Rattle.place_history.specs.History.{AreLegal};
+ghost use Rattle.place_history.specs.Kept.{IsAt, step_of, after_event, told, taken_in};
+ghost use Rattle.place_history.specs.Kept.{waiting_in_all};
+ghost use Rattle.place_history.specs.Happenings.{BeginsAs, after_begin, SettlesAs, arrive};
+ghost use Rattle.place_history.specs.Happenings.{queue_of, payload_of, all_handed, closings, downs};
+ghost use Rattle.place_history.specs.Happenings.{with_all};
+ghost use Rattle.place_history.specs.Listing as text;
+
+use crate::held::{Held, Offer, make_room};
+use crate::requests::{Asker, ConfigRequest};
+use crate::{Entries, Entry, arrivals, bound, endings, listing, requests};
+use nfqa_msgs::Request;
+use packet_entry::{NoMemory, Packet};
+use queue_core::{Begun, Handed, NoRoom, Settled};
+use std::alloc::Global;
+use std::marker::Model;
+
+/// Queues by number, each the replay of its stored history: what the sequential queue makes of its
+/// entries. Of several places, a queue is at the one that is its number modulo theirs. A call at
+/// one queue costs the queue's own work, and besides no more than the logarithm of the number of
+/// bound queues: none goes over the history.
+///
+/// It is no `Drop`: it ends by `into_entries`.
+pub struct Place {
+    number: u8,
+    places: u8,
+    held: Held,
+    /// Whether the waiting packets were given up.
+    is_left: bool,
+}
+
+impl Model for Place {
+    ghost use Rattle.std.specs.Prelude.{option_map};
+    ghost use Rattle.place_history.specs.Kept.{Kept};
+    ghost use Rattle.place_history.specs.Replayed.{as_arrival, IsPlace};
+
+    ghost Value = { Kept };
+
+    ghost view = { λ p. record {
+      number = p.number;
+      places = p.places;
+      entries = p.held.entries.items;
+      offer = option_map as_arrival p.held.offer;
+      is_left = p.is_left;
+    } };
+
+    ghost invariant = { λ p. IsPlace p.number p.places p.is_left p.held };
+}
+
+impl Place {
+    /// The place with this number among so many, without queues. Takes no memory.
+    pub fn new(alloc: Global, number: u8, places: u8) -> Place
+        requires number { number < places }
+        requires places { places ≤ most_places }
+        ensures { result ≡ record {
+          number = number;
+          places = places;
+          entries = [];
+          offer = None;
+          is_left = false;
+        } }
+    {
+        Place {
+            number,
+            places,
+            held: Held::new(alloc),
+            is_left: false,
+        }
+    }
+
+    /// Begins the arrival of a packet, which a rule with or without the bypass queued. Where no
+    /// notice is to be offered, the arrival has happened then: its entry is appended, and the packet
+    /// comes back, to be sent on or destroyed as the outcome says. Otherwise the notice is for the
+    /// queue's port, the packet stands offered, and only [`settle`](Place::settle) may follow. When
+    /// memory runs out the packet comes back, and nothing has changed.
+    pub fn begin(
+        &mut self,
+        alloc: Global,
+        queue: u16,
+        bypass: bool,
+        packet: Packet,
+    ) -> Result<Begun, NoRoom>
+        requires here { IsAt self.old queue }
+        requires visited { 1 ≤ packet.visit }
+        requires no_offer { self.old.offer ≡ None }
+        requires open { self.old.is_left ≡ false }
+        ensures begun { IfOk result (λ begun. BeginsAs begun
+            (record { queue = queue; card = packet; bypass = bypass }) self.old.entries) }
+        ensures state { IfOk result (λ begun. self.new ≡ after_begin begun
+            (record { queue = queue; card = packet; bypass = bypass }) self.old) }
+        ensures returned { IfErr result (λ back. back.packet ≡ packet) }
+        ensures err { OnErr result (self.new ≡ self.old) }
+    {
+        let Ok(card) = packet.card(alloc) else {
+            return Err(NoRoom { packet });
+        };
+        if make_room(&mut self.held, 1).is_err() {
+            return Err(NoRoom { packet });
+        }
+        let arrival = Offer {
+            queue,
+            card,
+            bypass,
+        };
+        arrivals::begin(&mut self.held, alloc, arrival, packet)
+    }
+
+    /// Settles what was begun: its entry is appended. `room` says whether the port's mailbox took
+    /// the notice. The packet waits, or comes back, to be sent on or destroyed as the outcome says.
+    /// Takes no memory.
+    pub fn settle(&mut self, room: bool) -> Settled
+        requires offered { self.old.offer ≢ None }
+        requires open { self.old.is_left ≡ false }
+        ensures settled { IfSome self.old.offer (λ a. SettlesAs result a room self.old.entries) }
+        ensures state { IfSome self.old.offer (λ a.
+            self.new ≡ after_event self.old a.queue (arrive a room)) }
+    {
+        arrivals::settle(&mut self.held, room)
+    }
+
+    /// A port asks something of a queue, by the message with the number `call` among its messages:
+    /// the entry is appended, and its errno answered. What left with another decision than to drop
+    /// it is handed out, in its order; what is dropped is destroyed. A refused request changes
+    /// nothing else. `NoMemory` leaves the place and `handed` as they were.
+    pub fn ask(
+        &mut self,
+        alloc: Global,
+        port: u32,
+        call: u32,
+        request: Request,
+        handed: &mut Handed,
+    ) -> Result<u16, NoMemory>
+        requires here { IsAt self.old (queue_of request) }
+        requires payload { IfSome (payload_of request) (λ bytes. length bytes ≤ longest_payload) }
+        requires no_offer { self.old.offer ≡ None }
+        requires open { self.old.is_left ≡ false }
+        ensures answer { IfOk result (λ errno.
+            let step = step_of self.old.entries (queue_of request) (Ask port call request) in
+            step.reply ≡ Answer errno (length step.left)) }
+        ensures state { OnOk result (self.new
+            ≡ after_event self.old (queue_of request) (Ask port call request)) }
+        ensures handed { OnOk result (handed.new.items ≡ handed.old.items ++ all_handed
+            (step_of self.old.entries (queue_of request) (Ask port call request)).left) }
+        ensures err { OnErr result (self.new ≡ self.old) }
+        ensures none_handed { OnErr result (handed.new.items ≡ handed.old.items) }
+    {
+        make_room(&mut self.held, 2)?;
+        match request {
+            Request::Config {
+                queue,
+                command,
+                params,
+                maxlen,
+                flags,
+                mask,
+            } => {
+                let asked = ConfigRequest {
+                    command,
+                    params,
+                    maxlen,
+                    flags,
+                    mask,
+                };
+                requests::config(&mut self.held, alloc, Asker { port, call, queue }, asked)
+            }
+            Request::Verdict {
+                queue,
+                head,
+                mark,
+                payload,
+            } => {
+                let asker = Asker { port, call, queue };
+                requests::verdict(&mut self.held, asker, head, mark, payload, handed)
+            }
+            Request::Batch { queue, head, mark } => {
+                let asker = Asker { port, call, queue };
+                requests::batch(&mut self.held, alloc, asker, head, mark, handed)
+            }
+        }
+    }
+
+    /// A port closes: each queue that is bound to it ends, with all that waits in it destroyed. An
+    /// entry for each is appended, by ascending number. Answers how many packets were destroyed;
+    /// the number stops at 4,294,967,295. Takes no memory.
+    pub fn close_port(&mut self, port: u32) -> u32
+        requires no_offer { self.old.offer ≡ None }
+        requires open { self.old.is_left ≡ false }
+        ensures count { result ≡ told (taken_in (closings port self.old.entries)) }
+        ensures state { self.new ≡ with_all self.old (closings port self.old.entries) }
+    {
+        endings::close_port(&mut self.held, port)
+    }
+
+    /// A device goes down: where it is one of the two by which every packet comes in and goes out,
+    /// all that waits is destroyed. An entry for each bound queue is appended, by ascending number.
+    /// Answers how many packets were destroyed; the number stops at 4,294,967,295. `NoMemory` leaves
+    /// the place as it was.
+    pub fn device_down(&mut self, device: u32) -> Result<u32, NoMemory>
+        requires no_offer { self.old.offer ≡ None }
+        requires open { self.old.is_left ≡ false }
+        ensures count { IfOk result (λ count.
+            count ≡ told (taken_in (downs device self.old.entries))) }
+        ensures state { OnOk result (self.new
+            ≡ with_all self.old (downs device self.old.entries)) }
+        ensures err { OnErr result (self.new ≡ self.old) }
+    {
+        let bound = self.held.queues.len();
+        make_room(&mut self.held, bound)?;
+        Ok(endings::device_down(&mut self.held, device))
+    }
+
+    /// Appends a line for each bound queue, by ascending number: number, port, how many packets
+    /// wait, copy mode, copy range, dropped, user dropped, last id and 1, right-aligned in columns
+    /// of 5, 6, 5, 1, 5, 5, 5, 8 and 2 characters, with one blank between and LF at the end. A
+    /// longer number stands in full. (/proc/net/netfilter/nfnetlink_queue) `NoMemory` leaves `out`
+    /// as it was.
+    pub fn listing(&self, alloc: Global, out: &mut Vec<u8>) -> Result<(), NoMemory>
+        requires open { self.now.is_left ≡ false }
+        ensures ok { OnOk result (out.new.items
+            ≡ out.old.items ++ text.listing self.now.entries) }
+        ensures err { OnErr result (out.new.items ≡ out.old.items) }
+    {
+        listing::listing(&self.held, alloc, out)
+    }
+
+    /// How many packets wait; the number stops at 4,294,967,295.
+    pub fn waiting(&self) -> u32
+        requires open { self.now.is_left ≡ false }
+        ensures { result ≡ told (waiting_in_all self.now.entries) }
+    {
+        at_most_32_bits(self.held.waiting)
+    }
+
+    /// All that happened, in its order: of each queue its history, which is legal.
+    pub fn entries(&self) -> &[Entry]
+        ensures value { result.now ≡ self.now.entries }
+        ensures legal { AreLegal self.now.entries }
+    {
+        self.held.entries.as_slice()
+    }
+
+    /// Gives the waiting packets up, without an entry: how many that were; the number stops at
+    /// 4,294,967,295. It serves closing: then only [`into_entries`](Place::into_entries) may follow.
+    /// Takes no memory.
+    pub fn leave_waiting(&mut self) -> u32
+        requires no_offer { self.old.offer ≡ None }
+        requires open { self.old.is_left ≡ false }
+        ensures count { result ≡ told (waiting_in_all self.old.entries) }
+        ensures state { self.new ≡ record self.old { is_left = true } }
+    {
+        let waiting = at_most_32_bits(self.held.waiting);
+        bound::end_all(&mut self.held.queues);
+        self.is_left = true;
+        waiting
+    }
+
+    /// All that happened, in its order. No packet waits, or those that did were given up. Takes no
+    /// memory.
+    pub fn into_entries(self) -> Entries
+        requires none_waits { (self.is_left ≡ true) ⊎ (waiting_in_all self.entries ≡ 0) }
+        requires no_offer { self.offer ≡ None }
+        ensures value { result ≡ self.entries }
+        ensures legal { AreLegal result }
+    {
+        let Place {
+            number: _,
+            places: _,
+            held,
+            is_left: _,
+        } = self;
+        let Held {
+            mut queues,
+            entries,
+            waiting: _,
+            offer: _,
+        } = held;
+        bound::end_all(&mut queues);
+        queues.destroy_empty();
+        entries.into_sequence()
+    }
+}
+
+/// A number of packets as it is told: it stops at 4,294,967,295.
+fn at_most_32_bits(count: usize) -> u32
+    ensures { result ≡ told count }
+{
+    u32::try_from(count).unwrap_or(u32::MAX)
+}
