@@ -14,8 +14,8 @@ use Rattle.queue_core.specs.State.{Bound}
 use Rattle.queue_core.specs.Calls.{BeginsArrival, ArrivesAs}
 use Rattle.queue_core.specs.WithOffer.{WithOffer}
 use Rattle.place_history.specs.declared.entry.Entry.{Entry}
-use Rattle.place_history.specs.declared.held.Held.{Held}
-use Rattle.place_history.specs.declared.held.Offer.{Offer}
+use Rattle.place_history.specs.declared.place.held.Held.{Held}
+use Rattle.place_history.specs.declared.place.held.Offer.{Offer}
 use Rattle.place_history.specs.Numbers.{queue_count}
 use Rattle.place_history.specs.Changes.{Queues, queue_at, Changes}
 use Rattle.place_history.specs.Kept.{state_of, step_of, entry_of}

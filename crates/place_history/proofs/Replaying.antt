@@ -24,7 +24,7 @@ use Rattle.queue_core.specs.declared.event.Reply.{Reply}
 use Rattle.queue_core.specs.declared.event.Reply.TheVariants.{Arrived, Answer, Flushed}
 use Rattle.place_history.specs.Numbers.{queue_count}
 use Rattle.place_history.specs.declared.entry.Entry.{Entry}
-use Rattle.place_history.specs.declared.held.Held.{Held}
+use Rattle.place_history.specs.declared.place.held.Held.{Held}
 use Rattle.queue_core.specs.State.{Bound}
 use Rattle.place_history.specs.History.{replay, history, is_of}
 use Rattle.place_history.specs.Kept.{state_of, step_of, waiting_at, one_if_bound, every_number}

@@ -17,8 +17,8 @@ use Rattle.queue_core.specs.Step.{Stepped, step, way_of}
 use Rattle.queue_core.specs.Calls.{hands_out, ways_of}
 use Rattle.queue_core.specs.WithOffer.{WithOffer}
 use Rattle.place_history.specs.declared.entry.Entry.{Entry}
-use Rattle.place_history.specs.declared.held.Held.{Held}
-use Rattle.place_history.specs.declared.requests.Asker.{Asker}
+use Rattle.place_history.specs.declared.place.held.Held.{Held}
+use Rattle.place_history.specs.declared.place.requests.Asker.{Asker}
 use Rattle.place_history.specs.Kept.{step_of, state_of}
 use Rattle.place_history.specs.Changes.{queue_at}
 use Rattle.place_history.specs.Happenings.{all_handed}

@@ -13,8 +13,8 @@ use Rattle.queue_core.specs.Laws.{arriving}
 use Rattle.queue_core.specs.WithOffer.{WithOffer}
 use Rattle.place_history.specs.Numbers.{queue_count}
 use Rattle.place_history.specs.declared.entry.Entry.{Entry}
-use Rattle.place_history.specs.declared.held.Held.{Held}
-use Rattle.place_history.specs.declared.held.Offer.{Offer}
+use Rattle.place_history.specs.declared.place.held.Held.{Held}
+use Rattle.place_history.specs.declared.place.held.Offer.{Offer}
 use Rattle.place_history.specs.History.{IsStep, IsAllowed}
 use Rattle.place_history.specs.Kept.{state_of, one_if_bound}
 use Rattle.place_history.specs.Replayed.{IsReplayed, IsAhead, held_as, offer_at}

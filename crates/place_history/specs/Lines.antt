@@ -8,10 +8,10 @@ use Rattle.queue_core.specs.Step.{refusal, Refused}
 use Rattle.nfqa_msgs.specs.declared.request.Request.TheVariants.{Config}
 use Rattle.queue_core.specs.declared.event.Event.{Event}
 use Rattle.queue_core.specs.declared.event.Event.TheVariants.{Ask}
-use Rattle.place_history.specs.declared.requests.Asker.{Asker}
-use Rattle.place_history.specs.declared.requests.ConfigRequest.{ConfigRequest}
-use Rattle.place_history.specs.declared.lines.ConfigLine.{ConfigLine}
-use Rattle.place_history.specs.declared.lines.ConfigLine.TheVariants as line
+use Rattle.place_history.specs.declared.place.requests.Asker.{Asker}
+use Rattle.place_history.specs.declared.place.requests.ConfigRequest.{ConfigRequest}
+use Rattle.place_history.specs.declared.place.lines.ConfigLine.{ConfigLine}
+use Rattle.place_history.specs.declared.place.lines.ConfigLine.TheVariants as line
 
 -- what a config request asks for
 abbrev pub asked : ConfigRequest → ConfigAsk

@@ -18,8 +18,8 @@ use Rattle.queue_core.specs.Laws.{stays_in}
 use Rattle.queue_core.specs.WithOffer.{WithOffer}
 use Rattle.place_history.specs.Numbers.{queue_count, most_places}
 use Rattle.place_history.specs.declared.entry.Entry.{Entry}
-use Rattle.place_history.specs.declared.held.Held.{Held}
-use Rattle.place_history.specs.declared.held.Offer.{Offer}
+use Rattle.place_history.specs.declared.place.held.Held.{Held}
+use Rattle.place_history.specs.declared.place.held.Offer.{Offer}
 use Rattle.place_history.specs.History.{IsStep, AreLegal}
 use Rattle.place_history.specs.Journeys.{Arrival}
 use Rattle.place_history.specs.Kept.{state_of, step_of, waiting_in_all, one_if_bound}

@@ -2,19 +2,12 @@
 //! a history leads to, and which histories are legal.
 #![tactic(auto)]
 
-mod arrivals;
-mod bound;
-mod endings;
 mod entry;
-mod held;
 mod histories;
 mod journeys;
 mod laws;
-mod lines;
-mod listing;
 mod log;
 mod place;
-mod requests;
 
 pub use entry::{Entries, Entry};
 pub use histories::{Histories, Logs, Lost, Losts};

@@ -14,9 +14,17 @@ ghost use Rattle.place_history.specs.Happenings.{queue_of, payload_of, all_hande
 ghost use Rattle.place_history.specs.Happenings.{with_all};
 ghost use Rattle.place_history.specs.Listing as text;
 
-use crate::held::{Held, Offer, make_room};
-use crate::requests::{Asker, ConfigRequest};
-use crate::{Entries, Entry, arrivals, bound, endings, listing, requests};
+mod arrivals;
+mod bound;
+mod endings;
+mod held;
+mod lines;
+mod listing;
+mod requests;
+
+use self::held::{Held, Offer, make_room};
+use self::requests::{Asker, ConfigRequest};
+use crate::{Entries, Entry};
 use nfqa_msgs::Request;
 use packet_entry::{NoMemory, Packet};
 use queue_core::{Begun, Handed, NoRoom, Settled};

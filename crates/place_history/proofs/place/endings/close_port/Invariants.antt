@@ -1,0 +1,21 @@
+use Rattle.std.proofs.Common.{◌≡◌, None, ◌-◌}
+use Rattle.place_history.specs.Numbers.{queue_count}
+use Rattle.place_history.specs.Kept.{state_of}
+use Rattle.place_history.specs.Happenings.{closing_of}
+use Rattle.place_history.specs.Replayed.{IsReplayed, HasRoom}
+use Rattle.place_history.proofs.Sweeping.{Sweeps}
+use Rattle.place_history.proofs.place.endings.close_port.Given as goal
+
+abbrev pub invariant-loop-number : goal.invariant-loop-number
+invariant-loop-number l =
+    record {
+      replayed : IsReplayed l.held;
+      no_offer : l.held.offer ≡ None;
+      room : HasRoom l.held 0;
+      sweeps : Sweeps
+          (λ q. closing_of l.port q (state_of l.fn.held.entries.items q))
+          l.fn.held.entries.items l.held.entries.items l.from l.taken;
+    }
+
+abbrev pub decreases-loop-number : goal.decreases-loop-number
+decreases-loop-number l = queue_count - l.from

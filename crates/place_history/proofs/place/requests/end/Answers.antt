@@ -1,0 +1,18 @@
+use Rattle.std.proofs.Common.{◌≡◌, refl, sym, ap, ◌∙◌, length}
+use Rattle.queue_core.specs.Step.{Stepped, all_gone, ended}
+use Rattle.std.proofs.lemmas.List.{length-map}
+use Rattle.packet_entry.specs.declared.packet.Card.{Card}
+use Rattle.place_history.proofs.Handing.{none_handed, gone_count}
+use Rattle.place_history.proofs.Requesting.{enters, waiting_held}
+use Rattle.place_history.proofs.place.requests.end.Goals as goal
+
+pub returns-clause-entered : goal.returns-clause-entered
+returns-clause-entered c =
+    let bound = c.requires.line.0 in
+    let count : c.take_out-taken.result ≡ length bound.waiting =
+    waiting_held c.args.held.now c.args.asker.queue bound c.take_out-taken.result
+    c.requires.replayed c.requires.no_offer c.requires.line.1 c.take_out-taken.ensures.count in
+    enters c.args.held.now c.append.new.held c.args.asker.queue _ 0 c.take_out-taken.result _ _
+    (ended bound) c.requires.line.2 c.append.ensures.entries
+    (rw c.request.ensures at c.answered.ensures) (rw count refl)
+    (count ∙ gone_count bound) (sym (none_handed bound))

@@ -1,0 +1,207 @@
+//! The queues that are bound, by number, and one call at one of them.
+
+ghost use Rattle.std.specs.Prelude.{◌≡◌, ◌≢◌, ◌<◌, ◌≤◌, ◌+◌, ◌++◌, ℕ, [], length, Some, None, false};
+ghost use Rattle.std.specs.Prelude.{IsSome, IsSomeAnd, IfSome, IfNone, IfOk, OnOk, IfErr, OnErr};
+ghost use Rattle.std.specs.Prelude.{option_to_list};
+ghost use Rattle.std.specs.BTreeMap.{btree_map_len};
+ghost use Rattle.packet_entry.specs.Numbers.{longest_payload};
+ghost use Rattle.nfqa_msgs.specs.declared.request.Request.TheVariants.{Verdict, Batch};
+ghost use Rattle.queue_core.specs.declared.event.Event.TheVariants.{Ask, PortClosed, DeviceDown};
+ghost use Rattle.queue_core.specs.declared.event.Reply.TheVariants.{Flushed};
+ghost use Rattle.queue_core.specs.Calls.{BeginsArrival, SettlesArrival, hands_out, batch_handed};
+ghost use Rattle.queue_core.specs.Decision.{IsVerdict};
+ghost use Rattle.queue_core.specs.State.{configured};
+ghost use Rattle.queue_core.specs.Step.{are_flags_refused, all_gone, step};
+ghost use Rattle.place_history.specs.Numbers.{queue_count};
+ghost use Rattle.place_history.specs.Changes.{queue_at, OthersStay, Changes, AreSame};
+
+use hook_chain::Decision;
+use nfqa_msgs::{Head, Params};
+use packet_entry::{Bytes, NoMemory, Packet};
+use queue_core::{Begun, Handed, NoRoom, Queue, Settled};
+use std::alloc::Global;
+use std::collections::BTreeMap;
+
+/// The bound queues, by ascending number.
+pub(super) type Queues = BTreeMap<u16, Queue>;
+
+/// Begins an arrival at a bound queue.
+pub(super) fn begin(
+    queues: &mut Queues,
+    alloc: Global,
+    number: u16,
+    packet: Packet,
+) -> Result<Begun, NoRoom>
+    requires bound { IsSomeAnd (queue_at queues.old number) (λ q. q.offer ≡ None) }
+    ensures begun { IfOk result (λ begun. Changes queues.old queues.new number
+        (λ old new. BeginsArrival begun number packet old new)) }
+    ensures returned { IfErr result (λ back. back.packet ≡ packet) }
+    ensures err { OnErr result (AreSame queues.old queues.new) }
+{
+    let Some(queue) = queues.get_mut(&number) else {
+        unreachable!()
+    };
+    queue.begin(alloc, number, packet)
+}
+
+/// Settles the arrival that was begun at a bound queue. Takes no memory.
+pub(super) fn settle(queues: &mut Queues, number: u16, room: bool) -> Settled
+    requires offered { IsSomeAnd (queue_at queues.old number) (λ q. q.offer ≢ None) }
+    ensures { Changes queues.old queues.new number (λ old new.
+        IfSome old.offer (λ o. SettlesArrival result o.1 room old new)) }
+{
+    let Some(queue) = queues.get_mut(&number) else {
+        unreachable!()
+    };
+    queue.settle(room)
+}
+
+/// Carries out a verdict at a bound queue. Takes no memory.
+pub(super) fn verdict(
+    queues: &mut Queues,
+    number: u16,
+    head: Head,
+    mark: Option<u32>,
+    payload: Option<Bytes>,
+) -> Option<(Packet, Decision)>
+    requires known { IsVerdict head.verdict }
+    requires payload { IfSome payload (λ bytes. length bytes ≤ longest_payload) }
+    requires bound { IsSomeAnd (queue_at queues.old number) (λ q. q.offer ≡ None) }
+    ensures { Changes queues.old queues.new number (λ old new. (new.offer ≡ None)
+        × ((queue call : ℕ) →
+        step (Some old.state) (Ask old.state.port call (Verdict queue (Some head) mark payload))
+        ≡ hands_out new.state (option_to_list result))) }
+{
+    let Some(queue) = queues.get_mut(&number) else {
+        unreachable!()
+    };
+    queue.verdict(head, mark, payload)
+}
+
+/// Carries out a batch at a bound queue, and appends what it hands out.
+pub(super) fn batch(
+    queues: &mut Queues,
+    number: u16,
+    head: Head,
+    mark: Option<u32>,
+    out: &mut Handed,
+) -> Result<u32, NoMemory>
+    requires known { IsVerdict head.verdict }
+    requires bound { IsSomeAnd (queue_at queues.old number) (λ q. q.offer ≡ None) }
+    ensures handed { IfOk result (λ count. Changes queues.old queues.new number (λ old new.
+        (new.offer ≡ None)
+        × (count ≡ length (batch_handed old.state head mark))
+        × (out.new.items ≡ out.old.items ++ batch_handed old.state head mark)
+        × ((queue call : ℕ) →
+        step (Some old.state) (Ask old.state.port call (Batch queue (Some head) mark))
+        ≡ hands_out new.state (batch_handed old.state head mark)))) }
+    ensures err { OnErr result (AreSame queues.old queues.new) }
+    ensures out { OnErr result (out.new.items ≡ out.old.items) }
+{
+    let Some(queue) = queues.get_mut(&number) else {
+        unreachable!()
+    };
+    queue.batch(head, mark, out)
+}
+
+/// Sets a bound queue up, as a request that isn't refused asks for. Takes no memory.
+pub(super) fn configure(
+    queues: &mut Queues,
+    number: u16,
+    params: Option<Params>,
+    maxlen: Option<u32>,
+    flags: Option<u32>,
+    mask: Option<u32>,
+)
+    requires allowed { are_flags_refused flags mask ≡ false }
+    requires bound { IsSomeAnd (queue_at queues.old number) (λ q. q.offer ≡ None) }
+    ensures { Changes queues.old queues.new number (λ old new. (new.offer ≡ None)
+        × (new.state ≡ configured params maxlen flags mask old.state)) }
+{
+    let Some(queue) = queues.get_mut(&number) else {
+        unreachable!()
+    };
+    queue.configure(params, maxlen, flags, mask)
+}
+
+/// A device goes down at a bound queue: how many packets were destroyed. Takes no memory.
+pub(super) fn device_down(queues: &mut Queues, number: u16, device: u32) -> u32
+    requires bound { IsSomeAnd (queue_at queues.old number) (λ q. q.offer ≡ None) }
+    ensures { Changes queues.old queues.new number (λ old new. (new.offer ≡ None)
+        × ((step (Some old.state) (DeviceDown device)).state ≡ Some new.state)
+        × ((step (Some old.state) (DeviceDown device)).reply ≡ Flushed result)) }
+{
+    let Some(queue) = queues.get_mut(&number) else {
+        unreachable!()
+    };
+    queue.device_down(device)
+}
+
+/// Takes a bound queue out, with all that waits in it destroyed: how many packets that was. Takes
+/// no memory.
+pub(super) fn take_out(queues: &mut Queues, number: u16) -> u32
+    requires bound { IsSomeAnd (queue_at queues.old number) (λ q. q.offer ≡ None) }
+    ensures gone { queue_at queues.new number ≡ None }
+    ensures others { OthersStay queues.old queues.new number }
+    ensures fewer { btree_map_len queues.new + 1 ≡ btree_map_len queues.old }
+    ensures closed { IsSomeAnd (queue_at queues.old number) (λ old.
+        step (Some old.state) (PortClosed old.state.port)
+        ≡ record { state = None; reply = Flushed result; left = all_gone old.state }) }
+    ensures count { IsSomeAnd (queue_at queues.old number) (λ old.
+        result ≡ length old.state.waiting) }
+{
+    let Some(mut queue) = queues.remove(&number) else {
+        unreachable!()
+    };
+    let destroyed = queue.flush();
+    queue.finish();
+    destroyed
+}
+
+/// Puts a new queue in, in which nothing waits. When memory runs out the queue is gone, and nothing
+/// has changed.
+pub(super) fn put_in(queues: &mut Queues, number: u16, queue: Queue) -> Result<(), NoMemory>
+    requires absent { queue_at queues.old number ≡ None }
+    requires empty { queue.state.waiting ≡ [] }
+    requires no_offer { queue.offer ≡ None }
+    ensures is { OnOk result (queue_at queues.new number ≡ Some queue) }
+    ensures others { OnOk result (OthersStay queues.old queues.new number) }
+    ensures more { OnOk result (btree_map_len queues.new ≡ btree_map_len queues.old + 1) }
+    ensures err { OnErr result (AreSame queues.old queues.new) }
+{
+    match queues.insert(number, queue) {
+        Ok(before) => match before {
+            None => Ok(()),
+            Some(_) => unreachable!(),
+        },
+        Err(failed) => {
+            let (_, queue) = failed.value;
+            queue.finish();
+            Err(NoMemory)
+        }
+    }
+}
+
+/// The first bound queue from this number on, by ascending number.
+pub(super) fn first_from(queues: &Queues, from: u16) -> Option<u16>
+    ensures found { IfSome result (λ n. (from ≤ n) × IsSome (queue_at queues.now n)) }
+    ensures first { IfSome result (λ n. (q : ℕ) → from ≤ q → q < n → queue_at queues.now q ≡ None) }
+    ensures none { IfNone result ((q : ℕ) → from ≤ q → q < queue_count →
+        queue_at queues.now q ≡ None) }
+{
+    match queues.range(from..).next() {
+        Some((number, _)) => Some(*number),
+        None => None,
+    }
+}
+
+/// Ends all queues, with all that waits in them destroyed. Takes no memory.
+pub(super) fn end_all(queues: &mut Queues)
+    requires no_offers { (q : ℕ) → IfSome (queue_at queues.old q) (λ w. w.offer ≡ None) }
+    ensures { queues.new.entries ≡ [] }
+{
+    while let Some((number, _)) = queues.first_key_value() {
+        let number = *number;
+        take_out(queues, number);
+    }
+}
