@@ -8,3 +8,4 @@ pub mod Arriving
 pub mod Handing
 pub mod Requesting
 pub mod Sweeping
+pub mod Here

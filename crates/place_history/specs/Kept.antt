@@ -27,6 +27,10 @@ pub record Kept : Type 0 where
 abbrev pub IsAt : Kept → ℕ → Type 0
 IsAt place queue = queue % place.places ≡ place.number
 
+-- of so many places, entries of the one with this number
+abbrev pub AreHere : ℕ → ℕ → List Entry → Type 0
+AreHere places number es = All (λ (e : Entry). e.queue % places ≡ number) es
+
 -- the state of a queue
 abbrev pub state_of : List Entry → ℕ → Option Bound
 state_of es queue = replay (history queue es)

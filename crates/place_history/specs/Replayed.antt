@@ -1,5 +1,5 @@
 -- The queues of a place beside their entries: each is the replay of its history.
-use Rattle.std.specs.Prelude.{◌≡◌, ◌≤◌, ◌<◌, ◌+◌, ◌-◌, ◌++◌, ℕ, List, [], ◌∷◌, Option, Some, None, false}
+use Rattle.std.specs.Prelude.{◌≡◌, ◌≤◌, ◌<◌, ◌+◌, ◌-◌, ◌%◌, ◌++◌, ℕ, List, [], ◌∷◌, Option, Some, None, false}
 use Rattle.std.specs.Prelude.{length, IfSome, if◌then◌else◌, nat_eq, Bool, true}
 use Rattle.std.specs.BTreeMap.{btree_map_len, is_at}
 use Rattle.std.specs.Ordering.{nat_cmp}
@@ -23,7 +23,7 @@ use Rattle.place_history.specs.declared.place.held.Offer.{Offer}
 use Rattle.place_history.specs.History.{IsStep, AreLegal}
 use Rattle.place_history.specs.Journeys.{Arrival}
 use Rattle.place_history.specs.Kept.{state_of, step_of, waiting_in_all, one_if_bound}
-use Rattle.place_history.specs.Kept.{bound_in_all, entry_of}
+use Rattle.place_history.specs.Kept.{bound_in_all, entry_of, AreHere}
 use Rattle.place_history.specs.Changes.{queue_at}
 use Rattle.place_history.specs.Happenings.{all_handed}
 
@@ -128,3 +128,6 @@ pub record IsPlace (number places : ℕ) (is_left : Bool) (h : Held) : Type 0 wh
   -- where the waiting packets were given up, nothing is held but the entries
   pub given_up : is_left ≡ true → (h.queues.entries ≡ []) × (h.offer ≡ None)
   pub legal : AreLegal h.entries.items
+  -- each entry is of one of the place's queues
+  pub here : AreHere places number h.entries.items
+  pub offer_here : IfSome h.offer (λ o. o.queue % places ≡ number)

@@ -7,7 +7,7 @@ ghost use Rattle.queue_core.specs.declared.event.Event.TheVariants.{Ask};
 ghost use Rattle.queue_core.specs.declared.event.Reply.TheVariants.{Answer};
 ghost use Rattle.place_history.specs.Numbers.{most_places};
 ghost use Rattle.place_history.specs.History.{AreLegal};
-ghost use Rattle.place_history.specs.Kept.{IsAt, step_of, after_event, told, taken_in};
+ghost use Rattle.place_history.specs.Kept.{IsAt, AreHere, step_of, after_event, told, taken_in};
 ghost use Rattle.place_history.specs.Kept.{waiting_in_all};
 ghost use Rattle.place_history.specs.Happenings.{BeginsAs, after_begin, SettlesAs, arrive};
 ghost use Rattle.place_history.specs.Happenings.{queue_of, payload_of, all_handed, closings, downs};
@@ -99,7 +99,7 @@ impl Place {
         requires here { IsAt self.old queue }
         requires visited { 1 ≤ packet.visit }
         requires no_offer { self.old.offer ≡ None }
-        requires open { self.old.is_left ≡ false }
+        requires standing { self.old.is_left ≡ false }
         ensures begun { IfOk result (λ begun. BeginsAs begun
             (record { queue = queue; card = packet; bypass = bypass }) self.old.entries) }
         ensures state { IfOk result (λ begun. self.new ≡ after_begin begun
@@ -126,7 +126,7 @@ impl Place {
     /// Takes no memory.
     pub fn settle(&mut self, room: bool) -> Settled
         requires offered { self.old.offer ≢ None }
-        requires open { self.old.is_left ≡ false }
+        requires standing { self.old.is_left ≡ false }
         ensures settled { IfSome self.old.offer (λ a. SettlesAs result a room self.old.entries) }
         ensures state { IfSome self.old.offer (λ a.
             self.new ≡ after_event self.old a.queue (arrive a room)) }
@@ -149,7 +149,7 @@ impl Place {
         requires here { IsAt self.old (queue_of request) }
         requires payload { IfSome (payload_of request) (λ bytes. length bytes ≤ longest_payload) }
         requires no_offer { self.old.offer ≡ None }
-        requires open { self.old.is_left ≡ false }
+        requires standing { self.old.is_left ≡ false }
         ensures answer { IfOk result (λ errno.
             let step = step_of self.old.entries (queue_of request) (Ask port call request) in
             step.reply ≡ Answer errno (length step.left)) }
@@ -200,7 +200,7 @@ impl Place {
     /// the number stops at 4,294,967,295. Takes no memory.
     pub fn close_port(&mut self, port: u32) -> u32
         requires no_offer { self.old.offer ≡ None }
-        requires open { self.old.is_left ≡ false }
+        requires standing { self.old.is_left ≡ false }
         ensures count { result ≡ told (taken_in (closings port self.old.entries)) }
         ensures state { self.new ≡ with_all self.old (closings port self.old.entries) }
     {
@@ -213,7 +213,7 @@ impl Place {
     /// the place as it was.
     pub fn device_down(&mut self, device: u32) -> Result<u32, NoMemory>
         requires no_offer { self.old.offer ≡ None }
-        requires open { self.old.is_left ≡ false }
+        requires standing { self.old.is_left ≡ false }
         ensures count { IfOk result (λ count.
             count ≡ told (taken_in (downs device self.old.entries))) }
         ensures state { OnOk result (self.new
@@ -231,7 +231,7 @@ impl Place {
     /// longer number stands in full. (/proc/net/netfilter/nfnetlink_queue) `NoMemory` leaves `out`
     /// as it was.
     pub fn listing(&self, alloc: Global, out: &mut Vec<u8>) -> Result<(), NoMemory>
-        requires open { self.now.is_left ≡ false }
+        requires standing { self.now.is_left ≡ false }
         ensures ok { OnOk result (out.new.items
             ≡ out.old.items ++ text.listing self.now.entries) }
         ensures err { OnErr result (out.new.items ≡ out.old.items) }
@@ -241,7 +241,7 @@ impl Place {
 
     /// How many packets wait; the number stops at 4,294,967,295.
     pub fn waiting(&self) -> u32
-        requires open { self.now.is_left ≡ false }
+        requires standing { self.now.is_left ≡ false }
         ensures { result ≡ told (waiting_in_all self.now.entries) }
     {
         at_most_32_bits(self.held.waiting)
@@ -251,6 +251,7 @@ impl Place {
     pub fn entries(&self) -> &[Entry]
         ensures value { result.now ≡ self.now.entries }
         ensures legal { AreLegal self.now.entries }
+        ensures here { AreHere self.now.places self.now.number self.now.entries }
     {
         self.held.entries.as_slice()
     }
@@ -260,7 +261,7 @@ impl Place {
     /// Takes no memory.
     pub fn leave_waiting(&mut self) -> u32
         requires no_offer { self.old.offer ≡ None }
-        requires open { self.old.is_left ≡ false }
+        requires standing { self.old.is_left ≡ false }
         ensures count { result ≡ told (waiting_in_all self.old.entries) }
         ensures state { self.new ≡ record self.old { is_left = true } }
     {
@@ -277,6 +278,7 @@ impl Place {
         requires no_offer { self.offer ≡ None }
         ensures value { result ≡ self.entries }
         ensures legal { AreLegal result }
+        ensures here { AreHere self.places self.number result }
     {
         let Place {
             number: _,
