@@ -1,6 +1,6 @@
 -- Which queues a place's entries are of.
 use Rattle.std.proofs.Common.{◌≡◌, ℕ, List, [], ◌∷◌, ◌++◌, Option, None, Some, Bool, true, false}
-use Rattle.std.proofs.Common.{refl, sym, subst, inl, inr, cond}
+use Rattle.std.proofs.Common.{refl, subst, inl, inr, cond}
 use Rattle.std.specs.Prelude.{flat_map, All, ◌==◌, IfOk, IfSome, OnErr}
 use Rattle.std.specs.declared.result.Result.{Result}
 use Rattle.std.specs.declared.result.Result.TheVariants.{Ok, Err}
@@ -12,7 +12,6 @@ use Rattle.queue_core.specs.declared.offers.NoRoom.{NoRoom}
 use Rattle.queue_core.specs.declared.offers.Begun.{Begun}
 use Rattle.queue_core.specs.declared.offers.Begun.TheVariants as begun
 use Rattle.queue_core.specs.State.{Bound}
-use Rattle.queue_core.specs.declared.event.Event.{Event}
 use Rattle.queue_core.specs.declared.event.Event.TheVariants.{PortClosed, DeviceDown}
 use Rattle.place_history.specs.declared.entry.Entry.{Entry}
 use Rattle.place_history.specs.declared.place.held.Held.{Held}

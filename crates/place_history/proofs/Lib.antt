@@ -9,3 +9,4 @@ pub mod Handing
 pub mod Requesting
 pub mod Sweeping
 pub mod Here
+pub mod Swept

@@ -1,6 +1,6 @@
 -- One entry more, and what the queues of a place are then.
 use Rattle.std.proofs.Common.{◌≡◌, ◌≤◌, ◌<◌, ℕ, suc, zero, ◌+◌, List, [], ◌∷◌, ◌++◌, Option, None}
-use Rattle.std.proofs.Common.{Some, Bool, true, false, refl, sym, ap, ◌∙◌, subst, arith, inl, inr}
+use Rattle.std.proofs.Common.{Some, true, false, refl, sym, ap, ◌∙◌, subst, arith, inl, inr}
 use Rattle.std.proofs.Common.{length}
 use Rattle.std.proofs.lemmas.List.{length_push, length-map}
 use Rattle.std.specs.Prelude.{sum_by, count_by, ◌==◌}
@@ -26,7 +26,7 @@ use Rattle.place_history.specs.Numbers.{queue_count}
 use Rattle.place_history.specs.declared.entry.Entry.{Entry}
 use Rattle.place_history.specs.declared.place.held.Held.{Held}
 use Rattle.queue_core.specs.State.{Bound}
-use Rattle.place_history.specs.History.{replay, history, is_of}
+use Rattle.place_history.specs.History.{replay, history}
 use Rattle.place_history.specs.Kept.{state_of, step_of, waiting_at, one_if_bound, every_number}
 use Rattle.place_history.specs.Kept.{waiting_in_all, taken_by}
 use Rattle.place_history.specs.Replayed.{IsReplayed, IsAhead, held_as, waiting_after}

@@ -1,23 +1,19 @@
 -- A call at one queue makes the step of its event.
-use Rattle.std.proofs.Common.{◌≡◌, ◌≤◌, ◌<◌, ℕ, ◌+◌, Option, None, Some, Bool, true, false, refl}
-use Rattle.std.proofs.Common.{sym, ap, ◌∙◌, subst, arith, length, length-append}
-use Rattle.std.specs.Prelude.{IfSome, ◌==◌, nat_eq, option_map}
-use Rattle.std.specs.BTreeMap.{is_at, btree_map_len}
+use Rattle.std.proofs.Common.{◌≡◌, ◌<◌, ℕ, Option, None, Some, false, refl}
+use Rattle.std.proofs.Common.{sym, ap, ◌∙◌, subst, arith}
+use Rattle.std.specs.Prelude.{IfSome, ◌==◌, option_map}
+use Rattle.std.specs.BTreeMap.{is_at}
 use Rattle.std.specs.Ordering.{nat_cmp}
-use Rattle.packet_entry.specs.declared.packet.Card.{Card}
-use Rattle.queue_core.specs.declared.event.Event.{Event}
-use Rattle.queue_core.specs.declared.event.Event.TheVariants.{Arrive, Ask, PortClosed, DeviceDown}
 use Rattle.queue_core.specs.State.{Bound}
 use Rattle.queue_core.specs.Step.{step}
-use Rattle.queue_core.specs.Laws.{arriving}
 use Rattle.queue_core.specs.WithOffer.{WithOffer}
 use Rattle.place_history.specs.Numbers.{queue_count}
 use Rattle.place_history.specs.declared.entry.Entry.{Entry}
 use Rattle.place_history.specs.declared.place.held.Held.{Held}
 use Rattle.place_history.specs.declared.place.held.Offer.{Offer}
-use Rattle.place_history.specs.History.{IsStep, IsAllowed}
-use Rattle.place_history.specs.Kept.{state_of, one_if_bound}
-use Rattle.place_history.specs.Replayed.{IsReplayed, IsAhead, held_as, offer_at}
+use Rattle.place_history.specs.History.{IsAllowed}
+use Rattle.place_history.specs.Kept.{state_of}
+use Rattle.place_history.specs.Replayed.{IsReplayed, IsAhead, held_as}
 use Rattle.place_history.specs.Changes.{Queues, queue_at, Changes}
 use Rattle.place_history.proofs.Replaying.{not_of}
 

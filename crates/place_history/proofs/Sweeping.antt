@@ -20,7 +20,7 @@ use Rattle.place_history.specs.Happenings.{closing_of, down_of}
 
 -- ---- numbers from one on
 
-range_on : (a n m : ℕ) →
+pub range_on : (a n m : ℕ) →
     range_with_len a (n + m) ≡ range_with_len a n ++ range_with_len (a + n) m
 range_on a zero m =
     let here : a + 0 ≡ a = omega arith in
@@ -67,7 +67,7 @@ flat_next f n =
 
 -- these entries are of one queue
 abbrev pub OnlyAt : ℕ → List Entry → Type 0
-OnlyAt n es = (q : ℕ) → n < q → history q es ≡ []
+OnlyAt n es = (q : ℕ) → (n == q) ≡ false → history q es ≡ []
 
 pub record Sweeps (at : ℕ → List Entry) (before es : List Entry) (from taken : ℕ) : Type 0 where
   pub within : from ≤ queue_count
@@ -99,7 +99,7 @@ sweeps_on at before es new from n taken more is up below gap only appended count
           ∙ append_assoc before (flat_map at (range_with_len 0 from)) (at n)
           ∙ ap (λ xs. before ++ xs) (sym all);
       rest = λ q later. ap (history q) appended ∙ filter-append (is_of q) es (at n)
-          ∙ ap (λ xs. history q es ++ xs) (only q (omega (arith, later)))
+          ∙ ap (λ xs. history q es ++ xs) (only q (ne_eqb n q (λ same. omega (arith, same, later))))
           ∙ append-nil (history q es) ∙ is.rest q (omega (arith, up, later));
       count = omega (
         arith,
@@ -171,9 +171,9 @@ all_swept one before es from taken asks is none =
     (λ q low below. absent_asks one before es from taken q asks is low (none q low below))
 
 -- one entry is of its queue alone
-one_only : (n q : ℕ) (s : Option Bound) (event : Event) → n < q →
+one_only : (n q : ℕ) (s : Option Bound) (event : Event) → (n == q) ≡ false →
     history q (entry_in n s event ∷ []) ≡ []
-one_only n q s event later = rw (ne_eqb n q (λ same. omega (arith, same, later))) refl
+one_only n q s event other = rw other refl
 
 pub closing_asks : (port : ℕ) → AsksAtOne (closing_of port)
 closing_asks port = record {
@@ -187,10 +187,10 @@ closing_asks port = record {
     either false xs q none = refl
 
     only : (n : ℕ) (s : Option Bound) → OnlyAt n (closing_of port n s)
-    only n None = λ q later. refl
-    only n (Some b) = λ q later. either (b.port == port)
+    only n None = λ q other. refl
+    only n (Some b) = λ q other. either (b.port == port)
         (entry_in n (Some b) (PortClosed port) ∷ []) q
-        (one_only n q (Some b) (PortClosed port) later)
+        (one_only n q (Some b) (PortClosed port) other)
 
 pub down_asks : (device : ℕ) → AsksAtOne (down_of device)
 down_asks device = record {
@@ -199,8 +199,8 @@ down_asks device = record {
 }
   where
     only : (n : ℕ) (s : Option Bound) → OnlyAt n (down_of device n s)
-    only n None = λ q later. refl
-    only n (Some b) = λ q later. one_only n q (Some b) (DeviceDown device) later
+    only n None = λ q other. refl
+    only n (Some b) = λ q other. one_only n q (Some b) (DeviceDown device) other
 
 -- ---- how many entries
 

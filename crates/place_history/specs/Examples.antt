@@ -1,5 +1,5 @@
 -- A history written out by hand, to read the definitions against.
-use Rattle.std.specs.Prelude.{ℕ, List, [], ◌∷◌, ◌++◌, Some, None, true, false}
+use Rattle.std.specs.Prelude.{◌≡◌, ℕ, List, [], ◌∷◌, ◌++◌, Some, None, true, false}
 use Rattle.packet_entry.specs.declared.packet.Card.{Card}
 use Rattle.hook_chain.specs.declared.rule.Rule.{Rule}
 use Rattle.hook_chain.specs.declared.rule.Pick.TheVariants.{Number}
@@ -10,6 +10,7 @@ use Rattle.queue_core.specs.declared.event.Event.TheVariants.{Arrive, Ask, PortC
 use Rattle.queue_core.specs.declared.event.Reply.{Reply}
 use Rattle.queue_core.specs.declared.event.Reply.TheVariants.{Arrived, Answer, Flushed}
 use Rattle.place_history.specs.declared.entry.Entry.{Entry}
+use Rattle.place_history.specs.Kept.{Kept, IsAt}
 
 -- the packet with this number, as the first table queues it
 abbrev pub packet : ℕ → Card
@@ -75,3 +76,11 @@ three_packets = entering_packet 1 ∷ entering_packet 2 ∷ entering_packet 3 �
 -- a fourth one that never arrived
 abbrev pub four_packets : List Card
 four_packets = three_packets ++ entering_packet 4 ∷ []
+
+-- ---- a place that is the only one
+
+-- every queue is at it; nothing was begun there, and it goes on
+pub record IsOnly (place : Kept) : Type 0 where
+  pub at : (queue : ℕ) → IsAt place queue
+  pub no_offer : place.offer ≡ None
+  pub standing : place.is_left ≡ false

@@ -1,6 +1,6 @@
 -- The calls of a place, each as steps of its queues.
 use Rattle.std.specs.Prelude.{◌≡◌, ◌++◌, ℕ, List, [], ◌∷◌, Option, Some, None, Bool, true, false}
-use Rattle.std.specs.Prelude.{flat_map, ◌==◌, if◌then◌else◌, length}
+use Rattle.std.specs.Prelude.{flat_map, ◌==◌, if◌then◌else◌}
 use Rattle.packet_entry.specs.declared.packet.Card.{Card}
 use Rattle.packet_entry.specs.declared.letter.Letter.{Letter}
 use Rattle.hook_chain.specs.declared.chain.Decision.{Decision}
@@ -8,8 +8,8 @@ use Rattle.nfqa_msgs.specs.declared.request.Request.{Request}
 use Rattle.nfqa_msgs.specs.declared.request.Request.TheVariants.{Config, Verdict, Batch}
 use Rattle.nfqa_msgs.specs.NoticeWriting.{FitsTold, told_of}
 use Rattle.queue_core.specs.declared.event.Event.{Event}
-use Rattle.queue_core.specs.declared.event.Event.TheVariants.{Arrive, Ask, PortClosed, DeviceDown}
-use Rattle.queue_core.specs.declared.event.Reply.TheVariants.{Arrived, Answer}
+use Rattle.queue_core.specs.declared.event.Event.TheVariants.{Arrive, PortClosed, DeviceDown}
+use Rattle.queue_core.specs.declared.event.Reply.TheVariants.{Arrived}
 use Rattle.queue_core.specs.declared.offers.Outcome.{Outcome}
 use Rattle.queue_core.specs.declared.offers.Outcome.TheVariants.{Taken}
 use Rattle.queue_core.specs.declared.offers.Begun.{Begun}

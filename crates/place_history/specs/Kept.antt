@@ -1,7 +1,7 @@
 -- A place: the entries so far, of which each of its queues is the replay, and an arrival that was
 -- begun and isn't settled yet.
-use Rattle.std.specs.Prelude.{◌≡◌, ◌<◌, ◌%◌, ◌+◌, ℕ, List, [], ◌∷◌, ◌++◌, Option, Some, None, Bool}
-use Rattle.std.specs.Prelude.{sum_by, flat_map, length, min, All}
+use Rattle.std.specs.Prelude.{◌≡◌, ◌%◌, ℕ, List, [], ◌∷◌, ◌++◌, Option, Some, None, Bool}
+use Rattle.std.specs.Prelude.{sum_by, length, min, All}
 use Rattle.std.specs.List.{range_with_len}
 use Rattle.queue_core.specs.declared.event.Event.{Event}
 use Rattle.queue_core.specs.declared.event.Reply.{Reply}

@@ -1,11 +1,17 @@
 //! Laws of the definitions, each the contract of a function that does nothing.
 
-ghost use Rattle.std.specs.Prelude.{◌≡◌, ℕ, ◌+◌, List, [], ◌∷◌, ◌++◌, Bool};
+ghost use Rattle.std.specs.Prelude.{◌≡◌, ◌≢◌, ◌<◌, ◌⊎◌, ℕ, ◌+◌, List, [], ◌∷◌, ◌++◌, Bool, Some};
+ghost use Rattle.std.specs.Prelude.{option_map};
+ghost use Rattle.nfqa_msgs.specs.Numbers.{input_device, output_device};
+ghost use Rattle.queue_core.specs.State.{Bound};
 ghost use Rattle.queue_core.specs.Step.{step};
 ghost use Rattle.queue_core.specs.Laws.{times, waiting_in};
 ghost use Rattle.place_history.specs.declared.entry.Entry.{Entry};
 ghost use Rattle.place_history.specs.History.{replay, history, IsLegal, IsStep, AreLegal};
 ghost use Rattle.place_history.specs.Stays.{arrivals, departures};
+ghost use Rattle.place_history.specs.Numbers.{queue_count};
+ghost use Rattle.place_history.specs.Kept.{state_of, waiting_at};
+ghost use Rattle.place_history.specs.Happenings.{closing_of, closings, down_of, downs};
 
 use queue_core::each_packet_stays_or_leaves;
 
@@ -35,3 +41,23 @@ pub fn each_stay_ends_once()
 {
     each_packet_stays_or_leaves();
 }
+
+/// A closed port's entries are one at each queue that was bound to it, and none elsewhere. Then no
+/// queue is bound to it.
+pub fn a_closed_port_has_no_queues()
+    ensures entries { (port queue : ℕ) (es : List Entry) → queue < queue_count →
+        history queue (closings port es) ≡ closing_of port queue (state_of es queue) }
+    ensures none { (port queue : ℕ) (es : List Entry) → queue < queue_count →
+        option_map (λ (b : Bound). b.port) (state_of (es ++ closings port es) queue)
+        ≢ Some port }
+{}
+
+/// The entries of a device that goes down are one at each bound queue, and none elsewhere. Where it
+/// is one of the two by which every packet comes in and goes out, nothing waits then.
+pub fn a_device_that_goes_down_leaves_nothing_waiting()
+    ensures entries { (device queue : ℕ) (es : List Entry) → queue < queue_count →
+        history queue (downs device es) ≡ down_of device queue (state_of es queue) }
+    ensures none { (device queue : ℕ) (es : List Entry) → queue < queue_count →
+        (device ≡ input_device) ⊎ (device ≡ output_device) →
+        waiting_at (state_of (es ++ downs device es) queue) ≡ 0 }
+{}

@@ -1,4 +1,4 @@
-use Rattle.std.proofs.Common.{refl, ap, ◌∙◌, [], ◌∷◌, ◌++◌, ◌≡◌, ◌≤◌, ◌<◌}
+use Rattle.std.proofs.Common.{ap, ◌∙◌, [], ◌∷◌, ◌++◌, ◌≤◌, ◌<◌}
 use Rattle.packet_entry.specs.Numbers.{last_visit}
 use Rattle.queue_core.specs.Calls.{BeginsArrival}
 use Rattle.queue_core.specs.declared.offers.Begun.TheVariants as begun

@@ -1,6 +1,4 @@
-use Rattle.std.proofs.Common.{◌≡◌, Some, None, refl, sym, ◌∙◌, subst}
-use Rattle.std.specs.Prelude.{IfSome}
-use Rattle.packet_entry.specs.declared.packet.Card.{Card}
+use Rattle.std.proofs.Common.{◌≡◌, Some, refl, sym, ◌∙◌}
 use Rattle.queue_core.specs.Calls.{SettlesArrival}
 use Rattle.queue_core.specs.declared.offers.Settled.TheVariants.{Back}
 use Rattle.place_history.proofs.Stepping.{ahead}

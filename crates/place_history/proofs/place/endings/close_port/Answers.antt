@@ -1,6 +1,5 @@
-use Rattle.std.proofs.Common.{◌≡◌, ◌<◌, ◌+◌, refl, arith}
+use Rattle.std.proofs.Common.{◌<◌, arith}
 use Rattle.place_history.specs.Numbers.{queue_count}
-use Rattle.place_history.specs.Kept.{state_of, told, taken_in}
 use Rattle.place_history.specs.Happenings.{closing_of}
 use Rattle.place_history.proofs.Sweeping.{next_swept, all_swept, closing_asks}
 use Rattle.place_history.proofs.place.endings.close_port.Goals as goal

@@ -1,4 +1,4 @@
-use Rattle.std.proofs.Common.{◌≡◌, ◌<◌, ◌++◌, ℕ, List, [], refl, sym, ap, ◌∙◌, arith, flat_map}
+use Rattle.std.proofs.Common.{◌≡◌, ◌<◌, ◌++◌, ℕ, List, sym, ap, ◌∙◌, arith, flat_map}
 use Rattle.std.specs.List.{range_with_len}
 use Rattle.place_history.specs.Numbers.{queue_count}
 use Rattle.place_history.specs.Kept.{state_of}

@@ -1,7 +1,7 @@
-use Rattle.std.proofs.Common.{◌≡◌, ◌<◌, [], ◌∷◌, Some, refl, sym, ap, ◌∙◌, append-nil}
+use Rattle.std.proofs.Common.{◌<◌, [], ◌∷◌, Some, sym, append-nil}
 use Rattle.nfqa_msgs.specs.declared.request.Request.TheVariants.{Verdict}
 use Rattle.queue_core.specs.Calls.{hands_out}
-use Rattle.queue_core.specs.Step.{step, way_of}
+use Rattle.queue_core.specs.Step.{way_of}
 use Rattle.place_history.specs.Numbers.{queue_count}
 use Rattle.place_history.specs.Happenings.{handed_of}
 use Rattle.place_history.proofs.Stepping.{ahead}

@@ -1,7 +1,5 @@
-use Rattle.std.proofs.Common.{◌≡◌, refl, sym, ap, ◌∙◌, length}
-use Rattle.queue_core.specs.Step.{Stepped, all_gone, ended}
-use Rattle.std.proofs.lemmas.List.{length-map}
-use Rattle.packet_entry.specs.declared.packet.Card.{Card}
+use Rattle.std.proofs.Common.{◌≡◌, refl, sym, ◌∙◌, length}
+use Rattle.queue_core.specs.Step.{ended}
 use Rattle.place_history.proofs.Handing.{none_handed, gone_count}
 use Rattle.place_history.proofs.Requesting.{enters, waiting_held}
 use Rattle.place_history.proofs.place.requests.end.Goals as goal

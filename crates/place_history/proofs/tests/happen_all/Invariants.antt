@@ -1,0 +1,5 @@
+use Rattle.place_history.specs.Examples.{IsOnly}
+use Rattle.place_history.proofs.tests.happen_all.Given as goal
+
+abbrev pub invariant-loop-happens : goal.invariant-loop-happens
+invariant-loop-happens l = IsOnly l.place
