@@ -18,8 +18,8 @@ right_aligned width n = replicate (width - length (decimal n)) blank ++ decimal 
 abbrev pub column : ℕ → ℕ → List ℕ
 column width n = right_aligned width n ++ codes " "
 
--- the line of a queue: its number, its port, how many packets wait, the copy mode and range, the two
--- counts of dropped packets, the id that was used last, and a 1
+-- the line of a queue: its number, its port, how many packets wait, the copy mode and range, the
+-- two counts of dropped packets, the id that was used last, and a 1
 abbrev pub line : ℕ → Bound → List ℕ
 line queue q =
     column 5 queue ++ column 6 q.port ++ column 5 (length q.waiting) ++ column 1 q.mode

@@ -1,5 +1,6 @@
 -- The queues of a place beside their entries: each is the replay of its history.
-use Rattle.std.specs.Prelude.{◌≡◌, ◌≤◌, ◌<◌, ◌+◌, ◌-◌, ◌%◌, ◌++◌, ℕ, List, [], ◌∷◌, Option, Some, None, false}
+use Rattle.std.specs.Prelude.{◌≡◌, ◌≤◌, ◌<◌, ◌+◌, ◌-◌, ◌%◌, ◌++◌, ℕ, List, [], ◌∷◌, Option}
+use Rattle.std.specs.Prelude.{Some, None, false}
 use Rattle.std.specs.Prelude.{length, IfSome, if◌then◌else◌, nat_eq, Bool, true}
 use Rattle.std.specs.BTreeMap.{btree_map_len, is_at}
 use Rattle.std.specs.Ordering.{nat_cmp}

@@ -1,8 +1,8 @@
 //! A place: queues by number, with all that happened at them.
 
-ghost use Rattle.std.specs.Prelude.{◌≡◌, ◌≢◌, ◌≤◌, ◌<◌, ◌%◌, ◌++◌, ◌⊎◌, ◌∷◌, [], None, true, false};
+ghost use Rattle.std.specs.Prelude.{◌≡◌, ◌≢◌, ◌≤◌, ◌<◌, ◌++◌, ◌⊎◌, [], None, true, false};
 ghost use Rattle.std.specs.Prelude.{length, IfSome, IfOk, IfErr, OnOk, OnErr};
-ghost use Rattle.packet_entry.specs.Numbers.{longest_payload, last_visit};
+ghost use Rattle.packet_entry.specs.Numbers.{longest_payload};
 ghost use Rattle.queue_core.specs.declared.event.Event.TheVariants.{Ask};
 ghost use Rattle.queue_core.specs.declared.event.Reply.TheVariants.{Answer};
 ghost use Rattle.place_history.specs.Numbers.{most_places};
@@ -85,10 +85,10 @@ impl Place {
     }
 
     /// Begins the arrival of a packet, which a rule with or without the bypass queued. Where no
-    /// notice is to be offered, the arrival has happened then: its entry is appended, and the packet
-    /// comes back, to be sent on or destroyed as the outcome says. Otherwise the notice is for the
-    /// queue's port, the packet stands offered, and only [`settle`](Place::settle) may follow. When
-    /// memory runs out the packet comes back, and nothing has changed.
+    /// notice is to be offered, the arrival has happened then: its entry is appended, and the
+    /// packet comes back, to be sent on or destroyed as the outcome says. Otherwise the notice is
+    /// for the queue's port, the packet stands offered, and only [`settle`](Place::settle) may
+    /// follow. When memory runs out the packet comes back, and nothing has changed.
     pub fn begin(
         &mut self,
         alloc: Global,
@@ -209,8 +209,8 @@ impl Place {
 
     /// A device goes down: where it is one of the two by which every packet comes in and goes out,
     /// all that waits is destroyed. An entry for each bound queue is appended, by ascending number.
-    /// Answers how many packets were destroyed; the number stops at 4,294,967,295. `NoMemory` leaves
-    /// the place as it was.
+    /// Answers how many packets were destroyed; the number stops at 4,294,967,295. `NoMemory`
+    /// leaves the place as it was.
     pub fn device_down(&mut self, device: u32) -> Result<u32, NoMemory>
         requires no_offer { self.old.offer ≡ None }
         requires standing { self.old.is_left ≡ false }
@@ -257,8 +257,8 @@ impl Place {
     }
 
     /// Gives the waiting packets up, without an entry: how many that were; the number stops at
-    /// 4,294,967,295. It serves closing: then only [`into_entries`](Place::into_entries) may follow.
-    /// Takes no memory.
+    /// 4,294,967,295. It serves closing: then only [`into_entries`](Place::into_entries) may
+    /// follow. Takes no memory.
     pub fn leave_waiting(&mut self) -> u32
         requires no_offer { self.old.offer ≡ None }
         requires standing { self.old.is_left ≡ false }

@@ -295,7 +295,8 @@ counts_in_time (Some q) card bypass room =
     either CountsArrival (q.mode == copy_none) _ _ refl
     (either CountsArrival (is_full q && fails_open q) _ _ refl
     (either CountsArrival (is_full q) _ _ refl
-    (either CountsArrival (not room && fails_open q) _ _ refl (either CountsArrival (not room) _ _ refl refl))))
+    (either CountsArrival (not room && fails_open q) _ _ refl
+    (either CountsArrival (not room) _ _ refl refl))))
 
 counts_unbind : (q : Option Bound) → Counts (unbind q)
 counts_unbind None = refl
@@ -350,7 +351,8 @@ counts_port (Some q) = as_many_gone q
 counts_device : (q : Option Bound) (device : ℕ) → CountsFlush (device_down q device)
 counts_device None device = refl
 counts_device (Some q) device =
-    either CountsFlush ((device == input_device) || (device == output_device)) _ _ (as_many_gone q) refl
+    either CountsFlush ((device == input_device) || (device == output_device)) _ _
+    (as_many_gone q) refl
 
 pub counting : (q : Option Bound) (e : Event) →
     Tells e (step q e).reply (length (step q e).left)

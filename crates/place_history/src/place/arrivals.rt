@@ -1,6 +1,6 @@
 //! Arrivals: the lines of the table that a bound queue doesn't decide, and the entries of all.
 
-ghost use Rattle.std.specs.Prelude.{◌≡◌, ◌≢◌, ◌≤◌, ◌<◌, ◌+◌, ◌++◌, ◌∷◌, [], true, false, Some, None};
+ghost use Rattle.std.specs.Prelude.{◌≡◌, ◌≢◌, ◌≤◌, ◌++◌, ◌∷◌, [], true, None};
 ghost use Rattle.std.specs.Prelude.{IfSome, IfNone, IfOk, IfErr, OnErr, IsSomeAnd};
 ghost use Rattle.packet_entry.specs.Numbers.{last_visit};
 ghost use Rattle.queue_core.specs.declared.event.Event.TheVariants.{Arrive};
@@ -8,7 +8,7 @@ ghost use Rattle.queue_core.specs.declared.event.Reply.TheVariants.{Arrived};
 ghost use Rattle.queue_core.specs.Step.{Way, is_decided_early};
 ghost use Rattle.place_history.specs.Kept.{state_of, step_of, entry_of};
 ghost use Rattle.place_history.specs.Changes.{queue_at};
-ghost use Rattle.place_history.specs.Happenings.{arrive, IsOffered, IsTurnedAway, SettlesAs, BeginsAs};
+ghost use Rattle.place_history.specs.Happenings.{BeginsAs, SettlesAs};
 ghost use Rattle.place_history.specs.Replayed.{IsReplayed, HasRoom, as_arrival, IsBegun};
 
 use super::bound;

@@ -1,8 +1,6 @@
 //! The listing of the bound queues.
 
-ghost use Rattle.std.specs.Prelude.{◌≡◌, ◌≤◌, ◌<◌, ◌++◌, ℕ, IfOk, OnOk, OnErr, IsSome, string_bytes};
-ghost use Rattle.std.specs.Prelude.{option_map};
-ghost use Rattle.place_history.specs.Kept.{state_of};
+ghost use Rattle.std.specs.Prelude.{◌≡◌, ◌++◌, IfOk, OnOk, OnErr, string_bytes, option_map};
 ghost use Rattle.place_history.specs.Listing as text;
 ghost use Rattle.place_history.specs.Replayed.{IsReplayed};
 ghost use Rattle.place_history.specs.Changes.{queue_at};

@@ -1,6 +1,6 @@
 //! What ports ask of queues, carried out and entered.
 
-ghost use Rattle.std.specs.Prelude.{◌≡◌, ℕ, ◌≤◌, ◌<◌, ◌+◌, ◌++◌, ◌∷◌, [], length, Some, None};
+ghost use Rattle.std.specs.Prelude.{◌≡◌, ℕ, ◌≤◌, ◌<◌, ◌++◌, [], length, Some, None};
 ghost use Rattle.std.specs.Prelude.{IfSome, IfOk, OnOk, OnErr, IsSomeAnd, nat_eq, if◌then◌else◌};
 ghost use Rattle.packet_entry.specs.Numbers.{longest_payload};
 ghost use Rattle.nfqa_msgs.specs.Numbers.{enoent};
@@ -10,10 +10,10 @@ ghost use Rattle.queue_core.specs.declared.event.Reply.TheVariants.{Answer};
 ghost use Rattle.queue_core.specs.Calls.{batch_handed, ways_of, hands_out};
 ghost use Rattle.queue_core.specs.Decision.{IsVerdict};
 ghost use Rattle.queue_core.specs.Step.{step, way_of};
-ghost use Rattle.place_history.specs.Kept.{state_of, step_of, entry_of};
+ghost use Rattle.place_history.specs.Kept.{state_of};
 ghost use Rattle.place_history.specs.Changes.{queue_at, Changes, AreSame};
-ghost use Rattle.place_history.specs.Happenings.{queue_of, handed_of, all_handed};
-ghost use Rattle.place_history.specs.declared.place.lines.ConfigLine.TheVariants.{Ends, Binds, SetsUp};
+ghost use Rattle.place_history.specs.Happenings.{handed_of, all_handed};
+ghost use Rattle.place_history.specs.declared.place.lines.ConfigLine.TheVariants as line;
 ghost use Rattle.place_history.specs.Lines.{IsConfigLine, IsAllowed, asked, config_event};
 ghost use Rattle.place_history.specs.Replayed.{IsReplayed, HasRoom, Enters, HandsOut};
 
@@ -126,7 +126,7 @@ fn end(held: &mut Held, asker: Asker, ask: ConfigRequest)
     requires replayed { IsReplayed held.old }
     requires no_offer { held.old.offer ≡ None }
     requires room { HasRoom held.old 1 }
-    requires line { IsConfigLine Ends (state_of held.old.entries.items asker.queue) asker.port
+    requires line { IsConfigLine line.Ends (state_of held.old.entries.items asker.queue) asker.port
         (asked ask) }
     ensures replayed { IsReplayed held.new }
     ensures no_offer { held.new.offer ≡ None }
@@ -142,7 +142,7 @@ fn bind(held: &mut Held, alloc: Global, asker: Asker, ask: ConfigRequest) -> Res
     requires replayed { IsReplayed held.old }
     requires no_offer { held.old.offer ≡ None }
     requires room { HasRoom held.old 2 }
-    requires line { IsConfigLine Binds (state_of held.old.entries.items asker.queue) asker.port
+    requires line { IsConfigLine line.Binds (state_of held.old.entries.items asker.queue) asker.port
         (asked ask) }
     ensures replayed { IsReplayed held.new }
     ensures no_offer { held.new.offer ≡ None }
@@ -163,7 +163,7 @@ fn set_up(held: &mut Held, asker: Asker, ask: ConfigRequest)
     requires replayed { IsReplayed held.old }
     requires no_offer { held.old.offer ≡ None }
     requires room { HasRoom held.old 1 }
-    requires line { IsConfigLine SetsUp (state_of held.old.entries.items asker.queue) asker.port
+    requires line { IsConfigLine line.SetsUp (state_of held.old.entries.items asker.queue) asker.port
         (asked ask) }
     ensures replayed { IsReplayed held.new }
     ensures no_offer { held.new.offer ≡ None }
@@ -356,8 +356,8 @@ fn errno_of(taken: u32) -> u16
     if taken == 0 { ENOENT } else { 0 }
 }
 
-/// Takes a batch's share out of a queue: how many packets that is. They are handed out, or destroyed
-/// where that was decided.
+/// Takes a batch's share out of a queue: how many packets that is. They are handed out, or
+/// destroyed where that was decided.
 fn take_share(
     queues: &mut Queues,
     alloc: Global,

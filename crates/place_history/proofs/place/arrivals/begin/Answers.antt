@@ -39,10 +39,11 @@ returns-in-Ok-Back-clause-after c =
     let changes : Changes c.args.held.now.queues c.begin.new.queues c.args.arrival.queue
     (λ old new. BeginsArrival (begun.Back c.in-Ok-Back.outcome c.in-Ok-Back.packet)
     c.args.arrival.queue c.args.packet old new)
-    = rw c.in-Ok-Back.field-0-is at c.in-Ok-Back.ensures.begun in (
+    = rw c.in-Ok-Back.field-0-is at c.in-Ok-Back.ensures.begun in
+    let told = tells_back c.args.held.now c.begin.new.queues c.args.arrival c.args.packet
+    c.in-Ok-Back.outcome c.in-Ok-Back.packet c.requires.replayed c.requires.same
+    c.in_default.ensures.in_time changes in (
       c.append.ensures.entries ∙ ap (λ e. c.args.held.now.entries.items ++ e ∷ [])
-          (c.arrived-in-Ok-Back.ensures ∙ (tells_back c.args.held.now c.begin.new.queues c.args.arrival
-          c.args.packet c.in-Ok-Back.outcome c.in-Ok-Back.packet c.requires.replayed c.requires.same
-          c.in_default.ensures.in_time changes).entry),
+          (c.arrived-in-Ok-Back.ensures ∙ told.entry),
       c.append.ensures.no_offer,
     )

@@ -46,7 +46,8 @@ returns-in-None-clause-entered c =
       handed = [];
       entered = served_enters c.args.held.now c.append.new.held c.verdict.ensures.before
           c.verdict.ensures.after c.args.asker request [] c.requires.replayed c.verdict.ensures.was
-          (asked_step c.args.held.now c.args.asker c.verdict.ensures.before c.requires.allowed.0 request
+          (asked_step c.args.held.now c.args.asker c.verdict.ensures.before
+          c.requires.allowed.0 request
           (hands_out c.verdict.ensures.after.state [])
           c.requires.replayed c.verdict.ensures.was c.requires.allowed.1 c.requires.allowed.2
           (by.1 c.args.asker.queue c.args.asker.call)) appended;
@@ -62,11 +63,14 @@ returns-in-Some-clause-entered c =
     rw c.requires.request (record {
       handed = _;
       entered = served_enters c.args.held.now c.append-in-Some.new.held c.verdict.ensures.before
-          c.verdict.ensures.after c.args.asker request ((c.in-Some.packet, c.in-Some.decision) ∷ []) c.requires.replayed
+          c.verdict.ensures.after c.args.asker request
+          ((c.in-Some.packet, c.in-Some.decision) ∷ []) c.requires.replayed
           c.verdict.ensures.was
-          (asked_step c.args.held.now c.args.asker c.verdict.ensures.before c.requires.allowed.0 request
+          (asked_step c.args.held.now c.args.asker c.verdict.ensures.before
+          c.requires.allowed.0 request
           (hands_out c.verdict.ensures.after.state ((c.in-Some.packet, c.in-Some.decision) ∷ []))
           c.requires.replayed c.verdict.ensures.was c.requires.allowed.1 c.requires.allowed.2
           (by.1 c.args.asker.queue c.args.asker.call)) appended;
-      appended = rw (append-nil (handed_of (c.in-Some.packet, way_of c.in-Some.decision))) c.hand_on.ensures;
+      appended = rw (append-nil (handed_of (c.in-Some.packet, way_of c.in-Some.decision)))
+          c.hand_on.ensures;
     })
