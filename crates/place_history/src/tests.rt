@@ -424,18 +424,32 @@ fn an_unbound_queue_is_bound_anew(rt: HostRuntime) -> Result<(), Fail> {
 #[test]
 fn the_33rd_visit_is_turned_away(rt: HostRuntime) -> Result<(), Fail> {
     let alloc = rt.alloc();
-    for (visits, outcome) in [(32, Outcome::NoQueue), (33, Outcome::Loop)] {
+    // Whether the queue is bound, and which visit it is.
+    let rows = [
+        (false, 32, Outcome::NoQueue),
+        (true, 32, Outcome::CopyNone),
+        (false, 33, Outcome::Loop),
+        (true, 33, Outcome::Loop),
+    ];
+    for (is_bound, visits, outcome) in rows {
         let mut place = only(alloc);
+        let bound = if is_bound {
+            happen(&mut place, alloc, 1, Happens::Asks(7, 0, Words::Bind))
+        } else {
+            Ok(())
+        };
         let came = arrive(&mut place, alloc, (0, 1, false, true), visits);
         let entries = ended(place);
+        bound?;
         assert_eq!(rt; came?, outcome);
-        assert_eq!(rt; entries.get(0).map(|e| e.reply), Some(arrived(outcome)));
-        if let Some(entry) = entries.get(0) {
-            let Event::Arrive { card, bypass, room } = &entry.event else {
-                return Err(Fail::new("no arrival"));
-            };
-            assert_eq!(rt; (card.visit, *bypass, *room), (visits, false, true));
-        }
+        let Some(entry) = entries.get(is_bound as usize) else {
+            return Err(Fail::new("no entry"));
+        };
+        assert_eq!(rt; entry.reply, arrived(outcome));
+        let Event::Arrive { card, bypass, room } = &entry.event else {
+            return Err(Fail::new("no arrival"));
+        };
+        assert_eq!(rt; (card.visit, *bypass, *room), (visits, false, true));
     }
     Ok(())
 }
