@@ -25,7 +25,7 @@ id_for n id_word.This = n.id
 id_for n (id_word.Number id) = id
 
 abbrev pub head_for : Notice → ℕ → IdWord → Option Head
-head_for n verdict id = Some (record { verdict = verdict; id = id_for n id; })
+head_for n verdict id = Some (record { verdict = verdict; id = id_for n id })
 
 -- each `this` is replaced, and all else stays
 abbrev pub asked : Notice → Template → Ask

@@ -1,5 +1,5 @@
 -- What a port's block asks for: when the port opens, in answer to a notice, and at the end.
-use Rattle.std.specs.Prelude.{ℕ, Bool, List, [], ◌∷◌, ◌++◌, map, find, if◌then◌else◌}
+use Rattle.std.specs.Prelude.{ℕ, Bool, List, [], ◌∷◌, ◌++◌, map, find, Option, if◌then◌else◌}
 use Rattle.std.specs.List.{list_all}
 use Rattle.std.specs.Option.{option_map_or}
 use Rattle.nfqa_msgs.specs.declared.notice.Notice.{Notice}
@@ -26,9 +26,13 @@ holds_all received n line = list_all (holds received n) line.conditions
 abbrev pub asks_of : Notice → OnLine → List Ask
 asks_of n line = map (asked n) line.asks
 
--- the first of the lines whose conditions all hold answers; where there is none, nothing is asked for
+-- the first of the lines whose conditions all hold
+abbrev pub line_for : ℕ → Notice → List OnLine → Option OnLine
+line_for received n lines = find (holds_all received n) lines
+
+-- that line answers; where there is none, nothing is asked for
 abbrev pub answer_by : ℕ → Notice → List OnLine → List Ask
-answer_by received n lines = option_map_or (asks_of n) (find (holds_all received n) lines) []
+answer_by received n lines = option_map_or (asks_of n) (line_for received n lines) []
 
 abbrev pub answer : ℕ → Notice → Block → List Ask
 answer received n b = answer_by received n b.lines

@@ -1,6 +1,6 @@
 -- A script, and the inspector of one of its ports.
 use Rattle.std.specs.Prelude.{◌≡◌, ◌≢◌, ℕ, ◌+◌, ◌≤◌, min, List, [], length, All, AllPairs}
-use Rattle.std.specs.Prelude.{IfSome, slice_get, if◌then◌else◌}
+use Rattle.std.specs.Prelude.{IfSome, None, slice_get, if◌then◌else◌}
 use Rattle.std.specs.Option.{option_map_or}
 use Rattle.nfqa_msgs.specs.declared.notice.Notice.{Notice}
 use Rattle.nfqa_msgs.specs.declared.request.Request.{Request}
@@ -116,6 +116,11 @@ opening s place = at_port s place block.opening
 -- what is asked for in answer to the port's `received`-th notice
 abbrev pub answer : ScriptValue → ℕ → ℕ → Notice → List Ask
 answer s place received n = at_port s place (block.answer received n)
+
+-- no line of the port's block answers its `received`-th notice
+abbrev pub IsUnanswered : ScriptValue → ℕ → ℕ → Notice → Type 0
+IsUnanswered s place received n =
+    IfSome (slice_get s.blocks place) (λ b. block.line_for received n b.lines ≡ None)
 
 -- what is asked for at the end
 abbrev pub closing : ScriptValue → ℕ → List Ask

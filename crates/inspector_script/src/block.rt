@@ -1,8 +1,8 @@
 //! What a script says of one port.
 
-ghost use Rattle.std.specs.Prelude.{◌≡◌, ◌++◌, map, find, option_copied, IfOk, OnOk};
+ghost use Rattle.std.specs.Prelude.{◌≡◌, ◌++◌, map, option_copied, None, IfOk, IsOk};
 ghost use Rattle.inspector_script.specs.Asking.{asked};
-ghost use Rattle.inspector_script.specs.Blocks.{answer, closing, holds_all, opening};
+ghost use Rattle.inspector_script.specs.Blocks.{answer, closing, holds_all, line_for, opening};
 
 use crate::ask::{Ask, Asks, put_words};
 use crate::condition::Condition;
@@ -63,7 +63,8 @@ impl Block {
         received: u32,
         notice: &Notice,
     ) -> Result<Asks, NoMemory>
-        ensures { IfOk result (λ asks. asks ≡ answer received notice.now self.now) }
+        ensures asks { IfOk result (λ asks. asks ≡ answer received notice.now self.now) }
+        ensures unanswered { line_for received notice.now self.now.lines ≡ None → IsOk result }
     {
         match self.line_for(received, notice) {
             None => Ok(Asks::new(alloc)),
@@ -73,11 +74,9 @@ impl Block {
 
     /// The first line whose conditions all hold. Takes no memory.
     fn line_for(&self, received: u32, notice: &Notice) -> Option<&OnLine>
-        ensures { option_copied result ≡ find (holds_all received notice.now) self.now.lines }
+        ensures { option_copied result ≡ line_for received notice.now self.now.lines }
     {
-        self.lines
-            .iter()
-            .find(|line| line.holds(received, notice))
+        self.lines.iter().find(|line| line.holds(received, notice))
     }
 }
 
@@ -95,10 +94,10 @@ impl OnLine {
     fn answer(&self, alloc: Global, notice: &Notice) -> Result<Asks, NoMemory>
         ensures { IfOk result (λ asks. asks ≡ map (asked notice.now) self.now.asks) }
     {
-        let mut asks = Vec::new(alloc);
+        let mut filled = Vec::new(alloc);
         for template in &self.asks {
-            asks.push(template.ask(notice)?)?;
+            filled.push(template.ask(notice)?)?;
         }
-        Ok(Asks::from_vec(asks))
+        Ok(Asks::from_vec(filled))
     }
 }

@@ -1,7 +1,8 @@
 //! The inspector of one port.
 
-ghost use Rattle.std.specs.Prelude.{◌≡◌, ◌<◌, length, All, IfOk, OnOk, OnErr};
-ghost use Rattle.inspector_script.specs.Scripts.{IsAsk, answer, closing, next_count, opening};
+ghost use Rattle.std.specs.Prelude.{◌≡◌, ◌<◌, length, All, IfOk, IsOk, OnOk, OnErr};
+ghost use Rattle.inspector_script.specs.Scripts.{IsAsk, IsUnanswered, answer, closing, next_count};
+ghost use Rattle.inspector_script.specs.Scripts.{opening};
 
 use crate::ask::Asks;
 use crate::script::Script;
@@ -68,6 +69,9 @@ impl PortMachine {
         ensures asks { IfOk result (λ asks.
             asks ≡ answer script.now self.old.place (next_count self.old.received) notice.now) }
         ensures fit { IfOk result (All IsAsk) }
+        // Where no line answers, no memory is taken.
+        ensures unanswered { IsUnanswered script.now self.old.place (next_count self.old.received) notice.now →
+            IsOk result }
         ensures counted { OnOk result
             (self.new ≡ record self.old { received = next_count self.old.received }) }
         ensures err { OnErr result (self.new ≡ self.old) }

@@ -74,7 +74,9 @@ pub(crate) enum Template {
         mark: Option<u32>,
     },
     /// `raw`: the bytes of a datagram.
-    Raw { bytes: Bytes },
+    Raw {
+        bytes: Bytes,
+    },
 }
 
 impl Template {
@@ -135,7 +137,7 @@ impl Template {
 }
 
 fn head(verdict: u32, id: u32) -> Head
-    ensures { result ≡ record { verdict = verdict; id = id; } }
+    ensures { result ≡ record { verdict = verdict; id = id } }
 {
     Head { verdict, id }
 }

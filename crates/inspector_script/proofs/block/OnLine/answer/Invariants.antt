@@ -5,5 +5,5 @@ use Rattle.inspector_script.proofs.block.OnLine.answer.Given as goal
 -- those that are there and those to come are all
 abbrev pub invariant-loop-template : goal.invariant-loop-template
 invariant-loop-template l =
-    l.asks.items ++ map (asked l.fn.notice) l.template-iterator
+    l.filled.items ++ map (asked l.fn.notice) l.template-iterator
     ≡ map (asked l.fn.notice) l.fn.self.asks
