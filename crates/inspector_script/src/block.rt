@@ -1,0 +1,103 @@
+//! What a script says of one port.
+
+ghost use Rattle.std.specs.Prelude.{◌≡◌, ◌++◌, map, option_copied, None, IfOk, IsOk};
+ghost use Rattle.inspector_script.specs.Asking.{asked};
+ghost use Rattle.inspector_script.specs.Blocks.{answer, closing, holds_all, line_for, opening};
+
+use crate::ask::{Ask, Asks, put_words};
+use crate::condition::Condition;
+use crate::template::Template;
+use nfqa_msgs::Notice;
+use packet_entry::{NoMemory, Sequence};
+use place_history::AskWords;
+use std::alloc::Global;
+
+/// An `on` line.
+#[derive(Debug, Drop)]
+pub(crate) struct OnLine {
+    /// The line answers where they all hold.
+    pub(crate) conditions: Sequence<Condition>,
+    /// What it asks for.
+    pub(crate) asks: Sequence<Template>,
+}
+
+/// What a script says of one port.
+#[derive(Debug, Drop)]
+pub(crate) struct Block {
+    /// What the `open` lines ask for.
+    pub(crate) opening: Sequence<AskWords>,
+    /// The `on` lines.
+    pub(crate) lines: Sequence<OnLine>,
+    /// What the `end` lines ask for, but for `end close`.
+    pub(crate) closing: Sequence<AskWords>,
+    /// Whether the last of the `end` lines is `end close`.
+    pub(crate) closes: bool,
+}
+
+impl Block {
+    /// What is asked for when the port opens.
+    pub(crate) fn opening(&self, alloc: Global) -> Result<Asks, NoMemory>
+        ensures { IfOk result (λ asks. asks ≡ opening self.now) }
+    {
+        let mut asks = Vec::new(alloc);
+        put_words(&mut asks, &self.opening)?;
+        Ok(Asks::from_vec(asks))
+    }
+
+    /// What is asked for at the end.
+    pub(crate) fn closing(&self, alloc: Global) -> Result<Asks, NoMemory>
+        ensures { IfOk result (λ asks. asks ≡ closing self.now) }
+    {
+        let mut asks = Vec::new(alloc);
+        put_words(&mut asks, &self.closing)?;
+        if self.closes {
+            asks.push(Ask::Close)?;
+        }
+        Ok(Asks::from_vec(asks))
+    }
+
+    /// What is asked for in answer to this notice, up to which the port has received so many.
+    pub(crate) fn answer(
+        &self,
+        alloc: Global,
+        received: u32,
+        notice: &Notice,
+    ) -> Result<Asks, NoMemory>
+        ensures asks { IfOk result (λ asks. asks ≡ answer received notice.now self.now) }
+        ensures unanswered { line_for received notice.now self.now.lines ≡ None → IsOk result }
+    {
+        match self.line_for(received, notice) {
+            None => Ok(Asks::new(alloc)),
+            Some(line) => line.answer(alloc, notice),
+        }
+    }
+
+    /// The first line whose conditions all hold. Takes no memory.
+    fn line_for(&self, received: u32, notice: &Notice) -> Option<&OnLine>
+        ensures { option_copied result ≡ line_for received notice.now self.now.lines }
+    {
+        self.lines.iter().find(|line| line.holds(received, notice))
+    }
+}
+
+impl OnLine {
+    /// Whether its conditions all hold.
+    fn holds(&self, received: u32, notice: &Notice) -> bool
+        ensures { result ≡ holds_all received notice.now self.now }
+    {
+        self.conditions
+            .iter()
+            .all(|condition| condition.holds(received, notice))
+    }
+
+    /// What it asks for in answer to this notice.
+    fn answer(&self, alloc: Global, notice: &Notice) -> Result<Asks, NoMemory>
+        ensures { IfOk result (λ asks. asks ≡ map (asked notice.now) self.now.asks) }
+    {
+        let mut filled = Vec::new(alloc);
+        for template in &self.asks {
+            filled.push(template.ask(notice)?)?;
+        }
+        Ok(Asks::from_vec(filled))
+    }
+}

@@ -1,0 +1,23 @@
+//! How the inspector behind each port behaves, as a script says: what it asks when its port opens,
+//! how it answers each notice, and what it asks at the end.
+//!
+//! A [`Script`] has a block for each port. A [`PortMachine`] is the inspector of one of them: it
+//! counts the notices that its port received, and answers each by the first `on` line of the block
+//! whose conditions all hold.
+#![tactic(auto)]
+
+mod ask;
+mod block;
+mod condition;
+mod laws;
+mod machine;
+mod script;
+mod template;
+
+pub use ask::{Ask, Asks};
+pub use laws::{nobody_answers_where_no_line_holds, the_first_line_that_holds_answers};
+pub use machine::PortMachine;
+pub use script::{Down, Downs, Script};
+
+#[cfg(test)]
+mod tests;
