@@ -7,11 +7,13 @@
 #![tactic(auto)]
 
 mod fault;
+mod hexadecimal;
 mod line;
 mod number;
 mod word;
 
 pub use fault::LineFault;
+pub use hexadecimal::{bytes_are_spelled, hexadecimal_bytes};
 pub use line::{are_printable, first_said, next_line};
 pub use number::{decimal, decimal_8, decimal_16, wide};
 pub use word::{are_digits, cut, is_blank, is_end, is_word, next_word, rest_after};
