@@ -9,7 +9,9 @@ ghost use Rattle.hook_chain.specs.Line.{said, says, says_by};
 
 use crate::rule::Rule;
 use crate::rule_line::rule;
-use text_lines::{are_digits, are_printable, cut, first_said, is_end, is_word, next_word, rest_after};
+use text_lines::{
+    are_digits, are_printable, cut, first_said, is_end, is_word, next_word, rest_after,
+};
 
 /// The most bytes of a name. For a table's it is `XT_TABLE_MAXNAMELEN` of the kernel's x_tables.h,
 /// less the zero byte at the end; for a chain's it is this project's own limit.

@@ -185,9 +185,9 @@ is_spelled most word bytes e =
           subst (IsSpelled most word) same
           (record { spelled = word_is; few = omega arith; are_bytes = λ i. omega arith })
       | inr h ↦ elim (chosen (are_pairs most word) _ None (Some bytes) h.1) [
-            | inl g ↦ pairs_spell most word bytes g.0 (decoded_some (decode_of word) bytes g.1)
-            | inr g ↦ absurd (no_bytes bytes g.1)
-          ]
+        | inl g ↦ pairs_spell most word bytes g.0 (decoded_some (decode_of word) bytes g.1)
+        | inr g ↦ absurd (no_bytes bytes g.1)
+      ]
     ]
 
 spelling_pairs : (most : ℕ) (b : ℕ) (bs : List ℕ) → length (b ∷ bs) ≤ most → IsBytes (b ∷ bs) →

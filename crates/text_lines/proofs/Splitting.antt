@@ -49,7 +49,7 @@ filter-later (y ∷ ys) h =
     sym (ap (λ parts. filter (λ w. not (eqb (length w) 0)) parts)
     (slice_split-cons_yes is_blank y ys (h (omega arith))))
 
-first_of_rest : (n : ℕ) (xs : List ℕ) → (n < length xs → is_blank (get_or xs n 0) ≡ true) →
+pub first_of_rest : (n : ℕ) (xs : List ℕ) → (n < length xs → is_blank (get_or xs n 0) ≡ true) →
     0 < length (drop n xs) → is_blank (get_or (drop n xs) 0 0) ≡ true
 first_of_rest zero xs at h = at h
 first_of_rest (suc n) [] at h = absurd (omega arith)
@@ -76,7 +76,7 @@ words_of-word n xs before at some le =
     ∙ filter_word n xs (later_parts is_blank (drop n xs)) some le
     ∙ ap (λ ws. take n xs ∷ ws) (filter-later (drop n xs) later)
 
-split_some : (p : ℕ → Bool) (ys : List ℕ) →
+pub split_some : (p : ℕ → Bool) (ys : List ℕ) →
     (part : List ℕ) × (parts : List (List ℕ)) × (slice_split p ys ≡ part ∷ parts)
 split_some p [] = ([], [], refl)
 split_some p (y ∷ ys) =

@@ -1,7 +1,7 @@
 -- The bytes of a line, and its words. Bytes are ASCII codes.
 use Prim.Native.String.{String}
 use Rattle.std.specs.Prelude.{ℕ, ◌≡◌, ◌⊎◌, ◌||◌, ◌&&◌, ◌==◌, not, nat_le, Bool, List, [], ◌∷◌}
-use Rattle.std.specs.Prelude.{◌++◌, length}
+use Rattle.std.specs.Prelude.{◌++◌, ◌-◌, ◌<◌, ◌≤◌, true, length, drop}
 use Rattle.std.specs.Prelude.{slice_index, filter, Option, Some, None, bytes_eq, codes, option_map}
 use Rattle.std.specs.Prelude.{if◌then◌else◌}
 use Rattle.std.specs.List.{list_all, slice_split}
@@ -50,6 +50,13 @@ abbrev pub first_word : List (List ℕ) → Option (List ℕ × List (List ℕ))
 first_word [] = None
 first_word (w ∷ ws) = Some (w, ws)
 
+-- what is left of a line behind a word: its end from some place on, which is empty or begins with a
+-- blank
+pub record IsAtWordEnd (line rest : List ℕ) : Type 0 where
+  pub no_longer : length rest ≤ length line
+  pub end : rest ≡ drop (length line - length rest) line
+  pub apart : 0 < length rest → is_blank (slice_index rest 0) ≡ true
+
 -- the same of a line that says something; a line that is empty or begins with `#` says nothing
 abbrev pub first_said : List (List ℕ) → Option (List ℕ × List (List ℕ))
 first_said [] = None
@@ -71,3 +78,10 @@ abbrev pub cut_at : ℕ → List ℕ → Option (List ℕ × List ℕ)
 cut_at c [] = None
 cut_at c (b ∷ bs) =
     if b == c then Some ([], bs) else option_map (λ parts. (b ∷ parts.0, parts.1)) (cut_at c bs)
+
+-- the words before the first of these words, and those after it
+abbrev pub cut_at_word : List ℕ → List (List ℕ) → Option (List (List ℕ) × List (List ℕ))
+cut_at_word word [] = None
+cut_at_word word (w ∷ ws) =
+    if bytes_eq w word then Some ([], ws)
+    else option_map (λ parts. (w ∷ parts.0, parts.1)) (cut_at_word word ws)

@@ -1,13 +1,13 @@
 //! The words of a line.
 
 ghost use Rattle.std.specs.Prelude.{◌≡◌, bytes_eq, ℕ, ◌<◌, ◌≤◌, ◌==◌, true, false, length};
-ghost use Rattle.std.specs.Prelude.{slice_index, IfSome, option_map};
+ghost use Rattle.std.specs.Prelude.{slice_index, IfSome, option_map, ◌-◌, drop};
 ghost use Rattle.std.specs.List.{list_all};
-ghost use Rattle.text_lines.specs.Words.{are_digits, cut_at, first_word, is_blank, is_digit};
-ghost use Rattle.text_lines.specs.Words.{words_after, words_of};
+ghost use Rattle.text_lines.specs.Words.{IsAtWordEnd, are_digits, cut_at, cut_at_word, first_word};
+ghost use Rattle.text_lines.specs.Words.{is_blank, is_digit, words_after, words_of};
 
 /// A space or a tab.
-pub fn is_blank(byte: u8) -> bool
+fn is_blank(byte: u8) -> bool
     ensures { result ≡ is_blank byte }
 {
     byte == b' ' || byte == b'\t'
@@ -18,6 +18,7 @@ pub fn next_word(line: &[u8]) -> Option<(&[u8], &[u8])>
     ensures word { option_map (λ x. (x.0.now, words_of x.1.now)) result
         ≡ first_word (words_of line.now) }
     ensures shorter { IfSome result (λ x. length x.1.now < length line.now) }
+    ensures rest { IfSome result (λ x. IsAtWordEnd line.now x.1.now) }
 {
     let line = after_blanks(line);
     if line.is_empty() {
@@ -30,6 +31,7 @@ fn after_blanks(line: &[u8]) -> &[u8]
     ensures words { words_of result.now ≡ words_of line.now }
     ensures no_blank { 0 < length result.now → is_blank (slice_index result.now 0) ≡ false }
     ensures no_longer { length result.now ≤ length line.now }
+    ensures end { result.now ≡ drop (length line.now - length result.now) line.now }
 {
     &line[blanks(line)..]
 }
@@ -97,6 +99,22 @@ pub fn cut(word: &[u8], mark: u8) -> Option<(&[u8], &[u8])>
         if *byte == mark {
             return Some((&word[..at], &word[at + 1..]));
         }
+    }
+    None
+}
+
+/// The parts of a line round the first word that is this one, or `None` where there is none.
+pub fn cut_at_word<'a>(line: &'a [u8], word: &[u8]) -> Option<(&'a [u8], &'a [u8])>
+    ensures words { option_map (λ x. (words_of x.0.now, words_of x.1.now)) result
+        ≡ cut_at_word word.now (words_of line.now) }
+    ensures shorter { IfSome result (λ x. length x.1.now < length line.now) }
+{
+    let mut rest = line;
+    while let Some((first, later)) = next_word(rest) {
+        if is_word(first, word) {
+            return Some((&line[..line.len() - rest.len()], later));
+        }
+        rest = later;
     }
     None
 }

@@ -1,5 +1,6 @@
 use Rattle.std.proofs.Common.{◌≡◌, ◌<◌, length, ap, sym, refl, arith}
 use Rattle.text_lines.proofs.Splitting.{words_of-empty, words_of-word}
+use Rattle.text_lines.proofs.Cutting.{is_word_end}
 use Rattle.text_lines.specs.Words.{first_word}
 use Rattle.text_lines.proofs.word.next_word.Goals as goal
 
@@ -20,3 +21,9 @@ returns-clause-word c =
     (ap first_word
     (sym (words_of-word n line c.word_length.ensures.before c.word_length.ensures.at first
     c.word_length.ensures.within)))
+
+pub returns-clause-rest : goal.returns-clause-rest
+returns-clause-rest c =
+    is_word_end c.args.line.now c.after_blanks-line.result.now c.split_at.result.1.now
+    c.word_length.result c.after_blanks-line.ensures.no_longer c.after_blanks-line.ensures.end
+    c.split_at.ensures.back c.word_length.ensures.within c.word_length.ensures.at
