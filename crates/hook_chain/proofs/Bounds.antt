@@ -9,14 +9,14 @@ use Rattle.std.specs.Str.Lines.{lines}
 use Rattle.std.proofs.lemmas.Bool.{ltb-true, and_parts, or_parts, true≢false, true_from_ne_false}
 use Rattle.std.proofs.lemmas.List.Elements.{All-nil, All-push}
 use Rattle.hook_chain.specs.declared.rule.Rule.{Rule}
-use Rattle.hook_chain.specs.Words.{◌>>=◌}
+use Rattle.text_lines.specs.Words.{◌>>=◌}
 use Rattle.hook_chain.specs.Numbers.{most_tables, most_rules}
 use Rattle.hook_chain.specs.Rules.{IsPick, IsTable}
 use Rattle.hook_chain.specs.Line.{Says, Nothing, Opens, Policy, Adds, Closes, says}
 use Rattle.std.proofs.lemmas.Option.{none-some, same_Some}
-use Rattle.hook_chain.specs.declared.fault.LineFault.{LineFault}
-use Rattle.hook_chain.specs.declared.fault.LineFault.TheVariants.{Bad}
-use Rattle.hook_chain.specs.declared.fault.LineFault.TheVariants as fault
+use Rattle.text_lines.specs.declared.fault.LineFault.{LineFault}
+use Rattle.text_lines.specs.declared.fault.LineFault.TheVariants.{Bad}
+use Rattle.text_lines.specs.declared.fault.LineFault.TheVariants as fault
 use Rattle.hook_chain.specs.declared.reading.Stop.{Stop}
 use Rattle.hook_chain.specs.declared.reading.Stop.TheVariants.{Refused, NoMemory}
 use Rattle.hook_chain.specs.Reading.{IsSound, Moves, fault_of, opens, opens_table, takes_memory}

@@ -13,10 +13,10 @@ use Rattle.std.proofs.lemmas.List.Folds.{list_any_at}
 use Rattle.std.proofs.lemmas.List.Quantifiers.{all_pairs_push}
 use Rattle.std.proofs.lemmas.Option.{cond_some, same_Some}
 use Rattle.hook_chain.specs.declared.rule.Rule.{Rule}
-use Rattle.hook_chain.specs.declared.fault.LineFault.{LineFault}
-use Rattle.hook_chain.specs.declared.fault.LineFault.TheVariants.{Bad}
+use Rattle.text_lines.specs.declared.fault.LineFault.{LineFault}
+use Rattle.text_lines.specs.declared.fault.LineFault.TheVariants.{Bad}
 use Rattle.hook_chain.specs.Numbers.{most_tables, most_rules}
-use Rattle.hook_chain.specs.Words.{◌>>=◌, words_of}
+use Rattle.text_lines.specs.Words.{◌>>=◌, words_of}
 use Rattle.hook_chain.specs.Line.{Says, Nothing, Opens, Policy, Adds, Closes}
 use Rattle.hook_chain.specs.Rules.{IsTable}
 use Rattle.hook_chain.specs.Reading.{IsSound}

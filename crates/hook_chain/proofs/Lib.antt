@@ -1,7 +1,6 @@
 pub mod Blocks
 pub mod BlocksFound
 pub mod Bounds
-pub mod Digits
 pub mod FileForm
 pub mod Leads
 pub mod LineForm
@@ -12,5 +11,4 @@ pub mod Picks
 pub mod Rotation
 pub mod RuleForm
 pub mod RuleLineForm
-pub mod Splitting
 pub mod TableLines

@@ -1,5 +1,5 @@
 -- A line says exactly what the grammar has for it.
-use Rattle.std.proofs.Common.{◌≡◌, ℕ, true, false, cond, ◌&&◌, inl, inr, List, [], ◌∷◌, ◌++◌}
+use Rattle.std.proofs.Common.{◌≡◌, ℕ, Bool, true, false, cond, ◌&&◌, inl, inr, List, [], ◌∷◌, ◌++◌}
 use Rattle.std.proofs.Common.{length, drop, get_or, eqb, Option, Some, None, ◌∙◌, refl, sym, ap}
 use Rattle.std.proofs.Common.{subst, arith}
 use Rattle.std.specs.Prelude.{option_map, bytes_eq, codes}
@@ -8,7 +8,7 @@ use Rattle.std.specs.Option.{option_map_or}
 use Rattle.std.proofs.lemmas.Option.{cond_some, same_Some}
 use Rattle.std.proofs.lemmas.Bool.{and_parts, eqb-true, false≢true}
 use Rattle.hook_chain.specs.declared.rule.Rule.{Rule}
-use Rattle.hook_chain.specs.Words.{byte, first_word, words_after, is_printable, words_of}
+use Rattle.text_lines.specs.Words.{byte, first_said, first_word, words_after, is_printable, words_of}
 use Rattle.hook_chain.specs.RuleLine.{rule_of}
 use Rattle.hook_chain.specs.Line.{Says, Nothing, Opens, Policy, Adds, Closes, is_table_name}
 use Rattle.hook_chain.specs.Line.{is_chain_name, is_counters, opening, policy, says_by, says}
@@ -89,29 +89,44 @@ commit_form word words said e =
     subst (IsForm (word ∷ words)) parts.1
     (rw (same_word word (codes "COMMIT") tests.0, none_left words tests.1) refl)
 
-form_some : (words : List (List ℕ)) (said : Says) →
-    option_map_or (λ w. says_by w.0 w.1) (first_word words) (Some Nothing) ≡ Some said →
-    IsForm words said
+by_form : (word : List ℕ) (words : List (List ℕ)) (said : Says) → says_by word words ≡ Some said →
+    IsForm (word ∷ words) said
 unfolding says_by
-form_some [] said e = subst (IsForm []) (same_Some Nothing said e) (inl refl)
-form_some (word ∷ words) said e =
-    elim (chosen (eqb (get_or word 0 0) (byte "#")) (Some Nothing) _ (Some said) e) [
-      | inl h ↦ subst (IsForm (word ∷ words)) (same_Some Nothing said h.1)
-          (inr (drop 1 word, words, ap (λ w. w ∷ words) (byte_and_rest (byte "#") word refl h.0)))
-      | inr h ↦ elim (chosen (eqb (get_or word 0 0) (byte "*")) (opening (drop 1 word) words) _
-          (Some said) h.1) [
-            | inl g ↦ opening_some word words said (byte_and_rest (byte "*") word refl g.0) g.1
-            | inr g ↦ elim (chosen (eqb (get_or word 0 0) (byte ":")) (policy (drop 1 word) words) _
-                (Some said) g.1) [
-                  | inl f ↦ policy_some word words said (byte_and_rest (byte ":") word refl f.0) f.1
-                  | inr f ↦ elim (chosen (bytes_eq word (codes "-A"))
-                      (option_map Adds (rule_of words)) _ (Some said) f.1) [
-                        | inl d ↦ rule_form word words said (same_word word (codes "-A") d.0) d.1
-                        | inr d ↦ commit_form word words said d.1
-                      ]
+by_form word words said e =
+    elim (chosen (eqb (get_or word 0 0) (byte "*")) (opening (drop 1 word) words) _
+    (Some said) e) [
+      | inl g ↦ opening_some word words said (byte_and_rest (byte "*") word refl g.0) g.1
+      | inr g ↦ elim (chosen (eqb (get_or word 0 0) (byte ":")) (policy (drop 1 word) words) _
+          (Some said) g.1) [
+            | inl f ↦ policy_some word words said (byte_and_rest (byte ":") word refl f.0) f.1
+            | inr f ↦ elim (chosen (bytes_eq word (codes "-A"))
+                (option_map Adds (rule_of words)) _ (Some said) f.1) [
+                  | inl d ↦ rule_form word words said (same_word word (codes "-A") d.0) d.1
+                  | inr d ↦ commit_form word words said d.1
                 ]
           ]
     ]
+
+-- what a line says by its first word, where it isn't passed over
+by_said : Option (List ℕ × List (List ℕ)) → Option Says
+by_said o = option_map_or (λ w. says_by w.0 w.1) o (Some Nothing)
+
+form_by_first : (word : List ℕ) (words : List (List ℕ)) (said : Says) (is : Bool) →
+    eqb (get_or word 0 0) (byte "#") ≡ is →
+    by_said (cond is None (Some (word, words))) ≡ Some said → IsForm (word ∷ words) said
+unfolding by_said
+form_by_first word words said true is e =
+    subst (IsForm (word ∷ words)) (same_Some Nothing said e)
+    (inr (drop 1 word, words, ap (λ w. w ∷ words) (byte_and_rest (byte "#") word refl is)))
+form_by_first word words said false is e = by_form word words said e
+
+form_some : (words : List (List ℕ)) (said : Says) →
+    option_map_or (λ w. says_by w.0 w.1) (first_said words) (Some Nothing) ≡ Some said →
+    IsForm words said
+unfolding by_said
+form_some [] said e = subst (IsForm []) (same_Some Nothing said e) (inl refl)
+form_some (word ∷ words) said e =
+    form_by_first word words said (eqb (get_or word 0 0) (byte "#")) refl e
 
 -- what a line says is its form in the grammar
 pub says_some : (line : List ℕ) (said : Says) → says line ≡ Some said → IsLine line said
@@ -123,7 +138,7 @@ says_some line said e =
     ]
 
 form_again : (words : List (List ℕ)) (said : Says) → IsForm words said →
-    option_map_or (λ w. says_by w.0 w.1) (first_word words) (Some Nothing) ≡ Some said
+    option_map_or (λ w. says_by w.0 w.1) (first_said words) (Some Nothing) ≡ Some said
 unfolding says_by opening policy
 form_again words Nothing (inl e) = rw e refl
 form_again words Nothing (inr e) = rw e.2 refl

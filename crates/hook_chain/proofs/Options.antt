@@ -3,7 +3,7 @@ use Rattle.std.proofs.Common.{◌≡◌, ℕ, Bool, true, false, not, ◌&&◌, 
 use Rattle.std.proofs.Common.{None, refl, ap}
 use Rattle.std.specs.Prelude.{bytes_eq, codes}
 use Rattle.hook_chain.specs.declared.rule.Pick.{Pick}
-use Rattle.hook_chain.specs.Words.{◌>>=◌, first_word}
+use Rattle.text_lines.specs.Words.{◌>>=◌, first_word}
 use Rattle.hook_chain.specs.RuleLine.{options_after, pick_of}
 
 -- the words whose first word is known

@@ -9,9 +9,9 @@ use Rattle.std.specs.Option.{option_map_or}
 use Rattle.hook_chain.specs.declared.rule.Rule.{Rule}
 use Rattle.hook_chain.specs.declared.rule.Pick.{Pick}
 use Rattle.hook_chain.specs.declared.rule.Pick.TheVariants.{Number, Balance}
-use Rattle.hook_chain.specs.Words.{◌>>=◌, byte, first_word, words_after, cut_at, words_of}
-use Rattle.hook_chain.specs.Words.{is_printable}
-use Rattle.hook_chain.specs.Digits.{below, decimal, decimal_below}
+use Rattle.text_lines.specs.Words.{◌>>=◌, byte, first_word, words_after, cut_at, words_of}
+use Rattle.text_lines.specs.Words.{first_said, is_printable}
+use Rattle.text_lines.specs.Digits.{below, decimal, decimal_below}
 use Rattle.hook_chain.specs.Numbers.{most_queues}
 use Rattle.hook_chain.specs.Rules.{IsPick}
 use Rattle.hook_chain.specs.RuleLine.{range_of, pick_of, options_after, rule_of, protocol_match}
@@ -137,15 +137,14 @@ policy_if name words =
 says_by_if : (word : List ℕ) (words : List (List ℕ)) → IfSome (says_by word words) SaysPick
 unfolding says_by
 says_by_if word words =
-    cond_if (slice_index word 0 == byte "#") (Some Nothing) _ SaysPick (λ e. tt)
-    (λ e. cond_if (slice_index word 0 == byte "*") (opening (drop 1 word) words) _ SaysPick
+    cond_if (slice_index word 0 == byte "*") (opening (drop 1 word) words) _ SaysPick
     (λ f. opening_if (drop 1 word) words)
     (λ f. cond_if (slice_index word 0 == byte ":") (policy (drop 1 word) words) _ SaysPick
     (λ g. policy_if (drop 1 word) words)
     (λ g. cond_if (bytes_eq word (codes "-A")) (option_map Adds (rule_of words)) _ SaysPick
     (λ h. adds_if (rule_of words) (rule_if words))
     (λ h. cond_if (bytes_eq word (codes "COMMIT") && (length words == 0)) (Some Closes) None
-    SaysPick (λ k. tt) (λ k. tt)))))
+    SaysPick (λ k. tt) (λ k. tt))))
 
 first_if : (o : Option (List ℕ × List (List ℕ))) →
     IfSome (option_map_or (λ w. says_by w.0 w.1) o (Some Nothing)) SaysPick
@@ -156,4 +155,4 @@ pub says_if : (line : List ℕ) → IfSome (says line) SaysPick
 unfolding says
 says_if line =
     cond_if (list_all is_printable line) _ None SaysPick
-    (λ e. first_if (first_word (words_of line))) (λ e. tt)
+    (λ e. first_if (first_said (words_of line))) (λ e. tt)

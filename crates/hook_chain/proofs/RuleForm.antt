@@ -6,7 +6,7 @@ use Rattle.std.specs.Option.{option_map_or}
 use Rattle.std.proofs.lemmas.Option.{cond_some, same_Some}
 use Rattle.std.proofs.lemmas.Slice.Eq.{bytes_eq-Decides}
 use Rattle.hook_chain.specs.declared.rule.MarkTest.{MarkTest}
-use Rattle.hook_chain.specs.Words.{◌>>=◌, first_word, words_after}
+use Rattle.text_lines.specs.Words.{◌>>=◌, first_word, words_after}
 use Rattle.hook_chain.specs.RuleLine.{protocol_of, protocol_match, value_and_mask, mark_match}
 use Rattle.hook_chain.specs.Grammar.{IsProtocolMatch, negation, IsMarkMatch}
 

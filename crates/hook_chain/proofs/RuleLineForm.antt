@@ -5,7 +5,7 @@ use Rattle.std.specs.Prelude.{codes}
 use Rattle.std.proofs.lemmas.Option.{same_Some}
 use Rattle.hook_chain.specs.declared.rule.Rule.{Rule}
 use Rattle.hook_chain.specs.declared.rule.MarkTest.{MarkTest}
-use Rattle.hook_chain.specs.Words.{◌>>=◌, words_after}
+use Rattle.text_lines.specs.Words.{◌>>=◌, words_after}
 use Rattle.hook_chain.specs.RuleLine.{options_after, rule_of, protocol_match, value_and_mask}
 use Rattle.hook_chain.specs.RuleLine.{mark_match}
 use Rattle.hook_chain.specs.Grammar.{IsProtocolMatch, negation, IsMarkMatch, IsRuleLine}

@@ -9,8 +9,8 @@ use Rattle.std.proofs.lemmas.Bool.{false≢true}
 use Rattle.std.proofs.lemmas.List.Elements.{All-same, All-contains}
 use Rattle.std.proofs.lemmas.List.Folds.{Any-from_list_any}
 use Rattle.hook_chain.specs.declared.rule.Rule.{Rule}
-use Rattle.hook_chain.specs.declared.fault.LineFault.{LineFault}
-use Rattle.hook_chain.specs.declared.fault.LineFault.TheVariants.{Bad, NoMemory}
+use Rattle.text_lines.specs.declared.fault.LineFault.{LineFault}
+use Rattle.text_lines.specs.declared.fault.LineFault.TheVariants.{Bad, NoMemory}
 use Rattle.hook_chain.specs.Line.{Says, Nothing, Opens, Policy, Adds, Closes, says}
 use Rattle.hook_chain.specs.Reading.{opens, opens_table}
 use Rattle.hook_chain.specs.RulesFile.{Answers, tables_of}

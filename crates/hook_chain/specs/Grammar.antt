@@ -10,7 +10,7 @@ use Rattle.hook_chain.specs.declared.rule.MarkTest.{MarkTest}
 use Rattle.hook_chain.specs.declared.rule.Pick.{Pick}
 use Rattle.hook_chain.specs.declared.rule.Pick.TheVariants.{Number}
 use Rattle.hook_chain.specs.Numbers.{most_tables, most_rules}
-use Rattle.hook_chain.specs.Words.{is_printable, words_of}
+use Rattle.text_lines.specs.Words.{IsPassedOver, is_printable, words_of}
 use Rattle.hook_chain.specs.RuleLine.{protocol_of, value_and_mask, pick_of}
 use Rattle.hook_chain.specs.Line.{Says, Nothing, Opens, Policy, Adds, Closes, is_table_name}
 use Rattle.hook_chain.specs.Line.{is_chain_name, is_counters}
@@ -62,9 +62,7 @@ pub record IsRuleLine (words : List (List ℕ)) (r : Rule) : Type 0 where
 -- An empty line or a comment; *NAME; :NAME ACCEPT [N:N], where the brackets are written; a rule;
 -- COMMIT.
 abbrev pub IsForm : List (List ℕ) → Says → Type 0
-IsForm words Nothing =
-    (words ≡ []) ⊎ ((comment : List ℕ) × (more : List (List ℕ))
-    × (words ≡ (codes "#" ++ comment) ∷ more))
+IsForm words Nothing = IsPassedOver words
 IsForm words (Opens name) = (words ≡ (codes "*" ++ name) ∷ []) × (is_table_name name ≡ true)
 IsForm words Policy =
     (chain : List ℕ) × (counters : List ℕ)

@@ -1,5 +1,4 @@
 pub mod Balance
-pub mod Digits
 pub mod Grammar
 pub mod Line
 pub mod Numbers
@@ -8,4 +7,3 @@ pub mod Route
 pub mod RuleLine
 pub mod Rules
 pub mod RulesFile
-pub mod Words

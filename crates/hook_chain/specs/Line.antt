@@ -7,8 +7,8 @@ use Rattle.std.specs.Option.{option_map_or}
 use Rattle.hook_chain.specs.declared.rule.Rule.{Rule}
 use Rattle.hook_chain.specs.declared.line.Line.{Line}
 use Rattle.hook_chain.specs.declared.line.Line.TheVariants as read
-use Rattle.hook_chain.specs.Words.{◌>>=◌, byte, is_printable, is_digit, is_lower, is_upper}
-use Rattle.hook_chain.specs.Words.{words_of, first_word, words_after, cut_at}
+use Rattle.text_lines.specs.Words.{◌>>=◌, byte, is_printable, is_digit, is_lower, is_upper}
+use Rattle.text_lines.specs.Words.{are_digits, words_of, first_word, first_said, words_after, cut_at}
 use Rattle.hook_chain.specs.Numbers.{longest_name}
 use Rattle.hook_chain.specs.RuleLine.{rule_of}
 
@@ -37,10 +37,6 @@ is_table_name name = has_name_length name && list_all is_table_byte name
 abbrev pub is_chain_name : List ℕ → Bool
 is_chain_name name = has_name_length name && list_all is_letter name
 
--- one digit or more
-abbrev pub are_digits : List ℕ → Bool
-are_digits word = nat_le 1 (length word) && list_all is_digit word
-
 -- [N:N]
 unfoldable pub is_counters : List ℕ → Bool
 is_counters word =
@@ -64,8 +60,7 @@ policy name words = do
 -- a line by its first word, and the words after it
 unfoldable pub says_by : List ℕ → List (List ℕ) → Option Says
 says_by word words =
-    if slice_index word 0 == byte "#" then Some Nothing
-    else if slice_index word 0 == byte "*" then opening (drop 1 word) words
+    if slice_index word 0 == byte "*" then opening (drop 1 word) words
     else if slice_index word 0 == byte ":" then policy (drop 1 word) words
     else if bytes_eq word (codes "-A") then option_map Adds (rule_of words)
     else if bytes_eq word (codes "COMMIT") && (length words == 0) then Some Closes
@@ -75,7 +70,7 @@ says_by word words =
 unfoldable pub says : List ℕ → Option Says
 says line =
     if list_all is_printable line
-    then option_map_or (λ w. says_by w.0 w.1) (first_word (words_of line)) (Some Nothing)
+    then option_map_or (λ w. says_by w.0 w.1) (first_said (words_of line)) (Some Nothing)
     else None
 
 -- a line as the reader has it, which points into the text

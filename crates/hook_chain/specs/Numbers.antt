@@ -9,13 +9,6 @@ most_tables = 16
 abbrev pub most_rules : ℕ
 most_rules = 1000
 
--- the bytes that have no sign (ASCII): the horizontal tab, and LF, which ends a line
-abbrev pub tab : ℕ
-tab = 9
-
-abbrev pub line_feed : ℕ
-line_feed = 10
-
 -- the most bytes of a name: of a table's it is XT_TABLE_MAXNAMELEN of the kernel's x_tables.h, 32,
 -- less the zero byte at the end; for a chain's it is this project's own limit
 abbrev pub longest_name : ℕ
@@ -41,17 +34,6 @@ ipv6_icmp = 58
 -- the mask of a mark test that names none: all 32 bits (iptables-extensions(8), mark)
 abbrev pub all_bits : ℕ
 all_bits = 0xffffffff
-
--- the radix of numbers without a prefix, and of those with `0x`
-abbrev pub decimal_radix : ℕ
-decimal_radix = 10
-
-abbrev pub hexadecimal_radix : ℕ
-hexadecimal_radix = 16
-
--- what the digits `a` and `A` stand for
-abbrev pub first_letter_digit : ℕ
-first_letter_digit = 10
 
 -- JHASH_INITVAL of the kernel's jhash.h
 abbrev pub hash_start : ℕ

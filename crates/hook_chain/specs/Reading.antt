@@ -5,9 +5,9 @@ use Rattle.std.specs.Option.{option_map_or}
 use Rattle.hook_chain.specs.declared.reading.Reader.{Reader}
 use Rattle.hook_chain.specs.declared.reading.Stop.{Stop}
 use Rattle.hook_chain.specs.declared.reading.Stop.TheVariants.{Refused, NoMemory}
-use Rattle.hook_chain.specs.declared.fault.LineFault.{LineFault}
-use Rattle.hook_chain.specs.declared.fault.LineFault.TheVariants.{Bad}
-use Rattle.hook_chain.specs.declared.fault.LineFault.TheVariants as fault
+use Rattle.text_lines.specs.declared.fault.LineFault.{LineFault}
+use Rattle.text_lines.specs.declared.fault.LineFault.TheVariants.{Bad}
+use Rattle.text_lines.specs.declared.fault.LineFault.TheVariants as fault
 use Rattle.hook_chain.specs.Rules.{IsTable, AreTables}
 use Rattle.hook_chain.specs.Numbers.{most_tables}
 use Rattle.hook_chain.specs.Line.{Says, Nothing, Opens, Policy, Adds, Closes, says}

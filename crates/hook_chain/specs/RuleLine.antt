@@ -8,9 +8,9 @@ use Rattle.hook_chain.specs.declared.rule.Rule.{Rule}
 use Rattle.hook_chain.specs.declared.rule.MarkTest.{MarkTest}
 use Rattle.hook_chain.specs.declared.rule.Pick.{Pick}
 use Rattle.hook_chain.specs.declared.rule.Pick.TheVariants.{Number, Balance}
-use Rattle.hook_chain.specs.Words.{◌>>=◌, byte, first_word, words_after, cut_at}
+use Rattle.text_lines.specs.Words.{◌>>=◌, byte, first_word, words_after, cut_at}
 use Rattle.hook_chain.specs.Numbers.{tcp, udp, icmp, ipv6_icmp, all_bits, most_queues}
-use Rattle.hook_chain.specs.Digits.{decimal_below, wide}
+use Rattle.text_lines.specs.Digits.{decimal_below, wide}
 
 -- a protocol by its name or its number
 unfoldable pub protocol_of : List ℕ → Option ℕ

@@ -7,10 +7,10 @@ use Rattle.std.specs.List.{list_any}
 use Rattle.std.specs.Option.{option_map_or}
 use Rattle.std.specs.Str.Lines.{lines}
 use Rattle.hook_chain.specs.declared.rule.Rule.{Rule}
-use Rattle.hook_chain.specs.declared.fault.LineFault.{LineFault}
-use Rattle.hook_chain.specs.declared.fault.LineFault.TheVariants.{Bad, NoMemory}
+use Rattle.text_lines.specs.declared.fault.LineFault.{LineFault}
+use Rattle.text_lines.specs.declared.fault.LineFault.TheVariants.{Bad, NoMemory}
 use Rattle.hook_chain.specs.Numbers.{most_tables, most_rules}
-use Rattle.hook_chain.specs.Words.{◌>>=◌}
+use Rattle.text_lines.specs.Words.{◌>>=◌}
 use Rattle.hook_chain.specs.Line.{Says, Nothing, Opens, Policy, Adds, Closes, says}
 
 -- Where a reader stands: the names of the tables that were opened, the tables that were closed, and

@@ -7,24 +7,21 @@
 #![tactic(auto)]
 
 mod chain;
-mod fault;
 mod flow;
 mod laws;
 mod line;
-mod number;
 mod reading;
 mod rule;
 mod rule_line;
 mod tables;
-mod word;
 
 pub use chain::{Decision, Next, onward, route};
-pub use fault::LineFault;
 pub use flow::balance;
 pub use laws::{one_refused_line, one_value, value_or_refused_line};
 pub use reading::read_tables;
 pub use rule::{MarkTest, Pick, Rule};
 pub use tables::Tables;
+pub use text_lines::LineFault;
 
 #[cfg(test)]
 mod tests;

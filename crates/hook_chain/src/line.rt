@@ -2,14 +2,16 @@
 
 ghost use Rattle.std.specs.Prelude.{◌≡◌, option_map};
 ghost use Rattle.std.specs.List.{list_all};
-ghost use Rattle.hook_chain.specs.Words.{is_digit, is_printable, words_of};
-ghost use Rattle.hook_chain.specs.Line.{are_digits, has_name_length, is_chain_name, is_counters};
+ghost use Rattle.text_lines.specs.Words.{words_of};
+ghost use Rattle.hook_chain.specs.Line.{has_name_length, is_chain_name, is_counters};
 ghost use Rattle.hook_chain.specs.Line.{is_letter, is_table_byte, is_table_name, opening, policy};
 ghost use Rattle.hook_chain.specs.Line.{said, says, says_by};
 
 use crate::rule::Rule;
 use crate::rule_line::rule;
-use crate::word::{cut, is_end, is_word, next_word, rest_after};
+use text_lines::{
+    are_digits, are_printable, cut, first_said, is_end, is_word, next_word, rest_after,
+};
 
 /// The most bytes of a name. For a table's it is `XT_TABLE_MAXNAMELEN` of the kernel's x_tables.h,
 /// less the zero byte at the end; for a chain's it is this project's own limit.
@@ -38,7 +40,7 @@ pub(crate) fn read_line(text: &[u8]) -> Option<Line<'_>>
     if !are_printable(text) {
         return None;
     }
-    match next_word(text) {
+    match first_said(text) {
         None => Some(Line::Nothing),
         Some((word, rest)) => by_first_word(word, rest),
     }
@@ -50,7 +52,6 @@ fn by_first_word<'a>(word: &'a [u8], rest: &[u8]) -> Option<Line<'a>>
     ensures { option_map said result ≡ says_by word.now (words_of rest.now) }
 {
     match word {
-        [b'#', ..] => Some(Line::Nothing),
         [b'*', name @ ..] => opening(name, rest),
         [b':', name @ ..] => policy(name, rest),
         _ if is_word(word, b"-A") => Some(Line::Adds { rule: rule(rest)? }),
@@ -83,19 +84,6 @@ fn policy<'a>(name: &'a [u8], rest: &[u8]) -> Option<Line<'a>>
     } else {
         None
     }
-}
-
-fn are_printable(text: &[u8]) -> bool
-    ensures { result ≡ list_all is_printable text.now }
-{
-    text.iter().all(|byte| is_printable(*byte))
-}
-
-/// Printable ASCII, or a tab.
-fn is_printable(byte: u8) -> bool
-    ensures { result ≡ is_printable byte }
-{
-    byte == b'\t' || (byte >= b' ' && byte <= b'~')
 }
 
 fn is_table_name(name: &[u8]) -> bool
@@ -152,22 +140,4 @@ fn is_counters(word: &[u8]) -> bool
         },
         _ => false,
     }
-}
-
-fn are_digits(word: &[u8]) -> bool
-    ensures { result ≡ are_digits word.now }
-{
-    !word.is_empty() && all_digits(word)
-}
-
-fn all_digits(word: &[u8]) -> bool
-    ensures { result ≡ list_all is_digit word.now }
-{
-    word.iter().all(|byte| is_digit(*byte))
-}
-
-fn is_digit(byte: u8) -> bool
-    ensures { result ≡ is_digit byte }
-{
-    matches!(byte, b'0'..=b'9')
 }

@@ -14,12 +14,11 @@ ghost use Rattle.hook_chain.specs.RulesFile.{tables_from, tables_of};
 ghost use Rattle.hook_chain.specs.Reading.{IsSound, Moves, fault_of, opens_table, place_of};
 ghost use Rattle.hook_chain.specs.Reading.{takes_memory};
 
-use crate::fault::LineFault;
 use crate::line::{Line, read_line};
 use crate::rule::Rule;
 use crate::tables::{Table, Tables};
-use crate::word::{is_word, next_line};
 use std::alloc::{AllocError, AllocFailed, Global};
+use text_lines::{LineFault, is_word, next_line};
 
 /// The most tables of a rules file, of this reader.
 const MAX_TABLES: usize = 16;

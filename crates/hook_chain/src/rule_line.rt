@@ -1,13 +1,12 @@
 //! A rule by the words of its line: `-A FORWARD MATCHES -j NFQUEUE OPTIONS`.
 
 ghost use Rattle.std.specs.Prelude.{◌≡◌, false, option_map};
-ghost use Rattle.hook_chain.specs.Words.{words_of};
+ghost use Rattle.text_lines.specs.Words.{words_of};
 ghost use Rattle.hook_chain.specs.RuleLine.{mark_match, options_after, pick_of, protocol_match};
 ghost use Rattle.hook_chain.specs.RuleLine.{protocol_of, range_of, rule_of, value_and_mask};
 
-use crate::number::{decimal_8, decimal_16, wide};
 use crate::rule::{MarkTest, Pick, Rule};
-use crate::word::{cut, is_word, next_word, rest_after};
+use text_lines::{cut, decimal_8, decimal_16, is_word, next_word, rest_after, wide};
 
 /// Protocol number of `icmp` (IANA's Assigned Internet Protocol Numbers).
 const ICMP: u8 = 1;

@@ -1,7 +1,7 @@
 use Rattle.std.proofs.Common.{◌≡◌, false, not, ◌&&◌, Some, None, ◌∙◌, refl, sym, arith}
 use Rattle.std.specs.Prelude.{bytes_eq, codes}
 use Rattle.std.proofs.lemmas.Bool.{and_left, and_right, not_from_true}
-use Rattle.hook_chain.specs.Words.{◌>>=◌, words_of}
+use Rattle.text_lines.specs.Words.{◌>>=◌, words_of}
 use Rattle.hook_chain.specs.RuleLine.{options_after, pick_of}
 use Rattle.hook_chain.proofs.Options.{options_after-bypass, options_after-pick}
 use Rattle.hook_chain.proofs.rule_line.options.Goals as goal

@@ -1,5 +1,5 @@
 use Rattle.std.proofs.Common.{◌≡◌, length}
-use Rattle.hook_chain.specs.Words.{words_of}
+use Rattle.text_lines.specs.Words.{words_of}
 use Rattle.hook_chain.specs.RuleLine.{options_after}
 use Rattle.hook_chain.proofs.rule_line.options.Given as goal
 

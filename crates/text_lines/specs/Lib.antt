@@ -1,0 +1,4 @@
+pub mod Digits
+pub mod Hexadecimal
+pub mod Numbers
+pub mod Words
