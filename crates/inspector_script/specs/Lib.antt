@@ -3,4 +3,3 @@ pub mod Conditions
 pub mod Asking
 pub mod Blocks
 pub mod Scripts
-pub mod Held

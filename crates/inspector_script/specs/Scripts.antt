@@ -35,6 +35,19 @@ pub record ScriptValue : Type 0 where
   -- the block of each port, in the same order
   pub blocks : List Block
 
+-- the script of these parts
+abbrev pub script_of : ℕ → ℕ → ℕ → List Down → List ℕ → List Block → ScriptValue
+script_of mail pace key downs ports blocks = record {
+  mail = mail;
+  pace = pace;
+  key = key;
+  downs = downs;
+  ports = ports;
+  blocks = blocks;
+}
+
+-- ---- what each script keeps
+
 -- a payload isn't too long
 abbrev pub IsPayload : List ℕ → Type 0
 IsPayload bytes = length bytes ≤ most_payload_bytes
@@ -81,7 +94,6 @@ pub record IsBlock (b : Block) : Type 0 where
   pub on_lines : All IsOnLine b.lines
   pub closing_asks : All IsWords b.closing
 
--- what each script keeps
 pub record IsScript (s : ScriptValue) : Type 0 where
   pub least_mail : 1 ≤ s.mail
   pub mail : s.mail ≤ largest_mail

@@ -32,19 +32,18 @@ pub struct Script {
 }
 
 impl Model for Script {
-    ghost use Rattle.inspector_script.specs.Scripts.{IsScript, ScriptValue};
-    ghost use Rattle.inspector_script.specs.Held.{held};
+    ghost use Rattle.inspector_script.specs.Scripts.{IsScript, ScriptValue, script_of};
 
     ghost Value = { ScriptValue };
 
-    ghost view = { λ s. held s.mail s.pace s.key s.downs s.ports.items s.blocks.items };
+    ghost view = { λ s. script_of s.mail s.pace s.key s.downs s.ports.items s.blocks.items };
 
     ghost invariant = { λ s.
-        IsScript (held s.mail s.pace s.key s.downs s.ports.items s.blocks.items) };
+        IsScript (script_of s.mail s.pace s.key s.downs s.ports.items s.blocks.items) };
 }
 
 impl Script {
-    ghost use Rattle.inspector_script.specs.Held.{held};
+    ghost use Rattle.inspector_script.specs.Scripts.{script_of};
 
     /// The script of these parts, each port with the block at its place.
     pub(crate) fn new(
@@ -55,8 +54,8 @@ impl Script {
         ports: Vec<u32>,
         blocks: Vec<Block>,
     ) -> Script
-        requires { IsScript (held mail pace key downs ports.items blocks.items) }
-        ensures { result ≡ held mail pace key downs ports.items blocks.items }
+        requires { IsScript (script_of mail pace key downs ports.items blocks.items) }
+        ensures { result ≡ script_of mail pace key downs ports.items blocks.items }
     {
         Script {
             mail,
@@ -99,7 +98,8 @@ impl Script {
 
     /// The ports, in the script's order.
     pub fn ports(&self) -> &[u32]
-        ensures { result.now ≡ self.now.ports }
+        ensures value { result.now ≡ self.now.ports }
+        ensures facts { IsScript self.now }
     {
         self.ports.as_slice()
     }

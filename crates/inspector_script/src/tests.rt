@@ -361,63 +361,32 @@ fn opening_block(alloc: Global) -> Result<Block, NoMemory>
     })
 }
 
-/// A block with no lines.
-fn empty_block(alloc: Global) -> Block
-    ensures { IsBlock result }
+/// What port 7 asks for when it opens.
+fn opened(alloc: Global, script: &Script) -> Result<String, Fail>
+    requires { length script.now.ports ≡ 1 }
 {
-    Block {
-        opening: Sequence::new(alloc),
-        lines: Sequence::new(alloc),
-        closing: Sequence::new(alloc),
-        closes: false,
-    }
+    let asks = PortMachine::new(0).opening(alloc, script)?;
+    all_said(alloc, &asks)
 }
 
-/// The script of the ports 7, whose block has no lines, and 8.
-fn two_ports(alloc: Global) -> Result<Script, NoMemory>
-    ensures { IfOk result (λ s. length s.ports ≡ 2) }
+/// What port 7 asks for at the end.
+fn ended(alloc: Global, script: &Script) -> Result<String, Fail>
+    requires { length script.now.ports ≡ 1 }
 {
-    let ports = Vec::from_array(alloc, [7, 8])?;
-    let blocks = Vec::from_array(alloc, [empty_block(alloc), opening_block(alloc)?])?;
-    let downs = list(
-        alloc,
-        [Down {
-            device: 1,
-            after: 20,
-        }],
-    )?;
-    Ok(Script::new(65_536, 2, 3, downs, ports, blocks))
+    let asks = PortMachine::new(0).closing(alloc, script)?;
+    all_said(alloc, &asks)
 }
 
 #[test]
-fn each_port_opens_and_ends_by_its_block(rt: HostRuntime) -> Result<(), Fail> {
+fn a_port_opens_and_ends(rt: HostRuntime) -> Result<(), Fail> {
     let alloc = rt.alloc();
-    let script = two_ports(alloc)?;
+    let script = script(alloc, opening_block(alloc)?)?;
+    let said = opened(alloc, &script)?;
     assert_eq!(rt;
-        (script.mail(), script.pace(), script.key()),
-        (65_536, 2, 3)
-    );
-    assert_eq!(rt; script.ports(), [7, 8].as_slice());
-    assert_eq!(rt;
-        script.downs().get(0),
-        Some(&Down {
-            device: 1,
-            after: 20
-        })
-    );
-    assert_eq!(rt; script.downs().len(), 1);
-    let (first, second) = (PortMachine::new(0), PortMachine::new(1));
-    assert!(rt; first.opening(alloc, &script)?.is_empty());
-    assert!(rt; first.closing(alloc, &script)?.is_empty());
-    let asks = second.opening(alloc, &script)?;
-    assert_eq!(rt;
-        all_said(alloc, &asks)?.as_str(),
+        said.as_str(),
         "config 5 Some(1) None None None None;raw [1, 2];"
     );
-    let asks = second.closing(alloc, &script)?;
-    assert_eq!(rt;
-        all_said(alloc, &asks)?.as_str(),
-        "verdict 5 1 9 None Some([3]);close;"
-    );
+    let said = ended(alloc, &script)?;
+    assert_eq!(rt; said.as_str(), "verdict 5 1 9 None Some([3]);close;");
     Ok(())
 }
