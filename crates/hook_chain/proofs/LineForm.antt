@@ -8,7 +8,8 @@ use Rattle.std.specs.Option.{option_map_or}
 use Rattle.std.proofs.lemmas.Option.{cond_some, same_Some}
 use Rattle.std.proofs.lemmas.Bool.{and_parts, eqb-true, false≢true}
 use Rattle.hook_chain.specs.declared.rule.Rule.{Rule}
-use Rattle.text_lines.specs.Words.{byte, first_said, first_word, words_after, is_printable, words_of}
+use Rattle.text_lines.specs.Words.{byte, first_said, first_word, words_after, is_printable}
+use Rattle.text_lines.specs.Words.{words_of}
 use Rattle.hook_chain.specs.RuleLine.{rule_of}
 use Rattle.hook_chain.specs.Line.{Says, Nothing, Opens, Policy, Adds, Closes, is_table_name}
 use Rattle.hook_chain.specs.Line.{is_chain_name, is_counters, opening, policy, says_by, says}

@@ -8,7 +8,8 @@ use Rattle.hook_chain.specs.declared.rule.Rule.{Rule}
 use Rattle.hook_chain.specs.declared.line.Line.{Line}
 use Rattle.hook_chain.specs.declared.line.Line.TheVariants as read
 use Rattle.text_lines.specs.Words.{◌>>=◌, byte, is_printable, is_digit, is_lower, is_upper}
-use Rattle.text_lines.specs.Words.{are_digits, words_of, first_word, first_said, words_after, cut_at}
+use Rattle.text_lines.specs.Words.{are_digits, words_of, first_word, first_said, words_after}
+use Rattle.text_lines.specs.Words.{cut_at}
 use Rattle.hook_chain.specs.Numbers.{longest_name}
 use Rattle.hook_chain.specs.RuleLine.{rule_of}
 

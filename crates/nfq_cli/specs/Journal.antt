@@ -2,7 +2,7 @@
 -- separated by one blank, numbers are decimal, bytes are lower-case hexadecimal, `-` for none.
 use Rattle.std.specs.Prelude.{ℕ, List, [], ◌∷◌, ◌++◌, Option, Some, None, Bool, true, false, codes}
 use Rattle.std.specs.Prelude.{decimal}
-use Rattle.hex.specs.Hex.{encode_lower}
+use Rattle.text_lines.specs.Hexadecimal.{hexadecimal}
 use Rattle.packet_entry.specs.declared.packet.Card.{Card}
 use Rattle.nfqa_msgs.specs.declared.request.Params.{Params}
 use Rattle.nfqa_msgs.specs.declared.request.Head.{Head}
@@ -27,10 +27,6 @@ use Rattle.place_history.specs.declared.histories.Histories.{Histories}
 abbrev pub yes_no : Bool → List ℕ
 yes_no true = codes "y"
 yes_no false = codes "n"
-
-abbrev pub hexadecimal : List ℕ → List ℕ
-hexadecimal [] = codes "-"
-hexadecimal (b ∷ bs) = encode_lower (b ∷ bs)
 
 -- a word and its number, where there is one
 abbrev pub part : List ℕ → Option ℕ → List ℕ

@@ -2,6 +2,7 @@
 
 ghost use Rattle.std.specs.Prelude.{◌≡◌, ◌∷◌, ◌++◌, [], OnOk, IfOk, string_bytes, codes, decimal};
 ghost use Rattle.std.specs.Prelude.{drop, length};
+ghost use Rattle.text_lines.specs.Hexadecimal.{hexadecimal};
 ghost use Rattle.nfq_cli.specs.Journal as text;
 
 use nfqa_msgs::{Head, Params, Request};
@@ -240,7 +241,7 @@ fn push_payload(alloc: Global, payload: &Option<Bytes>, out: &mut String) -> Res
 /// Bytes in lower-case hexadecimal, `-` for none.
 fn push_bytes(alloc: Global, bytes: &[u8], out: &mut String) -> Result<(), AllocError>
     ensures { OnOk result (string_bytes out.new ≡ string_bytes out.old
-        ++ text.hexadecimal bytes.now) }
+        ++ hexadecimal bytes.now) }
 {
     if bytes.is_empty() {
         return out.push_str("-");

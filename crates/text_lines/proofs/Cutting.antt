@@ -1,12 +1,13 @@
 -- A line that is cut between its words.
 use Rattle.std.proofs.Common.{◌≡◌, ℕ, ◌+◌, ◌-◌, ◌<◌, ◌≤◌, true, false, not, eqb, List, []}
-use Rattle.std.proofs.Common.{◌∷◌, ◌++◌, length, get_or, take, drop, Option, Some, None, ◌∙◌, refl, sym, ap, inl, inr}
-use Rattle.std.proofs.Common.{arith, length-drop}
+use Rattle.std.proofs.Common.{◌∷◌, ◌++◌, length, get_or, take, drop, Option, Some, None, ◌∙◌, refl}
+use Rattle.std.proofs.Common.{sym, ap, inl, inr, arith, length-drop}
 use Rattle.std.specs.Prelude.{filter, option_map, bytes_eq}
 use Rattle.std.specs.List.{slice_split, onto_first}
 use Rattle.std.proofs.lemmas.Bool.{cases_Bool}
 use Rattle.std.proofs.lemmas.Option.{same_Some}
-use Rattle.std.proofs.lemmas.List.{append_assoc, append_cancel_right, append-nil, drop-drop, take-append-drop}
+use Rattle.std.proofs.lemmas.List.{append_assoc, append_cancel_right, append-nil, drop-drop}
+use Rattle.std.proofs.lemmas.List.{take-append-drop}
 use Rattle.std.proofs.lemmas.List.Elements.{filter-append}
 use Rattle.std.proofs.lemmas.List.Splits.{slice_split-cons_yes, slice_split-cons_no}
 use Rattle.text_lines.specs.Words.{IsAtWordEnd, cut_at_word, first_word, is_blank, words_of}
@@ -30,6 +31,7 @@ onto_both : (x : ℕ) (part : List ℕ) (parts found more : List (List ℕ)) →
     onto_first x (found ++ more) ≡ onto_first x found ++ more
 onto_both x part parts found more is = rw is refl
 
+-- the parts of a line round its blanks, where it is cut at one
 split_blank : (xs ys : List ℕ) (y : ℕ) → is_blank y ≡ true →
     slice_split is_blank (xs ++ y ∷ ys) ≡ slice_split is_blank xs ++ slice_split is_blank ys
 split_blank [] ys y h = slice_split-cons_yes is_blank y ys h
@@ -95,6 +97,7 @@ not_here : (word w : List ℕ) (ws : List (List ℕ)) → bytes_eq w word ≡ fa
     cut_at_word word (w ∷ ws) ≡ option_map (λ parts. (w ∷ parts.0, parts.1)) (cut_at_word word ws)
 not_here word w ws other = rw other refl
 
+-- at the beginning of a line
 pub none_passed : (word line : List ℕ) → IsPassed word line line
 none_passed word line =
     let here : length line - length line ≡ 0 = omega arith in

@@ -1,7 +1,8 @@
 -- A word of lower-case hexadecimal spells exactly the bytes that are decoded from it.
-use Rattle.std.proofs.Common.{◌≡◌, ℕ, zero, suc, ◌+◌, ◌*◌, ◌/◌, ◌%◌, ◌<◌, ◌≤◌, Bool, true, false, ◌&&◌}
-use Rattle.std.proofs.Common.{◌||◌, not, cond, eqb, leb, ltb, ◌⊎◌, inl, inr, List, [], ◌∷◌, length, Option}
-use Rattle.std.proofs.Common.{Some, None, Result, Ok, Err, unwrap_or, ◌∙◌, refl, sym, ap, subst, arith, le-leb, eq-eqb}
+use Rattle.std.proofs.Common.{◌≡◌, ℕ, zero, suc, ◌+◌, ◌*◌, ◌/◌, ◌%◌, ◌<◌, ◌≤◌, Bool, true, false}
+use Rattle.std.proofs.Common.{◌&&◌, ◌||◌, not, cond, eqb, leb, ltb, ◌⊎◌, inl, inr, List, [], ◌∷◌}
+use Rattle.std.proofs.Common.{length, Option, Some, None, Result, Ok, Err, unwrap_or, ◌∙◌, refl}
+use Rattle.std.proofs.Common.{sym, ap, subst, arith, le-leb, eq-eqb}
 use Rattle.std.specs.Prelude.{bytes_eq, codes, slice_index}
 use Rattle.std.specs.List.{list_all}
 use Rattle.std.proofs.Math.Bool.{and-false}
@@ -11,11 +12,10 @@ use Rattle.std.proofs.lemmas.Slice.Eq.{bytes_eq-Decides}
 use Rattle.hex.specs.declared.error.FromHexError.{FromHexError}
 use Rattle.hex.specs.Hex.{IsBytes, decode_of, decode_pairs, encode_lower, encode_with, lower_digits}
 use Rattle.hex.specs.Hex.{digit_or_error, hex_digit_value, pair_value, value_at, ◌>>=◌}
-use Rattle.hex.proofs.HexLemmas.{decode_of-even, decode_of-ok, decode_of-encode_lower, length-encode_with}
+use Rattle.hex.proofs.HexLemmas.{decode_of-even, decode_of-ok, decode_of-encode_lower}
+use Rattle.hex.proofs.HexLemmas.{length-encode_with}
 use Rattle.text_lines.specs.Hexadecimal.{IsSpelled, are_pairs, bytes_of, decoded, hexadecimal}
 use Rattle.text_lines.specs.Hexadecimal.{is_lower_digit}
-
--- ---- digits
 
 -- a digit stands in the table at the place of its value
 stands_at : ℕ → Option ℕ → Bool
@@ -69,14 +69,14 @@ digit_by c i v None e h = absurd (let never : ⊥ = cc in never)
 digit_by c i v (Some w) e h =
     let same : w ≡ v = same_Ok w v e in
     let parts = and_parts (ltb w 16) (eqb (slice_index lower_digits w) c) h in
-    (rw (← same) (ltb-true w 16 parts.0), rw (← same) (eqb-true (slice_index lower_digits w) c parts.1))
+    let stands : slice_index lower_digits w ≡ c =
+    eqb-true (slice_index lower_digits w) c parts.1 in
+    (rw (← same) (ltb-true w 16 parts.0), rw (← same) stands)
 
 -- what a digit was read as has that digit
 digit_back : (c i v : ℕ) → is_lower_digit c ≡ true → value_at c i ≡ Ok v →
     (v < 16) × (slice_index lower_digits v ≡ c)
 digit_back c i v h e = digit_by c i v (hex_digit_value c) e (stands c h)
-
--- ---- texts
 
 bind_ok : {A B : Type 0} (r : Result A FromHexError) (f : A → Result B FromHexError) (y : B) →
     (r >>= f) ≡ Ok y → (x : A) × (r ≡ Ok x) × (f x ≡ Ok y)
@@ -129,9 +129,9 @@ text_digits (b ∷ rest) fit =
     let small : b < 256 = fit 0 in
     let high : b / 16 < 16 = omega arith in
     let low : b % 16 < 16 = omega arith in
-    rw (table_digit (b / 16) high, table_digit (b % 16) low, text_digits rest (λ i. fit (suc i))) refl
-
--- ---- words
+    let more : list_all is_lower_digit (encode_lower rest) ≡ true =
+    text_digits rest (λ i. fit (suc i)) in
+    rw (table_digit (b / 16) high, table_digit (b % 16) low, more) refl
 
 chosen : {A : Type 0} (b : Bool) (x y z : A) → cond b x y ≡ z →
     ((b ≡ true) × (x ≡ z)) ⊎ ((b ≡ false) × (y ≡ z))
@@ -160,7 +160,8 @@ pairs_spell most word bytes h e =
     and_parts (leb 1 (length word) && eqb (length word % 2) 0 && leb (length word / 2) most)
     (list_all is_lower_digit word) h in
     let middle =
-    and_parts (leb 1 (length word) && eqb (length word % 2) 0) (leb (length word / 2) most) outer.0 in
+    and_parts (leb 1 (length word) && eqb (length word % 2) 0) (leb (length word / 2) most) outer.0
+    in
     let inner = and_parts (leb 1 (length word)) (eqb (length word % 2) 0) middle.0 in
     let some : 1 ≤ length word = leb-true 1 (length word) inner.0 in
     let few : length word / 2 ≤ most = leb-true (length word / 2) most middle.1 in
@@ -174,6 +175,7 @@ pairs_spell most word bytes h e =
       are_bytes = ok.3;
     }
 
+-- what is read is spelled
 pub is_spelled : (most : ℕ) (word bytes : List ℕ) → bytes_of most word ≡ Some bytes →
     IsSpelled most word bytes
 unfolding bytes_of
@@ -220,6 +222,7 @@ read_again most (b ∷ bs) few fit =
       decode_of-encode_lower (b ∷ bs) fit,
     ) refl
 
+-- what is spelled is read
 pub is_read : (most : ℕ) (word bytes : List ℕ) → IsSpelled most word bytes →
     bytes_of most word ≡ Some bytes
 is_read most word bytes h = rw h.spelled (read_again most bytes h.few h.are_bytes)

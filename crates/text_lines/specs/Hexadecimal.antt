@@ -5,6 +5,7 @@ use Rattle.std.specs.Prelude.{if◌then◌else◌}
 use Rattle.std.specs.List.{list_all}
 use Rattle.hex.specs.declared.error.FromHexError.{FromHexError}
 use Rattle.hex.specs.Hex.{IsBytes, decode_of, encode_lower}
+use Rattle.text_lines.specs.Numbers.{byte_digits}
 use Rattle.text_lines.specs.Words.{is_digit, is_from_to}
 
 -- the word that spells these bytes
@@ -25,8 +26,8 @@ is_lower_digit b = is_digit b || is_from_to "a" "f" b
 -- one pair of these digits or more, and at most so many
 abbrev pub are_pairs : ℕ → List ℕ → Bool
 are_pairs most word =
-    nat_le 1 (length word) && (length word % 2 == 0) && nat_le (length word / 2) most
-    && list_all is_lower_digit word
+    nat_le 1 (length word) && (length word % byte_digits == 0)
+    && nat_le (length word / byte_digits) most && list_all is_lower_digit word
 
 -- what was decoded
 abbrev pub decoded : Result (List ℕ) FromHexError → Option (List ℕ)

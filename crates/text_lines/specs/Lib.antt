@@ -1,4 +1,5 @@
 pub mod Digits
 pub mod Hexadecimal
 pub mod Numbers
+pub mod Numerals
 pub mod Words

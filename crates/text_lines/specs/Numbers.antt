@@ -15,6 +15,10 @@ decimal_radix = 10
 abbrev pub hexadecimal_radix : ℕ
 hexadecimal_radix = 16
 
+-- the hexadecimal digits of a byte
+abbrev pub byte_digits : ℕ
+byte_digits = 2
+
 -- what the digits `a` and `A` stand for
 abbrev pub first_letter_digit : ℕ
 first_letter_digit = 10

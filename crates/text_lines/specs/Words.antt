@@ -50,13 +50,6 @@ abbrev pub first_word : List (List ℕ) → Option (List ℕ × List (List ℕ))
 first_word [] = None
 first_word (w ∷ ws) = Some (w, ws)
 
--- what is left of a line behind a word: its end from some place on, which is empty or begins with a
--- blank
-pub record IsAtWordEnd (line rest : List ℕ) : Type 0 where
-  pub no_longer : length rest ≤ length line
-  pub end : rest ≡ drop (length line - length rest) line
-  pub apart : 0 < length rest → is_blank (slice_index rest 0) ≡ true
-
 -- the same of a line that says something; a line that is empty or begins with `#` says nothing
 abbrev pub first_said : List (List ℕ) → Option (List ℕ × List (List ℕ))
 first_said [] = None
@@ -67,6 +60,13 @@ abbrev pub IsPassedOver : List (List ℕ) → Type 0
 IsPassedOver words =
     (words ≡ []) ⊎ ((comment : List ℕ) × (more : List (List ℕ))
     × (words ≡ (codes "#" ++ comment) ∷ more))
+
+-- what is left of a line behind a word: its end from some place on, which is empty or begins with a
+-- blank
+pub record IsAtWordEnd (line rest : List ℕ) : Type 0 where
+  pub no_longer : length rest ≤ length line
+  pub end : rest ≡ drop (length line - length rest) line
+  pub apart : 0 < length rest → is_blank (slice_index rest 0) ≡ true
 
 -- the words after this one, where it is the first
 abbrev pub words_after : List ℕ → List (List ℕ) → Option (List (List ℕ))

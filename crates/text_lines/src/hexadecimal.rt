@@ -1,9 +1,8 @@
 //! Bytes as words of lower-case hexadecimal.
 
-ghost use Rattle.std.specs.Prelude.{◌≡◌, ◌≤◌, ℕ, List, length, IfOk, IfSome, IsErr, IsTrue, Some};
-ghost use Rattle.std.specs.Prelude.{◌↔◌, option_map};
+ghost use Rattle.std.specs.Prelude.{◌≡◌, ◌≤◌, length, IfOk, IfSome, IsErr, IsTrue, option_map};
 ghost use Rattle.std.specs.List.{list_all};
-ghost use Rattle.text_lines.specs.Hexadecimal.{IsSpelled, are_pairs, bytes_of, is_lower_digit};
+ghost use Rattle.text_lines.specs.Hexadecimal.{are_pairs, bytes_of, is_lower_digit};
 
 use crate::word::is_word;
 use hex::FromHexError;
@@ -41,12 +40,6 @@ pub fn hexadecimal_bytes(
         Err(_) => Ok(None),
     }
 }
-
-/// A word spells exactly the bytes that are read from it.
-pub fn bytes_are_spelled()
-    ensures { (most : ℕ) (word bytes : List ℕ) →
-        (bytes_of most word ≡ Some bytes) ↔ IsSpelled most word bytes }
-{}
 
 fn are_pairs(word: &[u8], most: usize) -> bool
     ensures { result ≡ are_pairs most word.now }

@@ -9,12 +9,14 @@
 
 mod fault;
 mod hexadecimal;
+mod laws;
 mod line;
 mod number;
 mod word;
 
 pub use fault::LineFault;
-pub use hexadecimal::{bytes_are_spelled, hexadecimal_bytes};
+pub use hexadecimal::hexadecimal_bytes;
+pub use laws::{bytes_are_spelled, lines_are_passed_over, numbers_are_spelled};
 pub use line::{are_printable, first_said, next_line};
 pub use number::{decimal, decimal_8, decimal_16, wide};
 pub use word::{are_digits, cut, cut_at_word, is_end, is_word, next_word, rest_after};

@@ -1,0 +1,5 @@
+use Rattle.text_lines.proofs.Saying.{passed_over}
+use Rattle.text_lines.proofs.laws.lines_are_passed_over.Goals as goal
+
+pub returns : goal.returns
+returns c = passed_over
