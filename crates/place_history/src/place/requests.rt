@@ -126,8 +126,8 @@ fn end(held: &mut Held, asker: Asker, ask: ConfigRequest)
     requires replayed { IsReplayed held.old }
     requires no_offer { held.old.offer ≡ None }
     requires room { HasRoom held.old 1 }
-    requires line { IsConfigLine line.Ends (state_of held.old.entries.items asker.queue) asker.port
-        (asked ask) }
+    requires line { IsConfigLine line.Ends (state_of held.old.entries.items asker.queue)
+        asker.port (asked ask) }
     ensures replayed { IsReplayed held.new }
     ensures no_offer { held.new.offer ≡ None }
     ensures room { HasRoom held.new 0 }
@@ -142,8 +142,8 @@ fn bind(held: &mut Held, alloc: Global, asker: Asker, ask: ConfigRequest) -> Res
     requires replayed { IsReplayed held.old }
     requires no_offer { held.old.offer ≡ None }
     requires room { HasRoom held.old 2 }
-    requires line { IsConfigLine line.Binds (state_of held.old.entries.items asker.queue) asker.port
-        (asked ask) }
+    requires line { IsConfigLine line.Binds (state_of held.old.entries.items asker.queue)
+        asker.port (asked ask) }
     ensures replayed { IsReplayed held.new }
     ensures no_offer { held.new.offer ≡ None }
     ensures room { HasRoom held.new 0 }
@@ -163,8 +163,8 @@ fn set_up(held: &mut Held, asker: Asker, ask: ConfigRequest)
     requires replayed { IsReplayed held.old }
     requires no_offer { held.old.offer ≡ None }
     requires room { HasRoom held.old 1 }
-    requires line { IsConfigLine line.SetsUp (state_of held.old.entries.items asker.queue) asker.port
-        (asked ask) }
+    requires line { IsConfigLine line.SetsUp (state_of held.old.entries.items asker.queue)
+        asker.port (asked ask) }
     ensures replayed { IsReplayed held.new }
     ensures no_offer { held.new.offer ≡ None }
     ensures room { HasRoom held.new 0 }
