@@ -1,4 +1,4 @@
--- A script, and the inspector of one of its ports.
+-- A script, and the inspector of one of its ports. Scripts are this project's own.
 use Rattle.std.specs.Prelude.{◌≡◌, ◌≢◌, ℕ, ◌+◌, ◌≤◌, min, List, [], length, All, AllPairs}
 use Rattle.std.specs.Prelude.{IfSome, None, slice_get, if◌then◌else◌}
 use Rattle.std.specs.Option.{option_map_or}
@@ -129,10 +129,11 @@ opening s place = at_port s place block.opening
 abbrev pub answer : ScriptValue → ℕ → ℕ → Notice → List Ask
 answer s place received n = at_port s place (block.answer received n)
 
--- no line of the port's block answers its `received`-th notice
-abbrev pub IsUnanswered : ScriptValue → ℕ → ℕ → Notice → Type 0
-IsUnanswered s place received n =
-    IfSome (slice_get s.blocks place) (λ b. block.line_for received n b.lines ≡ None)
+-- no line of its block answers the inspector's next notice
+abbrev pub IsUnanswered : ScriptValue → Machine → Notice → Type 0
+IsUnanswered s m n =
+    IfSome (slice_get s.blocks m.place)
+    (λ b. block.line_for (next_count m.received) n b.lines ≡ None)
 
 -- what is asked for at the end
 abbrev pub closing : ScriptValue → ℕ → List Ask

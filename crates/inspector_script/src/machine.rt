@@ -70,8 +70,7 @@ impl PortMachine {
             asks ≡ answer script.now self.old.place (next_count self.old.received) notice.now) }
         ensures fit { IfOk result (All IsAsk) }
         // Where no line answers, no memory is taken.
-        ensures unanswered { IsUnanswered script.now self.old.place
-            (next_count self.old.received) notice.now → IsOk result }
+        ensures unanswered { IsUnanswered script.now self.old notice.now → IsOk result }
         ensures counted { OnOk result
             (self.new ≡ record self.old { received = next_count self.old.received }) }
         ensures err { OnErr result (self.new ≡ self.old) }
