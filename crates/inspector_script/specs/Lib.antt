@@ -4,3 +4,4 @@ pub mod Asking
 pub mod Blocks
 pub mod Scripts
 pub mod Held
+pub mod AskLine

@@ -7,6 +7,7 @@
 #![tactic(auto)]
 
 mod ask;
+mod ask_line;
 mod block;
 mod condition;
 mod laws;

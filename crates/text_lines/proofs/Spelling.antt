@@ -153,7 +153,7 @@ spelled_by : (bytes : List ℕ) → 0 < length bytes → hexadecimal bytes ≡ e
 spelled_by [] h = absurd (omega arith)
 spelled_by (b ∷ bs) h = refl
 
-pairs_spell : (most : ℕ) (word bytes : List ℕ) → are_pairs most word ≡ true →
+pub pairs_spell : (most : ℕ) (word bytes : List ℕ) → are_pairs most word ≡ true →
     decode_of word ≡ Ok bytes → IsSpelled most word bytes
 pairs_spell most word bytes h e =
     let outer =

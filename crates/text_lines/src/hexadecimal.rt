@@ -1,6 +1,7 @@
 //! Bytes as words of lower-case hexadecimal.
 
-ghost use Rattle.std.specs.Prelude.{◌≡◌, ℕ, List, IfOk, IsErr, IsTrue, Some, ◌↔◌, option_map};
+ghost use Rattle.std.specs.Prelude.{◌≡◌, ◌≤◌, ℕ, List, length, IfOk, IfSome, IsErr, IsTrue, Some};
+ghost use Rattle.std.specs.Prelude.{◌↔◌, option_map};
 ghost use Rattle.std.specs.List.{list_all};
 ghost use Rattle.text_lines.specs.Hexadecimal.{IsSpelled, are_pairs, bytes_of, is_lower_digit};
 
@@ -25,6 +26,7 @@ pub fn hexadecimal_bytes(
 ) -> Result<Option<Vec<u8>>, AllocError>
     ensures value { IfOk result (λ read. option_map (λ bytes. bytes.items) read
         ≡ bytes_of most word.now) }
+    ensures few { IfOk result (λ read. IfSome read (λ bytes. length bytes.items ≤ most)) }
     ensures memory { IsErr result → IsTrue (are_pairs most word.now) }
 {
     if is_word(word, NO_BYTES) {
