@@ -5,3 +5,5 @@ pub mod Blocks
 pub mod Scripts
 pub mod Held
 pub mod AskLine
+pub mod ConditionLine
+pub mod Line
