@@ -39,5 +39,5 @@ condition_of words = do
   name ← first_word words
   if bytes_eq name.0 (codes "any") then (if length name.1 == 0 then Some Any else None)
       else (do
-    value ← first_word name.1
-    if length value.1 == 0 then test_of name.0 value.0 else None)
+        value ← first_word name.1
+        if length value.1 == 0 then test_of name.0 value.0 else None)

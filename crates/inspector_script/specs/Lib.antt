@@ -7,3 +7,4 @@ pub mod Held
 pub mod AskLine
 pub mod ConditionLine
 pub mod Line
+pub mod ScriptFile

@@ -1,5 +1,5 @@
 -- What one line of a script says.
-use Rattle.std.specs.Prelude.{ℕ, ◌≤◌, ◌&&◌, ◌==◌, nat_le, false, List, [], ◌∷◌, length, Option, Some}
+use Rattle.std.specs.Prelude.{ℕ, ◌≤◌, ◌&&◌, nat_le, false, List, [], ◌∷◌, length, Option, Some}
 use Rattle.std.specs.Prelude.{None, option_map, bytes_eq, codes, if◌then◌else◌}
 use Rattle.std.specs.List.{list_all, slice_split}
 use Rattle.std.specs.Option.{option_map_or}

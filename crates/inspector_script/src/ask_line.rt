@@ -50,7 +50,7 @@ pub(crate) fn read_ask(alloc: Global, line: &[u8]) -> Result<Option<Template>, N
     }
 }
 
-/// `Q [bind | unbind | pfbind | pfunbind | cmd N] [params MODE RANGE] [maxlen N] [flags N] [mask N]`
+/// `Q [COMMAND] [params MODE RANGE] [maxlen N] [flags N] [mask N]`
 #[tactic(auto, unfolding(crate::specs::AskLine::config_of))]
 fn config(line: &[u8]) -> Option<Template>
     ensures value { result ≡ config_of (words_of line.now) }
