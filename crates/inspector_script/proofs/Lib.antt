@@ -1,2 +1,5 @@
 pub mod Finding
 pub mod Fitting
+pub mod Parts
+pub mod Ports
+pub mod Underway

@@ -3,3 +3,7 @@ pub mod Conditions
 pub mod Asking
 pub mod Blocks
 pub mod Scripts
+pub mod AskLine
+pub mod ConditionLine
+pub mod Line
+pub mod ScriptFile

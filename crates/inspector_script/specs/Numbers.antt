@@ -29,3 +29,15 @@ most_payload_bytes = 2048
 -- the most bytes of a raw ask
 abbrev pub most_raw_bytes : ℕ
 most_raw_bytes = 4096
+
+-- how many letters a mailbox holds where no line says it
+abbrev pub default_mail : ℕ
+default_mail = 1024
+
+-- how many frames are fed between two rounds where no line says it
+abbrev pub default_pace : ℕ
+default_pace = 1
+
+-- the key of the flow hash where no line says it
+abbrev pub default_key : ℕ
+default_key = 0

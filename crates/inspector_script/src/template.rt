@@ -1,7 +1,9 @@
 //! What a line of a script asks for, before it is known which notice it answers.
 
-ghost use Rattle.std.specs.Prelude.{◌≡◌, IfOk};
+ghost use Rattle.std.specs.Prelude.{◌≡◌, IfOk, IfSome};
 ghost use Rattle.inspector_script.specs.Asking.{asked, id_for, queue_for};
+ghost use Rattle.inspector_script.specs.Line.{id_alone, queue_alone, words_alone};
+ghost use Rattle.inspector_script.specs.Scripts.{IsTemplate, IsWords};
 
 use crate::ask::{Ask, share_payload};
 use nfqa_msgs::{Head, Notice, Params, Request};
@@ -25,6 +27,16 @@ impl QueueWord {
             QueueWord::Number { queue } => queue,
         }
     }
+
+    /// The queue where it is a number.
+    fn alone(self) -> Option<u16>
+        ensures { result ≡ queue_alone self }
+    {
+        match self {
+            QueueWord::This => None,
+            QueueWord::Number { queue } => Some(queue),
+        }
+    }
 }
 
 /// The id that an ask names.
@@ -42,6 +54,16 @@ impl IdWord {
         match self {
             IdWord::This => notice.id,
             IdWord::Number { id } => id,
+        }
+    }
+
+    /// The id where it is a number.
+    fn alone(self) -> Option<u32>
+        ensures { result ≡ id_alone self }
+    {
+        match self {
+            IdWord::This => None,
+            IdWord::Number { id } => Some(id),
         }
     }
 }
@@ -133,6 +155,59 @@ impl Template {
             },
         };
         Ok(Ask::Words { words })
+    }
+
+    /// What it asks for without a notice, or `None` where it says `this`.
+    pub(crate) fn alone(self) -> Option<AskWords>
+        ensures value { result ≡ words_alone self }
+        ensures fit { IsTemplate self → IfSome result IsWords }
+    {
+        match self {
+            Template::Config {
+                queue,
+                command,
+                params,
+                maxlen,
+                flags,
+                mask,
+            } => Some(AskWords::Plain {
+                request: Request::Config {
+                    queue: queue.alone()?,
+                    command,
+                    params,
+                    maxlen,
+                    flags,
+                    mask,
+                },
+            }),
+            Template::Verdict {
+                queue,
+                verdict,
+                id,
+                mark,
+                payload,
+            } => Some(AskWords::Plain {
+                request: Request::Verdict {
+                    queue: queue.alone()?,
+                    head: Some(head(verdict, id.alone()?)),
+                    mark,
+                    payload,
+                },
+            }),
+            Template::Batch {
+                queue,
+                verdict,
+                id,
+                mark,
+            } => Some(AskWords::Plain {
+                request: Request::Batch {
+                    queue: queue.alone()?,
+                    head: Some(head(verdict, id.alone()?)),
+                    mark,
+                },
+            }),
+            Template::Raw { bytes } => Some(AskWords::Raw { bytes }),
+        }
     }
 }
 
