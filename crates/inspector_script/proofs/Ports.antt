@@ -11,10 +11,9 @@ use Rattle.std.proofs.lemmas.List.Folds.{list_any_at}
 use Rattle.std.proofs.lemmas.List.Quantifiers.{all_pairs_push}
 use Rattle.inspector_script.specs.declared.block.Block.{Block}
 use Rattle.inspector_script.specs.Numbers.{default_mail, largest_mail, most_ports}
-use Rattle.inspector_script.specs.Scripts.{IsBlock, IsOnLine, IsScript, IsWords}
+use Rattle.inspector_script.specs.Scripts.{IsBlock, IsOnLine, IsScript, IsWords, held}
 use Rattle.inspector_script.specs.ScriptFile.{IsSound, Place, is_port, may_begin, last_count}
 use Rattle.inspector_script.specs.ScriptFile.{shut, without_lines}
-use Rattle.inspector_script.specs.Held.{held}
 
 -- a port that isn't among those before differs from each
 new_port : (ports : List ℕ) (port : ℕ) → AllPairs (λ a b. a ≢ b) ports →

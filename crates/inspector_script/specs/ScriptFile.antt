@@ -21,11 +21,10 @@ use Rattle.inspector_script.specs.declared.reading.Reader.{Reader}
 use Rattle.inspector_script.specs.declared.script.Down as down
 use Rattle.inspector_script.specs.declared.stop.Stop.{Stop}
 use Rattle.inspector_script.specs.declared.stop.Stop.TheVariants.{Refused, NoMemory}
-use Rattle.inspector_script.specs.Held.{held}
 use Rattle.inspector_script.specs.Line.{says}
 use Rattle.inspector_script.specs.Numbers.{default_key, default_mail, default_pace, largest_mail}
 use Rattle.inspector_script.specs.Numbers.{most_downs, most_lines, most_ports}
-use Rattle.inspector_script.specs.Scripts.{IsBlock, ScriptValue, line_count}
+use Rattle.inspector_script.specs.Scripts.{IsBlock, ScriptValue, held, line_count}
 
 -- ---- one block
 

@@ -36,8 +36,8 @@ pub record ScriptValue : Type 0 where
   pub blocks : List Block
 
 -- the script of these parts
-abbrev pub script_of : ℕ → ℕ → ℕ → List Down → List ℕ → List Block → ScriptValue
-script_of mail pace key downs ports blocks = record {
+abbrev pub held : ℕ → ℕ → ℕ → List Down → List ℕ → List Block → ScriptValue
+held mail pace key downs ports blocks = record {
   mail = mail;
   pace = pace;
   key = key;

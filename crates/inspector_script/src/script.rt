@@ -32,18 +32,18 @@ pub struct Script {
 }
 
 impl Model for Script {
-    ghost use Rattle.inspector_script.specs.Scripts.{IsScript, ScriptValue, script_of};
+    ghost use Rattle.inspector_script.specs.Scripts.{IsScript, ScriptValue, held};
 
     ghost Value = { ScriptValue };
 
-    ghost view = { λ s. script_of s.mail s.pace s.key s.downs s.ports.items s.blocks.items };
+    ghost view = { λ s. held s.mail s.pace s.key s.downs s.ports.items s.blocks.items };
 
     ghost invariant = { λ s.
-        IsScript (script_of s.mail s.pace s.key s.downs s.ports.items s.blocks.items) };
+        IsScript (held s.mail s.pace s.key s.downs s.ports.items s.blocks.items) };
 }
 
 impl Script {
-    ghost use Rattle.inspector_script.specs.Scripts.{script_of};
+    ghost use Rattle.inspector_script.specs.Scripts.{held};
 
     /// The script of these parts, each port with the block at its place.
     pub(crate) fn new(
@@ -54,8 +54,8 @@ impl Script {
         ports: Vec<u32>,
         blocks: Vec<Block>,
     ) -> Script
-        requires { IsScript (script_of mail pace key downs ports.items blocks.items) }
-        ensures { result ≡ script_of mail pace key downs ports.items blocks.items }
+        requires { IsScript (held mail pace key downs ports.items blocks.items) }
+        ensures { result ≡ held mail pace key downs ports.items blocks.items }
     {
         Script {
             mail,
