@@ -1,7 +1,7 @@
 -- A script's bounds, as its ports come.
 use Rattle.std.proofs.Common.{◌≡◌, ℕ, ◌+◌, ◌≤◌, ◌<◌, true, ltb, not, List, [], ◌∷◌}
-use Rattle.std.proofs.Common.{◌++◌, length, length-append, append-nil, get_or, Option, Some, None, All, ◌∙◌}
-use Rattle.std.proofs.Common.{sym, subst, ap, arith, eq-eqb}
+use Rattle.std.proofs.Common.{◌++◌, length, length-append, append-nil, get_or, Option, Some, None}
+use Rattle.std.proofs.Common.{All, ◌∙◌, sym, subst, ap, arith, eq-eqb}
 use Rattle.std.specs.Prelude.{◌≢◌, AllPairs, IfSome, unwrap_or, option_to_list}
 use Rattle.std.specs.List.{list_any}
 use Rattle.std.proofs.lemmas.Bool.{and_parts, false≢true, ltb-true}

@@ -3,8 +3,8 @@ use Rattle.std.specs.Prelude.{ℕ, ◌≤◌, ◌&&◌, nat_le, false, List, [],
 use Rattle.std.specs.Prelude.{None, option_map, bytes_eq, codes, if◌then◌else◌}
 use Rattle.std.specs.List.{list_all, slice_split}
 use Rattle.std.specs.Option.{option_map_or}
-use Rattle.text_lines.specs.Words.{◌>>=◌, first_word, first_said, words_after, words_of, cut_at_word}
-use Rattle.text_lines.specs.Words.{is_printable}
+use Rattle.text_lines.specs.Words.{◌>>=◌, first_word, first_said, words_after, words_of}
+use Rattle.text_lines.specs.Words.{cut_at_word, is_printable}
 use Rattle.text_lines.specs.Digits.{decimal}
 use Rattle.nfqa_msgs.specs.declared.request.Request.TheVariants as request
 use Rattle.place_history.specs.declared.log.AskWords.{AskWords}

@@ -6,8 +6,9 @@ ghost use Rattle.inspector_script.specs.Scripts.{IsTemplate};
 ghost use Rattle.inspector_script.specs.AskLine.{ask_of, batch_of, bytes_alone, command_named};
 ghost use Rattle.inspector_script.specs.AskLine.{command_part, config_of, id_of, judged, mode_of};
 ghost use Rattle.inspector_script.specs.AskLine.{number_part, numbered_verdict, only_word};
-ghost use Rattle.inspector_script.specs.AskLine.{params_part, payload_part, queue_of, queue_verdict};
-ghost use Rattle.inspector_script.specs.AskLine.{raw_of, to_queue, verdict_of, verdict_word};
+ghost use Rattle.inspector_script.specs.AskLine.{params_part, payload_part, queue_of};
+ghost use Rattle.inspector_script.specs.AskLine.{queue_verdict, raw_of, to_queue, verdict_of};
+ghost use Rattle.inspector_script.specs.AskLine.{verdict_word};
 
 use crate::template::{IdWord, QueueWord, Template};
 use nfqa_msgs::{BIND, META, NONE, PACKET, PF_BIND, PF_UNBIND, Params, UNBIND};

@@ -1,7 +1,6 @@
 //! The reading of a whole script, line by line.
 
-ghost use Rattle.std.specs.Prelude.{◌≡◌, ◌≤◌, ◌<◌, ◌+◌, ◌-◌, ◌^◌, ◌∷◌, ◌++◌, ℕ, [], None, Some, Ok};
-ghost use Rattle.std.specs.Prelude.{Err, Contains, IfOk, IsTrue, OnOk, length, option_to_list, ◌↔◌};
+ghost use Rattle.std.specs.Prelude.{◌≡◌, ◌<◌, ◌-◌, ◌^◌, ℕ, [], Some, Ok, Err, IfOk, OnOk, length};
 ghost use Rattle.std.specs.List.{list_any};
 ghost use Rattle.inspector_script.specs.declared.line.Line.TheVariants as line;
 ghost use Rattle.inspector_script.specs.Line.{IsBlockLine, IsLine};
