@@ -390,3 +390,75 @@ fn a_port_opens_and_ends(rt: HostRuntime) -> Result<(), Fail> {
     assert_eq!(rt; said.as_str(), "verdict 5 1 9 None Some([3]);close;");
     Ok(())
 }
+
+/// How a file of this text is answered: 0 where it is read, and else the line that is refused.
+fn refused_line(alloc: Global, text: &[u8]) -> u32
+    requires { length text.now < 1000 }
+{
+    match read_script(alloc, text) {
+        Ok(_script) => 0,
+        Err(LineFault::Bad { line }) => line,
+        Err(LineFault::NoMemory) => u32::MAX,
+    }
+}
+
+#[test]
+fn bad_files_are_refused_at_their_first_bad_line(rt: HostRuntime) -> Result<(), Fail> {
+    let alloc = rt.alloc();
+    assert_eq!(rt;
+        refused_line(alloc, b"port 7\nend close\nend batch 0 accept 1"),
+        3
+    );
+    assert_eq!(rt; refused_line(alloc, b"mail 5"), 2);
+    assert_eq!(rt;
+        refused_line(alloc, b"port 7\nopen verdict this accept 1"),
+        2
+    );
+    assert_eq!(rt; refused_line(alloc, b"port 7\nport 8\nport 7"), 3);
+    assert_eq!(rt; refused_line(alloc, b"pace 0\npace 0\nport 7"), 2);
+    assert_eq!(rt;
+        refused_line(alloc, b"# 1\n\nport 7\non every 0 do raw 00"),
+        4
+    );
+    assert_eq!(rt; refused_line(alloc, b"port 7\nopen raw -"), 2);
+    assert_eq!(rt;
+        refused_line(
+            alloc,
+            b"mail 65536\nhashkey 4294967295\ndown 1 after 0\nport 7"
+        ),
+        0
+    );
+    Ok(())
+}
+
+/// The script of a text whose first port is at place 0.
+fn script_read(alloc: Global, text: &[u8]) -> Result<Script, Fail>
+    requires { length text.now < 1000 }
+    ensures { IfOk result (λ s. 0 < length s.ports) }
+{
+    match read_script(alloc, text) {
+        Ok(script) => Ok(script),
+        Err(fault) => Err(Fail::new(fault)),
+    }
+}
+
+#[test]
+fn a_file_asks_as_it_says(rt: HostRuntime) -> Result<(), Fail> {
+    let alloc = rt.alloc();
+    let text = b"port 7\nopen config 5 bind params packet 64\n\
+        on any do verdict this queue:9:bypass this ; raw 0a\nend close";
+    let script = script_read(alloc, text)?;
+    let opening = PortMachine::new(0).opening(alloc, &script)?;
+    assert_eq!(rt;
+        all_said(alloc, &opening)?.as_str(),
+        "config 5 Some(1) Some(Params { range: 64, mode: 2 }) None None None;"
+    );
+    let answer = PortMachine::new(0).answer(alloc, &script, &notice(alloc, &[])?)?;
+    assert_eq!(rt;
+        all_said(alloc, &answer)?.as_str(),
+        "verdict 5 622595 9 None None;raw [10];"
+    );
+    let closing = PortMachine::new(0).closing(alloc, &script)?;
+    assert_eq!(rt; all_said(alloc, &closing)?.as_str(), "close;");
+    Ok(())
+}

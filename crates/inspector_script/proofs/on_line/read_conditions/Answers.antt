@@ -31,4 +31,5 @@ returns-clause-value c =
     rw c.in_ok-push-2.ensures.items
     (ends condition_of (codes "and") (words_of c.args.line.now)
     (words_of c.loop-part.rest.now) c.loop-part.conditions.items
-    c.in-Some-read_condition-2.condition c.loop-part.invariant c.in_default.ensures.words c.in-Some-read_condition-2.ensures)
+    c.in-Some-read_condition-2.condition c.loop-part.invariant
+    c.in_default.ensures.words c.in-Some-read_condition-2.ensures)
