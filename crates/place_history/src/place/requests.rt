@@ -21,7 +21,7 @@ use super::bound;
 use super::bound::Queues;
 use super::held::{Held, append, note, port_of};
 use super::lines::{ConfigLine, config_line, ruling};
-use crate::{Entry, Event, Reply};
+use crate::{Entry, Event, Reply, share_payload};
 use hook_chain::Decision;
 use nfqa_msgs::{Head, Params, Request};
 use packet_entry::{Bytes, NoMemory, Packet};
@@ -208,7 +208,7 @@ pub(super) fn verdict(
         queue: asker.queue,
         head,
         mark,
-        payload: shared(&payload)?,
+        payload: share_payload(&payload)?,
     };
     handed.make_room(1)?;
     match ruling(port_of(held, asker.queue), asker.port, head) {
@@ -217,16 +217,6 @@ pub(super) fn verdict(
             Ok(errno)
         }
         Ok(head) => Ok(carry_out(held, asker, head, mark, payload, request, handed)),
-    }
-}
-
-/// The same bytes, where there are some.
-fn shared(payload: &Option<Bytes>) -> Result<Option<Bytes>, NoMemory>
-    ensures { IfOk result (λ same. same ≡ payload.now) }
-{
-    match payload {
-        None => Ok(None),
-        Some(bytes) => Ok(Some(bytes.share()?)),
     }
 }
 
