@@ -1,14 +1,15 @@
 //! A place: queues by number, with all that happened at them.
 
 ghost use Rattle.std.specs.Prelude.{◌≡◌, ◌≢◌, ◌≤◌, ◌<◌, ◌++◌, ◌⊎◌, [], None, true, false};
-ghost use Rattle.std.specs.Prelude.{length, IfSome, IfOk, IfErr, OnOk, OnErr};
+ghost use Rattle.std.specs.Prelude.{length, IfSome, IfOk, IfErr, OnOk, OnErr, option_map};
 ghost use Rattle.packet_entry.specs.Numbers.{longest_payload};
 ghost use Rattle.queue_core.specs.declared.event.Event.TheVariants.{Ask};
 ghost use Rattle.queue_core.specs.declared.event.Reply.TheVariants.{Answer};
+ghost use Rattle.queue_core.specs.State.{Bound};
 ghost use Rattle.place_history.specs.Numbers.{most_places};
 ghost use Rattle.place_history.specs.History.{AreLegal};
 ghost use Rattle.place_history.specs.Kept.{IsAt, AreHere, step_of, after_event, told, taken_in};
-ghost use Rattle.place_history.specs.Kept.{waiting_in_all};
+ghost use Rattle.place_history.specs.Kept.{waiting_in_all, state_of, waiting_at};
 ghost use Rattle.place_history.specs.Happenings.{BeginsAs, after_begin, SettlesAs, arrive};
 ghost use Rattle.place_history.specs.Happenings.{queue_of, payload_of, all_handed, closings, downs};
 ghost use Rattle.place_history.specs.Happenings.{with_all};
@@ -237,6 +238,22 @@ impl Place {
         ensures err { OnErr result (out.new.items ≡ out.old.items) }
     {
         listing::listing(&self.held, alloc, out)
+    }
+
+    /// The port that a queue is bound to; `None` where it is absent.
+    pub fn port_of(&self, queue: u16) -> Option<u32>
+        requires standing { self.now.is_left ≡ false }
+        ensures { result ≡ option_map (λ (b : Bound). b.port) (state_of self.now.entries queue) }
+    {
+        held::port_of(&self.held, queue)
+    }
+
+    /// How many packets wait in a queue; none where it is absent.
+    pub fn waiting_in(&self, queue: u16) -> u32
+        requires standing { self.now.is_left ≡ false }
+        ensures { result ≡ waiting_at (state_of self.now.entries queue) }
+    {
+        held::waiting_in(&self.held, queue)
     }
 
     /// How many packets wait; the number stops at 4,294,967,295.

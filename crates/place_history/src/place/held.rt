@@ -3,7 +3,7 @@
 ghost use Rattle.std.specs.Prelude.{◌≡◌, ◌<◌, ◌≤◌, ◌+◌, ◌^◌, ◌++◌, ◌∷◌, [], None, OnOk};
 ghost use Rattle.std.specs.Prelude.{option_map};
 ghost use Rattle.queue_core.specs.State.{Bound};
-ghost use Rattle.place_history.specs.Kept.{state_of, step_of, taken_by};
+ghost use Rattle.place_history.specs.Kept.{state_of, step_of, taken_by, waiting_at};
 ghost use Rattle.place_history.specs.History.{IsStep};
 ghost use Rattle.place_history.specs.Numbers.{queue_count};
 ghost use Rattle.place_history.specs.Replayed as replayed;
@@ -78,6 +78,17 @@ pub(super) fn port_of(held: &Held, number: u16) -> Option<u32>
         (state_of held.now.entries.items number) }
 {
     held.queues.get(&number).map(|queue| queue.port())
+}
+
+/// How many packets wait in a queue.
+pub(super) fn waiting_in(held: &Held, number: u16) -> u32
+    requires replayed { IsReplayed held.now }
+    ensures { result ≡ waiting_at (state_of held.now.entries.items number) }
+{
+    match held.queues.get(&number) {
+        Some(queue) => queue.waiting(),
+        None => 0,
+    }
 }
 
 /// How many packets wait once a queue has answered so.
