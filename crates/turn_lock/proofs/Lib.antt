@@ -1,0 +1,5 @@
+pub mod Trees
+pub mod Lists
+mod Seats
+mod Steps
+mod Ends

@@ -1,0 +1,7 @@
+use Rattle.std.proofs.Common.{◌≡◌, ◌<◌}
+use Rattle.turn_lock.proofs.lock.TurnLock.draw.Given as goal
+
+abbrev pub invariant-loop : goal.invariant-loop
+invariant-loop g l =
+    (l.seat.table_id ≡ l.initial.seat.table_id) × (l.seat.id ≡ l.initial.seat.id) ×
+    (l.seat.me ≡ l.initial.seat.me) × (l.from < 18446744073709551615)

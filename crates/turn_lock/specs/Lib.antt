@@ -1,0 +1,9 @@
+pub mod Parts
+pub mod Places
+pub mod Turns
+pub mod Views
+pub mod Rule
+pub mod Steps
+pub mod Carried
+pub mod Passes
+pub mod Lent
