@@ -6,22 +6,22 @@ use Rattle.std.specs.Option.{option_map_or}
 use Rattle.std.proofs.lemmas.List.Elements.{All-append, All-cons, All-map, All-nil}
 use Rattle.std.proofs.lemmas.List.Elements.{All-weaker}
 use Rattle.nfqa_msgs.specs.declared.notice.Notice.{Notice}
-use Rattle.inspector_script.specs.declared.ask.Ask.TheVariants.{Words, Close}
-use Rattle.inspector_script.specs.declared.block.OnLine.{OnLine}
+use Rattle.script_lines.specs.declared.ask.Ask.TheVariants.{Words, Close}
+use Rattle.script_lines.specs.declared.answering.OnLine.{OnLine}
 use Rattle.inspector_script.specs.declared.block.Block.{Block}
-use Rattle.inspector_script.specs.declared.template.Template.{Template}
-use Rattle.inspector_script.specs.declared.template.Template.TheVariants.{Config, Verdict, Batch}
-use Rattle.inspector_script.specs.declared.template.Template.TheVariants.{Raw}
-use Rattle.inspector_script.specs.Asking.{asked}
+use Rattle.script_lines.specs.declared.template.Template.{Template}
+use Rattle.script_lines.specs.declared.template.Template.TheVariants.{Config, Verdict, Batch, Raw}
+use Rattle.script_lines.specs.Asking.{asked}
+use Rattle.script_lines.specs.Answering.{asks_of, holds_all}
+use Rattle.script_lines.specs.Limits.{IsAsk, IsOnLine, IsTemplate}
 use Rattle.inspector_script.specs.Blocks as block
-use Rattle.inspector_script.specs.Blocks.{asks_of, holds_all}
-use Rattle.inspector_script.specs.Scripts.{IsAsk, IsBlock, IsOnLine, IsTemplate}
+use Rattle.inspector_script.specs.Scripts.{IsBlock}
 use Rattle.inspector_script.proofs.Finding.{found_keeps}
 
 asked_fits : (n : Notice) (t : Template) → IsTemplate t → IsAsk (asked n t)
-asked_fits n (Config queue command params maxlen flags mask) h = h
-asked_fits n (Verdict queue verdict id mark payload) h = h
-asked_fits n (Batch queue verdict id mark) h = h
+asked_fits n (Config queue settings) h = h
+asked_fits n (Verdict judgement payload) h = h
+asked_fits n (Batch judgement) h = h
 asked_fits n (Raw bytes) h = h
 
 all_asked_fit : (n : Notice) (ts : List Template) → All IsTemplate ts →

@@ -1,5 +1,10 @@
+pub mod Built
+pub mod FileForm
 pub mod Finding
 pub mod Fitting
-pub mod Parts
+pub mod Goes
+pub mod Growing
+pub mod Leads
 pub mod Ports
+pub mod Reached
 pub mod Underway

@@ -10,13 +10,15 @@ use Rattle.std.proofs.lemmas.List.Elements.{All-nil, All-push}
 use Rattle.std.proofs.lemmas.List.Folds.{list_any_at}
 use Rattle.std.proofs.lemmas.List.Quantifiers.{all_pairs_push}
 use Rattle.inspector_script.specs.declared.block.Block.{Block}
-use Rattle.inspector_script.specs.Numbers.{default_mail, largest_mail, most_ports}
-use Rattle.inspector_script.specs.Scripts.{IsBlock, IsOnLine, IsScript, IsWords, held}
+use Rattle.script_lines.specs.Numbers.{largest_mail}
+use Rattle.inspector_script.specs.Numbers.{default_mail, most_ports}
+use Rattle.script_lines.specs.Limits.{IsOnLine, IsWords}
+use Rattle.inspector_script.specs.Scripts.{IsBlock, IsScript, held}
 use Rattle.inspector_script.specs.ScriptFile.{IsSound, Place, is_port, may_begin, last_count}
 use Rattle.inspector_script.specs.ScriptFile.{shut, without_lines}
 
 -- a port that isn't among those before differs from each
-new_port : (ports : List ℕ) (port : ℕ) → AllPairs (λ a b. a ≢ b) ports →
+pub new_port : (ports : List ℕ) (port : ℕ) → AllPairs (λ a b. a ≢ b) ports →
     not (list_any (is_port port) ports) ≡ true → AllPairs (λ a b. a ≢ b) (ports ++ port ∷ [])
 new_port ports port differ new =
     all_pairs_push (λ a b. a ≢ b) ports port differ

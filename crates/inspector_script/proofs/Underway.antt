@@ -14,7 +14,7 @@ pub record IsRead (text : List ℕ) (line_number : ℕ) (p : Place) (rest : List
   pub sound : IsSound p
   pub count : line_number + length rest ≤ length text + 1
 
-script_from-on : (line_number : ℕ) (p q : Place) (line : List ℕ) (rest : List (List ℕ)) →
+pub script_from-on : (line_number : ℕ) (p q : Place) (line : List ℕ) (rest : List (List ℕ)) →
     line_leads_to p line ≡ Some q →
     script_from line_number p (line ∷ rest) ≡ script_from (line_number + 1) q rest
 unfolding script_from

@@ -1,14 +1,12 @@
 -- What a port's block asks for: when the port opens, in answer to a notice, and at the end.
-use Rattle.std.specs.Prelude.{ℕ, Bool, List, [], ◌∷◌, ◌++◌, map, find, Option, if◌then◌else◌}
-use Rattle.std.specs.List.{list_all}
+use Rattle.std.specs.Prelude.{ℕ, List, [], ◌∷◌, ◌++◌, map, find, Option, if◌then◌else◌}
 use Rattle.std.specs.Option.{option_map_or}
 use Rattle.nfqa_msgs.specs.declared.notice.Notice.{Notice}
-use Rattle.inspector_script.specs.declared.ask.Ask.{Ask}
-use Rattle.inspector_script.specs.declared.ask.Ask.TheVariants.{Words, Close}
-use Rattle.inspector_script.specs.declared.block.OnLine.{OnLine}
+use Rattle.script_lines.specs.declared.ask.Ask.{Ask}
+use Rattle.script_lines.specs.declared.ask.Ask.TheVariants.{Words, Close}
+use Rattle.script_lines.specs.declared.answering.OnLine.{OnLine}
+use Rattle.script_lines.specs.Answering.{asks_of, holds_all}
 use Rattle.inspector_script.specs.declared.block.Block.{Block}
-use Rattle.inspector_script.specs.Conditions.{holds}
-use Rattle.inspector_script.specs.Asking.{asked}
 
 -- the asks of the `open` lines, in their order
 abbrev pub opening : Block → List Ask
@@ -17,14 +15,6 @@ opening b = map Words b.opening
 -- the asks of the `end` lines, in their order; `end close` is the last of them
 abbrev pub closing : Block → List Ask
 closing b = map Words b.closing ++ (if b.closes then Close ∷ [] else [])
-
--- all conditions of a line hold of the port's `received`-th notice
-abbrev pub holds_all : ℕ → Notice → OnLine → Bool
-holds_all received n line = list_all (holds received n) line.conditions
-
--- the asks of a line in answer to a notice, in their order
-abbrev pub asks_of : Notice → OnLine → List Ask
-asks_of n line = map (asked n) line.asks
 
 -- the first of the lines whose conditions all hold
 abbrev pub line_for : ℕ → Notice → List OnLine → Option OnLine

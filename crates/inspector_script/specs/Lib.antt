@@ -1,9 +1,5 @@
-pub mod Numbers
-pub mod Conditions
-pub mod Asking
 pub mod Blocks
-pub mod Scripts
-pub mod AskLine
-pub mod ConditionLine
-pub mod Line
+pub mod Grammar
+pub mod Numbers
 pub mod ScriptFile
+pub mod Scripts

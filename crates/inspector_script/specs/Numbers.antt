@@ -1,10 +1,6 @@
--- The numbers of scripts, each once. They are this project's own limits. The last value of a count
--- is that of queue_core.
+-- The numbers of whole scripts, each once. They are this project's own limits; those of single
+-- lines are script_lines', and the last value of a count is queue_core's.
 use Rattle.std.specs.Prelude.{ℕ}
-
--- the most letters of a mailbox
-abbrev pub largest_mail : ℕ
-largest_mail = 65536
 
 -- the most `down` lines
 abbrev pub most_downs : ℕ
@@ -18,23 +14,11 @@ most_ports = 32
 abbrev pub most_lines : ℕ
 most_lines = 1000
 
--- the most asks of an `on` line
-abbrev pub most_asks : ℕ
-most_asks = 8
-
--- the most bytes of an ask's payload
-abbrev pub most_payload_bytes : ℕ
-most_payload_bytes = 2048
-
--- the most bytes of a raw ask
-abbrev pub most_raw_bytes : ℕ
-most_raw_bytes = 4096
-
--- how many letters a mailbox holds where no line says it
+-- how many notices a mailbox holds where no line says it
 abbrev pub default_mail : ℕ
 default_mail = 1024
 
--- how many frames are fed between two rounds where no line says it
+-- after how many frames each time the mailboxes are emptied where no line says it
 abbrev pub default_pace : ℕ
 default_pace = 1
 

@@ -12,17 +12,18 @@ use Rattle.text_lines.specs.declared.fault.LineFault.{LineFault}
 use Rattle.text_lines.specs.declared.fault.LineFault.TheVariants.{Bad}
 use Rattle.text_lines.specs.declared.fault.LineFault.TheVariants as fault
 use Rattle.inspector_script.specs.declared.block.Block.{Block}
-use Rattle.inspector_script.specs.declared.line.Line.{Line}
-use Rattle.inspector_script.specs.declared.line.Line.TheVariants.{Nothing, Mail, Pace, Key, Down}
-use Rattle.inspector_script.specs.declared.line.Line.TheVariants.{Port, Inside}
-use Rattle.inspector_script.specs.declared.line.BlockLine.{BlockLine}
-use Rattle.inspector_script.specs.declared.line.BlockLine.TheVariants.{Open, On, End, Close}
+use Rattle.script_lines.specs.declared.line.Line.{Line}
+use Rattle.script_lines.specs.declared.line.Line.TheVariants.{Nothing, Mail, Pace, Key, Down}
+use Rattle.script_lines.specs.declared.line.Line.TheVariants.{Port, Inside}
+use Rattle.script_lines.specs.declared.line.BlockLine.{BlockLine}
+use Rattle.script_lines.specs.declared.line.BlockLine.TheVariants.{Open, On, End, Close}
 use Rattle.inspector_script.specs.declared.reading.Reader.{Reader}
-use Rattle.inspector_script.specs.declared.script.Down as down
+use Rattle.script_lines.specs.declared.line.Down as down
 use Rattle.inspector_script.specs.declared.stop.Stop.{Stop}
 use Rattle.inspector_script.specs.declared.stop.Stop.TheVariants.{Refused, NoMemory}
-use Rattle.inspector_script.specs.Line.{says}
-use Rattle.inspector_script.specs.Numbers.{default_key, default_mail, default_pace, largest_mail}
+use Rattle.script_lines.specs.Line.{says}
+use Rattle.script_lines.specs.Numbers.{largest_mail}
+use Rattle.inspector_script.specs.Numbers.{default_key, default_mail, default_pace}
 use Rattle.inspector_script.specs.Numbers.{most_downs, most_lines, most_ports}
 use Rattle.inspector_script.specs.Scripts.{IsBlock, ScriptValue, held, line_count}
 

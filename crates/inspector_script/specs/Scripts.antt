@@ -3,28 +3,21 @@ use Rattle.std.specs.Prelude.{◌≡◌, ◌≢◌, ℕ, ◌+◌, ◌≤◌, min
 use Rattle.std.specs.Prelude.{IfSome, None, slice_get, if◌then◌else◌}
 use Rattle.std.specs.Option.{option_map_or}
 use Rattle.nfqa_msgs.specs.declared.notice.Notice.{Notice}
-use Rattle.nfqa_msgs.specs.declared.request.Request.{Request}
-use Rattle.nfqa_msgs.specs.declared.request.Request.TheVariants as request
-use Rattle.place_history.specs.declared.log.AskWords.{AskWords}
-use Rattle.place_history.specs.declared.log.AskWords.TheVariants.{Plain, Raw}
 use Rattle.queue_core.specs.Numbers.{largest_count}
-use Rattle.inspector_script.specs.declared.ask.Ask.{Ask}
-use Rattle.inspector_script.specs.declared.ask.Ask.TheVariants.{Words, Close}
-use Rattle.inspector_script.specs.declared.block.OnLine.{OnLine}
+use Rattle.script_lines.specs.declared.ask.Ask.{Ask}
+use Rattle.script_lines.specs.declared.line.Down.{Down}
+use Rattle.script_lines.specs.Limits.{IsOnLine, IsWords}
+use Rattle.script_lines.specs.Numbers.{largest_mail}
 use Rattle.inspector_script.specs.declared.block.Block.{Block}
-use Rattle.inspector_script.specs.declared.script.Down.{Down}
-use Rattle.inspector_script.specs.declared.template.Template.{Template}
-use Rattle.inspector_script.specs.declared.template.Template.TheVariants as template
-use Rattle.inspector_script.specs.Numbers.{largest_mail, most_downs, most_ports, most_lines}
-use Rattle.inspector_script.specs.Numbers.{most_asks, most_payload_bytes, most_raw_bytes}
+use Rattle.inspector_script.specs.Numbers.{most_downs, most_ports, most_lines}
 use Rattle.inspector_script.specs.Blocks as block
 
 -- ---- what a script says
 
 pub record ScriptValue : Type 0 where
-  -- how many letters each mailbox holds
+  -- how many notices each mailbox holds
   pub mail : ℕ
-  -- how many frames are fed between two rounds
+  -- after how many frames each time the mailboxes are emptied; 0 is not before the end
   pub pace : ℕ
   -- the key of the flow hash
   pub key : ℕ
@@ -47,41 +40,6 @@ held mail pace key downs ports blocks = record {
 }
 
 -- ---- what each script keeps
-
--- a payload isn't too long
-abbrev pub IsPayload : List ℕ → Type 0
-IsPayload bytes = length bytes ≤ most_payload_bytes
-
--- a datagram has a byte, and isn't too long
-abbrev pub IsRaw : List ℕ → Type 0
-IsRaw bytes = (1 ≤ length bytes) × (length bytes ≤ most_raw_bytes)
-
-abbrev pub IsRequest : Request → Type 0
-IsRequest (request.Config queue command params maxlen flags mask) = Unit {0}
-IsRequest (request.Verdict queue head mark payload) = IfSome payload IsPayload
-IsRequest (request.Batch queue head mark) = Unit {0}
-
-abbrev pub IsWords : AskWords → Type 0
-IsWords (Plain request) = IsRequest request
-IsWords (Raw bytes) = IsRaw bytes
-
--- what a script may ask for
-abbrev pub IsAsk : Ask → Type 0
-IsAsk (Words words) = IsWords words
-IsAsk Close = Unit {0}
-
-abbrev pub IsTemplate : Template → Type 0
-IsTemplate (template.Config queue command params maxlen flags mask) = Unit {0}
-IsTemplate (template.Verdict queue verdict id mark payload) = IfSome payload IsPayload
-IsTemplate (template.Batch queue verdict id mark) = Unit {0}
-IsTemplate (template.Raw bytes) = IsRaw bytes
-
--- a line has a condition and an ask, and not too many asks
-pub record IsOnLine (line : OnLine) : Type 0 where
-  pub conditions : 1 ≤ length line.conditions
-  pub some_ask : 1 ≤ length line.asks
-  pub asks : length line.asks ≤ most_asks
-  pub each : All IsTemplate line.asks
 
 -- how many lines a block has
 abbrev pub line_count : Block → ℕ

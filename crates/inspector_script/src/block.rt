@@ -1,25 +1,13 @@
 //! What a script says of one port.
 
 ghost use Rattle.std.specs.Prelude.{◌≡◌, ◌++◌, map, option_copied, None, IfOk, IsOk};
-ghost use Rattle.inspector_script.specs.Asking.{asked};
-ghost use Rattle.inspector_script.specs.Blocks.{answer, closing, holds_all, line_for, opening};
+ghost use Rattle.inspector_script.specs.Blocks.{answer, closing, line_for, opening};
 
-use crate::ask::{Ask, Asks, put_words};
-use crate::condition::Condition;
-use crate::template::Template;
 use nfqa_msgs::Notice;
 use packet_entry::{NoMemory, Sequence};
 use place_history::AskWords;
+use script_lines::{Ask, Asks, OnLine, put_words};
 use std::alloc::Global;
-
-/// An `on` line.
-#[derive(Debug, Drop)]
-pub(crate) struct OnLine {
-    /// The line answers where they all hold.
-    pub(crate) conditions: Sequence<Condition>,
-    /// What it asks for.
-    pub(crate) asks: Sequence<Template>,
-}
 
 /// What a script says of one port.
 #[derive(Debug, Drop)]
@@ -77,27 +65,5 @@ impl Block {
         ensures { option_copied result ≡ line_for received notice.now self.now.lines }
     {
         self.lines.iter().find(|line| line.holds(received, notice))
-    }
-}
-
-impl OnLine {
-    /// Whether its conditions all hold.
-    fn holds(&self, received: u32, notice: &Notice) -> bool
-        ensures { result ≡ holds_all received notice.now self.now }
-    {
-        self.conditions
-            .iter()
-            .all(|condition| condition.holds(received, notice))
-    }
-
-    /// What it asks for in answer to this notice.
-    fn answer(&self, alloc: Global, notice: &Notice) -> Result<Asks, NoMemory>
-        ensures { IfOk result (λ asks. asks ≡ map (asked notice.now) self.now.asks) }
-    {
-        let mut filled = Vec::new(alloc);
-        for template in &self.asks {
-            filled.push(template.ask(notice)?)?;
-        }
-        Ok(Asks::from_vec(filled))
     }
 }

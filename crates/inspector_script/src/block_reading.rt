@@ -1,16 +1,16 @@
 //! A port's block, as it is read line after line.
 
-ghost use Rattle.std.specs.Prelude.{◌≡◌, ◌≤◌, ◌++◌, ◌∷◌, [], Some, OnOk, if◌then◌else◌};
-ghost use Rattle.inspector_script.specs.Line.{IsBlockLine};
+ghost use Rattle.std.specs.Prelude.{◌≡◌, ◌≤◌, ◌++◌, ◌∷◌, [], Some, OnOk};
+ghost use Rattle.script_lines.specs.Limits.{IsBlockLine};
 ghost use Rattle.inspector_script.specs.Numbers.{most_lines};
 ghost use Rattle.inspector_script.specs.Scripts.{IsBlock, line_count};
 ghost use Rattle.inspector_script.specs.ScriptFile.{Moves, block_after, has_room, may_end};
 ghost use Rattle.inspector_script.specs.ScriptFile.{without_lines};
 
 use crate::block::Block;
-use crate::line::BlockLine;
 use crate::stop::Stop;
 use packet_entry::Sequence;
+use script_lines::BlockLine;
 use std::alloc::Global;
 
 /// The most lines of a block, without its `port` line, of this reader.
@@ -63,16 +63,9 @@ impl Block {
         requires { line_count self.now ≤ most_lines }
         ensures { result ≡ has_room self.now }
     {
-        self.opening.len() + self.lines.len() + self.closing.len() + close_lines(self.closes)
+        self.opening.len() + self.lines.len() + self.closing.len() + usize::from(self.closes)
             < MOST_LINES
     }
-}
-
-/// How many lines `end close` there are.
-fn close_lines(closes: bool) -> usize
-    ensures { result ≡ (if closes then 1 else 0) }
-{
-    if closes { 1 } else { 0 }
 }
 
 /// Adds an item at the end.

@@ -1,9 +1,16 @@
-//! Laws of the answers, each the contract of a function that does nothing.
+//! Laws of the answers and of scripts' files, each the contract of a function that does nothing.
+//! With the contract of `read_script`, which speaks of the same definitions, the latter are laws of
+//! the reading.
 
-ghost use Rattle.std.specs.Prelude.{◌≡◌, ℕ, List, [], ◌∷◌, ◌++◌, All, true, false};
+ghost use Rattle.std.specs.Prelude.{◌≡◌, ◌⊎◌, ℕ, List, [], ◌∷◌, ◌++◌, All, true, false};
 ghost use Rattle.nfqa_msgs.specs.declared.notice.Notice.{Notice};
-ghost use Rattle.inspector_script.specs.declared.block.OnLine.{OnLine};
-ghost use Rattle.inspector_script.specs.Blocks.{answer_by, asks_of, holds_all};
+ghost use Rattle.script_lines.specs.declared.answering.OnLine.{OnLine};
+ghost use Rattle.script_lines.specs.Answering.{asks_of, holds_all};
+ghost use Rattle.inspector_script.specs.Blocks.{answer_by};
+ghost use Rattle.inspector_script.specs.Grammar.{IsFirstRefused, IsScriptFile};
+ghost use Rattle.inspector_script.specs.Scripts.{ScriptValue};
+
+use script_lines::lines_say_what_is_written;
 
 /// A line whose conditions all hold answers, where those of no line before it all hold, whatever
 /// stands after it.
@@ -19,3 +26,29 @@ pub fn nobody_answers_where_no_line_holds()
     ensures { (received : ℕ) (n : Notice) (lines : List OnLine) →
         All (λ l. holds_all received n l ≡ false) lines → answer_by received n lines ≡ [] }
 {}
+
+/// A text is the file of one script at most.
+pub fn one_value()
+    ensures { (text : List ℕ) (a b : ScriptValue) → IsScriptFile text a → IsScriptFile text b →
+        a ≡ b }
+{
+    lines_say_what_is_written();
+}
+
+/// A text has one first refused line at most.
+pub fn one_refused_line()
+    ensures { (text : List ℕ) (a b : ℕ) → IsFirstRefused text a → IsFirstRefused text b → a ≡ b }
+{
+    lines_say_what_is_written();
+}
+
+/// A text is a script's file or has a first refused line, and never both.
+pub fn value_or_refused_line()
+    ensures one { (text : List ℕ) →
+        ((s : ScriptValue) × IsScriptFile text s)
+        ⊎ ((line : ℕ) × IsFirstRefused text line) }
+    ensures never_both { (text : List ℕ) (s : ScriptValue) (line : ℕ) →
+        IsScriptFile text s → IsFirstRefused text line → ⊥ }
+{
+    lines_say_what_is_written();
+}

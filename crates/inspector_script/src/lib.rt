@@ -6,26 +6,22 @@
 //! and answers each by the first `on` line of the block whose conditions all hold.
 #![tactic(auto)]
 
-mod ask;
-mod ask_line;
 mod block;
 mod block_reading;
-mod condition;
-mod condition_line;
 mod laws;
-mod line;
 mod machine;
-mod on_line;
 mod reading;
 mod script;
 mod stop;
-mod template;
 
-pub use ask::{Ask, Asks};
-pub use laws::{nobody_answers_where_no_line_holds, the_first_line_that_holds_answers};
+pub use laws::{
+    nobody_answers_where_no_line_holds, one_refused_line, one_value,
+    the_first_line_that_holds_answers, value_or_refused_line,
+};
 pub use machine::PortMachine;
 pub use reading::read_script;
-pub use script::{Down, Downs, Script};
+pub use script::{Downs, Script};
+pub use script_lines::{Ask, Asks, Down};
 pub use text_lines::LineFault;
 
 #[cfg(test)]

@@ -1,13 +1,14 @@
 //! The inspector of one port.
 
 ghost use Rattle.std.specs.Prelude.{◌≡◌, ◌<◌, length, All, IfOk, IsOk, OnOk, OnErr};
-ghost use Rattle.inspector_script.specs.Scripts.{IsAsk, IsUnanswered, answer, closing, next_count};
+ghost use Rattle.script_lines.specs.Limits.{IsAsk};
+ghost use Rattle.inspector_script.specs.Scripts.{IsUnanswered, answer, closing, next_count};
 ghost use Rattle.inspector_script.specs.Scripts.{opening};
 
-use crate::ask::Asks;
 use crate::script::Script;
 use nfqa_msgs::Notice;
 use packet_entry::NoMemory;
+use script_lines::Asks;
 use std::alloc::Global;
 use std::marker::Model;
 

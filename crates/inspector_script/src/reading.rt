@@ -2,17 +2,19 @@
 
 ghost use Rattle.std.specs.Prelude.{◌≡◌, ◌<◌, ◌-◌, ◌^◌, ℕ, [], Some, Ok, Err, IfOk, OnOk, length};
 ghost use Rattle.std.specs.List.{list_any};
-ghost use Rattle.inspector_script.specs.declared.line.Line.TheVariants as line;
-ghost use Rattle.inspector_script.specs.Line.{IsBlockLine, IsLine};
+ghost use Rattle.script_lines.specs.declared.line.Line.TheVariants as line;
+ghost use Rattle.script_lines.specs.Limits.{IsBlockLine, IsLine};
+ghost use Rattle.inspector_script.specs.Grammar.{IsFirstRefused, IsScriptFile};
+ghost use Rattle.inspector_script.specs.Scripts.{ScriptValue};
 ghost use Rattle.inspector_script.specs.ScriptFile.{Answers, IsSound, Moves, after, inside};
 ghost use Rattle.inspector_script.specs.ScriptFile.{is_port, line_leads_to, may_begin, place_of};
 ghost use Rattle.inspector_script.specs.ScriptFile.{script_from, script_of, shut, start};
 
 use crate::block::Block;
-use crate::line::{BlockLine, Line, read_line};
-use crate::script::{Down, Downs, Script};
+use crate::script::{Downs, Script};
 use crate::stop::Stop;
 use packet_entry::Sequence;
+use script_lines::{BlockLine, Down, Line, lines_say_what_is_written, read_line};
 use std::alloc::Global;
 use text_lines::{LineFault, next_line};
 
@@ -20,9 +22,9 @@ use text_lines::{LineFault, next_line};
 const MOST_DOWNS: usize = 1_000;
 /// The most ports, of this reader.
 const MOST_PORTS: usize = 32;
-/// How many letters a mailbox holds where no `mail` line says it.
+/// How many notices a mailbox holds where no `mail` line says it.
 const DEFAULT_MAIL: u32 = 1_024;
-/// How many frames are fed at a time where no `pace` line says it.
+/// After how many frames each time the mailboxes are emptied where no `pace` line says it.
 const DEFAULT_PACE: u32 = 1;
 /// The key of the flow hash where no `hashkey` line says it.
 const DEFAULT_KEY: u32 = 0;
@@ -34,10 +36,21 @@ const DEFAULT_KEY: u32 = 0;
 /// bytes are gone over once, line by line.
 pub fn read_script(alloc: Global, bytes: &[u8]) -> Result<Script, LineFault>
     requires { length bytes.now < 2 ^ 32 - 1 }
-    ensures value { IfOk result (λ script. script_of bytes.now ≡ Ok script) }
+
+    // What is read is in the grammar, and what is in the grammar is read, unless memory runs out.
+    ensures found { IfOk result (IsScriptFile bytes.now) }
+    ensures only { (s : ScriptValue) → IsScriptFile bytes.now s → Answers result (Ok s) }
+
+    // What is refused is refused at the first line that may not stand, and a file with such a line
+    // is refused there, unless memory runs out.
     ensures refused { (line : ℕ) → result ≡ Err (LineFault.Bad line) →
-        script_of bytes.now ≡ Err line }
+        IsFirstRefused bytes.now line }
+    ensures stuck { (line : ℕ) → IsFirstRefused bytes.now line → Answers result (Err line) }
+
+    // Both at once, as a function of the text.
+    ensures exact { Answers result (script_of bytes.now) }
 {
+    lines_say_what_is_written();
     read_lines(alloc, bytes)
 }
 
@@ -137,7 +150,7 @@ impl Reader {
         Ok(())
     }
 
-    /// Sets how many frames are fed at a time. Refused as [`mail`](Reader::mail) is.
+    /// Sets when the mailboxes are emptied. Refused as [`mail`](Reader::mail) is.
     #[tactic(auto, unfolding(crate::specs::ScriptFile::after))]
     fn pace(&mut self, pace: u32) -> Result<(), Stop>
         requires sound { IsSound (place_of self.old) }

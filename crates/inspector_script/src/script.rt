@@ -5,18 +5,10 @@ ghost use Rattle.inspector_script.specs.Scripts.{IsScript, IsBlock};
 
 use crate::block::Block;
 use packet_entry::Sequence;
+use script_lines::Down;
 use std::marker::Model;
 
-/// A line `down DEVICE after N`.
-#[derive(Clone, Copy, Debug, PartialEq, Eq)]
-pub struct Down {
-    /// The device that goes down.
-    pub device: u32,
-    /// After which frame, counted from 1; 0 is before the first.
-    pub after: u32,
-}
-
-/// Such lines in their order.
+/// The lines `down DEVICE after N`, in their order.
 pub type Downs = Sequence<Down>;
 
 /// A script: how the run is set up, and what the inspector of each port does.
@@ -75,7 +67,7 @@ impl Script {
         self.mail
     }
 
-    /// How many frames are fed at a time.
+    /// After how many frames each time the mailboxes are emptied; 0 is not before the end.
     pub fn pace(&self) -> u32
         ensures { result ≡ self.now.pace }
     {

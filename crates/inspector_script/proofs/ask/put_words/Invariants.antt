@@ -1,8 +1,0 @@
-use Rattle.std.proofs.Common.{◌≡◌, ◌++◌, map}
-use Rattle.inspector_script.specs.declared.ask.Ask.TheVariants.{Words}
-use Rattle.inspector_script.proofs.ask.put_words.Given as goal
-
--- those that are there and those to come are all
-abbrev pub invariant-loop-words : goal.invariant-loop-words
-invariant-loop-words l =
-    l.out.items ++ map Words l.words-iterator ≡ l.fn.out.items ++ map Words l.fn.all

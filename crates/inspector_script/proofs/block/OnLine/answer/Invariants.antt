@@ -1,9 +1,0 @@
-use Rattle.std.proofs.Common.{◌≡◌, ◌++◌, map}
-use Rattle.inspector_script.specs.Asking.{asked}
-use Rattle.inspector_script.proofs.block.OnLine.answer.Given as goal
-
--- those that are there and those to come are all
-abbrev pub invariant-loop-template : goal.invariant-loop-template
-invariant-loop-template l =
-    l.filled.items ++ map (asked l.fn.notice) l.template-iterator
-    ≡ map (asked l.fn.notice) l.fn.self.asks

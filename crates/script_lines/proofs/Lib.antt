@@ -1,0 +1,9 @@
+pub mod AskForm
+pub mod AskPartForm
+pub mod ConditionForm
+pub mod LineForm
+pub mod Marks
+pub mod Parts
+pub mod PartsForm
+pub mod WordForm
+pub mod Wording

@@ -1,0 +1,9 @@
+pub mod Answering
+pub mod AskLine
+pub mod Asking
+pub mod ConditionLine
+pub mod Conditions
+pub mod Grammar
+pub mod Limits
+pub mod Line
+pub mod Numbers
