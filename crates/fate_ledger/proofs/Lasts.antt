@@ -1,0 +1,155 @@
+-- The last event of each packet, event by event.
+use Rattle.std.proofs.Common.{◌≡◌, ◌≢◌, ℕ, zero, suc, ◌+◌, ◌-◌, ◌<◌, ◌≤◌, List, [], ◌∷◌, ◌++◌, length}
+use Rattle.std.proofs.Common.{Option, Some, None, Bool, true, false, cond, refl, sym, ap, ◌∙◌, arith}
+use Rattle.std.proofs.Common.{inl, inr, append_assoc}
+use Rattle.std.proofs.lemmas.List.{append-nil}
+use Rattle.std.specs.Prelude.{◌==◌, slice_get, slice_set, ◌&&◌}
+use Rattle.std.proofs.lemmas.Bool.{eq-eqb, ne_eqb, cases_lt}
+use Rattle.fate_ledger.specs.declared.happening.Happening.{Happening}
+use Rattle.pcap_io.specs.declared.capture.Frame.{Frame}
+use Rattle.place_history.specs.declared.histories.Lost.{Lost}
+use Rattle.fate_ledger.specs.Fates.{last_of, later_of, is_later, fate_line, is_lost, fates_from}
+use Rattle.fate_ledger.specs.Following.{lasts, noted, noted_at, noted_all, lines_with}
+
+-- the last event, after one more
+pub last_on : (number : ℕ) (hs : List Happening) (h : Happening) (kept : Option Happening) →
+    last_of number (hs ++ h ∷ []) kept ≡ later_of number (last_of number hs kept) h
+last_on number [] h kept = refl
+last_on number (g ∷ hs) h kept = last_on number hs h (later_of number kept g)
+
+-- another packet's event changes nothing
+pub other_stays : (number : ℕ) (hs : List Happening) (h : Happening) → h.card.number ≢ number →
+    last_of number (hs ++ h ∷ []) None ≡ last_of number hs None
+other_stays number hs h other =
+    last_on number hs h None
+    ∙ ap (λ b. cond (b && is_later (last_of number hs None) h) (Some h) (last_of number hs None))
+    (ne_eqb h.card.number number other)
+
+others_stay : (hs : List Happening) (h : Happening) (k n : ℕ) →
+    ((j : ℕ) → j < n → h.card.number ≢ k + j) → lasts (hs ++ h ∷ []) k n ≡ lasts hs k n
+others_stay hs h k zero others = refl
+others_stay hs h k (suc n) others =
+    ap (λ l. l ∷ lasts (hs ++ h ∷ []) (k + 1) n)
+    (other_stays k hs h (λ same. others 0 (omega arith) (omega (arith, same))))
+    ∙ ap (λ ls. last_of k hs None ∷ ls) (others_stay hs h (k + 1) n
+    (λ j below same. others (suc j) (omega (arith, below)) (omega (arith, same))))
+
+-- that of the packet at a place
+last_at : (hs : List Happening) (i n k : ℕ) → i < n →
+    slice_get (lasts hs k n) i ≡ Some (last_of (k + i) hs None)
+last_at hs i zero k below = absurd (omega (arith, below))
+last_at hs zero (suc n) k below = ap (λ m. Some (last_of m hs None)) (omega arith)
+last_at hs (suc i) (suc n) k below =
+    last_at hs i n (k + 1) (omega (arith, below))
+    ∙ ap (λ m. Some (last_of m hs None)) (let e : k + 1 + i ≡ k + suc i = omega arith in e)
+
+none_at : (hs : List Happening) (i n k : ℕ) → n ≤ i → slice_get (lasts hs k n) i ≡ None
+none_at hs i zero k past = refl
+none_at hs zero (suc n) k past = absurd (omega (arith, past))
+none_at hs (suc i) (suc n) k past = none_at hs i n (k + 1) (omega (arith, past))
+
+-- at its own place an event is kept where it is later
+own_place : (hs : List Happening) (h : Happening) (i n k : ℕ) → h.card.number ≡ k + i → i < n →
+    cond (is_later (last_of (k + i) hs None) h) (slice_set (lasts hs k n) i (Some h))
+    (lasts hs k n) ≡ lasts (hs ++ h ∷ []) k n
+own_place hs h i zero k own below = absurd (omega (arith, below))
+own_place hs h zero (suc n) k own below =
+    let here : k + 0 ≡ k = omega arith in
+    let test : (h.card.number == k) ≡ true = eq-eqb h.card.number k (own ∙ here) in
+    let first : last_of k (hs ++ h ∷ []) None
+    ≡ cond (is_later (last_of k hs None) h) (Some h) (last_of k hs None) =
+    last_on k hs h None
+    ∙ ap (λ b. cond (b && is_later (last_of k hs None) h) (Some h) (last_of k hs None)) test in
+    let rest : lasts (hs ++ h ∷ []) (k + 1) n ≡ lasts hs (k + 1) n =
+    others_stay hs h (k + 1) n (λ j below same. omega (arith, own, same)) in
+    ap (λ m. cond (is_later (last_of m hs None) h) (Some h ∷ lasts hs (k + 1) n)
+    (last_of k hs None ∷ lasts hs (k + 1) n)) here
+    ∙ either (is_later (last_of k hs None) h) (Some h) (last_of k hs None) (lasts hs (k + 1) n)
+    ∙ ap (λ l. l ∷ lasts hs (k + 1) n) (sym first)
+    ∙ ap (λ ls. last_of k (hs ++ h ∷ []) None ∷ ls) (sym rest)
+  where
+    either : (b : Bool) (x y : Option Happening) (ls : List (Option Happening)) →
+        cond b (x ∷ ls) (y ∷ ls) ≡ cond b x y ∷ ls
+    either true x y ls = refl
+    either false x y ls = refl
+own_place hs h (suc i) (suc n) k own below =
+    let on : k + suc i ≡ k + 1 + i = omega arith in
+    let first : last_of k (hs ++ h ∷ []) None ≡ last_of k hs None =
+    other_stays k hs h (λ same. omega (arith, own, same)) in
+    ap (λ m. cond (is_later (last_of m hs None) h)
+    (last_of k hs None ∷ slice_set (lasts hs (k + 1) n) i (Some h))
+    (last_of k hs None ∷ lasts hs (k + 1) n)) on
+    ∙ either (is_later (last_of (k + 1 + i) hs None) h) (last_of k hs None)
+    (slice_set (lasts hs (k + 1) n) i (Some h)) (lasts hs (k + 1) n)
+    ∙ ap (λ ls. last_of k hs None ∷ ls)
+    (own_place hs h i n (k + 1) (own ∙ on) (omega (arith, below)))
+    ∙ ap (λ l. l ∷ lasts (hs ++ h ∷ []) (k + 1) n) (sym first)
+  where
+    either : (b : Bool) (x : Option Happening) (ls ks : List (Option Happening)) →
+        cond b (x ∷ ls) (x ∷ ks) ≡ x ∷ cond b ls ks
+    either true x ls ks = refl
+    either false x ls ks = refl
+
+number_noted : (hs : List Happening) (h : Happening) (n number : ℕ) → h.card.number ≡ number →
+    cond (number == 0) (lasts hs 1 n)
+    (noted_at (number - 1) (slice_get (lasts hs 1 n) (number - 1)) h (lasts hs 1 n))
+    ≡ lasts (hs ++ h ∷ []) 1 n
+number_noted hs h n zero own =
+    sym (others_stay hs h 1 n (λ j below same. omega (arith, own, same)))
+number_noted hs h n (suc i) own =
+    let place : suc i - 1 ≡ i = omega arith in
+    let number : suc i ≡ 1 + i = omega arith in
+    ap (λ b. cond b (lasts hs 1 n)
+    (noted_at (suc i - 1) (slice_get (lasts hs 1 n) (suc i - 1)) h (lasts hs 1 n)))
+    (ne_eqb (suc i) 0 (λ e. omega (arith, e)))
+    ∙ ap (λ p. noted_at p (slice_get (lasts hs 1 n) p) h (lasts hs 1 n)) place
+    ∙ elim (cases_lt i n) [
+      | inl below ↦ ap (λ o. noted_at i o h (lasts hs 1 n)) (last_at hs i n 1 below)
+          ∙ own_place hs h i n 1 (own ∙ number) below
+      | inr past ↦ ap (λ o. noted_at i o h (lasts hs 1 n)) (none_at hs i n 1 past)
+          ∙ sym (others_stay hs h 1 n
+          (λ j below same. omega (arith, own, same, below, past)))
+    ]
+
+-- the last events, after one more
+one_noted : (hs : List Happening) (h : Happening) (n : ℕ) →
+    noted h (lasts hs 1 n) ≡ lasts (hs ++ h ∷ []) 1 n
+one_noted hs h n = number_noted hs h n h.card.number refl
+
+-- and after several
+pub all_noted : (hs more : List Happening) (n : ℕ) →
+    noted_all more (lasts hs 1 n) ≡ lasts (hs ++ more) 1 n
+all_noted hs [] n = ap (λ gs. lasts gs 1 n) (sym (append-nil hs))
+all_noted hs (h ∷ more) n =
+    ap (noted_all more) (one_noted hs h n) ∙ all_noted (hs ++ h ∷ []) more n
+    ∙ ap (λ gs. lasts gs 1 n) (append_assoc hs (h ∷ []) more)
+
+-- before any event, one packet more has none
+pub none_on : (counter count : ℕ) (old new whole : List (Option Happening)) → counter < count →
+    new ≡ old ++ None ∷ [] → old ++ lasts [] (counter + 1) (count - counter) ≡ whole →
+    new ++ lasts [] (counter + 1 + 1) (count - (counter + 1)) ≡ whole
+none_on counter count old new whole below grown before =
+    let fewer : count - counter ≡ suc (count - (counter + 1)) = omega (arith, below) in
+    ap (λ ls. ls ++ lasts [] (counter + 1 + 1) (count - (counter + 1))) grown
+    ∙ append_assoc old (None ∷ []) (lasts [] (counter + 1 + 1) (count - (counter + 1)))
+    ∙ ap (λ m. old ++ lasts [] (counter + 1) m) (sym fewer) ∙ before
+
+pub length-lasts : (hs : List Happening) (k n : ℕ) → length (lasts hs k n) ≡ n
+length-lasts hs k zero = refl
+length-lasts hs k (suc n) = ap suc (length-lasts hs (k + 1) n)
+
+-- the lines of frames with their packets' last events are their fates
+pub lines_are : (hs : List Happening) (lost : List Lost) (k : ℕ) (fs : List Frame) →
+    lines_with lost k fs (lasts hs k (length fs)) ≡ fates_from hs lost k fs
+lines_are hs lost k [] = refl
+lines_are hs lost k (f ∷ fs) =
+    ap (λ ls. fate_line (is_lost lost k) k f (last_of k hs None) ∷ ls)
+    (lines_are hs lost (k + 1) fs)
+
+-- one line for each frame
+pub length-lines : (lost : List Lost) (k : ℕ) (fs : List Frame) (ls : List (Option Happening)) →
+    length ls ≡ length fs → length (lines_with lost k fs ls) ≡ length fs
+length-lines lost k [] ls same = refl
+length-lines lost k (f ∷ fs) [] same = absurd (omega (arith, same))
+length-lines lost k (f ∷ fs) (l ∷ ls) same =
+    ap suc (length-lines lost (k + 1) fs ls (omega (arith, same)))

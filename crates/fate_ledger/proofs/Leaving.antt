@@ -1,0 +1,37 @@
+-- What leaves, one packet after the other.
+use Rattle.std.proofs.Common.{◌≡◌, ℕ, zero, suc, List, [], ◌∷◌, Option, None}
+use Rattle.std.proofs.Common.{drop, refl, sym, ap, ◌∙◌}
+use Rattle.packet_entry.specs.declared.packet.Card.{Card}
+use Rattle.packet_entry.specs.Card.{edited}
+use Rattle.fate_ledger.specs.declared.happening.Happening.{Happening}
+use Rattle.fate_ledger.specs.declared.happening.How.{How}
+use Rattle.fate_ledger.specs.Following.{first_leave, happening, noted, noted_all, Waiting}
+
+-- one of those that leave, and then one fewer
+pub one_left : (n m : ℕ) (ws rest : Waiting) (w : ℕ × Card) (how : How) (mark : Option ℕ) →
+    n ≡ suc m → ws ≡ w ∷ rest →
+    (drop n ws ≡ drop m rest)
+    × (first_leave how mark n ws
+    ≡ happening how (edited w.1 mark None) ∷ first_leave how mark m rest)
+one_left n m ws rest w how mark count front = (
+  ap (λ k. drop k ws) count ∙ ap (drop (suc m)) front,
+  ap (λ k. first_leave how mark k ws) count ∙ ap (first_leave how mark (suc m)) front,
+)
+
+-- it is noted, and the others are still to be noted
+pub note_on : (n m : ℕ) (ws rest : Waiting) (w : ℕ × Card) (how : How) (mark : Option ℕ)
+    (h : Happening) (old new : List (Option Happening)) → n ≡ suc m → ws ≡ w ∷ rest →
+    h ≡ happening how (edited w.1 mark None) → new ≡ noted h old →
+    noted_all (first_leave how mark n ws) old ≡ noted_all (first_leave how mark m rest) new
+note_on n m ws rest w how mark h old new count front is grown =
+    ap (λ hs. noted_all hs old) (one_left n m ws rest w how mark count front).1
+    ∙ ap (noted_all (first_leave how mark m rest)) (sym (grown ∙ ap (λ g. noted g old) is))
+
+-- where nothing waits any more, nothing more leaves
+pub none_left : (n : ℕ) (ws : Waiting) (how : How) (mark : Option ℕ) → ws ≡ [] →
+    (drop n ws ≡ ws) × (first_leave how mark n ws ≡ [])
+none_left zero ws how mark none = (refl, refl)
+none_left (suc n) ws how mark none = (
+  ap (drop (suc n)) none ∙ sym none,
+  ap (first_leave how mark (suc n)) none,
+)

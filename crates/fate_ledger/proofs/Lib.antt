@@ -1,0 +1,10 @@
+pub mod Keeping
+pub mod Places
+pub mod Leaving
+pub mod Steps
+pub mod Lasts
+pub mod Underway
+pub mod LastEvents
+pub mod Releasing
+pub mod Waiting
+pub mod Apart

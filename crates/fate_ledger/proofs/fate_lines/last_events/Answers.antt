@@ -1,0 +1,9 @@
+use Rattle.std.proofs.Common.{arith}
+use Rattle.fate_ledger.proofs.Underway.{underway_on}
+use Rattle.fate_ledger.proofs.fate_lines.last_events.Goals as goal
+
+pub loop-entry-preserved : goal.loop-entry-preserved
+loop-entry-preserved c =
+    underway_on _ _ _ c.in-Some.entry.now _ _ _ _ _ (omega arith) c.requires
+    c.in-Some.ensures.steps c.in_ok-follow.ensures.queues c.in_ok-follow.ensures.lasts
+    c.loop-entry.invariant

@@ -1,0 +1,6 @@
+use Rattle.std.proofs.Common.{◌≡◌, length}
+use Rattle.fate_ledger.proofs.tests.frames_of.Given as goal
+
+-- so many frames so far
+abbrev pub invariant-loop-seconds : goal.invariant-loop-seconds
+invariant-loop-seconds l = length l.frames ≡ l.seconds

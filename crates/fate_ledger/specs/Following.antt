@@ -1,0 +1,187 @@
+-- Entries that are followed by their replies alone: of a legal history they tell what leaves, and
+-- no table of a queue's rules has to be asked.
+use Rattle.std.specs.Prelude.{◌≡◌, ℕ, ◌+◌, ◌-◌, suc, zero, List, [], ◌∷◌, ◌++◌, map, length, take}
+use Rattle.std.specs.Prelude.{drop, Option, Some, None, ◌==◌, if◌then◌else◌, slice_get, slice_set}
+use Rattle.std.specs.Prelude.{◌%◌, ◌^◌, false}
+use Rattle.std.specs.Map.{lookup, remove_entry}
+use Rattle.std.specs.BTreeMap.{BTreeMap, get, is_at}
+use Rattle.std.specs.Ordering.{nat_cmp}
+use Rattle.packet_entry.specs.declared.packet.Card.{Card}
+use Rattle.packet_entry.specs.Card.{edited}
+use Rattle.pcap_io.specs.declared.capture.Frame.{Frame}
+use Rattle.nfqa_msgs.specs.declared.request.Request.{Request}
+use Rattle.nfqa_msgs.specs.declared.request.Request.TheVariants as request
+use Rattle.queue_core.specs.declared.offers.Outcome.{Outcome}
+use Rattle.queue_core.specs.declared.offers.Outcome.TheVariants as outcome
+use Rattle.queue_core.specs.declared.event.Event.{Event}
+use Rattle.queue_core.specs.declared.event.Event.TheVariants as event
+use Rattle.queue_core.specs.declared.event.Reply.{Reply}
+use Rattle.queue_core.specs.declared.event.Reply.TheVariants as reply
+use Rattle.queue_core.specs.Ids.{is_id}
+use Rattle.queue_core.specs.Decision.{decision_of}
+use Rattle.queue_core.specs.State.{Bound}
+use Rattle.queue_core.specs.Step.{way_of}
+use Rattle.place_history.specs.declared.entry.Entry.{Entry}
+use Rattle.place_history.specs.declared.histories.Lost.{Lost}
+use Rattle.place_history.specs.History.{history, replay}
+use Rattle.fate_ledger.specs.declared.happening.Happening.{Happening}
+use Rattle.fate_ledger.specs.declared.happening.How.{How}
+use Rattle.fate_ledger.specs.declared.following.Followed.{Followed}
+use Rattle.fate_ledger.specs.declared.fate.Fate.{Fate}
+use Rattle.fate_ledger.specs.declared.fate.Fate.TheVariants as fate
+use Rattle.fate_ledger.specs.declared.fate.FateLine.{FateLine}
+use Rattle.fate_ledger.specs.Fates.{fate_at_arrival, fate_by_verdict, is_later, last_of, fate_line}
+use Rattle.fate_ledger.specs.Fates.{is_lost}
+
+-- ---- what waits
+
+abbrev pub Waiting : Type 0
+Waiting = List (ℕ × Card)
+
+abbrev pub waiting_of : Option Bound → Waiting
+waiting_of None = []
+waiting_of (Some q) = q.waiting
+
+-- ---- the last event of each packet
+
+-- the last events of the packets with so many numbers, from this one on
+abbrev pub lasts : List Happening → ℕ → ℕ → List (Option Happening)
+lasts hs number zero = []
+lasts hs number (suc more) = last_of number hs None ∷ lasts hs (number + 1) more
+
+-- the last event of the packet at this place, where it has a place
+abbrev pub noted_at : ℕ → Option (Option Happening) → Happening → List (Option Happening)
+    → List (Option Happening)
+noted_at at None h kept = kept
+noted_at at (Some last) h kept = if is_later last h then slice_set kept at (Some h) else kept
+
+-- the last events, where the packet with number 1 stands first, after one event more
+abbrev pub noted : Happening → List (Option Happening) → List (Option Happening)
+noted h kept =
+    if h.card.number == 0 then kept
+    else noted_at (h.card.number - 1) (slice_get kept (h.card.number - 1)) h kept
+
+abbrev pub noted_all : List Happening → List (Option Happening) → List (Option Happening)
+noted_all [] kept = kept
+noted_all (h ∷ hs) kept = noted_all hs (noted h kept)
+
+-- ---- what an entry's reply tells
+
+abbrev pub happening : How → Card → Happening
+happening how card =
+    record { queue = how.queue; at = how.at; fate = how.fate; card = card }
+
+-- so many of the oldest leave, each with the mark that is given
+abbrev pub first_leave : How → Option ℕ → ℕ → Waiting → List Happening
+first_leave how mark count ws = map (λ w. happening how (edited w.1 mark None)) (take count ws)
+
+abbrev pub how_at : ℕ → ℕ → Fate → How
+how_at queue at f = record { queue = queue; at = at; fate = f }
+
+-- the fate of what leaves by this verdict
+abbrev pub fate_of : ℕ → Fate
+fate_of verdict = fate_by_verdict (way_of (decision_of verdict))
+
+-- what is found under an id leaves with the mark and the bytes that are given
+abbrev pub one_leaves : How → Option ℕ → Option (List ℕ) → Option Card → List Happening
+one_leaves how mark payload None = []
+one_leaves how mark payload (Some card) = happening how (edited card mark payload) ∷ []
+
+-- a request after which so many packets left
+abbrev pub asked : ℕ → ℕ → Request → ℕ → Waiting → List Happening
+asked queue at (request.Config q command params maxlen flags mask) taken ws =
+    first_leave (how_at queue at fate.Unbind) None taken ws
+asked queue at (request.Verdict q (Some head) mark payload) taken ws =
+    if taken == 0 then []
+    else one_leaves (how_at queue at (fate_of head.verdict)) mark payload
+    (lookup (is_id head.id) ws)
+asked queue at (request.Verdict q None mark payload) taken ws = []
+asked queue at (request.Batch q (Some head) mark) taken ws =
+    first_leave (how_at queue at (fate_of head.verdict)) mark taken ws
+asked queue at (request.Batch q None mark) taken ws = []
+
+abbrev pub waiting_after_ask : Request → ℕ → Waiting → Waiting
+waiting_after_ask (request.Config q command params maxlen flags mask) taken ws = drop taken ws
+waiting_after_ask (request.Verdict q (Some head) mark payload) taken ws =
+    if taken == 0 then ws else remove_entry (is_id head.id) ws
+waiting_after_ask (request.Verdict q None mark payload) taken ws = ws
+waiting_after_ask (request.Batch q (Some head) mark) taken ws = drop taken ws
+waiting_after_ask (request.Batch q None mark) taken ws = ws
+
+-- an arrival with this outcome
+abbrev pub waiting_after_arrival : Card → Outcome → Waiting → Waiting
+waiting_after_arrival card (outcome.Taken id) ws = ws ++ (id, card) ∷ []
+waiting_after_arrival card other ws = ws
+
+-- the events of an entry with this reply, where these wait
+abbrev pub told : ℕ → ℕ → Event → Reply → Waiting → List Happening
+told queue at (event.Arrive card bypass room) (reply.Arrived o) ws =
+    happening (how_at queue at (fate_at_arrival o)) card ∷ []
+told queue at (event.Ask port call request) (reply.Answer errno taken) ws =
+    asked queue at request taken ws
+told queue at (event.PortClosed port) (reply.Flushed taken) ws =
+    first_leave (how_at queue at fate.PortClosed) None taken ws
+told queue at (event.DeviceDown device) (reply.Flushed taken) ws =
+    first_leave (how_at queue at fate.DeviceDown) None taken ws
+told queue at event reply ws = []
+
+-- and what waits after it
+abbrev pub waiting_after : Event → Reply → Waiting → Waiting
+waiting_after (event.Arrive card bypass room) (reply.Arrived o) ws =
+    waiting_after_arrival card o ws
+waiting_after (event.Ask port call request) (reply.Answer errno taken) ws =
+    waiting_after_ask request taken ws
+waiting_after (event.PortClosed port) (reply.Flushed taken) ws = drop taken ws
+waiting_after (event.DeviceDown device) (reply.Flushed taken) ws = drop taken ws
+waiting_after event reply ws = ws
+
+-- ---- all queues
+
+abbrev pub FollowedQueues : Type 0
+FollowedQueues = BTreeMap ℕ Followed
+
+-- how many entries a queue's history has, and what waits; nothing of a queue that isn't kept
+abbrev pub at_in : Option Followed → ℕ
+at_in None = 0
+at_in (Some f) = f.at
+
+abbrev pub waiting_in : Option Followed → Waiting
+waiting_in None = []
+waiting_in (Some f) = f.waiting.items
+
+-- the number after this one, of 64 bits
+abbrev pub place_after : ℕ → ℕ
+place_after at = (at + 1) % 2 ^ 64
+
+-- this entry is followed, and the other queues stay as they were
+pub record Follows (old new : FollowedQueues) (e : Entry) : Type 0 where
+  pub at : at_in (get nat_cmp new e.queue) ≡ place_after (at_in (get nat_cmp old e.queue))
+  pub waiting : waiting_in (get nat_cmp new e.queue)
+      ≡ waiting_after e.event e.reply (waiting_in (get nat_cmp old e.queue))
+  pub others : (q : ℕ) → is_at (nat_cmp e.queue) q ≡ false →
+      get nat_cmp new q ≡ get nat_cmp old q
+
+-- the events of an entry that is followed
+abbrev pub told_by : FollowedQueues → Entry → List Happening
+told_by queues e =
+    told e.queue (place_after (at_in (get nat_cmp queues e.queue))) e.event e.reply
+    (waiting_in (get nat_cmp queues e.queue))
+
+-- a queue is followed to the end of this history
+pub record IsFollowed (so_far : List Entry) (f : Option Followed) : Type 0 where
+  pub at : at_in f ≡ length so_far
+  pub waiting : waiting_in f ≡ waiting_of (replay so_far)
+
+-- each queue is
+abbrev pub AreFollowed : List Entry → FollowedQueues → Type 0
+AreFollowed before queues = (queue : ℕ) →
+    IsFollowed (history queue before) (get nat_cmp queues queue)
+
+-- ---- lines
+
+-- the lines of frames from this number on, whose packets have these last events
+abbrev pub lines_with : List Lost → ℕ → List Frame → List (Option Happening) → List FateLine
+lines_with lost number [] ls = []
+lines_with lost number (f ∷ fs) [] = []
+lines_with lost number (f ∷ fs) (l ∷ ls) =
+    fate_line (is_lost lost number) number f l ∷ lines_with lost (number + 1) fs ls

@@ -1,0 +1,6 @@
+pub mod Ledger
+pub mod Counts
+pub mod Released
+pub mod Fates
+pub mod Following
+pub mod Laws

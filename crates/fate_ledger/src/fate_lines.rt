@@ -1,0 +1,158 @@
+//! What became of each frame of a capture.
+
+ghost use Rattle.std.specs.Prelude.{◌≡◌, ◌<◌, ◌+◌, ◌^◌, [], ◌∷◌, ◌++◌, ℕ, List, length, OnOk, IfOk};
+ghost use Rattle.std.specs.Prelude.{None, replicate};
+ghost use Rattle.place_history.specs.History.{AreLegal};
+ghost use Rattle.fate_ledger.specs.Fates as fates;
+ghost use Rattle.fate_ledger.specs.Following as following;
+
+use crate::following::Followed;
+use crate::happening::{Happening, Lasts};
+use crate::{Fate, FateLine, FateLines};
+use packet_entry::NoMemory;
+use pcap_io::{Capture, Frame, Frames};
+use place_history::{Entries, Entry, Histories, Losts};
+use std::alloc::Global;
+use std::collections::BTreeMap;
+
+/// What became of each frame, in the order of the capture: the line of its packet's last event.
+///
+/// The histories are those of the capture's packets, which are numbered as their frames, from 1.
+/// Payloads are shared with them and with the capture, and not copied.
+pub fn fates(alloc: Global, capture: &Capture, histories: &Histories) -> Result<FateLines, NoMemory>
+    requires frames { length capture.now.frames + 1 < 2 ^ 32 }
+    requires legal { AreLegal histories.now.entries }
+    ensures lines { IfOk result
+        (λ lines. lines ≡ fates.fates histories.now capture.now.frames) }
+    ensures one_each { IfOk result (λ lines. length lines ≡ length capture.now.frames) }
+{
+    let lasts = last_events(alloc, &histories.entries, capture.frames.len())?;
+    lines_with(alloc, &capture.frames, lasts, &histories.lost)
+}
+
+/// The last event of each packet, up to this number.
+fn last_events(alloc: Global, entries: &Entries, count: usize) -> Result<Lasts, NoMemory>
+    requires { AreLegal entries.now }
+    ensures { IfOk result (λ lasts. lasts.items
+        ≡ following.lasts (fates.happenings entries.now) 1 count) }
+{
+    // Fewer than 2^64, so that each place in a history fits its number.
+    let _places = entries.len();
+    let mut lasts = no_events(alloc, count)?;
+    let mut queues = BTreeMap::new(alloc);
+    for entry in entries {
+        follow(alloc, entry, &mut queues, &mut lasts)?;
+    }
+    Ok(lasts)
+}
+
+/// No event of any packet yet.
+fn no_events(alloc: Global, count: usize) -> Result<Lasts, NoMemory>
+    ensures { IfOk result (λ lasts. lasts.items ≡ following.lasts [] 1 count) }
+{
+    let mut lasts = Lasts::with_capacity(alloc, count)?;
+    for _ in 0..count {
+        lasts.push(None)?;
+    }
+    Ok(lasts)
+}
+
+/// Follows the next entry, which is a step of its queue.
+fn follow(
+    alloc: Global,
+    entry: &Entry,
+    queues: &mut BTreeMap<u16, Followed>,
+    lasts: &mut Lasts,
+) -> Result<(), NoMemory>
+    ensures queues { OnOk result (following.Follows queues.old queues.new entry.now) }
+    ensures lasts { OnOk result (lasts.new.items
+        ≡ following.noted_all (following.told_by queues.old entry.now) lasts.old.items) }
+{
+    let mut followed = match queues.remove(&entry.queue) {
+        Some(followed) => followed,
+        None => Followed::new(alloc),
+    };
+    followed.follow(entry, lasts)?;
+    queues.insert(entry.queue, followed)?;
+    Ok(())
+}
+
+/// The lines of frames whose packets have these last events.
+fn lines_with(
+    alloc: Global,
+    frames: &Frames,
+    lasts: Lasts,
+    lost: &Losts,
+) -> Result<FateLines, NoMemory>
+    requires few { length frames.now + 1 < 2 ^ 32 }
+    requires lasts { length lasts.items ≡ length frames.now }
+    ensures { IfOk result (λ lines.
+        lines ≡ following.lines_with lost.now 1 frames.now lasts.items) }
+{
+    let mut lines = Vec::with_capacity(alloc, frames.len())?;
+    let mut rest = frames.iter();
+    let mut number = 1;
+    for last in lasts {
+        let Some(frame) = rest.next() else {
+            unreachable!()
+        };
+        lines.push(line(lost, number, frame, last)?)?;
+        number += 1;
+    }
+    Ok(FateLines::from_vec(lines))
+}
+
+/// The line of the frame with this number, whose packet has this last event.
+fn line(
+    lost: &Losts,
+    number: u32,
+    frame: &Frame,
+    last: Option<Happening>,
+) -> Result<FateLine, NoMemory>
+    ensures { IfOk result (λ line. line
+        ≡ fates.fate_line (fates.is_lost lost.now number) number frame.now last) }
+{
+    match last {
+        Some(
+            Happening {
+                queue,
+                at,
+                fate,
+                card,
+            },
+        ) => Ok(FateLine {
+            number,
+            fate: fate_unless_lost(lost, number, fate),
+            queue,
+            at,
+            mark: card.mark,
+            payload: card.bytes,
+        }),
+        None => Ok(FateLine {
+            number,
+            fate: fate_unless_lost(lost, number, Fate::Unhooked),
+            queue: 0,
+            at: 0,
+            mark: 0,
+            payload: frame.bytes.share()?,
+        }),
+    }
+}
+
+/// The fate of the packet with this number, unless it was lost between two queues.
+fn fate_unless_lost(lost: &Losts, number: u32, fate: Fate) -> Fate
+    ensures { result ≡ fates.fate_unless (fates.is_lost lost.now number) fate }
+{
+    if is_lost(lost, number) {
+        Fate::NoMemory
+    } else {
+        fate
+    }
+}
+
+/// Whether the packet with this number was lost between two queues.
+fn is_lost(lost: &Losts, number: u32) -> bool
+    ensures { result ≡ fates.is_lost lost.now number }
+{
+    lost.iter().any(|one| one.number == number)
+}

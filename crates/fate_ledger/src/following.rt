@@ -1,0 +1,260 @@
+//! Entries of one queue, followed by their replies.
+
+ghost use Rattle.std.specs.Prelude.{◌≡◌, ◌<◌, ◌+◌, ◌^◌, [], OnOk, IfOk, MatchOption, None, drop};
+ghost use Rattle.std.specs.Map.{lookup, remove_entry};
+ghost use Rattle.packet_entry.specs.Card.{edited};
+ghost use Rattle.queue_core.specs.Ids.{is_id};
+ghost use Rattle.queue_core.specs.Place.{IsPlace};
+ghost use Rattle.fate_ledger.specs.Fates as fates;
+ghost use Rattle.fate_ledger.specs.Following as following;
+
+use crate::Fate;
+use crate::happening::{Happening, How, Lasts, note, share_card};
+use nfqa_msgs::{Head, Request};
+use packet_entry::{Bytes, Card, NoMemory};
+use place_history::{Entry, Event, Reply};
+use queue_core::{ACCEPT, DROP, Outcome, QUEUE, REPEAT, VERDICT_MASK};
+use std::alloc::Global;
+use std::collections::VecDeque;
+
+/// What waits, oldest first, each under its id.
+pub(crate) type Waiting = VecDeque<(u32, Card)>;
+
+/// A queue whose history was followed so far.
+#[derive(Debug, Drop)]
+pub(crate) struct Followed {
+    /// How many entries its history has so far, which is fewer than 2^64.
+    pub at: u64,
+    /// What waits.
+    pub waiting: Waiting,
+}
+
+impl Followed {
+    /// A queue without an entry.
+    pub fn new(alloc: Global) -> Followed
+        ensures at { result.at ≡ 0 }
+        ensures waiting { result.waiting.items ≡ [] }
+    {
+        Followed {
+            at: 0,
+            waiting: Waiting::new(alloc),
+        }
+    }
+
+    /// Follows the queue's next entry, and notes it as the last event so far of each packet that it
+    /// is an event of.
+    pub fn follow(&mut self, entry: &Entry, lasts: &mut Lasts) -> Result<(), NoMemory>
+        ensures at { OnOk result (self.new.at ≡ following.place_after self.old.at) }
+        ensures waiting { OnOk result (self.new.waiting.items
+            ≡ following.waiting_after entry.now.event entry.now.reply self.old.waiting.items) }
+        ensures lasts { OnOk result (lasts.new.items
+            ≡ following.noted_all (following.told entry.now.queue
+            (following.place_after self.old.at) entry.now.event entry.now.reply
+            self.old.waiting.items) lasts.old.items) }
+    {
+        let at = self.at.wrapping_add(1);
+        self.at = at;
+        let queue = entry.queue;
+        let waiting = &mut self.waiting;
+        match (&entry.event, entry.reply) {
+            (Event::Arrive { card, .. }, Reply::Arrived { outcome }) => {
+                arrive(queue, at, card, outcome, waiting, lasts)
+            }
+            (Event::Ask { request, .. }, Reply::Answer { taken, .. }) => {
+                ask(queue, at, request, taken, waiting, lasts)
+            }
+            (Event::PortClosed { .. }, Reply::Flushed { taken }) => {
+                let fate = Fate::PortClosed;
+                first_leave(How { queue, at, fate }, None, taken, waiting, lasts);
+                Ok(())
+            }
+            (Event::DeviceDown { .. }, Reply::Flushed { taken }) => {
+                let fate = Fate::DeviceDown;
+                first_leave(How { queue, at, fate }, None, taken, waiting, lasts);
+                Ok(())
+            }
+            _ => Ok(()),
+        }
+    }
+}
+
+/// A packet arrives; it waits where it is taken.
+fn arrive(
+    queue: u16,
+    at: u64,
+    card: &Card,
+    outcome: Outcome,
+    waiting: &mut Waiting,
+    lasts: &mut Lasts,
+) -> Result<(), NoMemory>
+    ensures waiting { OnOk result (waiting.new.items
+        ≡ following.waiting_after_arrival card.now outcome waiting.old.items) }
+    ensures lasts { OnOk result (lasts.new.items
+        ≡ following.noted (following.happening
+        (following.how_at queue at (fates.fate_at_arrival outcome)) card.now) lasts.old.items) }
+{
+    let fate = fate_at_arrival(outcome);
+    note(How { queue, at, fate }.happening(share_card(card)?), lasts);
+    if let Outcome::Taken { id } = outcome {
+        waiting.push_back((id, share_card(card)?))?;
+    }
+    Ok(())
+}
+
+/// A request after which so many packets left.
+fn ask(
+    queue: u16,
+    at: u64,
+    request: &Request,
+    taken: u32,
+    waiting: &mut Waiting,
+    lasts: &mut Lasts,
+) -> Result<(), NoMemory>
+    ensures waiting { OnOk result (waiting.new.items
+        ≡ following.waiting_after_ask request.now taken waiting.old.items) }
+    ensures lasts { OnOk result (lasts.new.items
+        ≡ following.noted_all (following.asked queue at request.now taken waiting.old.items)
+        lasts.old.items) }
+{
+    match request {
+        Request::Config { .. } => {
+            let fate = Fate::Unbind;
+            first_leave(How { queue, at, fate }, None, taken, waiting, lasts);
+            Ok(())
+        }
+        Request::Verdict {
+            head: Some(Head { verdict, id }),
+            mark,
+            payload,
+            ..
+        } => {
+            if taken == 0 {
+                return Ok(());
+            }
+            let fate = fate_of(*verdict);
+            one_leaves(How { queue, at, fate }, *id, *mark, payload, waiting, lasts)
+        }
+        Request::Batch {
+            head: Some(Head { verdict, .. }),
+            mark,
+            ..
+        } => {
+            let fate = fate_of(*verdict);
+            first_leave(How { queue, at, fate }, *mark, taken, waiting, lasts);
+            Ok(())
+        }
+        _ => Ok(()),
+    }
+}
+
+/// So many of the oldest leave, each with the mark that is given.
+fn first_leave(how: How, mark: Option<u32>, count: u32, waiting: &mut Waiting, lasts: &mut Lasts)
+    ensures waiting { waiting.new.items ≡ drop count waiting.old.items }
+    ensures lasts { lasts.new.items
+        ≡ following.noted_all (following.first_leave how mark count waiting.old.items)
+        lasts.old.items }
+{
+    for _ in 0..count {
+        let Some((_, card)) = waiting.pop_front() else {
+            return;
+        };
+        note(how.happening(marked(card, mark)), lasts);
+    }
+}
+
+/// The packet with the mark that is given.
+fn marked(mut card: Card, mark: Option<u32>) -> Card
+    ensures { result ≡ edited card mark None }
+{
+    if let Some(given) = mark {
+        card.mark = given;
+    }
+    card
+}
+
+/// What waits under an id leaves, with the mark and the bytes that are given.
+fn one_leaves(
+    how: How,
+    id: u32,
+    mark: Option<u32>,
+    payload: &Option<Bytes>,
+    waiting: &mut Waiting,
+    lasts: &mut Lasts,
+) -> Result<(), NoMemory>
+    ensures waiting { OnOk result (waiting.new.items
+        ≡ remove_entry (is_id id) waiting.old.items) }
+    ensures lasts { OnOk result (lasts.new.items
+        ≡ following.noted_all (following.one_leaves how mark payload.now
+        (lookup (is_id id) waiting.old.items)) lasts.old.items) }
+{
+    let Some(card) = take_under(waiting, id) else {
+        return Ok(());
+    };
+    note(how.happening(replaced(marked(card, mark), payload)?), lasts);
+    Ok(())
+}
+
+/// The packet with the bytes that are given.
+fn replaced(mut card: Card, payload: &Option<Bytes>) -> Result<Card, NoMemory>
+    ensures { IfOk result (λ after. after ≡ edited card None payload.now) }
+{
+    if let Some(given) = payload {
+        card.bytes = given.share()?;
+    }
+    Ok(card)
+}
+
+/// Takes out what waits under an id, if anything does.
+fn take_under(waiting: &mut Waiting, id: u32) -> Option<Card>
+    ensures found { result ≡ lookup (is_id id) waiting.old.items }
+    ensures others { waiting.new.items ≡ remove_entry (is_id id) waiting.old.items }
+{
+    let (_, card) = waiting.remove(place_of(waiting, id)?)?;
+    Some(card)
+}
+
+/// Where it stands that waits under an id.
+fn place_of(waiting: &Waiting, id: u32) -> Option<usize>
+    ensures { MatchOption result (lookup (is_id id) waiting.now.items ≡ None)
+        (IsPlace waiting.now.items id) }
+{
+    for place in 0..waiting.len() {
+        if let Some(w) = waiting.get(place) {
+            if w.0 == id {
+                return Some(place);
+            }
+        }
+    }
+    None
+}
+
+/// An arrival's fate: what is taken waits.
+fn fate_at_arrival(outcome: Outcome) -> Fate
+    ensures { result ≡ fates.fate_at_arrival outcome }
+{
+    match outcome {
+        Outcome::Taken { .. } => Fate::Waiting,
+        Outcome::Overflow => Fate::Overflow,
+        Outcome::OverflowOpen => Fate::FailOpen,
+        Outcome::UserFull { .. } => Fate::UserFull,
+        Outcome::UserFullOpen { .. } => Fate::FailOpen,
+        Outcome::NoQueue => Fate::NoQueue,
+        Outcome::Bypassed => Fate::Bypass,
+        Outcome::CopyNone => Fate::CopyNone,
+        Outcome::Loop => Fate::Loop,
+    }
+}
+
+/// The fate of what leaves by a verdict that isn't refused. What goes to another queue is lost,
+/// unless it arrives there.
+fn fate_of(verdict: u32) -> Fate
+    ensures { result ≡ following.fate_of verdict }
+{
+    match verdict % (VERDICT_MASK + 1) {
+        DROP => Fate::Dropped,
+        ACCEPT => Fate::Accept,
+        QUEUE => Fate::NoMemory,
+        REPEAT => Fate::Repeat,
+        _ => Fate::Stop,
+    }
+}

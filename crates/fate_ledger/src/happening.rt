@@ -1,0 +1,86 @@
+//! Events of packets, and the last one of each.
+
+ghost use Rattle.std.specs.Prelude.{◌≡◌, IfOk};
+ghost use Rattle.fate_ledger.specs.Fates as fates;
+ghost use Rattle.fate_ledger.specs.Following as following;
+
+use crate::Fate;
+use packet_entry::{Card, NoMemory};
+
+/// An event of a packet.
+#[derive(Debug, Drop)]
+pub struct Happening {
+    /// The queue where it happened.
+    pub queue: u16,
+    /// The place of its entry in the queue's history, counted from 1.
+    pub at: u64,
+    /// What became of the packet, if this is its last event.
+    pub fate: Fate,
+    /// The packet there, after its edits.
+    pub card: Card,
+}
+
+/// The last event of each packet so far; that of the packet with number 1 stands first.
+pub(crate) type Lasts = Vec<Option<Happening>>;
+
+/// What an entry makes of the packets that it is an event of.
+#[derive(Clone, Copy, Debug)]
+pub(crate) struct How {
+    pub queue: u16,
+    pub at: u64,
+    pub fate: Fate,
+}
+
+impl How {
+    /// The event of this packet.
+    pub fn happening(self, card: Card) -> Happening
+        ensures { result ≡ following.happening self card }
+    {
+        Happening {
+            queue: self.queue,
+            at: self.at,
+            fate: self.fate,
+            card,
+        }
+    }
+}
+
+/// Keeps an event where it is the last of its packet so far.
+pub(crate) fn note(happening: Happening, lasts: &mut Lasts)
+    ensures { lasts.new.items ≡ following.noted happening lasts.old.items }
+{
+    let number = happening.card.number as usize;
+    if number == 0 || number > lasts.len() {
+        return;
+    }
+    if is_later(&lasts[number - 1], &happening) {
+        lasts[number - 1] = Some(happening);
+    }
+}
+
+/// Whether an event is no earlier than what is kept: visits count up.
+fn is_later(kept: &Option<Happening>, happening: &Happening) -> bool
+    ensures { result ≡ fates.is_later kept.now happening.now }
+{
+    match kept {
+        Some(kept) => kept.card.visit <= happening.card.visit,
+        None => true,
+    }
+}
+
+/// The packet once more; its bytes are shared.
+pub(crate) fn share_card(card: &Card) -> Result<Card, NoMemory>
+    ensures { IfOk result (λ shared. shared ≡ card.now) }
+{
+    Ok(Card {
+        number: card.number,
+        visit: card.visit,
+        table: card.table,
+        mark: card.mark,
+        seconds: card.seconds,
+        micros: card.micros,
+        protocol: card.protocol,
+        link: card.link.share()?,
+        bytes: card.bytes.share()?,
+    })
+}

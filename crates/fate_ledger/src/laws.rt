@@ -1,0 +1,71 @@
+//! Laws of the definitions, each the contract of a function that does nothing.
+
+ghost use Rattle.std.specs.Prelude.{◌≡◌, ◌≢◌, ◌+◌, ℕ, List, Some, length, slice_get, filter, map};
+ghost use Rattle.std.specs.List.{zip};
+ghost use Rattle.packet_entry.specs.declared.packet.Card.{Card as ACard};
+ghost use Rattle.hook_chain.specs.declared.rule.Rule.{Rule as ARule};
+ghost use Rattle.place_history.specs.declared.histories.Lost.{Lost as ALost};
+ghost use Rattle.place_history.specs.Journeys.{AreSound};
+ghost use Rattle.pcap_io.specs.declared.capture.Frame.{Frame as AFrame};
+ghost use Rattle.place_history.specs.History.{AreLegal};
+ghost use Rattle.place_history.specs.declared.entry.Entry.{Entry as AnEntry};
+ghost use Rattle.place_history.specs.declared.histories.Histories.{Histories as AllHistories};
+ghost use Rattle.fate_ledger.specs.Fates.{fates};
+ghost use Rattle.fate_ledger.specs.Laws.{AreApart, DifferInNumber, IsLastEvent, IsLineOf};
+ghost use Rattle.fate_ledger.specs.Laws.{IsWritten, LeftThere, Waits};
+ghost use Rattle.fate_ledger.specs.Ledger.{is_release};
+ghost use Rattle.fate_ledger.specs.Released as released;
+ghost use Rattle.fate_ledger.specs.declared.fate.Fate.TheVariants.{Waiting};
+ghost use Rattle.fate_ledger.specs.declared.fate.FateLine.{FateLine as ALine};
+ghost use Rattle.fate_ledger.specs.declared.happening.Happening.{Happening as AHappening};
+
+use place_history::each_stay_ends_once;
+use queue_core::replies_tell_how_many_left;
+
+/// Each line is that of the last event of its frame's packet: of an entry whose arrival is the
+/// packet's, or in whose step the packet left, with its queue, its place, and the packet there
+/// after its edits. No event of another entry has a greater visit, and none after it the same. A
+/// frame whose packet has no event is unhooked.
+pub fn each_line_names_the_last_event()
+    ensures { (h : AllHistories) (frames : List AFrame) (place : ℕ) (f : AFrame) (l : ALine) →
+        AreLegal h.entries → slice_get frames place ≡ Some f →
+        slice_get (fates h frames) place ≡ Some l → IsLineOf h (place + 1) f l }
+{
+    replies_tell_how_many_left();
+}
+
+/// The packet of a last event left in that event's step, and where the line says that it waits, it
+/// waits at the end of that queue's history, where no two arrivals are of one packet at one visit.
+/// Each stay ends once (`place_history::each_stay_ends_once`), so a packet that left didn't leave
+/// again.
+pub fn the_last_event_is_where_it_left_or_waits()
+    ensures left { (es : List AnEntry) (number : ℕ) (h : AHappening) → AreLegal es →
+        IsLastEvent es number h → h.fate ≢ Waiting → LeftThere es h }
+    ensures waits { (es : List AnEntry) (number : ℕ) (h : AHappening) → AreLegal es →
+        AreApart es → IsLastEvent es number h → h.fate ≡ Waiting → Waits es h }
+{
+    replies_tell_how_many_left();
+    each_stay_ends_once();
+}
+
+/// In sound histories no two arrivals are of one packet at one visit, where the packets that entered
+/// have numbers of their own, as those of a capture's frames.
+pub fn no_visit_arrives_twice()
+    ensures { (tables : List (List ARule)) (key : ℕ) (entered : List ACard)
+        (es : List AnEntry) (lost : List ALost) → DifferInNumber entered →
+        AreSound tables key entered es lost → AreApart es }
+{
+    each_stay_ends_once();
+}
+
+/// The released capture has just the frames whose fate is a release, in the order of the capture,
+/// and each is written with its last payload behind its link header.
+pub fn released_frames_are_those_let_go()
+    ensures order { (link : ℕ) (frames : List AFrame) (lines : List ALine) →
+        length frames ≡ length lines →
+        released.frames link frames lines
+        ≡ map (λ p. released.written link p.0 p.1)
+        (filter (λ p. is_release p.1.fate) (zip frames lines)) }
+    ensures each { (link : ℕ) (f : AFrame) (l : ALine) →
+        IsWritten link f l (released.written link f l) }
+{}

@@ -1,0 +1,31 @@
+//! What became of each frame of a capture: which event of its packet was the last, the ledger that
+//! tells it as text, the counts, and the capture of the frames that were released.
+//!
+//! [`fates`] reads it off histories, [`ledger_text`] and [`counts_text`] append texts of it, and
+//! [`released_capture`] keeps the released frames. [`journal_text`] appends the histories
+//! themselves as text.
+#![tactic(auto)]
+
+mod counts;
+mod fate;
+mod fate_lines;
+mod following;
+mod happening;
+mod laws;
+mod ledger;
+mod released;
+
+pub use counts::counts_text;
+pub use fate::{Fate, FateLine, FateLines};
+pub use fate_lines::fates;
+pub use happening::Happening;
+pub use journals::journal_text;
+pub use laws::{
+    each_line_names_the_last_event, no_visit_arrives_twice, released_frames_are_those_let_go,
+    the_last_event_is_where_it_left_or_waits,
+};
+pub use ledger::ledger_text;
+pub use released::released_capture;
+
+#[cfg(test)]
+mod tests;

@@ -1,0 +1,598 @@
+//! What no contract says: that the calls succeed where there is memory, on each kind of event, with
+//! ledgers that were written out by hand.
+
+ghost use Rattle.std.specs.Prelude.{◌≡◌, ◌≤◌, All, IsTrue, IfOk, IfSome, length};
+ghost use Rattle.packet_entry.specs.Numbers.{longest_packet, longest_payload};
+ghost use Rattle.place_history.specs.Examples.{IsOnly};
+ghost use Rattle.place_history.specs.Happenings.{payload_of};
+
+use crate::{Fate, FateLine, FateLines, counts_text, fates, ledger_text, released_capture};
+use nfqa_msgs::{BIND, Head, PACKET, Params, Request, UNBIND};
+use packet_entry::{Bytes, IPV4, MAX_FRAME, NoMemory, Packet, Sequence};
+use pcap_io::{Capture, Frame, Frames};
+use place_history::{Histories, Lost, Place};
+use queue_core::{Begun, Handed, NoRoom, Settled};
+use std::alloc::Global;
+use std::test::Fail;
+
+/// Link type of raw IP.
+const RAW: u32 = 101;
+/// Snap length of the captures.
+const SNAP: u32 = 262_144;
+/// An IPv4 packet without content.
+const BYTES: [u8; 20] = [
+    0x45, 0, 0, 20, 0, 1, 0, 0, 0x40, 6, 0, 0, 10, 0, 0, 1, 10, 0, 0, 2,
+];
+/// Its replacement, which is longer.
+const OTHER_BYTES: [u8; 24] = [
+    0x45, 0, 0, 24, 0, 1, 0, 0, 0x40, 6, 0, 0, 10, 0, 0, 1, 10, 0, 0, 2, 1, 2, 3, 4,
+];
+
+/// How a packet arrives: whether its rule has the bypass, and whether the mailbox has room.
+#[derive(Clone, Copy)]
+struct Rule {
+    bypass: bool,
+    room: bool,
+}
+
+const TAKEN: Rule = Rule {
+    bypass: false,
+    room: true,
+};
+
+const NO_ROOM: Rule = Rule {
+    bypass: false,
+    room: false,
+};
+
+const BYPASS: Rule = Rule {
+    bypass: true,
+    room: true,
+};
+
+/// What happens at a place that is the only one, whose queues are all of port 7.
+#[derive(Clone, Copy)]
+enum Happens {
+    /// At this queue the packet with this number arrives at this visit, and there is room in the
+    /// port's mailbox.
+    Arrives(u16, u32, u32),
+    /// And there is none.
+    FindsNoRoom(u16, u32),
+    /// By a rule with the bypass.
+    Passes(u16, u32),
+    Asks(u16, Words),
+    Closes,
+    /// The first device goes down.
+    GoesDown,
+}
+
+/// What the port asks.
+#[derive(Clone, Copy)]
+enum Words {
+    Bind,
+    /// Whole packets, of which so many may wait.
+    Packets(u32),
+    FailOpen,
+    Unbind,
+    /// A verdict, for this id.
+    Verdict(u32, u32),
+    /// With a new mark.
+    Marked(u32, u32, u32),
+    /// Accepts this id with the other bytes.
+    Replaces(u32),
+    /// A batch, up to this id.
+    Batch(u32, u32),
+}
+
+/// The request for these words.
+fn request(alloc: Global, queue: u16, words: Words) -> Result<Request, NoMemory>
+    ensures { IfOk result
+        (λ asked. IfSome (payload_of asked) (λ bytes. length bytes ≤ longest_payload)) }
+{
+    Ok(match words {
+        Words::Bind => config(queue, Some(BIND), None, None, None),
+        Words::Packets(maximum) => {
+            let mode = PACKET;
+            config(
+                queue,
+                None,
+                Some(Params { range: 0, mode }),
+                Some(maximum),
+                None,
+            )
+        }
+        Words::FailOpen => config(queue, None, None, None, Some(1)),
+        Words::Unbind => config(queue, Some(UNBIND), None, None, None),
+        Words::Verdict(verdict, id) => plain(queue, Head { verdict, id }, None),
+        Words::Marked(verdict, id, mark) => plain(queue, Head { verdict, id }, Some(mark)),
+        Words::Replaces(id) => replaces(alloc, queue, id)?,
+        Words::Batch(verdict, id) => Request::Batch {
+            queue,
+            head: Some(Head { verdict, id }),
+            mark: None,
+        },
+    })
+}
+
+fn config(
+    queue: u16,
+    command: Option<u8>,
+    params: Option<Params>,
+    maxlen: Option<u32>,
+    flags: Option<u32>,
+) -> Request
+    ensures { IfSome (payload_of result) (λ bytes. length bytes ≤ longest_payload) }
+{
+    Request::Config {
+        queue,
+        command,
+        params,
+        maxlen,
+        flags,
+        mask: flags,
+    }
+}
+
+fn plain(queue: u16, head: Head, mark: Option<u32>) -> Request
+    ensures { IfSome (payload_of result) (λ bytes. length bytes ≤ longest_payload) }
+{
+    Request::Verdict {
+        queue,
+        head: Some(head),
+        mark,
+        payload: None,
+    }
+}
+
+fn replaces(alloc: Global, queue: u16, id: u32) -> Result<Request, NoMemory>
+    ensures { IfOk result
+        (λ asked. IfSome (payload_of asked) (λ bytes. length bytes ≤ longest_payload)) }
+{
+    let bytes = Bytes::copy(alloc, &OTHER_BYTES)?;
+    Ok(Request::Verdict {
+        queue,
+        head: Some(Head { verdict: 1, id }),
+        mark: None,
+        payload: Some(bytes),
+    })
+}
+
+/// Lets it happen.
+fn happen(place: &mut Place, alloc: Global, happens: Happens) -> Result<(), NoMemory>
+    requires { IsOnly place.old }
+    ensures { IsOnly place.new }
+{
+    match happens {
+        Happens::Arrives(queue, number, visit) => {
+            let packet = visiting(alloc, number, visit)?;
+            arrive(place, alloc, queue, packet, TAKEN)
+        }
+        Happens::FindsNoRoom(queue, number) => {
+            let packet = visiting(alloc, number, 1)?;
+            arrive(place, alloc, queue, packet, NO_ROOM)
+        }
+        Happens::Passes(queue, number) => {
+            let packet = visiting(alloc, number, 1)?;
+            arrive(place, alloc, queue, packet, BYPASS)
+        }
+        Happens::Asks(queue, words) => ask(place, alloc, request(alloc, queue, words)?),
+        Happens::Closes => {
+            place.close_port(7);
+            Ok(())
+        }
+        Happens::GoesDown => {
+            place.device_down(1)?;
+            Ok(())
+        }
+    }
+}
+
+/// A packet at one of its visits.
+fn visiting(alloc: Global, number: u32, visit: u32) -> Result<Packet, NoMemory>
+    ensures { IfOk result (λ packet. 1 ≤ packet.visit) }
+{
+    let mut packet = Packet::new(alloc, number.max(1), 1, 0, IPV4, &[], &BYTES)?;
+    packet.queued(1);
+    for _ in 1..visit {
+        if packet.visit() < 33 {
+            packet.queued(1);
+        }
+    }
+    Ok(packet)
+}
+
+fn arrive(
+    place: &mut Place,
+    alloc: Global,
+    queue: u16,
+    packet: Packet,
+    rule: Rule,
+) -> Result<(), NoMemory>
+    requires only { IsOnly place.old }
+    requires visited { 1 ≤ packet.visit }
+    ensures { IsOnly place.new }
+{
+    match place.begin(alloc, queue, rule.bypass, packet) {
+        Ok(Begun::Offered { port: _, letter: _ }) => match place.settle(rule.room) {
+            Settled::Waiting { id: _ } => Ok(()),
+            Settled::Back { outcome: _, packet } => {
+                packet.destroy();
+                Ok(())
+            }
+        },
+        Ok(Begun::Back { outcome: _, packet }) => {
+            packet.destroy();
+            Ok(())
+        }
+        Err(NoRoom { packet }) => {
+            packet.destroy();
+            Err(NoMemory)
+        }
+    }
+}
+
+fn ask(place: &mut Place, alloc: Global, asked: Request) -> Result<(), NoMemory>
+    requires only { IsOnly place.old }
+    requires payload { IfSome (payload_of asked) (λ bytes. length bytes ≤ longest_payload) }
+    ensures { IsOnly place.new }
+{
+    let mut handed = Handed::new(alloc);
+    let answered = place.ask(alloc, 7, 1, asked, &mut handed);
+    while let Some((packet, _)) = handed.take() {
+        packet.release();
+    }
+    handed.finish();
+    answered?;
+    Ok(())
+}
+
+/// Lets all these happen, one after the other.
+fn happen_all(place: &mut Place, alloc: Global, all: &[Happens]) -> Result<(), NoMemory>
+    requires { IsOnly place.old }
+    ensures { IsOnly place.new }
+{
+    for happens in all {
+        happen(place, alloc, *happens)?;
+    }
+    Ok(())
+}
+
+fn only(alloc: Global) -> Place
+    ensures { IsOnly result }
+{
+    Place::new(alloc, 0, 1)
+}
+
+/// A capture of so many packets.
+fn capture_of(alloc: Global, count: u8) -> Result<Capture, NoMemory>
+    ensures { IfOk result (λ capture. length capture.frames ≡ count) }
+{
+    Ok(Capture {
+        big: false,
+        nanos: false,
+        zone: 0,
+        sigfigs: 0,
+        snap: SNAP,
+        link: RAW,
+        frames: frames_of(alloc, count)?,
+    })
+}
+
+fn frames_of(alloc: Global, count: u8) -> Result<Frames, NoMemory>
+    ensures { IfOk result (λ frames. length frames ≡ count) }
+{
+    let mut frames = Frames::new(alloc);
+    for seconds in 0..count {
+        frames
+            .push(Frame {
+                seconds: u32::from(seconds),
+                fraction: 0,
+                original: 20,
+                bytes: Bytes::copy(alloc, &BYTES)?,
+            })
+            .map_err(|_| NoMemory)?;
+    }
+    Ok(frames)
+}
+
+/// Whether each payload is short enough for a capture.
+fn are_short(lines: &FateLines) -> bool
+    ensures { IsTrue result → All (λ l. length l.payload ≤ longest_packet) lines.now }
+{
+    for line in lines {
+        if line.payload.len() > MAX_FRAME {
+            return false;
+        }
+    }
+    true
+}
+
+/// The ledger's lines, the counts, and the bytes of the released frames, where all these happen at a
+/// place and this was lost.
+fn told_of(
+    alloc: Global,
+    count: u8,
+    all: &[Happens],
+    lost: Option<Lost>,
+) -> Result<(Vec<u8>, Vec<u8>, Vec<u8>), NoMemory> {
+    let mut place = only(alloc);
+    let done = happen_all(&mut place, alloc, all);
+    place.leave_waiting();
+    let entries = place.into_entries();
+    done?;
+    let mut losts = Sequence::new(alloc);
+    if let Some(one) = lost {
+        losts.push(one).map_err(|_| NoMemory)?;
+    }
+    let histories = Histories {
+        entries,
+        logs: Sequence::new(alloc),
+        lost: losts,
+    };
+    let capture = capture_of(alloc, count)?;
+    let lines = fates(alloc, &capture, &histories)?;
+    let (mut ledger, mut counts, mut bytes) = (Vec::new(alloc), Vec::new(alloc), Vec::new(alloc));
+    ledger_text(alloc, &lines, &mut ledger)?;
+    counts_text(alloc, &lines, &mut counts)?;
+    if are_short(&lines) {
+        let released = released_capture(alloc, &capture, &lines)?;
+        for frame in &released.frames {
+            bytes.push((frame.seconds % 16) as u8)?;
+            bytes.push((frame.bytes.len() % 128) as u8)?;
+        }
+    }
+    Ok((ledger, counts, bytes))
+}
+
+/// What one row says: how many frames there are, what happens, and the lines of the ledger and of
+/// the counts behind it, with the seconds and the lengths of the released frames.
+fn agrees(
+    alloc: Global,
+    count: u8,
+    all: &[Happens],
+    told: (&[u8], &[u8], &[u8]),
+) -> Result<bool, NoMemory> {
+    let (ledger, counts, bytes) = told_of(alloc, count, all, None)?;
+    Ok(ledger.as_slice() == told.0 && counts.as_slice() == told.1 && bytes.as_slice() == told.2)
+}
+
+#[test]
+fn accepted_and_dropped_packets(rt: HostRuntime) -> Result<(), Fail> {
+    use Happens::{Arrives, Asks};
+    let all = [
+        Asks(0, Words::Bind),
+        Asks(0, Words::Packets(1024)),
+        Arrives(0, 1, 1),
+        Asks(0, Words::Verdict(1, 1)),
+        Arrives(0, 2, 1),
+        Asks(0, Words::Verdict(0, 2)),
+        Arrives(0, 3, 1),
+        Asks(0, Words::Verdict(1, 3)),
+    ];
+    let ledger = b"record fate queue at mark bytes\n1 accept 0 4 0 20\n2 drop 0 6 0 20\n\
+        3 accept 0 8 0 20\n";
+    let told = (
+        ledger.as_slice(),
+        b"accept 2\ndrop 1\n".as_slice(),
+        [0, 20, 2, 20].as_slice(),
+    );
+    assert!(rt; agrees(rt.alloc(), 3, &all, told)?);
+    Ok(())
+}
+
+#[test]
+fn full_queues(rt: HostRuntime) -> Result<(), Fail> {
+    use Happens::{Arrives, Asks, FindsNoRoom};
+    let all = [
+        Asks(0, Words::Bind),
+        Asks(0, Words::Packets(1)),
+        Arrives(0, 1, 1),
+        Arrives(0, 2, 1),
+        Asks(0, Words::Packets(9)),
+        FindsNoRoom(0, 3),
+        Asks(0, Words::Verdict(1, 1)),
+        Asks(0, Words::Verdict(1, 2)),
+    ];
+    let ledger = b"record fate queue at mark bytes\n1 accept 0 7 0 20\n2 overflow 0 4 0 20\n\
+        3 userfull 0 6 0 20\n";
+    let counts = b"accept 1\noverflow 1\nuserfull 1\n";
+    let told = (ledger.as_slice(), counts.as_slice(), [0, 20].as_slice());
+    assert!(rt; agrees(rt.alloc(), 3, &all, told)?);
+    Ok(())
+}
+
+#[test]
+fn queues_that_fail_open(rt: HostRuntime) -> Result<(), Fail> {
+    use Happens::{Arrives, Asks};
+    let all = [
+        Asks(0, Words::Bind),
+        Asks(0, Words::Packets(1)),
+        Asks(0, Words::FailOpen),
+        Asks(1, Words::Bind),
+        Asks(1, Words::Packets(9)),
+        Arrives(0, 1, 1),
+        Arrives(0, 2, 1),
+        Arrives(1, 2, 2),
+        Arrives(0, 3, 1),
+        Asks(0, Words::Verdict(1, 1)),
+        Arrives(1, 1, 2),
+        Asks(1, Words::Batch(1, 2)),
+    ];
+    let ledger = b"record fate queue at mark bytes\n1 accept 1 5 0 20\n2 accept 1 5 0 20\n\
+        3 failopen 0 6 0 20\n";
+    let counts = b"accept 2\nfailopen 1\n";
+    let told = (
+        ledger.as_slice(),
+        counts.as_slice(),
+        [0, 20, 1, 20, 2, 20].as_slice(),
+    );
+    assert!(rt; agrees(rt.alloc(), 3, &all, told)?);
+    Ok(())
+}
+
+#[test]
+fn absent_queues_and_no_copies(rt: HostRuntime) -> Result<(), Fail> {
+    use Happens::{Arrives, Asks, Passes};
+    let all = [
+        Passes(5, 1),
+        Arrives(5, 2, 1),
+        Asks(0, Words::Bind),
+        Passes(0, 3),
+        Arrives(0, 4, 33),
+    ];
+    let ledger = b"record fate queue at mark bytes\n1 bypass 5 1 0 20\n2 noqueue 5 2 0 20\n\
+        3 copynone 0 2 0 20\n4 loop 0 3 0 20\n5 unhooked - - 0 20\n";
+    let counts = b"unhooked 1\nbypass 1\nnoqueue 1\ncopynone 1\nloop 1\n";
+    let told = (
+        ledger.as_slice(),
+        counts.as_slice(),
+        [0, 20, 4, 20].as_slice(),
+    );
+    assert!(rt; agrees(rt.alloc(), 5, &all, told)?);
+    Ok(())
+}
+
+#[test]
+fn marks_and_replaced_bytes(rt: HostRuntime) -> Result<(), Fail> {
+    use Happens::{Arrives, Asks};
+    let all = [
+        Asks(0, Words::Bind),
+        Asks(0, Words::Packets(9)),
+        Arrives(0, 1, 1),
+        Asks(0, Words::Marked(4, 1, 1)),
+        Arrives(0, 2, 1),
+        Asks(0, Words::Replaces(2)),
+        Arrives(0, 3, 1),
+        Asks(0, Words::Verdict(5, 3)),
+    ];
+    let ledger = b"record fate queue at mark bytes\n1 repeat 0 4 1 20\n2 accept 0 6 0 24\n\
+        3 stop 0 8 0 20\n";
+    let counts = b"accept 1\nstop 1\nrepeat 1\n";
+    let told = (
+        ledger.as_slice(),
+        counts.as_slice(),
+        [0, 20, 1, 24, 2, 20].as_slice(),
+    );
+    assert!(rt; agrees(rt.alloc(), 3, &all, told)?);
+    Ok(())
+}
+
+#[test]
+fn queues_that_end(rt: HostRuntime) -> Result<(), Fail> {
+    use Happens::{Arrives, Asks, Closes, GoesDown};
+    let all = [
+        Asks(0, Words::Bind),
+        Asks(0, Words::Packets(9)),
+        Arrives(0, 1, 1),
+        GoesDown,
+        Arrives(0, 2, 1),
+        Asks(0, Words::Unbind),
+        Asks(0, Words::Bind),
+        Asks(0, Words::Packets(9)),
+        Arrives(0, 3, 1),
+        Closes,
+        Asks(1, Words::Bind),
+        Asks(1, Words::Packets(9)),
+        Arrives(1, 4, 1),
+    ];
+    let ledger = b"record fate queue at mark bytes\n1 devicedown 0 4 0 20\n2 unbind 0 6 0 20\n\
+        3 portclosed 0 10 0 20\n4 waiting 1 3 0 20\n";
+    let counts = b"unbind 1\nportclosed 1\ndevicedown 1\nwaiting 1\n";
+    let told = (ledger.as_slice(), counts.as_slice(), [].as_slice());
+    assert!(rt; agrees(rt.alloc(), 4, &all, told)?);
+    Ok(())
+}
+
+#[test]
+fn a_packet_that_was_lost(rt: HostRuntime) -> Result<(), Fail> {
+    use Happens::{Arrives, Asks};
+    let all = [
+        Asks(0, Words::Bind),
+        Asks(0, Words::Packets(9)),
+        Arrives(0, 1, 1),
+        Asks(0, Words::Verdict(1, 1)),
+    ];
+    let lost = Lost {
+        number: 1,
+        visit: 2,
+    };
+    let (ledger, counts, bytes) = told_of(rt.alloc(), 1, &all, Some(lost))?;
+    let line = b"record fate queue at mark bytes\n1 nomemory 0 4 0 20\n";
+    assert!(rt; ledger.as_slice() == line.as_slice());
+    assert!(rt; counts.as_slice() == b"nomemory 1\n".as_slice());
+    assert!(rt; bytes.is_empty());
+    Ok(())
+}
+
+/// A frame of an Ethernet capture with this fate and this last payload, as it is written; nothing
+/// where it isn't.
+fn written(alloc: Global, frame: &[u8], fate: Fate, payload: &[u8]) -> Result<Vec<u8>, NoMemory>
+    requires { length payload.now ≤ longest_packet }
+{
+    let mut frames = Frames::new(alloc);
+    let bytes = Bytes::copy(alloc, frame)?;
+    frames
+        .push(Frame {
+            seconds: 1,
+            fraction: 2,
+            original: 99,
+            bytes,
+        })
+        .map_err(|_| NoMemory)?;
+    let mut lines = FateLines::new(alloc);
+    let payload = Bytes::copy(alloc, payload)?;
+    lines
+        .push(FateLine {
+            number: 1,
+            fate,
+            queue: 0,
+            at: 1,
+            mark: 0,
+            payload,
+        })
+        .map_err(|_| NoMemory)?;
+    let capture = Capture {
+        big: false,
+        nanos: false,
+        zone: 0,
+        sigfigs: 0,
+        snap: SNAP,
+        link: 1,
+        frames,
+    };
+    let mut out = Vec::new(alloc);
+    for frame in &released_capture(alloc, &capture, &lines)?.frames {
+        out.push((frame.original % 128) as u8)?;
+        out.extend_from_slice(frame.bytes.as_slice())?;
+    }
+    Ok(out)
+}
+
+/// An IPv4 packet's first bytes behind an Ethernet header with a VLAN tag.
+const TAGGED: [u8; 20] = [
+    1, 2, 3, 4, 5, 6, 7, 8, 9, 10, 11, 12, 0x81, 0, 0, 5, 8, 0, 0x45, 7,
+];
+/// An ARP frame's first bytes.
+const ARP: [u8; 16] = [1, 2, 3, 4, 5, 6, 7, 8, 9, 10, 11, 12, 8, 6, 0, 1];
+
+#[test]
+fn frames_behind_a_link_header(rt: HostRuntime) -> Result<(), Fail> {
+    let alloc = rt.alloc();
+    let same = written(alloc, &TAGGED, Fate::Accept, &[0x45, 7])?;
+    assert!(rt; same.len() == 21 && same.as_slice().first() == Some(&99));
+    let other = written(alloc, &TAGGED, Fate::Accept, &[0x45, 8, 9])?;
+    assert!(rt; other.len() == 22 && other.as_slice().first() == Some(&21));
+    assert!(rt; other.as_slice().last() == Some(&9));
+    Ok(())
+}
+
+#[test]
+fn frames_that_stay_as_they_were_read(rt: HostRuntime) -> Result<(), Fail> {
+    let alloc = rt.alloc();
+    let arp = written(alloc, &ARP, Fate::Unhooked, &ARP)?;
+    assert!(rt; arp.len() == 17 && arp.as_slice().first() == Some(&99));
+    let unhooked = written(alloc, &TAGGED, Fate::Unhooked, &TAGGED)?;
+    assert!(rt; unhooked.len() == 21 && unhooked.as_slice().first() == Some(&99));
+    assert!(rt; written(alloc, &TAGGED, Fate::Dropped, &[0x45, 7])?.is_empty());
+    Ok(())
+}

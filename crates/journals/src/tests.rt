@@ -1,0 +1,188 @@
+//! What no contract says: that a journal is written where there is memory, with each kind of line,
+//! as it was written out by hand.
+
+use crate::journal_text;
+use nfqa_msgs::{Head, Params, Request};
+use packet_entry::{Bytes, Card, NoMemory, Sequence};
+use place_history::{AskWords, Did, Entry, Event, Histories, PortLog, Reply};
+use queue_core::Outcome;
+use std::alloc::Global;
+use std::test::Fail;
+
+/// The journal of one entry and no log.
+fn told_of(alloc: Global, queue: u16, event: Event, reply: Reply) -> Result<Vec<u8>, NoMemory> {
+    let mut entries = Sequence::new(alloc);
+    entries
+        .push(Entry {
+            queue,
+            event,
+            reply,
+        })
+        .map_err(|_| NoMemory)?;
+    let histories = Histories {
+        entries,
+        logs: Sequence::new(alloc),
+        lost: Sequence::new(alloc),
+    };
+    written(alloc, &histories)
+}
+
+/// The journal of one port's log of one thing.
+fn logged(alloc: Global, did: Did) -> Result<Vec<u8>, NoMemory> {
+    let mut dids = Sequence::new(alloc);
+    dids.push(did).map_err(|_| NoMemory)?;
+    let mut logs = Sequence::new(alloc);
+    logs.push(PortLog { port: 7, dids }).map_err(|_| NoMemory)?;
+    let histories = Histories {
+        entries: Sequence::new(alloc),
+        logs,
+        lost: Sequence::new(alloc),
+    };
+    written(alloc, &histories)
+}
+
+/// The journal behind a byte that was there before.
+fn written(alloc: Global, histories: &Histories) -> Result<Vec<u8>, NoMemory> {
+    let mut out = Vec::new(alloc);
+    out.push(b'>')?;
+    journal_text(alloc, histories, &mut out)?;
+    Ok(out)
+}
+
+/// An arrival of packet 3 at its second visit, with this mark.
+fn arrives(alloc: Global, mark: u32, outcome: Outcome) -> Result<Vec<u8>, NoMemory> {
+    let card = Card {
+        number: 3,
+        visit: 2,
+        table: 1,
+        mark,
+        seconds: 5,
+        micros: 6,
+        protocol: 2048,
+        link: Bytes::copy(alloc, &[0xab, 0x01])?,
+        bytes: Bytes::new(alloc),
+    };
+    let event = Event::Arrive {
+        card,
+        bypass: true,
+        room: false,
+    };
+    told_of(alloc, 9, event, Reply::Arrived { outcome })
+}
+
+#[test]
+fn arrivals_that_are_taken(rt: HostRuntime) -> Result<(), Fail> {
+    let taken = arrives(rt.alloc(), 4, Outcome::Taken { id: 4_294_967_295 })?;
+    let line = b">nfq-journal 1\nA 9 3 2 1 y n 4 5 6 2048 ab01 - taken:4294967295\nend\n";
+    assert!(rt; taken.as_slice() == line.as_slice());
+    Ok(())
+}
+
+#[test]
+fn arrivals_that_are_turned_away(rt: HostRuntime) -> Result<(), Fail> {
+    let full = arrives(rt.alloc(), 0, Outcome::UserFullOpen { id: 7 })?;
+    let line = b">nfq-journal 1\nA 9 3 2 1 y n 0 5 6 2048 ab01 - userfull-open:7\nend\n";
+    assert!(rt; full.as_slice() == line.as_slice());
+    Ok(())
+}
+
+/// A request of port 7 that was answered so.
+fn asks(alloc: Global, request: Request, errno: u16, taken: u32) -> Result<Vec<u8>, NoMemory> {
+    let event = Event::Ask {
+        port: 7,
+        call: 12,
+        request,
+    };
+    told_of(alloc, 2, event, Reply::Answer { errno, taken })
+}
+
+#[test]
+fn config_requests(rt: HostRuntime) -> Result<(), Fail> {
+    let request = Request::Config {
+        queue: 2,
+        command: Some(1),
+        params: Some(Params { range: 64, mode: 2 }),
+        maxlen: Some(3),
+        flags: Some(4),
+        mask: Some(5),
+    };
+    let told = asks(rt.alloc(), request, 16, 0)?;
+    let line = b">nfq-journal 1\n\
+        M 2 7 12 config 2 cmd 1 params 2 64 maxlen 3 flags 4 mask 5 = 16 0\nend\n";
+    assert!(rt; told.as_slice() == line.as_slice());
+    Ok(())
+}
+
+#[test]
+fn verdict_requests(rt: HostRuntime) -> Result<(), Fail> {
+    let alloc = rt.alloc();
+    let request = Request::Verdict {
+        queue: 2,
+        head: Some(Head { verdict: 4, id: 8 }),
+        mark: Some(9),
+        payload: Some(Bytes::copy(alloc, &[0x0f])?),
+    };
+    let told = asks(alloc, request, 0, 1)?;
+    let line = b">nfq-journal 1\nM 2 7 12 verdict 2 4 8 mark 9 payload 0f = 0 1\nend\n";
+    assert!(rt; told.as_slice() == line.as_slice());
+    Ok(())
+}
+
+#[test]
+fn batch_requests(rt: HostRuntime) -> Result<(), Fail> {
+    let request = Request::Batch {
+        queue: 2,
+        head: None,
+        mark: None,
+    };
+    let told = asks(rt.alloc(), request, 22, 0)?;
+    let line = b">nfq-journal 1\nM 2 7 12 batch 2 - = 22 0\nend\n";
+    assert!(rt; told.as_slice() == line.as_slice());
+    Ok(())
+}
+
+#[test]
+fn ports_and_devices(rt: HostRuntime) -> Result<(), Fail> {
+    let alloc = rt.alloc();
+    let flushed = Reply::Flushed { taken: 3 };
+    let closed = told_of(alloc, 0, Event::PortClosed { port: 7 }, flushed)?;
+    assert!(rt; closed.as_slice() == b">nfq-journal 1\nC 0 7 3\nend\n".as_slice());
+    let down = told_of(alloc, 1, Event::DeviceDown { device: 2 }, flushed)?;
+    assert!(rt; down.as_slice() == b">nfq-journal 1\nD 1 2 3\nend\n".as_slice());
+    Ok(())
+}
+
+#[test]
+fn logs_of_messages(rt: HostRuntime) -> Result<(), Fail> {
+    let alloc = rt.alloc();
+    let ask = AskWords::Raw {
+        bytes: Bytes::copy(alloc, &[0x10, 0xff])?,
+    };
+    let sent = logged(
+        alloc,
+        Did::Sent {
+            call: 1,
+            ask,
+            answer: Some(22),
+        },
+    )?;
+    assert!(rt; sent.as_slice() == b">nfq-journal 1\nP 7\nS 1 raw 10ff = 22\nend\n".as_slice());
+    Ok(())
+}
+
+#[test]
+fn logs_of_notices_and_closings(rt: HostRuntime) -> Result<(), Fail> {
+    let alloc = rt.alloc();
+    let received = logged(
+        alloc,
+        Did::Received {
+            queue: 2,
+            number: 3,
+            visit: 4,
+        },
+    )?;
+    assert!(rt; received.as_slice() == b">nfq-journal 1\nP 7\nR 2 3 4\nend\n".as_slice());
+    let closed = logged(alloc, Did::Closed)?;
+    assert!(rt; closed.as_slice() == b">nfq-journal 1\nP 7\nX\nend\n".as_slice());
+    Ok(())
+}
