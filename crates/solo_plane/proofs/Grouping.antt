@@ -1,0 +1,50 @@
+-- Entries that are sorted by their queue's number: each queue's stay in their order.
+use Rattle.std.proofs.Common.{◌≡◌, ℕ, List, Bool, true, false, sym, ap, ◌∙◌, arith}
+use Rattle.std.proofs.Math.Path.{fun_ext}
+use Rattle.std.specs.Prelude.{filter, nat_eq, ◌==◌, not, ◌&&◌}
+use Rattle.std.specs.List.Sorted.{IsStableByKey, IsSortedByKey}
+use Rattle.std.specs.Ordering.{nat_cmp, is_lt}
+use Rattle.std.proofs.lemmas.Bool.Decides.{nat_tests}
+use Rattle.queue_core.specs.declared.event.Event.TheVariants.{DeviceDown}
+use Rattle.queue_core.specs.declared.event.Reply.TheVariants.{Flushed}
+use Rattle.place_history.specs.declared.entry.Entry.{Entry}
+use Rattle.place_history.specs.History.{IsLegal, AreLegal}
+use Rattle.std.specs.List.{IsDistinct}
+use Rattle.std.proofs.Common.{subst, get_or}
+use Rattle.std.proofs.lemmas.Bool.{eq-eqb}
+use Rattle.std.proofs.lemmas.Map.Keys.{apart_from_distinct}
+use Rattle.solo_plane.specs.Closing.{IsGrouped, AreApart}
+
+-- an entry of a queue
+abbrev pub entry_at : ℕ → Entry
+entry_at queue = record { queue = queue; event = DeviceDown 0; reply = Flushed 0 }
+
+same_number : (a b : ℕ) → (not (is_lt (nat_cmp a b)) && not (is_lt (nat_cmp b a))) ≡ (b == a)
+same_number a b = grind (arith, nat_tests)
+
+abbrev pub number_of : Entry → ℕ
+number_of e = e.queue
+
+pub grouped_so : (es gs : List Entry) → IsSortedByKey number_of nat_cmp gs →
+    IsStableByKey number_of nat_cmp es gs → IsGrouped es gs
+grouped_so es gs sorted stable =
+    record {
+      ascend = sorted;
+      same = λ queue.
+          ap (λ (t : Entry → Bool). filter t gs) (fun_ext (λ e. sym (same_number queue e.queue)))
+          ∙ stable (entry_at queue)
+          ∙ ap (λ (t : Entry → Bool). filter t es) (fun_ext (λ e. same_number queue e.queue));
+    }
+
+-- grouped histories are legal where the others were
+pub grouped_legal : (es gs : List Entry) → IsGrouped es gs → AreLegal es → AreLegal gs
+grouped_legal es gs is legal queue =
+    subst (λ (h : List Entry). IsLegal h) (sym (is.same queue)) (legal queue)
+
+-- ports that differ by a test
+pub apart_so : (order : List ℕ) → IsDistinct nat_eq order → AreApart order
+apart_so order distinct i k before within same =
+    let wrong : true ≡ false =
+    sym (eq-eqb (get_or order i 0) (get_or order k 0) (sym same))
+    ∙ apart_from_distinct nat_eq order i k 0 distinct before within in
+    absurd (cc)

@@ -1,0 +1,17 @@
+pub mod Settling
+pub mod Stepping
+pub mod Leaving
+pub mod Answering
+pub mod Logging
+pub mod Sending
+pub mod Known
+pub mod Sounding
+pub mod Requesting
+pub mod Timing
+pub mod Flushing
+pub mod Calling
+pub mod Opened
+pub mod Grouping
+pub mod Regrouping
+pub mod Entering
+pub mod Wording

@@ -1,0 +1,244 @@
+-- Arrivals: what leaves the queue at once, and the world then.
+use Rattle.std.proofs.Common.{◌≡◌, ◌≢◌, ℕ, List, [], ◌∷◌, ◌++◌, Option, Some, None, Bool}
+use Rattle.std.proofs.Common.{true, false, refl, sym, ap, ◌∙◌, rules}
+use Rattle.std.specs.Prelude.{◌==◌, ◌&&◌, not, if◌then◌else◌, option_map, IsSome}
+use Rattle.std.specs.Prelude.{Result, Ok, Err, OnOk, is_err}
+use Rattle.std.proofs.lemmas.Bool.{eq-eqb}
+use Rattle.std.specs.BTreeMap.{BTreeMap, get}
+use Rattle.std.specs.Ordering.{nat_cmp}
+use Rattle.packet_entry.specs.declared.packet.Card.{Card}
+use Rattle.packet_entry.specs.declared.letter.Letter.{Letter}
+use Rattle.packet_entry.specs.Numbers.{last_visit}
+use Rattle.nfqa_msgs.specs.Numbers.{copy_none}
+use Rattle.hook_chain.specs.declared.chain.Next.{Next}
+use Rattle.queue_core.specs.declared.event.Reply.{Reply}
+use Rattle.queue_core.specs.declared.event.Reply.TheVariants.{Arrived}
+use Rattle.queue_core.specs.declared.offers.Outcome.{Outcome}
+use Rattle.queue_core.specs.State.{Bound, fails_open}
+use Rattle.queue_core.specs.Step.{Stepped, Way, Gone, Open, arrive, arrive_in_time, arrive_bound}
+use Rattle.queue_core.specs.Step.{is_decided_early, is_full}
+use Rattle.place_history.specs.Journeys.{Arrival}
+use Rattle.place_history.specs.Kept.{state_of, entry_of}
+use Rattle.place_history.specs.Happenings as happening
+use Rattle.place_history.specs.Happenings.{IsTurnedAway, IsTaken, IsOffered}
+use Rattle.solo_plane.specs.declared.fed.Fed.TheVariants.{Waiting}
+use Rattle.solo_plane.specs.declared.arrivals.Came.TheVariants.{Ended}
+use Rattle.solo_plane.specs.declared.port.PortState.{PortState}
+use Rattle.solo_plane.specs.declared.setting.Setting.{Setting}
+use Rattle.solo_plane.specs.declared.arrivals.Came.{Came}
+use Rattle.solo_plane.specs.World.{World, Port, changed_at, delivered}
+use Rattle.solo_plane.specs.Moving.{Carried, arrived, turned_away, room_for, has_room, with_notice}
+use Rattle.solo_plane.specs.Moving.{left_at_once, happened}
+use Rattle.solo_plane.specs.Moving.{settled, goes_on, route_after, takes_one}
+use Rattle.solo_plane.specs.Ported.{port_of, ports_of}
+use Rattle.solo_plane.specs.Coming.{CameAs, came_to, way_by}
+
+-- what holds of both lines holds of the table
+pub either : (P : Stepped → Type 0) (b : Bool) (s t : Stepped) → P s → P t → P (if b then s else t)
+either P true s t p q = p
+either P false s t p q = q
+
+-- what comes back of an arrival leaves by the way that its outcome says
+pub record TellsWay (card : Card) (s : Stepped) : Type 0 where
+  pub tells : (o : Outcome) (way : Way) → s.reply ≡ Arrived o → s.left ≡ (card, way) ∷ [] →
+      way ≡ way_by o
+
+abbrev way_in : Way → List (Card × Way) → Way
+way_in way [] = way
+way_in way (l ∷ ls) = l.1
+
+leaves_by : (card : Card) (q : Option Bound) (p : Outcome) (v : Way) → v ≡ way_by p →
+    TellsWay card (record { state = q; reply = Arrived p; left = (card, v) ∷ [] })
+leaves_by card q p v is = record {
+  tells = λ o way reply left.
+      let same : p ≡ o = cc in
+      let told : v ≡ way = ap (way_in v) left in
+      sym told ∙ is ∙ ap way_by same;
+}
+
+pub tells_way : (q : Option Bound) (card : Card) (bypass room : Bool) →
+    TellsWay card (arrive q card bypass room)
+tells_way q card bypass room =
+    either (TellsWay card) (card.visit == last_visit) _ _ (leaves_by card _ _ _ refl)
+    (in_time q bypass)
+  where
+    bound : (b : Bound) → TellsWay card (arrive_bound b card room)
+    bound b =
+        either (TellsWay card) (b.mode == copy_none) _ _ (leaves_by card _ _ _ refl)
+        (either (TellsWay card) (is_full b && fails_open b) _ _ (leaves_by card _ _ _ refl)
+        (either (TellsWay card) (is_full b) _ _ (leaves_by card _ _ _ refl)
+        (either (TellsWay card) (not room && fails_open b) _ _ (leaves_by card _ _ _ refl)
+        (either (TellsWay card) (not room) _ _ (leaves_by card _ _ _ refl)
+        (record { tells = λ o way reply left. absurd (cc) })))))
+
+    in_time : (q : Option Bound) (bypass : Bool) → TellsWay card (arrive_in_time q card bypass room)
+    in_time None false = leaves_by card _ _ _ refl
+    in_time None true = leaves_by card _ _ _ refl
+    in_time (Some b) bypass = bound b
+
+-- nothing goes on whose visit is the last
+pub goes_on_in_time : (q : Option Bound) (card : Card) (bypass room : Bool) →
+    (arrive q card bypass room).left ≡ (card, Open) ∷ [] → card.visit ≢ last_visit
+goes_on_in_time q card bypass room left last =
+    absurd (apart (rw (eq-eqb card.visit last_visit last) at left))
+  where
+    one : Way → List (Card × Way)
+    one way = (card, way) ∷ []
+
+    apart : one Gone ≡ one Open → ⊥
+    apart is = let wrong : Gone ≡ Open = ap (way_in Gone) is in cc
+
+-- ---- the world then
+
+no_notice : (q : Option Bound) (a : Arrival) (l : Card × Way) (ls : List (Card × Way))
+    (ports : ℕ → Option Port) → with_notice q a (l ∷ ls) ports ≡ ports
+no_notice None a l ls ports = refl
+no_notice (Some q) a l ls ports = refl
+
+-- an arrival that is turned away
+pub world_back : (s : Setting) (w : World) (a : Arrival) (room : Bool) (outcome : Outcome)
+    (back : Card) → IsTurnedAway a room outcome back w.entries → room_for s w a ≡ room →
+    record w {
+      entries = w.entries ++ entry_of w.entries a.queue (happening.arrive a room) ∷ [];
+    } ≡ arrived s w a
+world_back s w a room outcome back t is =
+    let q = state_of w.entries a.queue in
+    let same : with_notice q a (left_at_once w a room) w.ports ≡ w.ports =
+    ap (λ left. with_notice q a left w.ports) t.leaves
+    ∙ no_notice q a (a.card, t.way) [] w.ports in
+    ap (λ (ports : ℕ → Option Port). record w {
+      entries = w.entries ++ entry_of w.entries a.queue (happening.arrive a room) ∷ [];
+      ports = ports;
+    }) (sym same)
+    ∙ ap (happened w a) (sym is)
+
+pub came_back : (s : Setting) (w v : World) (a : Arrival) (room : Bool) (outcome : Outcome)
+    (back : Card) (came : Came) → IsTurnedAway a room outcome back w.entries →
+    room_for s w a ≡ room →
+    ((on : World → Card → Next → Carried) (u : World) →
+    goes_on (on u back) u (route_after s (back, way_by outcome)) ≡ came_to on u came) →
+    CameAs s v (turned_away s w a) came
+came_back s w v a room outcome back came t is turned on =
+    let by : t.way ≡ way_by outcome =
+    (tells_way (state_of w.entries a.queue) a.card a.bypass room).tells outcome t.way t.reply
+    t.leaves in
+    ap (settled on s v) (left_is is)
+    ∙ ap (λ (l : Card × Way). goes_on (on v l.0) v (route_after s l)) (pair (sym t.same) by)
+    ∙ turned on v
+  where
+    left_is : room_for s w a ≡ room → turned_away s w a ≡ (a.card, t.way) ∷ []
+    left_is is = ap (left_at_once w a) is ∙ t.leaves
+
+    leaving : Card → Way → Card × Way
+    leaving card way = (card, way)
+
+    pair : {c d : Card} {x y : Way} → c ≡ d → x ≡ y → leaving c x ≡ leaving d y
+    pair {c} {d} {x} {y} same way = ap (λ e. leaving e x) same ∙ ap (leaving d) way
+
+-- an arrival that is taken
+pub world_taken : (s : Setting) (w : World) (a : Arrival) (room : Bool) (id : ℕ) →
+    IsTaken a room id w.entries → room_for s w a ≡ room →
+    record w {
+      entries = w.entries ++ entry_of w.entries a.queue (happening.arrive a room) ∷ [];
+      ports = with_notice (state_of w.entries a.queue) a [] w.ports;
+    } ≡ arrived s w a
+world_taken s w a room id t is =
+    let q = state_of w.entries a.queue in
+    ap (λ (left : List (Card × Way)). record w {
+      entries = w.entries ++ entry_of w.entries a.queue (happening.arrive a room) ∷ [];
+      ports = with_notice q a left w.ports;
+    }) (sym t.stays)
+    ∙ ap (happened w a) (sym is)
+
+pub came_as_waiting : (s : Setting) (w v : World) (a : Arrival) (room : Bool) (id : ℕ) →
+    IsTaken a room id w.entries → room_for s w a ≡ room →
+    CameAs s v (turned_away s w a) (Ended Waiting)
+came_as_waiting s w v a room id t is on =
+    let none : turned_away s w a ≡ [] = ap (left_at_once w a) is ∙ t.stays in
+    ap (settled on s v) none
+
+-- ---- room
+
+pub room_early : (s : Setting) (w : World) (q : Option Bound) (card : Card) →
+    is_decided_early q card ≡ true → has_room s w q card ≡ true
+room_early s w None card early = refl
+room_early s w (Some q) card early = rw early refl
+
+pub room_offered : (s : Setting) (w : World) (q : Option Bound) (bound : Bound) (card : Card) →
+    q ≡ Some bound → is_decided_early (Some bound) card ≡ false →
+    has_room s w q card ≡ takes_one s.mail (w.ports bound.port)
+room_offered s w q bound card is undecided = rw (is, undecided) refl
+
+-- a notice that was offered is put into its mailbox
+pub world_posted : (s : Setting) (w : World) (a : Arrival) (port : ℕ) (letter : Letter) (room : Bool)
+    (id : ℕ) → (o : IsOffered a port letter w.entries) → IsTaken a room id w.entries →
+    room_for s w a ≡ room →
+    record w {
+      entries = w.entries ++ entry_of w.entries a.queue (happening.arrive a room) ∷ [];
+      ports = changed_at port (delivered letter) w.ports;
+    } ≡ arrived s w a
+world_posted s w a port letter room id o t is =
+    ap (λ (ports : ℕ → Option Port). record w {
+      entries = w.entries ++ entry_of w.entries a.queue (happening.arrive a room) ∷ [];
+      ports = ports;
+    }) noticed
+    ∙ world_taken s w a room id t is
+  where
+    noticed : changed_at port (delivered letter) w.ports
+        ≡ with_notice (state_of w.entries a.queue) a [] w.ports
+    noticed = rw (o.state, o.to_port, o.notice) refl
+
+-- the room that the code found is the arrival's
+pub room_is : (s : Setting) (w : World) (a : Arrival) (port : ℕ) (letter : Letter) (room : Bool)
+    (ports : ℕ → Option Port) → (o : IsOffered a port letter w.entries) → ports ≡ w.ports →
+    room ≡ takes_one s.mail (ports port) → room_for s w a ≡ room
+room_is s w a port letter room ports o same is =
+    room_offered s w (state_of w.entries a.queue) o.bound a.card o.state o.undecided
+    ∙ ap (λ p. takes_one s.mail (w.ports p)) (sym o.to_port)
+    ∙ ap (λ (q : ℕ → Option Port). takes_one s.mail (q port)) (sym same)
+    ∙ sym is
+
+-- a result that is no error
+pub on_ok : {T E : Type 0} (r : Result T E) (P : Type 0) → OnOk r P → is_err r ≡ false → P
+on_ok (Ok x) P h is = h
+on_ok (Err e) P h is = absurd (cc)
+
+-- what a queue takes had room
+pub record Leaves (s : Stepped) : Type 0 where
+  pub some : s.left ≡ [] → ⊥
+
+pub taken_had_room : (q : Option Bound) (card : Card) (bypass room : Bool) →
+    (arrive q card bypass room).left ≡ [] → room ≡ true
+taken_had_room q card bypass true none = refl
+taken_had_room q card bypass false none = absurd (leaves.some none)
+  where
+    away : (q : Option Bound) (p : Reply) (v : Way) →
+        Leaves (record { state = q; reply = p; left = (card, v) ∷ [] })
+    away q p v = record { some = λ is. cc }
+
+    bound : (b : Bound) → Leaves (arrive_bound b card false)
+    bound b =
+        either Leaves (b.mode == copy_none) _ _ (away _ _ _)
+        (either Leaves (is_full b && fails_open b) _ _ (away _ _ _)
+        (either Leaves (is_full b) _ _ (away _ _ _)
+        (either Leaves (fails_open b) _ _ (away _ _ _) (away _ _ _))))
+
+    in_time : (q : Option Bound) (bypass : Bool) → Leaves (arrive_in_time q card bypass false)
+    in_time None false = away _ _ _
+    in_time None true = away _ _ _
+    in_time (Some b) bypass = bound b
+
+    leaves : Leaves (arrive q card bypass false)
+    leaves = either Leaves (card.visit == last_visit) _ _ (away _ _ _) (in_time q bypass)
+
+-- a port whose mailbox takes one more is there
+pub port_is_there : (mail port : ℕ) (room : Bool) (ports : ℕ → Option Port)
+    (held : BTreeMap ℕ PortState) → ports ≡ ports_of held → room ≡ takes_one mail (ports port) →
+    room ≡ true → IsSome (get nat_cmp held port)
+port_is_there mail port room ports held same is had =
+    there (get nat_cmp held port)
+    (sym (ap (λ (p : ℕ → Option Port). takes_one mail (p port)) same) ∙ sym is ∙ had)
+  where
+    there : (o : Option PortState) → takes_one mail (option_map port_of o) ≡ true → IsSome o
+    there None is = absurd (cc)
+    there (Some p) is = search rules

@@ -1,0 +1,5 @@
+use Rattle.solo_plane.specs.Coming.{arrivals_left}
+use Rattle.solo_plane.proofs.arrivals.+carry.Given as goal
+
+abbrev pub decreases-carry : goal.decreases-carry
+decreases-carry l = arrivals_left l.came

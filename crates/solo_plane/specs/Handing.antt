@@ -1,0 +1,21 @@
+-- What a request lets go on, and what may be lost of it.
+use Rattle.std.specs.Prelude.{◌≡◌, ℕ, List, Bool, ◌||◌, ◌==◌, nat_le, count_by}
+use Rattle.packet_entry.specs.declared.packet.Card.{Card}
+use Rattle.packet_entry.specs.Numbers.{last_visit}
+use Rattle.hook_chain.specs.declared.chain.Decision.{Decision}
+use Rattle.queue_core.specs.Laws.{times, waiting_in}
+use Rattle.place_history.specs.declared.entry.Entry.{Entry}
+use Rattle.place_history.specs.Kept.{state_of}
+
+-- a visit that no packet has that waits: it isn't one of the first 32
+abbrev pub is_out_of_time : ℕ → Bool
+is_out_of_time visit = nat_le last_visit visit || (visit == 0)
+
+-- no packet waits with such a visit
+abbrev pub WaitInTime : List Entry → Type 0
+WaitInTime es = (queue : ℕ) →
+    times (λ number visit. is_out_of_time visit) (waiting_in (state_of es queue)) ≡ 0
+
+-- and none of these has one
+abbrev pub AreInTime : List (Card × Decision) → Type 0
+AreInTime hs = count_by (λ h. is_out_of_time h.0.visit) hs ≡ 0

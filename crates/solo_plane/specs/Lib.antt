@@ -1,0 +1,14 @@
+pub mod Numbers
+pub mod Calls
+pub mod World
+pub mod Moving
+pub mod Ported
+pub mod Coming
+pub mod Planes
+pub mod Kept
+pub mod Shown
+pub mod Messages
+pub mod Handing
+pub mod Soundness
+pub mod Closing
+pub mod Examples

@@ -1,0 +1,18 @@
+-- The numbers of a plane, each once. They are this project's own.
+use Rattle.std.specs.Prelude.{ℕ}
+
+-- the most ports of a plane
+abbrev pub most_ports : ℕ
+most_ports = 32
+
+-- the most notices that a mailbox holds
+abbrev pub most_mail : ℕ
+most_mail = 65536
+
+-- how many packets are fed at most
+abbrev pub most_fed : ℕ
+most_fed = 16777215
+
+-- the numbers of a port's messages count on modulo this one: they are of 32 bits
+abbrev pub call_count : ℕ
+call_count = 4294967296

@@ -1,0 +1,13 @@
+-- Worlds whose histories are legal and sound.
+use Rattle.std.specs.Prelude.{List}
+use Rattle.place_history.specs.History.{AreLegal}
+use Rattle.place_history.specs.Moves.{moves}
+use Rattle.place_history.specs.Journeys.{Arrival, IsSoundBut}
+use Rattle.solo_plane.specs.declared.setting.Setting.{Setting}
+use Rattle.solo_plane.specs.World.{World}
+
+-- The histories are legal; and they are sound for the packets that were fed and those that were
+-- lost, but for arrivals that are still owed.
+pub record IsSound (s : Setting) (owed : List Arrival) (w : World) : Type 0 where
+  pub legal : AreLegal w.entries
+  pub sound : IsSoundBut s.tables s.key owed w.fed (moves w.entries) w.lost

@@ -1,0 +1,72 @@
+//! Requests, and the packets that they let go on.
+
+ghost use Rattle.std.specs.Prelude.{◌≡◌, ◌≤◌, length, IfOk, OnOk, OnErr};
+ghost use Rattle.nfqa_msgs.specs.RequestReading.{PayloadFits};
+ghost use Rattle.place_history.specs.Happenings.{all_handed};
+ghost use Rattle.solo_plane.specs.Moving.{CarriesAll};
+ghost use Rattle.solo_plane.specs.Ported.{world_of, logs_of, IsReady};
+ghost use Rattle.solo_plane.specs.Messages.{IsAsked, asking};
+ghost use Rattle.solo_plane.specs.Handing.{AreInTime, WaitInTime};
+
+use crate::arrivals::{Came, carry};
+use crate::held::Held;
+use crate::setting::Setting;
+use crate::words::queue_of;
+use hook_chain::onward;
+use nfqa_msgs::Request;
+use packet_entry::NoMemory;
+use queue_core::{Handed, each_packet_stays_or_leaves};
+use std::alloc::Global;
+
+/// Moves packets on that a request let go on, one after the other, each to its rest or its end.
+fn hand_on(held: &mut Held, alloc: Global, setting: &Setting, mut handed: Handed)
+    requires ready { IsReady held.old.place }
+    requires in_time { AreInTime handed.items }
+    requires room { length handed.items ≤ held.old.lost.room }
+    ensures ready { IsReady held.new.place }
+    ensures carried { CarriesAll setting.now handed.items (world_of held.old)
+        (world_of held.new) }
+    ensures logs { logs_of held.new.ports ≡ logs_of held.old.ports }
+{
+    while let Some((packet, decision)) = handed.take() {
+        let route = onward(&setting.tables, setting.key, &packet, &decision);
+        carry(held, alloc, setting, Came::GoesOn { packet, route });
+    }
+    handed.finish();
+}
+
+/// Carries out a port's request, and moves on what it let go on: its errno. When memory runs out
+/// nothing has happened.
+pub(crate) fn ask(
+    held: &mut Held,
+    alloc: Global,
+    setting: &Setting,
+    port: u32,
+    call: u32,
+    request: Request,
+) -> Result<u16, NoMemory>
+    requires ready { IsReady held.old.place }
+    requires payload { PayloadFits request }
+    requires in_time { WaitInTime held.old.place.entries }
+    ensures ready { IsReady held.new.place }
+    ensures asked { IfOk result (IsAsked setting.now port call request (world_of held.old)
+        (world_of held.new)) }
+    ensures logs { logs_of held.new.ports ≡ logs_of held.old.ports }
+    ensures err { OnErr result (world_of held.new ≡ world_of held.old) }
+{
+    let waiting = held.place.waiting_in(queue_of(&request));
+    held.lost.make_room(waiting as usize)?;
+    let mut handed = Handed::new(alloc);
+    match held.place.ask(alloc, port, call, request, &mut handed) {
+        Ok(errno) => {
+            // No more packets leave than waited, and each has the visit with which it waited.
+            each_packet_stays_or_leaves();
+            hand_on(held, alloc, setting, handed);
+            Ok(errno)
+        }
+        Err(NoMemory) => {
+            handed.finish();
+            Err(NoMemory)
+        }
+    }
+}

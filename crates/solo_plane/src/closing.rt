@@ -1,0 +1,77 @@
+//! The end of a plane.
+
+ghost use Rattle.std.specs.Prelude.{◌≡◌, ◌≢◌, ℕ, IfOk, map};
+ghost use Rattle.std.specs.BTreeMap.{get};
+ghost use Rattle.std.specs.Ordering.{nat_cmp};
+ghost use Rattle.place_history.specs.History.{AreLegal};
+ghost use Rattle.place_history.specs.Journeys.{AreSound};
+ghost use Rattle.solo_plane.specs.declared.setting.Setting.{Setting};
+ghost use Rattle.solo_plane.specs.Ported.{ports_of, IsReady, HasSound};
+ghost use Rattle.solo_plane.specs.Closing.{IsGrouped, AreApart, dids_of, log_at};
+
+use crate::held::Held;
+use crate::ports::Ports;
+use packet_entry::{NoMemory, Sequence};
+use place_history::{Dids, Entries, Histories, Logs, PortLog};
+use std::alloc::Global;
+
+/// What a plane gives as it ends: its entries by ascending queue number, the logs of its ports in
+/// this order, and the packets that were lost. What waits is given up.
+pub(crate) fn histories(alloc: Global, order: &[u32], held: Held) -> Result<Histories, NoMemory>
+    requires ready { IsReady held.place }
+    requires apart { AreApart order.now }
+    ensures entries { IfOk result (λ h. IsGrouped held.place.entries h.entries) }
+    ensures logs { IfOk result (λ h. h.logs ≡ map (log_at held.ports) order.now) }
+    ensures lost { IfOk result (λ h. h.lost ≡ held.lost.items) }
+    ensures legal { IfOk result (λ h. AreLegal h.entries) }
+    ensures sound { (s : Setting) → HasSound s held → IfOk result (λ h.
+        AreSound s.tables s.key held.fed.items h.entries h.lost) }
+{
+    let Held {
+        mut place,
+        ports,
+        fed: _fed,
+        lost,
+    } = held;
+    place.leave_waiting();
+    let entries = grouped(place.into_entries())?;
+    let logs = logs(alloc, order, ports)?;
+    Ok(Histories {
+        entries,
+        logs,
+        lost: lost.into_sequence(),
+    })
+}
+
+/// Entries by ascending queue number, each queue's in their order.
+pub(crate) fn grouped(entries: Entries) -> Result<Entries, NoMemory>
+    ensures { IfOk result (IsGrouped entries) }
+{
+    let mut list = entries.into_vec();
+    list.sort_by_key(|entry| entry.queue)?;
+    Ok(Sequence::from_vec(list))
+}
+
+/// The logs of these ports, in their order.
+pub(crate) fn logs(alloc: Global, order: &[u32], mut ports: Ports) -> Result<Logs, NoMemory>
+    requires { AreApart order.now }
+    ensures { IfOk result (λ logs. logs ≡ map (log_at ports) order.now) }
+{
+    let mut logs = Vec::new(alloc);
+    for port in order {
+        let dids = take_dids(&mut ports, alloc, *port);
+        logs.push(PortLog { port: *port, dids })?;
+    }
+    Ok(Sequence::from_vec(logs))
+}
+
+/// Takes a port out, and gives what it did.
+fn take_dids(ports: &mut Ports, alloc: Global, port: u32) -> Dids
+    ensures dids { result ≡ dids_of (ports_of ports.old port) }
+    ensures others { (q : ℕ) → q ≢ port → get nat_cmp ports.new q ≡ get nat_cmp ports.old q }
+{
+    match ports.remove(&port) {
+        Some(state) => state.dids.into_sequence(),
+        None => Sequence::new(alloc),
+    }
+}

@@ -1,0 +1,75 @@
+//! Laws of the definitions, each the contract of a function that does nothing.
+
+ghost use Rattle.std.specs.Prelude.{◌≡◌, ◌<◌, ◌^◌, ◌∷◌, ◌++◌, ℕ, List, [], Option};
+ghost use Rattle.packet_entry.specs.declared.packet.Card.{Card};
+ghost use Rattle.netlink_codec.specs.Messages.{NetlinkMessage, Front};
+ghost use Rattle.nfqa_msgs.specs.declared.request.Request.{Request};
+ghost use Rattle.nfqa_msgs.specs.RequestReading.{decoded};
+ghost use Rattle.nfqa_msgs.specs.RequestWriting.{spelling, FitsRequest};
+ghost use Rattle.place_history.specs.declared.log.AskWords.TheVariants.{Plain, Raw};
+ghost use Rattle.place_history.specs.declared.entry.Entry.{Entry};
+ghost use Rattle.place_history.specs.History.{AreLegal};
+ghost use Rattle.place_history.specs.Happenings.{closings, downs};
+ghost use Rattle.solo_plane.specs.declared.fed.Fed.{Fed};
+ghost use Rattle.solo_plane.specs.declared.setting.Setting.{Setting};
+ghost use Rattle.solo_plane.specs.World.{World};
+ghost use Rattle.solo_plane.specs.Planes.{IsFed, beginning, with_closed, without_device};
+ghost use Rattle.solo_plane.specs.Messages.{Sends, words_of};
+ghost use Rattle.solo_plane.specs.Handing.{WaitInTime};
+ghost use Rattle.solo_plane.specs.Soundness.{IsSound};
+
+use netlink_codec::one_message_in_front;
+use nfqa_msgs::spelling_decodes_to_its_request;
+use place_history::{a_legal_history_goes_on, an_entry_is_a_move, soundness_is_kept_move_by_move};
+use queue_core::{each_packet_stays_or_leaves, what_no_verdict_decided_is_destroyed};
+
+/// Whatever happens to a plane, its histories stay sound for the packets that were fed and those
+/// that were lost, and legal; and at legal histories no packet waits that has been queued more than
+/// 32 times.
+pub fn histories_stay_sound()
+    ensures begins { (s : Setting) (order : List ℕ) → IsSound s [] (beginning order) }
+    ensures fed { (s : Setting) (old new : World) (card : Card) (fed : Fed) → card.visit ≡ 0 →
+        IsFed s old card new fed → IsSound s [] old → IsSound s [] new }
+    ensures sent { (s : Setting) (port : ℕ) (front : Option (NetlinkMessage × ℕ))
+        (old new : World) (before after : List ℕ) (used : ℕ) →
+        Sends s port front old new before after used → IsSound s [] old → IsSound s [] new }
+    ensures closed { (s : Setting) (port : ℕ) (w : World) →
+        AreLegal (w.entries ++ closings port w.entries) → IsSound s [] w →
+        IsSound s [] (with_closed w port) }
+    ensures down { (s : Setting) (device : ℕ) (w : World) →
+        AreLegal (w.entries ++ downs device w.entries) → IsSound s [] w →
+        IsSound s [] (without_device w device) }
+    ensures in_time { (es : List Entry) → AreLegal es → WaitInTime es }
+{
+    each_packet_stays_or_leaves();
+    what_no_verdict_decided_is_destroyed();
+    an_entry_is_a_move();
+    a_legal_history_goes_on();
+    soundness_is_kept_move_by_move();
+}
+
+/// A packet that is fed is one more of those that were fed, and no message adds to them.
+pub fn only_feeding_feeds()
+    ensures fed { (s : Setting) (old new : World) (card : Card) (fed : Fed) →
+        IsFed s old card new fed → new.fed ≡ old.fed ++ card ∷ [] }
+    ensures sent { (s : Setting) (port : ℕ) (front : Option (NetlinkMessage × ℕ))
+        (old new : World) (before after : List ℕ) (used : ℕ) →
+        Sends s port front old new before after used → new.fed ≡ old.fed }
+{}
+
+/// A message is logged in words exactly where its own bytes are the one spelling of a request with
+/// the sender's port and the message's number, and else as these bytes.
+pub fn words_are_the_one_spelling()
+    ensures words { (port call : ℕ) (m : NetlinkMessage) (request : Request) →
+        words_of port call m.whole (decoded m) ≡ Plain request →
+        m.whole ≡ spelling port call request }
+    ensures bytes { (port call : ℕ) (m : NetlinkMessage) (bytes : List ℕ) →
+        words_of port call m.whole (decoded m) ≡ Raw bytes → bytes ≡ m.whole }
+    ensures spelled { (port call : ℕ) (request : Request) (bytes : List ℕ) (m : NetlinkMessage)
+        (used : ℕ) → port < 2 ^ 32 → call < 2 ^ 32 → FitsRequest request → Front bytes m used →
+        m.whole ≡ spelling port call request →
+        words_of port call m.whole (decoded m) ≡ Plain request }
+{
+    spelling_decodes_to_its_request();
+    one_message_in_front();
+}

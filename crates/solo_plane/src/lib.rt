@@ -1,0 +1,27 @@
+//! Packets routed, queued, told of, answered and moved on, on one thread: one place of queues, and
+//! a mailbox and a log for each port.
+#![tactic(auto)]
+
+mod arrivals;
+mod asking;
+mod closing;
+mod endings;
+mod fed;
+mod feeding;
+mod held;
+mod laws;
+mod mailbox;
+mod messages;
+mod opening;
+mod plane;
+mod port;
+mod ports;
+mod setting;
+mod words;
+
+pub use fed::{Fed, Refused};
+pub use laws::{histories_stay_sound, only_feeding_feeds, words_are_the_one_spelling};
+pub use plane::SoloPlane;
+
+#[cfg(test)]
+mod tests;

@@ -1,0 +1,114 @@
+//! The ports by number.
+
+ghost use Rattle.std.specs.Prelude.{◌≡◌, ◌<◌, ◌≤◌, OnOk, IsSome, IsSomeAnd, false};
+ghost use Rattle.std.specs.BTreeMap.{get};
+ghost use Rattle.std.specs.Ordering.{nat_cmp};
+ghost use Rattle.place_history.specs.declared.log.Did.TheVariants.{Sent};
+ghost use Rattle.solo_plane.specs.World.{changed_at, delivered, first_of, received, having_done};
+ghost use Rattle.solo_plane.specs.World.{closed};
+ghost use Rattle.solo_plane.specs.Moving.{takes_one};
+ghost use Rattle.solo_plane.specs.Ported.{ports_of, logs_of, OnPort};
+ghost use Rattle.solo_plane.specs.Messages.{call_at};
+
+use crate::port::PortState;
+use packet_entry::{Letter, NoMemory};
+use place_history::AskWords;
+use std::collections::BTreeMap;
+
+/// The ports by number.
+pub(crate) type Ports = BTreeMap<u32, PortState>;
+
+/// Whether a port's mailbox takes one notice more, of so many that it holds.
+pub(crate) fn takes_one(ports: &Ports, port: u32, mail: u32) -> bool
+    ensures { result ≡ takes_one mail (ports_of ports.now port) }
+{
+    match ports.get(&port) {
+        Some(state) => state.mailbox.len() < mail as usize,
+        None => false,
+    }
+}
+
+/// Makes room for one notice more in a port's mailbox, where there is such a port.
+pub(crate) fn make_room(ports: &mut Ports, port: u32) -> Result<(), NoMemory>
+    ensures same { ports_of ports.new ≡ ports_of ports.old }
+    ensures logs { logs_of ports.new ≡ logs_of ports.old }
+    ensures ok { OnOk result (IsSome (get nat_cmp ports.old port) →
+        OnPort ports.new port (λ p. 0 < p.mailbox.room)) }
+{
+    match ports.get_mut(&port) {
+        Some(state) => state.mailbox.make_room(),
+        None => Ok(()),
+    }
+}
+
+/// Puts a notice into a port's mailbox, for which there is room. Takes no memory.
+pub(crate) fn deliver(ports: &mut Ports, port: u32, letter: Letter)
+    requires { OnPort ports.old port (λ p. 0 < p.mailbox.room) }
+    ensures ports { ports_of ports.new ≡ changed_at port (delivered letter) (ports_of ports.old) }
+    ensures logs { logs_of ports.new ≡ logs_of ports.old }
+{
+    let Some(state) = ports.get_mut(&port) else {
+        unreachable!()
+    };
+    state.mailbox.put(letter);
+}
+
+/// The number of a port's next message.
+pub(crate) fn next_call(ports: &Ports, port: u32) -> u32
+    requires { IsSome (get nat_cmp ports.now port) }
+    ensures { result ≡ call_at (ports_of ports.now port) }
+{
+    let Some(state) = ports.get(&port) else {
+        unreachable!()
+    };
+    state.next_call()
+}
+
+/// Makes room for one more of what a port did, and for its closing.
+pub(crate) fn make_log_room(ports: &mut Ports, port: u32) -> Result<(), NoMemory>
+    requires { IsSome (get nat_cmp ports.old port) }
+    ensures same { ports_of ports.new ≡ ports_of ports.old }
+    ensures ok { OnOk result (OnPort ports.new port (λ p. 2 ≤ p.dids.room)) }
+{
+    let Some(state) = ports.get_mut(&port) else {
+        unreachable!()
+    };
+    state.make_room()
+}
+
+/// A port receives its first notice, which is noted; `None` exactly where there is none. Takes no
+/// memory.
+pub(crate) fn receive(ports: &mut Ports, port: u32) -> Option<Letter>
+    requires { OnPort ports.old port (λ p. 2 ≤ p.dids.room) }
+    ensures ports { ports_of ports.new ≡ changed_at port received (ports_of ports.old) }
+    ensures letter { IsSomeAnd (ports_of ports.old port) (λ p. result ≡ first_of p.letters) }
+{
+    let Some(state) = ports.get_mut(&port) else {
+        unreachable!()
+    };
+    state.receive()
+}
+
+/// Notes a port's message. Takes no memory.
+pub(crate) fn send(ports: &mut Ports, port: u32, ask: AskWords, answer: Option<u16>)
+    requires { OnPort ports.old port (λ p. 2 ≤ p.dids.room) }
+    ensures { ports_of ports.new ≡ changed_at port
+        (having_done (Sent (call_at (ports_of ports.old port)) ask answer))
+        (ports_of ports.old) }
+{
+    let Some(state) = ports.get_mut(&port) else {
+        unreachable!()
+    };
+    state.send(ask, answer);
+}
+
+/// Closes a port. Takes no memory.
+pub(crate) fn close(ports: &mut Ports, port: u32)
+    requires { OnPort ports.old port (λ p. p.is_closed ≡ false) }
+    ensures { ports_of ports.new ≡ changed_at port closed (ports_of ports.old) }
+{
+    let Some(state) = ports.get_mut(&port) else {
+        unreachable!()
+    };
+    state.close();
+}

@@ -1,0 +1,243 @@
+//! What no contract says of a plane: that its calls succeed where there is memory, on each kind of
+//! input; and worked examples, whose outcomes are the rules' own.
+
+ghost use Rattle.std.specs.Prelude.{◌≡◌, ◌<◌, ◌≤◌, ◌+◌, IfOk};
+ghost use Rattle.nfqa_msgs.specs.RequestReading.{PayloadFits};
+ghost use Rattle.solo_plane.specs.Examples.{IsGoing};
+
+use crate::{Fed, Refused, SoloPlane, only_feeding_feeds};
+use hook_chain::read_tables;
+use nfqa_msgs::{BIND, Head, PACKET, Params, Request, encode_request};
+use packet_entry::{IPV4, Packet};
+use std::alloc::Global;
+use std::test::Fail;
+
+/// One table, whose rule queues every packet at queue 0.
+const ONE_RULE: &[u8] = b"*filter\n-A FORWARD -j NFQUEUE --queue-num 0\nCOMMIT\n";
+
+/// A packet of 20 bytes, from 10.0.0.1 to 10.0.0.2.
+const PACKET_1: &[u8] = &[
+    0x45, 0, 0, 20, 0, 1, 0, 0, 0x40, 6, 0, 0, 10, 0, 0, 1, 10, 0, 0, 2,
+];
+
+/// What a port sends of queue 0.
+#[derive(Clone, Copy)]
+enum Ask {
+    Bind,
+    /// Whole packets, please.
+    Whole,
+    /// A verdict, for this id.
+    Verdict(u32, u32),
+}
+
+/// Its request.
+fn request(ask: Ask) -> Request
+    ensures { PayloadFits result }
+{
+    let (maxlen, flags, mask) = (None, None, None);
+    let params = Params {
+        range: 0,
+        mode: PACKET,
+    };
+    match ask {
+        Ask::Bind => Request::Config {
+            queue: 0,
+            command: Some(BIND),
+            params: None,
+            maxlen,
+            flags,
+            mask,
+        },
+        Ask::Whole => Request::Config {
+            queue: 0,
+            command: None,
+            params: Some(params),
+            maxlen,
+            flags,
+            mask,
+        },
+        Ask::Verdict(verdict, id) => Request::Verdict {
+            queue: 0,
+            head: Some(Head { verdict, id }),
+            mark: None,
+            payload: None,
+        },
+    }
+}
+
+/// Port 7 sends a message: how many of its bytes are used, and how many are answered.
+fn send(plane: &mut SoloPlane, alloc: Global, bytes: &[u8], fed: u32) -> Result<(u32, usize), Fail>
+    requires { IsGoing fed plane.old }
+    ensures { IsGoing fed plane.new }
+{
+    let _ = fed;
+    if bytes.len() >= 1000 {
+        return Err(Fail::new("a long message"));
+    }
+    let mut replies = Vec::new(alloc);
+    only_feeding_feeds();
+    let used = plane.message(alloc, 7, bytes, &mut replies)?;
+    Ok((used, replies.len()))
+}
+
+/// A packet is fed.
+fn feed(plane: &mut SoloPlane, alloc: Global, number: u32, fed: u32) -> Result<Fed, Fail>
+    requires going { IsGoing fed plane.old }
+    requires few { fed < 1000 }
+    requires number { 1 ≤ number }
+    ensures { IsGoing (fed + 1) plane.new }
+{
+    let _ = fed;
+    let packet = Packet::new(alloc, number, 1, 0, IPV4, &[], PACKET_1)?;
+    only_feeding_feeds();
+    match plane.feed(alloc, packet) {
+        Ok(fed) => Ok(fed),
+        Err(Refused { packet }) => {
+            packet.destroy();
+            Err(Fail::new("out of memory"))
+        }
+    }
+}
+
+/// A plane with port 7.
+fn plane(alloc: Global) -> Result<SoloPlane, Fail>
+    ensures { IfOk result (IsGoing 0) }
+{
+    let tables = match read_tables(alloc, ONE_RULE) {
+        Ok(tables) => tables,
+        Err(_) => return Err(Fail::new("rules")),
+    };
+    Ok(SoloPlane::new(alloc, &[7], 1024, tables, 0)?)
+}
+
+/// What a plane was told to do, and what it answered.
+#[derive(Clone, Copy, Debug, PartialEq, Eq)]
+struct Told {
+    bound: (u32, usize),
+    set_up: (u32, usize),
+    fed: Fed,
+    notice: Option<(u16, u32, u32, usize)>,
+    accepted: (u32, usize),
+    nothing_left: bool,
+    destroyed: u32,
+}
+
+/// Port 7 binds queue 0 and asks for whole packets. Packet 1 is fed and told of; it is accepted,
+/// and then a device goes down.
+fn one_packet(plane: &mut SoloPlane, alloc: Global) -> Result<Told, Fail>
+    requires { IsGoing 0 plane.old }
+{
+    let bound = send_ask(plane, alloc, Ask::Bind, 1, 0)?;
+    let set_up = send_ask(plane, alloc, Ask::Whole, 2, 0)?;
+    let fed = feed(plane, alloc, 1, 0)?;
+    let notice = receive(plane, 1)?;
+    let accepted = send_ask(plane, alloc, Ask::Verdict(1, 1), 3, 1)?;
+    let nothing_left = receive(plane, 1)?.is_none();
+    let destroyed = plane.device_down(1)?;
+    Ok(Told {
+        bound,
+        set_up,
+        fed,
+        notice,
+        accepted,
+        nothing_left,
+        destroyed,
+    })
+}
+
+/// Port 7 asks this, by a message of this number.
+fn send_ask(
+    plane: &mut SoloPlane,
+    alloc: Global,
+    ask: Ask,
+    call: u32,
+    fed: u32,
+) -> Result<(u32, usize), Fail>
+    requires { IsGoing fed plane.old }
+    ensures { IsGoing fed plane.new }
+{
+    let mut text = Vec::new(alloc);
+    encode_request(7, call, &request(ask), &mut text)?;
+    send(plane, alloc, text.as_slice(), fed)
+}
+
+/// Port 7 receives a notice: queue, packet, visit, and the length of its text.
+fn receive(plane: &mut SoloPlane, fed: u32) -> Result<Option<(u16, u32, u32, usize)>, Fail>
+    requires { IsGoing fed plane.old }
+    ensures { IsGoing fed plane.new }
+{
+    let _ = fed;
+    let notice = plane.receive(7)?;
+    Ok(notice.map(|letter| {
+        let length = letter.bytes.as_slice().len();
+        (letter.queue, letter.number, letter.visit, length)
+    }))
+}
+
+#[test]
+fn an_accepted_packet_goes_its_way(rt: HostRuntime) -> Result<(), Fail> {
+    let mut plane = plane(rt.alloc())?;
+    let told = one_packet(&mut plane, rt.alloc());
+    let histories = plane.close(rt.alloc());
+    let told = told?;
+    assert_eq!(rt; told.bound, (28, 36));
+    assert_eq!(rt; told.set_up, (32, 36));
+    assert_eq!(rt; told.fed, Fed::Waiting);
+    assert_eq!(rt; told.notice, Some((0, 1, 1, 92)));
+    assert_eq!(rt; told.accepted, (32, 0));
+    assert!(rt; told.nothing_left);
+    assert_eq!(rt; told.destroyed, 0);
+    let histories = histories?;
+    assert_eq!(rt; histories.entries.len(), 5);
+    assert_eq!(rt; histories.lost.len(), 0);
+    assert_eq!(rt; histories.logs.len(), 1);
+    if let Some(log) = histories.logs.get(0) {
+        assert_eq!(rt; log.port, 7);
+        assert_eq!(rt; log.dids.len(), 4);
+    }
+    Ok(())
+}
+
+/// A verdict message whose only attribute is cut.
+const CUT_VERDICT: &[u8] = &[
+    0x1c, 0, 0, 0, 1, 3, 1, 0, 3, 0, 0, 0, 7, 0, 0, 0, 0, 0, 0, 0, 0x0c, 0, 2, 0, 0, 0, 0, 1,
+];
+
+/// A verdict message whose header has 7 bytes.
+const SHORT_HEADER: &[u8] = &[
+    0x20, 0, 0, 0, 1, 3, 1, 0, 3, 0, 0, 0, 7, 0, 0, 0, 0, 0, 0, 0, 0x0b, 0, 2, 0, 0, 0, 0, 1, 0, 0,
+    0, 0,
+];
+
+/// Port 7 binds queue 0, sends two messages that are refused, and bytes that are no message.
+fn refused_messages(plane: &mut SoloPlane, alloc: Global) -> Result<[(u32, usize); 4], Fail>
+    requires { IsGoing 0 plane.old }
+    ensures { IsGoing 0 plane.new }
+{
+    let bound = send_ask(plane, alloc, Ask::Bind, 1, 0)?;
+    let cut = send(plane, alloc, CUT_VERDICT, 0)?;
+    let short = send(plane, alloc, SHORT_HEADER, 0)?;
+    let none = send(
+        plane,
+        alloc,
+        &[0x1c, 0, 0, 0, 1, 3, 1, 0, 3, 0, 0, 0, 7, 0, 0],
+        0,
+    )?;
+    Ok([bound, cut, short, none])
+}
+
+#[test]
+fn a_refused_message_comes_back_whole(rt: HostRuntime) -> Result<(), Fail> {
+    let mut plane = plane(rt.alloc())?;
+    let told = refused_messages(&mut plane, rt.alloc());
+    plane.close_port(7);
+    let histories = plane.close(rt.alloc());
+    assert_eq!(rt; told?, [(28, 36), (28, 48), (32, 52), (0, 0)]);
+    let histories = histories?;
+    // The bind, the verdict without a header, and the closing; the third was refused unread.
+    assert_eq!(rt; histories.entries.len(), 3);
+    if let Some(log) = histories.logs.get(0) {
+        assert_eq!(rt; log.dids.len(), 4);
+    }
+    Ok(())
+}
