@@ -4,6 +4,9 @@
 ghost use Rattle.std.specs.Prelude.{◌≡◌, ◌<◌, ◌≤◌, ◌+◌, IfOk};
 ghost use Rattle.nfqa_msgs.specs.RequestReading.{PayloadFits};
 ghost use Rattle.solo_plane.specs.Examples.{IsGoing};
+ghost use Rattle.solo_plane.specs.Numbers.{most_mail};
+
+mod worked;
 
 use crate::{Fed, Refused, SoloPlane, only_feeding_feeds};
 use hook_chain::read_tables;
@@ -20,48 +23,69 @@ const PACKET_1: &[u8] = &[
     0x45, 0, 0, 20, 0, 1, 0, 0, 0x40, 6, 0, 0, 10, 0, 0, 1, 10, 0, 0, 2,
 ];
 
-/// What a port sends of queue 0.
+/// What a port asks of a queue.
 #[derive(Clone, Copy)]
 enum Ask {
     Bind,
     /// Whole packets, please.
     Whole,
+    /// That no more than so many packets wait.
+    Maxlen(u32),
+    /// To set these flags.
+    Flags(u32),
     /// A verdict, for this id.
     Verdict(u32, u32),
+    /// A verdict for this id, and the packet's new mark.
+    Marking(u32, u32, u32),
 }
 
 /// Its request.
-fn request(ask: Ask) -> Request
+fn request(queue: u16, ask: Ask) -> Request
     ensures { PayloadFits result }
 {
-    let (maxlen, flags, mask) = (None, None, None);
-    let params = Params {
+    let whole = Params {
         range: 0,
         mode: PACKET,
     };
     match ask {
-        Ask::Bind => Request::Config {
-            queue: 0,
-            command: Some(BIND),
-            params: None,
-            maxlen,
-            flags,
-            mask,
-        },
-        Ask::Whole => Request::Config {
-            queue: 0,
-            command: None,
-            params: Some(params),
-            maxlen,
-            flags,
-            mask,
-        },
-        Ask::Verdict(verdict, id) => Request::Verdict {
-            queue: 0,
-            head: Some(Head { verdict, id }),
-            mark: None,
-            payload: None,
-        },
+        Ask::Bind => config(queue, Some(BIND), None, None, None),
+        Ask::Whole => config(queue, None, Some(whole), None, None),
+        Ask::Maxlen(maxlen) => config(queue, None, None, Some(maxlen), None),
+        Ask::Flags(flags) => config(queue, None, None, None, Some(flags)),
+        Ask::Verdict(verdict, id) => verdict_on(queue, Head { verdict, id }, None),
+        Ask::Marking(verdict, id, mark) => verdict_on(queue, Head { verdict, id }, Some(mark)),
+    }
+}
+
+/// A request to set a queue up, these flags among it.
+fn config(
+    queue: u16,
+    command: Option<u8>,
+    params: Option<Params>,
+    maxlen: Option<u32>,
+    flags: Option<u32>,
+) -> Request
+    ensures { PayloadFits result }
+{
+    Request::Config {
+        queue,
+        command,
+        params,
+        maxlen,
+        flags,
+        mask: flags,
+    }
+}
+
+/// A verdict on one packet.
+fn verdict_on(queue: u16, head: Head, mark: Option<u32>) -> Request
+    ensures { PayloadFits result }
+{
+    Request::Verdict {
+        queue,
+        head: Some(head),
+        mark,
+        payload: None,
     }
 }
 
@@ -99,15 +123,19 @@ fn feed(plane: &mut SoloPlane, alloc: Global, number: u32, fed: u32) -> Result<F
     }
 }
 
-/// A plane with port 7.
-fn plane(alloc: Global) -> Result<SoloPlane, Fail>
+/// A plane with port 7, with these rules, whose mailbox holds so many notices.
+fn plane(alloc: Global, rules: &[u8], mail: u32) -> Result<SoloPlane, Fail>
+    requires { (1 ≤ mail) × (mail ≤ most_mail) }
     ensures { IfOk result (IsGoing 0) }
 {
-    let tables = match read_tables(alloc, ONE_RULE) {
+    if rules.len() >= 1000 {
+        return Err(Fail::new("long rules"));
+    }
+    let tables = match read_tables(alloc, rules) {
         Ok(tables) => tables,
         Err(_) => return Err(Fail::new("rules")),
     };
-    Ok(SoloPlane::new(alloc, &[7], 1024, tables, 0)?)
+    Ok(SoloPlane::new(alloc, &[7], mail, tables, 0)?)
 }
 
 /// What a plane was told to do, and what it answered.
@@ -127,11 +155,11 @@ struct Told {
 fn one_packet(plane: &mut SoloPlane, alloc: Global) -> Result<Told, Fail>
     requires { IsGoing 0 plane.old }
 {
-    let bound = send_ask(plane, alloc, Ask::Bind, 1, 0)?;
-    let set_up = send_ask(plane, alloc, Ask::Whole, 2, 0)?;
+    let bound = send_ask(plane, alloc, 0, Ask::Bind, 1, 0)?;
+    let set_up = send_ask(plane, alloc, 0, Ask::Whole, 2, 0)?;
     let fed = feed(plane, alloc, 1, 0)?;
     let notice = receive(plane, 1)?;
-    let accepted = send_ask(plane, alloc, Ask::Verdict(1, 1), 3, 1)?;
+    let accepted = send_ask(plane, alloc, 0, Ask::Verdict(1, 1), 3, 1)?;
     let nothing_left = receive(plane, 1)?.is_none();
     let destroyed = plane.device_down(1)?;
     Ok(Told {
@@ -145,10 +173,11 @@ fn one_packet(plane: &mut SoloPlane, alloc: Global) -> Result<Told, Fail>
     })
 }
 
-/// Port 7 asks this, by a message of this number.
+/// Port 7 asks this of a queue, by a message of this number.
 fn send_ask(
     plane: &mut SoloPlane,
     alloc: Global,
+    queue: u16,
     ask: Ask,
     call: u32,
     fed: u32,
@@ -157,7 +186,7 @@ fn send_ask(
     ensures { IsGoing fed plane.new }
 {
     let mut text = Vec::new(alloc);
-    encode_request(7, call, &request(ask), &mut text)?;
+    encode_request(7, call, &request(queue, ask), &mut text)?;
     send(plane, alloc, text.as_slice(), fed)
 }
 
@@ -176,7 +205,7 @@ fn receive(plane: &mut SoloPlane, fed: u32) -> Result<Option<(u16, u32, u32, usi
 
 #[test]
 fn an_accepted_packet_goes_its_way(rt: HostRuntime) -> Result<(), Fail> {
-    let mut plane = plane(rt.alloc())?;
+    let mut plane = plane(rt.alloc(), ONE_RULE, 1024)?;
     let told = one_packet(&mut plane, rt.alloc());
     let histories = plane.close(rt.alloc());
     let told = told?;
@@ -214,7 +243,7 @@ fn refused_messages(plane: &mut SoloPlane, alloc: Global) -> Result<[(u32, usize
     requires { IsGoing 0 plane.old }
     ensures { IsGoing 0 plane.new }
 {
-    let bound = send_ask(plane, alloc, Ask::Bind, 1, 0)?;
+    let bound = send_ask(plane, alloc, 0, Ask::Bind, 1, 0)?;
     let cut = send(plane, alloc, CUT_VERDICT, 0)?;
     let short = send(plane, alloc, SHORT_HEADER, 0)?;
     let none = send(
@@ -228,7 +257,7 @@ fn refused_messages(plane: &mut SoloPlane, alloc: Global) -> Result<[(u32, usize
 
 #[test]
 fn a_refused_message_comes_back_whole(rt: HostRuntime) -> Result<(), Fail> {
-    let mut plane = plane(rt.alloc())?;
+    let mut plane = plane(rt.alloc(), ONE_RULE, 1024)?;
     let told = refused_messages(&mut plane, rt.alloc());
     plane.close_port(7);
     let histories = plane.close(rt.alloc());

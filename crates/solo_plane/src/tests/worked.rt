@@ -1,0 +1,322 @@
+//! Worked examples of packets that go from queue to queue: what happens, one after the other, and
+//! all that stands in the histories afterwards.
+
+ghost use Rattle.std.specs.Prelude.{◌≡◌, ◌<◌, ◌≤◌, ◌+◌};
+ghost use Rattle.solo_plane.specs.Examples.{IsGoing};
+ghost use Rattle.solo_plane.specs.Numbers.{most_mail};
+
+use super::{Ask, ONE_RULE, feed, plane, receive, send, send_ask};
+use crate::{Fed, SoloPlane};
+use packet_entry::NoMemory;
+use place_history::Entries;
+use queue_core::{Event, Outcome, Reply};
+use std::alloc::Global;
+use std::test::Fail;
+
+/// What happens to a plane.
+#[derive(Clone, Copy)]
+enum Step {
+    /// Port 7 asks this of a queue.
+    Ask(u16, Ask),
+    /// Port 7 sends these bytes.
+    Send(&'static [u8]),
+    /// A packet with this number is fed.
+    Feed(u32),
+    /// Port 7 receives a notice.
+    Receive,
+}
+
+/// Queue, then number and mark of the packet that arrives (0 and 0 for a request), and the reply.
+type Line = (u16, (u32, u32), Reply);
+
+/// A step: what became of the packet, where one is fed. There were no more steps than so many.
+fn happen(plane: &mut SoloPlane, alloc: Global, step: Step, steps: u32) -> Result<Option<Fed>, Fail>
+    requires going { IsGoing steps plane.old }
+    requires few { steps < 1000 }
+    ensures { IsGoing (steps + 1) plane.new }
+{
+    match step {
+        Step::Ask(queue, ask) => {
+            send_ask(plane, alloc, queue, ask, steps, steps)?;
+        }
+        Step::Send(bytes) => {
+            send(plane, alloc, bytes, steps)?;
+        }
+        Step::Feed(0) => return Err(Fail::new("packets count from 1")),
+        Step::Feed(number) => return Ok(Some(feed(plane, alloc, number, steps)?)),
+        Step::Receive => {
+            receive(plane, steps)?;
+        }
+    }
+    Ok(None)
+}
+
+/// These steps: what became of each packet that was fed.
+fn happen_all(plane: &mut SoloPlane, alloc: Global, steps: &[Step]) -> Result<Vec<Fed>, Fail>
+    requires { IsGoing 0 plane.old }
+{
+    let mut all = Vec::new(alloc);
+    let mut count = 0u32;
+    for step in steps {
+        if count >= 999 {
+            return Err(Fail::new("many steps"));
+        }
+        if let Some(fed) = happen(plane, alloc, *step, count)? {
+            all.push(fed)?;
+        }
+        count += 1;
+    }
+    Ok(all)
+}
+
+/// What stands in the histories.
+fn lines_of(alloc: Global, entries: &Entries) -> Result<Vec<Line>, NoMemory> {
+    let mut lines = Vec::new(alloc);
+    for entry in entries {
+        let who = match &entry.event {
+            Event::Arrive { card, .. } => (card.number, card.mark),
+            _ => (0, 0),
+        };
+        lines.push((entry.queue, who, entry.reply))?;
+    }
+    Ok(lines)
+}
+
+/// A plane with these rules and mailboxes of this size, from its beginning to its end: what became
+/// of the packets, and what stands in the histories.
+fn played(
+    alloc: Global,
+    rules: &[u8],
+    mail: u32,
+    steps: &[Step],
+) -> Result<(Vec<Fed>, Vec<Line>), Fail>
+    requires { (1 ≤ mail) × (mail ≤ most_mail) }
+{
+    let mut plane = plane(alloc, rules, mail)?;
+    let fed = happen_all(&mut plane, alloc, steps);
+    let histories = plane.close(alloc);
+    let fed = fed?;
+    let lines = lines_of(alloc, &histories?.entries)?;
+    Ok((fed, lines))
+}
+
+/// A request at a queue that answers this errno, and lets so many packets go.
+fn asked(queue: u16, errno: u16, taken: u32) -> Line {
+    (queue, (0, 0), Reply::Answer { errno, taken })
+}
+
+/// A packet with this number and mark that arrives at a queue.
+fn came(queue: u16, number: u32, mark: u32, outcome: Outcome) -> Line {
+    (queue, (number, mark), Reply::Arrived { outcome })
+}
+
+/// Two tables, the first queues every packet at queue 0 and the second at queue 1.
+const TWO_TABLES: &[u8] = b"*filter\n-A FORWARD -j NFQUEUE --queue-num 0\nCOMMIT\n\
+    *security\n-A FORWARD -j NFQUEUE --queue-num 1\nCOMMIT\n";
+
+#[test]
+fn a_full_queue_that_fails_open(rt: HostRuntime) -> Result<(), Fail> {
+    let steps = [
+        Step::Ask(0, Ask::Bind),
+        Step::Ask(0, Ask::Whole),
+        Step::Ask(0, Ask::Maxlen(1)),
+        Step::Ask(0, Ask::Flags(1)),
+        Step::Ask(1, Ask::Bind),
+        Step::Ask(1, Ask::Whole),
+        Step::Feed(1),
+        Step::Feed(2),
+        Step::Feed(3),
+        Step::Receive,
+        Step::Ask(0, Ask::Verdict(1, 1)),
+        Step::Receive,
+        Step::Ask(1, Ask::Verdict(1, 1)),
+        Step::Receive,
+        Step::Ask(1, Ask::Verdict(1, 2)),
+        Step::Receive,
+        Step::Ask(1, Ask::Verdict(1, 3)),
+    ];
+    let (fed, lines) = played(rt.alloc(), TWO_TABLES, 1024, &steps)?;
+    assert_eq!(rt;
+        fed.as_slice(),
+        &[Fed::Waiting, Fed::Waiting, Fed::Waiting][..]
+    );
+    let wanted = [
+        asked(0, 0, 0),
+        asked(0, 0, 0),
+        asked(0, 0, 0),
+        asked(0, 0, 0),
+        came(0, 1, 0, Outcome::Taken { id: 1 }),
+        came(0, 2, 0, Outcome::OverflowOpen),
+        came(0, 3, 0, Outcome::OverflowOpen),
+        asked(0, 0, 1),
+        asked(1, 0, 0),
+        asked(1, 0, 0),
+        came(1, 2, 0, Outcome::Taken { id: 1 }),
+        came(1, 3, 0, Outcome::Taken { id: 2 }),
+        came(1, 1, 0, Outcome::Taken { id: 3 }),
+        asked(1, 0, 1),
+        asked(1, 0, 1),
+        asked(1, 0, 1),
+    ];
+    assert_eq!(rt; lines.as_slice(), &wanted[..]);
+    Ok(())
+}
+
+#[test]
+fn a_full_mailbox(rt: HostRuntime) -> Result<(), Fail> {
+    let steps = [
+        Step::Ask(0, Ask::Bind),
+        Step::Ask(0, Ask::Whole),
+        Step::Feed(1),
+        Step::Feed(2),
+        Step::Feed(3),
+        Step::Receive,
+        Step::Ask(0, Ask::Verdict(1, 1)),
+        Step::Ask(0, Ask::Verdict(1, 2)),
+    ];
+    let (fed, lines) = played(rt.alloc(), ONE_RULE, 1, &steps)?;
+    assert_eq!(rt;
+        fed.as_slice(),
+        &[Fed::Waiting, Fed::Destroyed, Fed::Destroyed][..]
+    );
+    let wanted = [
+        asked(0, 0, 0),
+        asked(0, 0, 0),
+        came(0, 1, 0, Outcome::Taken { id: 1 }),
+        came(0, 2, 0, Outcome::UserFull { id: 2 }),
+        came(0, 3, 0, Outcome::UserFull { id: 3 }),
+        asked(0, 0, 1),
+        asked(0, 2, 0),
+    ];
+    assert_eq!(rt; lines.as_slice(), &wanted[..]);
+    Ok(())
+}
+
+/// What becomes of a packet under these rules, and its arrival, where queue 0 is bound and nothing
+/// else was asked.
+fn one_under(alloc: Global, rules: &[u8]) -> Result<(Option<Fed>, Option<Line>), Fail> {
+    let steps = [Step::Ask(0, Ask::Bind), Step::Feed(1)];
+    let (fed, lines) = played(alloc, rules, 1024, &steps)?;
+    Ok((fed.first().copied(), lines.get(1).copied()))
+}
+
+const BYPASS_0: &[u8] = b"*filter\n-A FORWARD -j NFQUEUE --queue-num 0 --queue-bypass\nCOMMIT\n";
+
+const BYPASS_5: &[u8] = b"*filter\n-A FORWARD -j NFQUEUE --queue-num 5 --queue-bypass\nCOMMIT\n";
+
+const QUEUE_5: &[u8] = b"*filter\n-A FORWARD -j NFQUEUE --queue-num 5\nCOMMIT\n";
+
+#[test]
+fn a_queue_that_copies_nothing_or_is_absent(rt: HostRuntime) -> Result<(), Fail> {
+    let copy_none = (Some(Fed::Destroyed), Some(came(0, 1, 0, Outcome::CopyNone)));
+    assert_eq!(rt; one_under(rt.alloc(), BYPASS_0)?, copy_none);
+    let bypassed = (Some(Fed::Released), Some(came(5, 1, 0, Outcome::Bypassed)));
+    assert_eq!(rt; one_under(rt.alloc(), BYPASS_5)?, bypassed);
+    let no_queue = (Some(Fed::Destroyed), Some(came(5, 1, 0, Outcome::NoQueue)));
+    assert_eq!(rt; one_under(rt.alloc(), QUEUE_5)?, no_queue);
+    Ok(())
+}
+
+/// The entries of a plane with these rules in which queue 0 takes packet 1, after the two with
+/// which it is set up, where this is sent then.
+fn after(alloc: Global, rules: &[u8], last: Step) -> Result<Vec<Line>, Fail> {
+    let steps = [
+        Step::Ask(0, Ask::Bind),
+        Step::Ask(0, Ask::Whole),
+        Step::Feed(1),
+        Step::Receive,
+        last,
+    ];
+    Ok(played(alloc, rules, 1024, &steps)?.1)
+}
+
+/// The rule doesn't queue a packet whose mark is odd.
+const UNMARKED: &[u8] =
+    b"*filter\n-A FORWARD -m mark ! --mark 0x1/0x1 -j NFQUEUE --queue-num 0\nCOMMIT\n";
+
+#[test]
+fn a_packet_that_is_marked_and_repeated_goes_its_way(rt: HostRuntime) -> Result<(), Fail> {
+    let lines = after(rt.alloc(), UNMARKED, Step::Ask(0, Ask::Marking(4, 1, 1)))?;
+    let wanted = [
+        asked(0, 0, 0),
+        asked(0, 0, 0),
+        came(0, 1, 0, Outcome::Taken { id: 1 }),
+        asked(0, 0, 1),
+    ];
+    assert_eq!(rt; lines.as_slice(), &wanted[..]);
+    Ok(())
+}
+
+/// The steps in which a packet is fed and repeated 32 times.
+fn repeated(alloc: Global) -> Result<Vec<Step>, NoMemory> {
+    let mut steps = Vec::new(alloc);
+    steps.push(Step::Ask(0, Ask::Bind))?;
+    steps.push(Step::Ask(0, Ask::Whole))?;
+    steps.push(Step::Feed(1))?;
+    for id in 1..33 {
+        steps.push(Step::Ask(0, Ask::Verdict(4, id)))?;
+    }
+    Ok(steps)
+}
+
+#[test]
+fn a_packet_is_repeated_32_times(rt: HostRuntime) -> Result<(), Fail> {
+    let steps = repeated(rt.alloc())?;
+    let (_, lines) = played(rt.alloc(), UNMARKED, 1024, steps.as_slice())?;
+    assert_eq!(rt; lines.len(), 67);
+    let id = 32;
+    assert_eq!(rt;
+        lines.get(64).copied(),
+        Some(came(0, 1, 0, Outcome::Taken { id }))
+    );
+    assert_eq!(rt; lines.get(65).copied(), Some(asked(0, 0, 1)));
+    assert_eq!(rt; lines.get(66).copied(), Some(came(0, 1, 0, Outcome::Loop)));
+    Ok(())
+}
+
+#[test]
+fn a_verdict_sends_a_packet_to_an_absent_queue(rt: HostRuntime) -> Result<(), Fail> {
+    let lines = after(rt.alloc(), ONE_RULE, Step::Ask(0, Ask::Verdict(622_595, 1)))?;
+    assert_eq!(rt; lines.get(3).copied(), Some(asked(0, 0, 1)));
+    assert_eq!(rt;
+        lines.get(4).copied(),
+        Some(came(9, 1, 0, Outcome::Bypassed))
+    );
+    let lines = after(rt.alloc(), ONE_RULE, Step::Ask(0, Ask::Verdict(589_827, 1)))?;
+    assert_eq!(rt; lines.get(3).copied(), Some(asked(0, 0, 1)));
+    assert_eq!(rt;
+        lines.get(4).copied(),
+        Some(came(9, 1, 0, Outcome::NoQueue))
+    );
+    Ok(())
+}
+
+/// A verdict message with the mark 5, and then the mark 9.
+const MARKED_TWICE: &[u8] = &[
+    0x30, 0, 0, 0, 1, 3, 1, 0, 3, 0, 0, 0, 7, 0, 0, 0, 0, 0, 0, 0, 0x0c, 0, 2, 0, 0, 0, 0, 1, 0, 0,
+    0, 1, 8, 0, 3, 0, 0, 0, 0, 5, 8, 0, 3, 0, 0, 0, 0, 9,
+];
+
+/// A verdict message with an attribute of kind 127 behind the header.
+const KIND_127: &[u8] = &[
+    0x28, 0, 0, 0, 1, 3, 1, 0, 3, 0, 0, 0, 7, 0, 0, 0, 0, 0, 0, 0, 0x0c, 0, 2, 0, 0, 0, 0, 1, 0, 0,
+    0, 1, 8, 0, 127, 0, 0, 0, 0, 0,
+];
+
+#[test]
+fn the_last_mark_counts_and_other_attributes_do_not(rt: HostRuntime) -> Result<(), Fail> {
+    // Queue 1 is absent, and tells the mark with which the packet left queue 0.
+    let lines = after(rt.alloc(), TWO_TABLES, Step::Send(MARKED_TWICE))?;
+    assert_eq!(rt; lines.get(3).copied(), Some(asked(0, 0, 1)));
+    assert_eq!(rt;
+        lines.get(4).copied(),
+        Some(came(1, 1, 9, Outcome::NoQueue))
+    );
+    let lines = after(rt.alloc(), TWO_TABLES, Step::Send(KIND_127))?;
+    assert_eq!(rt; lines.get(3).copied(), Some(asked(0, 0, 1)));
+    assert_eq!(rt;
+        lines.get(4).copied(),
+        Some(came(1, 1, 0, Outcome::NoQueue))
+    );
+    Ok(())
+}
