@@ -1,0 +1,15 @@
+pub mod Ports
+pub mod Carrying
+pub mod Reaching
+pub mod Asking
+pub mod Running
+pub mod Whole
+pub mod Pleading
+pub mod Placing
+pub mod Noticing
+pub mod Shutting
+pub mod Closings
+pub mod Shut
+pub mod Roomy
+pub mod Made
+pub mod Written

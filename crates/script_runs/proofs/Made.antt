@@ -1,0 +1,135 @@
+-- The schedule's histories are made by the script.
+use Rattle.std.proofs.Common.{◌≡◌, ◌≢◌, ◌∙◌, ◌≤◌, ◌+◌, ℕ, List, [], ◌∷◌, Option, true, false, refl, sym, ap}
+use Rattle.std.proofs.Common.{subst, Bool, Some, None, ◌++◌}
+use Rattle.std.specs.Prelude.{length, map, filter, AllPairs, nat_eq, if◌then◌else◌}
+use Rattle.std.specs.List.{list_any}
+use Rattle.place_history.specs.declared.entry.Entry.{Entry}
+use Rattle.pcap_io.specs.declared.capture.Capture.{Capture}
+use Rattle.hook_chain.specs.declared.rule.Rule.{Rule}
+use Rattle.place_history.specs.History.{history}
+use Rattle.inspector_script.specs.Scripts.{ScriptValue}
+use Rattle.solo_plane.specs.declared.setting.Setting.{Setting}
+use Rattle.solo_plane.specs.World.{Port, opened}
+use Rattle.script_runs.specs.Schedule.{run, setting_of, IsSolo, letters_at}
+use Rattle.solo_plane.specs.Closing.{dids_of, log_of}
+use Rattle.place_history.specs.declared.histories.Histories.{Histories}
+use Rattle.place_history.specs.declared.log.PortLog.{PortLog}
+use Rattle.solo_plane.specs.Planes.{opened_ports}
+use Rattle.script_runs.specs.Closing.{IsClosing}
+use Rattle.script_runs.proofs.Shut.{AreShut, is_shut, shut_kept}
+use Rattle.script_runs.proofs.Closings.{Laws}
+use Rattle.script_runs.specs.Room.{some_lacks}
+use Rattle.script_runs.proofs.Roomy.{AllRoomy, Roomy, lacking, roomy_kept}
+use Rattle.script_runs.specs.Left.{left_in}
+use Rattle.script_runs.specs.Notices.{heard, is_from, letters_from}
+use Rattle.script_runs.specs.Log.{Note, IsLog}
+use Rattle.script_runs.specs.Requests.{pleas_in}
+use Rattle.script_runs.specs.Run.{AreLogs, IsMadeBy}
+use Rattle.script_runs.proofs.Ports.{ports_of_logs}
+use Rattle.script_runs.proofs.Reaching.{is_in}
+use Rattle.script_runs.proofs.Asking.{Kept, Keeps, both_kept}
+use Rattle.script_runs.proofs.Running.{ArePlaced}
+use Rattle.script_runs.proofs.Whole.{run_reached, run_logged, closed_at, ended}
+use Rattle.script_runs.proofs.Pleading.{AreEven, even_kept}
+use Rattle.script_runs.proofs.Noticing.{AreNoticed, Noticed, letters, noticed_kept}
+use Rattle.script_runs.proofs.Placing.{placed_so, place_in}
+
+are_logs : (s : Setting) (script : ScriptValue) (f : ℕ → ℕ) (P : Kept) (K : Keeps s P)
+    (ports : ℕ → Option Port) (notes : ℕ → List Note) →
+    ((p : ℕ) → is_in script f p ≡ true → IsLog script (f p) p (notes p) (dids_of (ports p))) →
+    (place : ℕ) (ps : List ℕ) → ArePlaced s script f P K place ps →
+    AreLogs script notes place (map (log_of ports) ps)
+are_logs s script f P K ports notes each place [] placed = tt
+are_logs s script f P K ports notes each place (p ∷ ps) placed = (
+  subst (λ k. IsLog script k p (notes p) (dids_of (ports p))) placed.0 (each p placed.1),
+  are_logs s script f P K ports notes each (place + 1) ps placed.2,
+)
+
+-- a port that is there
+noticed_of : (p queue : ℕ) (es : List Entry) (o : Option Port) (held : Port) (notes : List Note) →
+    o ≡ Some held → Noticed p queue es o notes →
+    filter (is_from queue) (heard notes ++ letters_at o) ≡ letters p queue es
+noticed_of p queue es o held notes there is =
+    subst (λ (q : Option Port).
+    filter (is_from queue) (heard notes ++ letters_at q) ≡ letters p queue es) (sym there)
+    (subst (λ q. Noticed p queue es q notes) there is)
+
+nothing_noticed : (p queue : ℕ) (c : Bool) → Noticed p queue [] (if c then Some opened else None) []
+nothing_noticed p queue true = refl
+nothing_noticed p queue false = tt
+
+roomy_of : (mail p queue : ℕ) (es : List Entry) (o : Option Port) (held : Port)
+    (notes : List Note) → o ≡ Some held → Roomy mail p queue es o notes →
+    lacking p queue es ≡ true → mail ≤ length (heard notes ++ letters_at o)
+roomy_of mail p queue es o held notes there is lacks =
+    subst (λ (q : Option Port). mail ≤ length (heard notes ++ letters_at q)) (sym there)
+    (subst (λ q. Roomy mail p queue es q notes) there is lacks)
+
+nothing_roomy : (mail p queue : ℕ) (c : Bool) →
+    Roomy mail p queue [] (if c then Some opened else None) []
+nothing_roomy mail p queue true = λ wrong. absurd (cc)
+nothing_roomy mail p queue false = tt
+
+nothing_shut : (p : ℕ) (c : Bool) → IsClosing p (is_shut (if c then Some opened else None)) []
+nothing_shut p true = refl
+nothing_shut p false = refl
+
+pub made_by_script : Laws → (script : ScriptValue) (tables : List (List Rule)) (c : Capture)
+    (h : Histories) → AllPairs (λ p q. p ≢ q) script.ports → IsSolo script tables c h →
+    (notes : ℕ → List Note) × IsMadeBy script h notes (left_in (run script tables c))
+made_by_script laws script tables c h differ is =
+    let s = setting_of script tables in
+    let f = λ (p : ℕ). place_in p script.ports in
+    let Even : Kept = λ es ports notes. AreEven es notes in
+    let Heard : Kept = λ es ports notes. AreNoticed es ports notes in
+    let Ended : Kept = λ es ports notes. AreShut es ports in
+    let Two : Kept = λ es ports notes. Even es ports notes × Heard es ports notes in
+    let Roomy_so : Kept = λ es ports notes. AllRoomy s.mail es ports notes in
+    let More : Kept = λ es ports notes. Ended es ports notes × Roomy_so es ports notes in
+    let P : Kept = λ es ports notes. Two es ports notes × More es ports notes in
+    let K = both_kept s Two More (both_kept s Even Heard (even_kept s) (noticed_kept s))
+    (both_kept s Ended Roomy_so (shut_kept laws s) (roomy_kept s)) in
+    let placed = placed_so s script P K differ in
+    let nothing : P [] (opened_ports script.ports) (λ p. []) = (
+      (
+        record { even = λ p queue. refl },
+        record { each = λ p queue. nothing_noticed p queue (list_any (nat_eq p) script.ports) },
+      ),
+      (
+        record { each = λ p queue below. nothing_shut p (list_any (nat_eq p) script.ports) },
+        record {
+          each = λ p queue. nothing_roomy s.mail p queue (list_any (nat_eq p) script.ports);
+        },
+      ),
+    ) in
+    let r = run_reached script tables c f P K nothing placed in
+    let w = run script tables c in (
+      r.notes,
+      record {
+        ports = ap (λ (ls : List PortLog). map (λ (l : PortLog). l.port) ls) is.logs
+            ∙ ports_of_logs w script.ports;
+        logs = subst (AreLogs script r.notes 0) (sym is.logs)
+            (are_logs s script f P K w.ports r.notes (run_logged script tables c f P K r) 0
+            script.ports placed);
+        others = r.none;
+        requests = λ port queue.
+            ap (pleas_in port) (is.entries.same queue) ∙ r.kept.0.0.even port queue;
+        notices = λ port i queue.
+            let here = r.are.at port i in
+            noticed_of port queue w.entries (w.ports port) here.held (r.notes port) here.there
+            (r.kept.0.1.each port queue)
+            ∙ ap (letters_from port None) (sym (is.entries.same queue));
+        closings = λ port i queue below.
+            let here = r.are.at port i in
+            subst (λ b. IsClosing port b (history queue h.entries))
+            (sym (closed_at script (f port) port (r.notes port) (w.ports port)
+            (ended s script f P K port) here))
+            (subst (IsClosing port (is_shut (w.ports port)))
+            (sym (is.entries.same queue)) (r.kept.1.0.each port queue below));
+        room = λ port i queue lacks.
+            let here = r.are.at port i in
+            roomy_of s.mail port queue w.entries (w.ports port) here.held (r.notes port) here.there
+            (r.kept.1.1.each port queue)
+            (ap (some_lacks port None) (sym (is.entries.same queue)) ∙ lacks);
+      },
+    )

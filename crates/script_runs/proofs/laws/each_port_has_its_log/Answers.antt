@@ -1,0 +1,12 @@
+use Rattle.std.proofs.Common.{◌∙◌, ap, List, map}
+use Rattle.place_history.specs.declared.log.PortLog.{PortLog}
+use Rattle.script_runs.specs.Schedule.{run}
+use Rattle.script_runs.proofs.Ports.{ports_of_logs}
+use Rattle.script_runs.proofs.laws.each_port_has_its_log.Goals as goal
+
+pub returns : goal.returns
+returns c = record {
+  ports = λ script tables capture h is.
+      ap (λ (logs : List PortLog). map (λ (l : PortLog). l.port) logs) is.logs
+      ∙ ports_of_logs (run script tables capture) script.ports;
+}

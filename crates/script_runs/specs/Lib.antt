@@ -1,0 +1,12 @@
+pub mod Numbers
+pub mod Entering
+pub mod Sending
+pub mod Schedule
+pub mod Log
+pub mod Requests
+pub mod Notices
+pub mod Closing
+pub mod Room
+pub mod Left
+pub mod Run
+pub mod Examples

@@ -1,0 +1,59 @@
+-- Requests: what stands in the queues' histories of the messages that ports sent.
+use Rattle.std.specs.Prelude.{◌≡◌, ℕ, List, [], ◌∷◌, flat_map, ◌==◌, if◌then◌else◌}
+use Rattle.nfqa_msgs.specs.declared.request.Request.{Request}
+use Rattle.nfqa_msgs.specs.declared.request.Decoded.{Decoded}
+use Rattle.nfqa_msgs.specs.declared.request.Decoded.TheVariants.{Nothing, Refused, Asked}
+use Rattle.nfqa_msgs.specs.RequestReading.{decoded}
+use Rattle.queue_core.specs.declared.event.Event.{Event}
+use Rattle.queue_core.specs.declared.event.Event.TheVariants.{Arrive, Ask, PortClosed, DeviceDown}
+use Rattle.queue_core.specs.declared.event.Reply.{Reply}
+use Rattle.place_history.specs.declared.entry.Entry.{Entry}
+use Rattle.place_history.specs.History.{history}
+use Rattle.place_history.specs.Happenings.{queue_of}
+use Rattle.script_runs.specs.Sending.{errno_in}
+use Rattle.script_runs.specs.Log.{Note, Got, Begun, Spoke, Shut}
+
+-- one request of a port: its call, what it asks, and its errno
+pub record Plea : Type 0 where
+  pub call : ℕ
+  pub request : Request
+  pub errno : ℕ
+
+-- the request of this port that an entry is
+abbrev pub pleas_by : ℕ → Event → Reply → List Plea
+pleas_by port (Arrive card bypass room) reply = []
+pleas_by port (Ask by call request) reply =
+    if port == by
+    then record { call = call; request = request; errno = errno_in reply } ∷ []
+    else []
+pleas_by port (PortClosed closed) reply = []
+pleas_by port (DeviceDown device) reply = []
+
+-- the requests of a port in a history
+abbrev pub pleas_of : ℕ → Entry → List Plea
+pleas_of port e = pleas_by port e.event e.reply
+
+abbrev pub pleas_in : ℕ → List Entry → List Plea
+pleas_in port es = flat_map (pleas_of port) es
+
+-- the request for this queue that a message is decoded to
+abbrev pub plea_of : ℕ → ℕ → ℕ → Decoded → List Plea
+plea_of queue call errno Nothing = []
+plea_of queue call errno (Refused refusal) = []
+plea_of queue call errno (Asked request) =
+    if queue_of request == queue
+    then record { call = call; request = request; errno = errno } ∷ []
+    else []
+
+abbrev pub pleas_told : ℕ → Note → List Plea
+pleas_told queue (Got l) = []
+pleas_told queue Begun = []
+pleas_told queue (Spoke call m errno) = plea_of queue call errno (decoded m)
+pleas_told queue Shut = []
+
+-- In each queue's history the requests of a port are those of its messages that are decoded to a
+-- request for this queue: one entry for each, in their order, with the port, the message's number
+-- and its errno.
+abbrev pub AreRequests : List Entry → ℕ → List Note → Type 0
+AreRequests es port notes =
+    (queue : ℕ) → pleas_in port (history queue es) ≡ flat_map (pleas_told queue) notes

@@ -1,0 +1,100 @@
+-- What ports send, with memory for all of it: message by message.
+use Rattle.std.specs.Prelude.{ℕ, zero, suc, List, [], ◌∷◌, length, drop, Option, Some}
+use Rattle.std.specs.Prelude.{None}
+use Rattle.packet_entry.specs.declared.packet.Card.{Card}
+use Rattle.hook_chain.specs.declared.chain.Decision.{Decision}
+use Rattle.hook_chain.specs.Route.{onward_of}
+use Rattle.netlink_codec.specs.Messages.{NetlinkMessage, first_message}
+use Rattle.nfqa_msgs.specs.declared.request.Decoded.{Decoded}
+use Rattle.nfqa_msgs.specs.declared.request.Decoded.TheVariants.{Nothing, Refused, Asked}
+use Rattle.nfqa_msgs.specs.RequestReading.{decoded}
+use Rattle.nfqa_msgs.specs.RequestWriting.{spelling}
+use Rattle.queue_core.specs.declared.event.Reply.{Reply}
+use Rattle.queue_core.specs.declared.event.Reply.TheVariants.{Arrived, Answer, Flushed}
+use Rattle.place_history.specs.declared.log.AskWords.{AskWords}
+use Rattle.place_history.specs.declared.log.AskWords.TheVariants.{Plain, Raw}
+use Rattle.place_history.specs.declared.log.Did.TheVariants.{Sent}
+use Rattle.place_history.specs.Happenings.{all_handed}
+use Rattle.script_lines.specs.declared.ask.Ask.{Ask}
+use Rattle.script_lines.specs.declared.ask.Ask.TheVariants.{Words, Close}
+use Rattle.solo_plane.specs.declared.setting.Setting.{Setting}
+use Rattle.solo_plane.specs.World.{World, at_port, having_done}
+use Rattle.solo_plane.specs.Moving.{carry_on}
+use Rattle.solo_plane.specs.Messages.{words_of, answered, call_at, asking, with_ask}
+use Rattle.solo_plane.specs.Planes.{with_closed}
+use Rattle.script_runs.specs.Numbers.{enough_arrivals}
+
+-- ---- one message
+
+-- packets that a request let go on, one after the other, each to its rest or its end
+abbrev pub all_moved : Setting → List (Card × Decision) → World → World
+all_moved s [] w = w
+all_moved s (h ∷ hs) w =
+    all_moved s hs (carry_on enough_arrivals s w h.0 (onward_of s.tables s.key h.0 h.1)).world
+
+-- what a message makes of the queues, by what it is decoded to
+abbrev pub carried_out : Setting → ℕ → ℕ → Decoded → World → World
+carried_out s port call Nothing w = w
+carried_out s port call (Refused errno) w = w
+carried_out s port call (Asked request) w =
+    all_moved s (all_handed (asking w port call request).left) (with_ask w port call request)
+
+-- the errno of a reply; no other reply comes to a request
+abbrev pub errno_in : Reply → ℕ
+errno_in (Arrived outcome) = 0
+errno_in (Answer errno taken) = errno
+errno_in (Flushed taken) = 0
+
+-- the errno of a message
+abbrev pub errno_of : ℕ → ℕ → Decoded → World → ℕ
+errno_of port call Nothing w = 0
+errno_of port call (Refused errno) w = errno
+errno_of port call (Asked request) w = errno_in (asking w port call request).reply
+
+-- the port sends a message, with this number: it is carried out, and logged
+abbrev pub sent_as : Setting → ℕ → ℕ → NetlinkMessage → World → World
+sent_as s port call m w =
+    at_port port
+    (having_done (Sent call (words_of port call m.whole (decoded m))
+    (answered m (errno_of port call (decoded m) w))))
+    (carried_out s port call (decoded m) w)
+
+abbrev pub sent : Setting → ℕ → NetlinkMessage → World → World
+sent s port m w = sent_as s port (call_at (w.ports port)) m w
+
+-- ---- all messages of an ask
+
+-- a message, and those that the bytes behind it begin with
+abbrev pub with_those_behind :
+    (List ℕ → List NetlinkMessage) → List ℕ → Option (NetlinkMessage × ℕ) → List NetlinkMessage
+with_those_behind cut bytes None = []
+with_those_behind cut bytes (Some (m, used)) = m ∷ cut (drop used bytes)
+
+-- the messages that bytes begin with, one after the other, but no more than so many
+abbrev pub cut_in : ℕ → List ℕ → List NetlinkMessage
+cut_in zero bytes = []
+cut_in (suc looks) bytes = with_those_behind (cut_in looks) bytes (first_message bytes)
+
+-- the messages of a datagram; each uses a byte at least
+abbrev pub messages_in : List ℕ → List NetlinkMessage
+messages_in bytes = cut_in (length bytes) bytes
+
+-- the bytes of an ask, sent as the port's message with this number
+abbrev pub bytes_of : ℕ → ℕ → AskWords → List ℕ
+bytes_of port call (Plain request) = spelling port call request
+bytes_of port call (Raw bytes) = bytes
+
+-- Messages are sent, each in its turn; what happens after each of them is given.
+abbrev pub all_sent : (World → World) → Setting → ℕ → List NetlinkMessage → World → World
+all_sent then s port [] w = w
+all_sent then s port (m ∷ ms) w = all_sent then s port ms (then (sent s port m w))
+
+-- what an ask asks for is done
+abbrev pub done : (World → World) → Setting → ℕ → Ask → World → World
+done then s port (Words words) w =
+    all_sent then s port (messages_in (bytes_of port (call_at (w.ports port)) words)) w
+done then s port Close w = with_closed w port
+
+abbrev pub all_done : (World → World) → Setting → ℕ → List Ask → World → World
+all_done then s port [] w = w
+all_done then s port (a ∷ more) w = all_done then s port more (done then s port a w)
