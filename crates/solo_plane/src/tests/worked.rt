@@ -29,7 +29,7 @@ enum Step {
 /// Queue, then number and mark of the packet that arrives (0 and 0 for a request), and the reply.
 type Line = (u16, (u32, u32), Reply);
 
-/// A step: what became of the packet, where one is fed. There were no more steps than so many.
+/// A step, after so many others: what became of the packet, where one is fed.
 fn happen(plane: &mut SoloPlane, alloc: Global, step: Step, steps: u32) -> Result<Option<Fed>, Fail>
     requires going { IsGoing steps plane.old }
     requires few { steps < 1000 }
