@@ -56,6 +56,16 @@ impl PortMachine {
         script.block(self.place).closing(alloc)
     }
 
+    /// Counts a notice that can't be read, which nothing is asked for. The count stops at
+    /// 4,294,967,295.
+    pub fn pass_over(&mut self)
+        ensures { self.new ≡ record self.old { received = next_count self.old.received } }
+    {
+        if self.received < u32::MAX {
+            self.received += 1;
+        }
+    }
+
     /// Counts the notice, and says what it asks for in answer: the asks of the first `on` line
     /// whose conditions all hold, or none. Each line is looked at once at most. The count stops at
     /// 4,294,967,295. `NoMemory` leaves it as it was.

@@ -12,7 +12,7 @@ use Rattle.pcap_io.specs.declared.capture.Frame.{Frame}
 use Rattle.hook_chain.specs.Route.{next}
 use Rattle.nfqa_msgs.specs.declared.notice.Notice.{Notice}
 use Rattle.nfqa_msgs.specs.NoticeWriting.{Told}
-use Rattle.nfqa_msgs.specs.NoticeReading.{told_by}
+use Rattle.script_runs.specs.NoticeTexts.{told_exactly}
 use Rattle.nfqa_msgs.specs.Read.{notice_of}
 use Rattle.place_history.specs.declared.log.AskWords.{AskWords}
 use Rattle.script_lines.specs.declared.ask.Ask.{Ask}
@@ -166,7 +166,7 @@ module _ (s : Setting) (script : ScriptValue) (f : ℕ → ℕ) (P : Kept) (K : 
     pub there : (at_port port received w).ports port ≡ Some held
     pub reached : At s script f P K (at_port port received w)
         (put port (side (Now ends)
-        (all_due (answer_to script (f port) held.dids (told_by l.bytes)))) T)
+        (all_due (answer_to script (f port) held.dids (told_exactly l.bytes)))) T)
 
   get_reached : (T : ℕ → Stand) (port : ℕ) (ends : List Due) (l : Letter) (ls : List Letter)
       (w : World) → is_in script f port ≡ true → letters_at (w.ports port) ≡ l ∷ ls →
@@ -181,7 +181,7 @@ module _ (s : Setting) (script : ScriptValue) (f : ℕ → ℕ) (P : Kept) (K : 
           kept = K.gets w r.notes port here.held l ls here.there (theirs here.held here.there) r.kept;
           are = all_push script f port (side (Now ends) [])
               (side (Now ends)
-              (all_due (answer_to script (f port) (received here.held).dids (told_by l.bytes))))
+              (all_due (answer_to script (f port) (received here.held).dids (told_exactly l.bytes))))
               (Got l) received r.notes w.ports T r.are
               (λ held there shut. (
                 (refl, refl, refl),
@@ -202,23 +202,23 @@ module _ (s : Setting) (script : ScriptValue) (f : ℕ → ℕ) (P : Kept) (K : 
       lead_one : (held : Port) → held.letters ≡ l ∷ ls →
           after script (f port) port (full held (side (Now ends) [])) (Got l)
           ≡ full (received held) (side (Now ends)
-          (all_due (answer_to script (f port) (received held).dids (told_by l.bytes))))
+          (all_due (answer_to script (f port) (received held).dids (told_exactly l.bytes))))
       lead_one held is =
           subst (λ ms. after script (f port) port (full held (side (Now ends) [])) (Got l)
           ≡ full (received_from ms held) (side (Now ends)
-          (all_due (answer_to script (f port) (received_from ms held).dids (told_by l.bytes)))))
+          (all_due (answer_to script (f port) (received_from ms held).dids (told_exactly l.bytes)))))
           (sym is) refl
 
       leads : (one : Port) → w.ports port ≡ Some one → (held : Port) → w.ports port ≡ Some held →
           after script (f port) port (full held (side (Now ends) [])) (Got l)
           ≡ full (received held) (side (Now ends)
-          (all_due (answer_to script (f port) (received one).dids (told_by l.bytes))))
+          (all_due (answer_to script (f port) (received one).dids (told_exactly l.bytes))))
       leads one is held there =
           let two : Some held ≡ Some one = sym there ∙ is in
           let same : held ≡ one = cc in
           lead_one held (theirs held there)
           ∙ ap (λ (p : Port). full (received held) (side (Now ends)
-          (all_due (answer_to script (f port) (received p).dids (told_by l.bytes))))) same
+          (all_due (answer_to script (f port) (received p).dids (told_exactly l.bytes))))) same
 
   open_stand : (T : ℕ → Stand) (port : ℕ) (w : World) → AllIdle T → is_in script f port ≡ true →
       At s script f P K w T → is_open_port (w.ports port) ≡ true →
@@ -243,10 +243,10 @@ module _ (s : Setting) (script : ScriptValue) (f : ℕ → ℕ) (P : Kept) (K : 
       let got = get_reached T port E letter letters l.world i are
       (reached_as s script f P K l.world T (put port (side (Now E) []) T) r
       (λ p _. sym (put_own port (side (Now E) []) T is p))) in
-      let w = answered_by s script (f port) port (told_by letter.bytes)
+      let w = answered_by s script (f port) port (told_exactly letter.bytes)
       (at_port port received l.world) in
       reached_as s script f P K w (put port (side (Now E) []) T) T
-      (answer_reached T port (told_by letter.bytes) (at_port port received l.world) E got.held i
+      (answer_reached T port (told_exactly letter.bytes) (at_port port received l.world) E got.held i
       got.there got.reached)
       (λ p _. put_own port (side (Now E) []) T is p)
 

@@ -1,5 +1,6 @@
 pub mod Numbers
 pub mod Entering
+pub mod NoticeTexts
 pub mod Sending
 pub mod Schedule
 pub mod Log

@@ -9,7 +9,7 @@ use Rattle.nfqa_msgs.specs.declared.request.Decoded.{Decoded}
 use Rattle.nfqa_msgs.specs.declared.request.Decoded.TheVariants.{Nothing, Refused, Asked}
 use Rattle.nfqa_msgs.specs.RequestReading.{decoded}
 use Rattle.nfqa_msgs.specs.NoticeWriting.{Told}
-use Rattle.nfqa_msgs.specs.NoticeReading.{told_by}
+use Rattle.script_runs.specs.NoticeTexts.{told_exactly}
 use Rattle.nfqa_msgs.specs.Read.{notice_of}
 use Rattle.queue_core.specs.Numbers.{largest_count}
 use Rattle.place_history.specs.declared.log.Did.{Did}
@@ -127,7 +127,7 @@ replaced instead t =
 abbrev pub after : ScriptValue → ℕ → ℕ → Standing → Note → Standing
 after script place port t (Got l) =
     let u = having port (Got l) t in
-    record u { owed = all_due (answer_to script place u.dids (told_by l.bytes)) }
+    record u { owed = all_due (answer_to script place u.dids (told_exactly l.bytes)) }
 after script place port t Begun =
     let messages = messages_of port t.dids (first_due t.owed t.ends) in
     record (replaced messages t) { is_fresh = is_some_due messages }

@@ -11,11 +11,11 @@ use Rattle.hook_chain.specs.declared.rule.Rule.{Rule}
 use Rattle.hook_chain.specs.Route.{next}
 use Rattle.nfqa_msgs.specs.Read.{notice_of}
 use Rattle.nfqa_msgs.specs.NoticeWriting.{Told}
-use Rattle.nfqa_msgs.specs.NoticeReading.{told_by}
 use Rattle.queue_core.specs.Numbers.{largest_count}
 use Rattle.place_history.specs.declared.log.Did.{Did}
 use Rattle.place_history.specs.declared.log.Did.TheVariants.{Received, Sent, Closed}
 use Rattle.place_history.specs.declared.histories.Histories.{Histories}
+use Rattle.script_lines.specs.declared.ask.Ask.{Ask}
 use Rattle.script_lines.specs.declared.line.Down.{Down}
 use Rattle.inspector_script.specs.Scripts.{ScriptValue, opening, answer, closing}
 use Rattle.solo_plane.specs.declared.setting.Setting.{Setting}
@@ -25,6 +25,7 @@ use Rattle.solo_plane.specs.Planes.{beginning, entered, without_device}
 use Rattle.solo_plane.specs.Closing.{IsGrouped, logs_in}
 use Rattle.script_runs.specs.Numbers.{enough_arrivals, rounds_per_frame}
 use Rattle.script_runs.specs.Entering.{card_of}
+use Rattle.script_runs.specs.NoticeTexts.{told_exactly}
 use Rattle.script_runs.specs.Sending.{all_done}
 
 -- what a run is made with
@@ -57,19 +58,22 @@ pub record Looked : Type 0 where
   pub world : World
   pub found : Bool
 
+-- what is asked for in answer to a notice; nothing, where it can't be read
+abbrev pub asks_for : ScriptValue → ℕ → ℕ → Option Told → List Ask
+asks_for script place received None = []
+asks_for script place received (Some told) = answer script place received (notice_of told)
+
 -- the inspector of the script's port at this place answers the notice that was received last
 abbrev pub answered_by : Setting → ScriptValue → ℕ → ℕ → Option Told → World → World
-answered_by s script place port None w = w
-answered_by s script place port (Some told) w =
-    all_done (λ v. v) s port
-    (answer script place (received_in (w.ports port)) (notice_of told)) w
+answered_by s script place port told w =
+    all_done (λ v. v) s port (asks_for script place (received_in (w.ports port)) told) w
 
 -- the first notice is received, where there is one, and answered
 abbrev pub looked_at : Setting → ScriptValue → ℕ → ℕ → List Letter → Looked → Looked
 looked_at s script place port [] l = l
 looked_at s script place port (letter ∷ letters) l =
     record {
-      world = answered_by s script place port (told_by letter.bytes)
+      world = answered_by s script place port (told_exactly letter.bytes)
           (at_port port received l.world);
       found = true;
     }
@@ -126,11 +130,15 @@ fed s (Some card) w =
 abbrev pub is_pause : ℕ → ℕ → Bool
 is_pause pace number = not (pace == 0) && (number % pace == 0)
 
+abbrev pub paused : ℕ → Setting → ScriptValue → ℕ → World → World
+paused rounds s script number w =
+    if is_pause script.pace number then emptied_in rounds s script w else w
+
 -- one frame: its packet is fed, devices go down, and at a pause the mailboxes are emptied
 abbrev pub frame_passed : ℕ → Setting → ScriptValue → Capture → ℕ → Frame → World → World
 frame_passed rounds s script c number f w =
-    let after = all_down (downs_after script number) (fed s (card_of c number f) w) in
-    if is_pause script.pace number then emptied_in rounds s script after else after
+    paused rounds s script number
+    (all_down (downs_after script number) (fed s (card_of c number f) w))
 
 abbrev pub frames_passed : ℕ → Setting → ScriptValue → Capture → ℕ → List Frame → World → World
 frames_passed rounds s script c number [] w = w
@@ -153,18 +161,22 @@ abbrev pub rounds_for : Capture → ℕ
 rounds_for c = rounds_per_frame * length c.frames + 1
 
 -- up to where the ports end
-abbrev pub before_ends : ScriptValue → List (List Rule) → Capture → World
-before_ends script tables c =
-    let s = setting_of script tables in
-    let rounds = rounds_for c in
-    emptied_in rounds s script
-    (frames_passed rounds s script c 1 c.frames
+abbrev pub until_ends : Setting → ScriptValue → Capture → World
+until_ends s script c =
+    emptied_in (rounds_for c) s script
+    (frames_passed (rounds_for c) s script c 1 c.frames
     (all_down (downs_after script 0) (opened_all s script 0 script.ports (beginning script.ports))))
 
+-- all of it
+abbrev pub until_end : Setting → ScriptValue → Capture → World
+until_end s script c =
+    ended_all (rounds_for c) s script 0 script.ports (until_ends s script c)
+
+abbrev pub before_ends : ScriptValue → List (List Rule) → Capture → World
+before_ends script tables c = until_ends (setting_of script tables) script c
+
 abbrev pub run : ScriptValue → List (List Rule) → Capture → World
-run script tables c =
-    ended_all (rounds_for c) (setting_of script tables) script 0 script.ports
-    (before_ends script tables c)
+run script tables c = until_end (setting_of script tables) script c
 
 -- ---- its histories
 

@@ -1,0 +1,13 @@
+pub mod Enough
+pub mod Minds
+pub mod Going
+pub mod Sent
+pub mod Cutting
+pub mod Keeping
+pub mod Sizes
+pub mod Steps
+pub mod Doing
+pub mod Receiving
+pub mod Words
+pub mod Looking
+pub mod Passing

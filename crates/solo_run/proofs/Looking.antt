@@ -1,0 +1,99 @@
+-- Looks, rounds and emptied mailboxes.
+use Rattle.std.proofs.Common.{◌≡◌, ◌<◌, ◌+◌, ◌-◌, ◌∙◌, ℕ, suc, List, [], ◌∷◌, length, drop}
+use Rattle.std.proofs.Common.{Option, Some, None, Bool, true, false, sym, ap, arith}
+use Rattle.std.specs.Prelude.{◌||◌}
+use Rattle.std.proofs.lemmas.List.{drop_more}
+use Rattle.packet_entry.specs.declared.letter.Letter.{Letter}
+use Rattle.script_lines.specs.declared.ask.Ask.{Ask}
+use Rattle.inspector_script.specs.Scripts.{ScriptValue}
+use Rattle.solo_plane.specs.declared.setting.Setting.{Setting}
+use Rattle.solo_plane.specs.World.{World}
+use Rattle.script_runs.specs.NoticeTexts.{told_exactly}
+use Rattle.script_runs.specs.Schedule.{asks_for, looked, looked_at, letters_at, is_open_port}
+use Rattle.script_runs.specs.Schedule.{received_in, round, emptied_in, go_on_while}
+use Rattle.script_runs.specs.Sending.{all_done}
+use Rattle.solo_run.specs.Running.{ReceivesFirst, port_at}
+
+abbrev some : List Ask → Option (List Ask)
+some asks = Some asks
+
+at_one : (s : Setting) (script : ScriptValue) (place port : ℕ) (letters : List Letter)
+    (asks : List Ask) (old mid new : World) (before : Bool) →
+    ReceivesFirst script place port letters (Some asks) old mid →
+    new ≡ all_done (λ v. v) s port asks mid →
+    looked_at s script place port letters (record { world = old; found = before })
+    ≡ record { world = new; found = true }
+at_one s script place port [] asks old mid new before is did = let wrong = is.0 in absurd (cc)
+at_one s script place port (l ∷ ls) asks old mid new before is did =
+    let asked : asks ≡ asks_for script place (received_in (mid.ports port)) (told_exactly l.bytes) =
+    same _ _ is.0 in
+    ap (λ (w : World). record {
+      world = all_done (λ v. v) s port
+          (asks_for script place (received_in (w.ports port)) (told_exactly l.bytes)) w;
+      found = true;
+    }) (sym is.1)
+    ∙ ap (λ (as_ : List Ask). record { world = all_done (λ v. v) s port as_ mid; found = true })
+    (sym asked)
+    ∙ ap (λ (w : World). record { world = w; found = true }) (sym did)
+  where
+    same : (one other : List Ask) → some one ≡ some other → one ≡ other
+    same one other is = cc
+
+pub looked_one : (s : Setting) (script : ScriptValue) (place port : ℕ) (asks : List Ask)
+    (old mid new : World) (before : Bool) → is_open_port (old.ports port) ≡ true →
+    ReceivesFirst script place port (letters_at (old.ports port)) (Some asks) old mid →
+    new ≡ all_done (λ v. v) s port asks mid →
+    looked s script place port (record { world = old; found = before })
+    ≡ record { world = new; found = true }
+looked_one s script place port asks old mid new before open_ is did =
+    rw open_ (at_one s script place port (letters_at (old.ports port)) asks old mid new before is did)
+
+at_none : (s : Setting) (script : ScriptValue) (place port : ℕ) (letters : List Letter)
+    (old new : World) (before : Bool) → ReceivesFirst script place port letters None old new →
+    looked_at s script place port letters (record { world = old; found = before })
+    ≡ record { world = new; found = before }
+at_none s script place port [] old new before is =
+    ap (λ (w : World). record { world = w; found = before }) (sym is.1)
+at_none s script place port (l ∷ ls) old new before is = let wrong = is.0 in absurd (cc)
+
+pub looked_none : (s : Setting) (script : ScriptValue) (place port : ℕ) (old new : World)
+    (before : Bool) → is_open_port (old.ports port) ≡ true →
+    ReceivesFirst script place port (letters_at (old.ports port)) None old new →
+    looked s script place port (record { world = old; found = before })
+    ≡ record { world = new; found = before }
+looked_none s script place port old new before open_ is =
+    rw open_ (at_none s script place port (letters_at (old.ports port)) old new before is)
+
+-- ---- rounds
+
+pub round_on : (s : Setting) (script : ScriptValue) (place : ℕ) (w after : World)
+    (found before : Bool) → place < length script.ports →
+    looked s script place (port_at script place) (record { world = w; found = before })
+    ≡ record { world = after; found = found || before } →
+    round s script (place + 1) (drop (place + 1) script.ports)
+    (record { world = after; found = found || before })
+    ≡ round s script place (drop place script.ports) (record { world = w; found = before })
+round_on s script place w after found before within is =
+    ap (round s script (place + 1) (drop (place + 1) script.ports)) (sym is)
+    ∙ sym (ap (λ (ps : List ℕ). round s script place ps (record { world = w; found = before }))
+    (drop_more script.ports place 0 within))
+
+-- ---- emptied
+
+pub emptied_on : (s : Setting) (script : ScriptValue) (n look : ℕ) (w after : World) → look < n →
+    round s script 0 script.ports (record { world = w; found = false })
+    ≡ record { world = after; found = true } →
+    emptied_in (n - (look + 1)) s script after ≡ emptied_in (n - look) s script w
+emptied_on s script n look w after more is =
+    let one : n - look ≡ suc (n - (look + 1)) = omega (arith, more) in
+    ap (go_on_while (emptied_in (n - (look + 1)) s script)) (sym is)
+    ∙ sym (ap (λ (k : ℕ). emptied_in k s script w) one)
+
+pub emptied_all : (s : Setting) (script : ScriptValue) (n look : ℕ) (w after : World) → look < n →
+    round s script 0 script.ports (record { world = w; found = false })
+    ≡ record { world = after; found = false } →
+    after ≡ emptied_in (n - look) s script w
+emptied_all s script n look w after more is =
+    let one : n - look ≡ suc (n - (look + 1)) = omega (arith, more) in
+    ap (go_on_while (emptied_in (n - (look + 1)) s script)) (sym is)
+    ∙ sym (ap (λ (k : ℕ). emptied_in k s script w) one)

@@ -1,0 +1,178 @@
+-- What each step of a plane leaves as it is: the packets that were fed, and, but for the port that
+-- does something, how far each port is.
+use Rattle.std.proofs.Common.{◌≡◌, ◌≢◌, ◌∙◌, ℕ, zero, suc, List, [], ◌∷◌, ◌++◌, Option, Some}
+use Rattle.std.proofs.Common.{None, Bool, true, false, refl, ap, inl, inr, arith, cond, min}
+use Rattle.std.specs.Prelude.{count_by, ◌==◌, if◌then◌else◌, option_map}
+use Rattle.std.proofs.lemmas.Bool.{cases_Bool, eqb-true, eq-eqb}
+use Rattle.std.proofs.lemmas.List.Sums.{sum_by-append}
+use Rattle.packet_entry.specs.declared.packet.Card.{Card}
+use Rattle.packet_entry.specs.declared.letter.Letter.{Letter}
+use Rattle.netlink_codec.specs.Messages.{NetlinkMessage}
+use Rattle.hook_chain.specs.declared.chain.Decision.{Decision}
+use Rattle.hook_chain.specs.declared.chain.Next.{Next}
+use Rattle.hook_chain.specs.declared.chain.Next.TheVariants.{Released, To}
+use Rattle.hook_chain.specs.Route.{onward_of}
+use Rattle.nfqa_msgs.specs.declared.request.Decoded.{Decoded}
+use Rattle.nfqa_msgs.specs.declared.request.Decoded.TheVariants.{Nothing, Refused, Asked}
+use Rattle.nfqa_msgs.specs.RequestReading.{decoded}
+use Rattle.queue_core.specs.State.{Bound}
+use Rattle.queue_core.specs.Step.{Way, next_id}
+use Rattle.queue_core.specs.WithOffer.{letter_of}
+use Rattle.queue_core.specs.Numbers.{largest_count}
+use Rattle.place_history.specs.declared.log.Did.{Did}
+use Rattle.place_history.specs.declared.log.Did.TheVariants.{Sent}
+use Rattle.place_history.specs.declared.log.AskWords.{AskWords}
+use Rattle.place_history.specs.Journeys.{Arrival}
+use Rattle.place_history.specs.Kept.{state_of}
+use Rattle.place_history.specs.Happenings.{all_handed}
+use Rattle.solo_plane.specs.declared.setting.Setting.{Setting}
+use Rattle.solo_plane.specs.World.{World, Port, delivered, having_done}
+use Rattle.solo_plane.specs.Calls.{is_sent, after_this, next_call}
+use Rattle.solo_plane.specs.Moving.{Carried, carry, carry_on, settled, goes_on, route_after}
+use Rattle.solo_plane.specs.Moving.{arrival_to, arrived, turned_away, left_at_once, room_for}
+use Rattle.solo_plane.specs.Moving.{with_notice}
+use Rattle.solo_plane.specs.Messages.{asking, with_ask, call_at}
+use Rattle.script_runs.specs.Numbers.{enough_arrivals}
+use Rattle.script_runs.specs.Schedule.{is_received, is_open_port}
+use Rattle.script_runs.specs.Sending.{all_moved, carried_out, sent}
+use Rattle.solo_run.specs.Running.{mind_of}
+use Rattle.solo_run.specs.declared.inspector.Inspector.{Inspector}
+
+-- each port is as far as it was
+abbrev pub SameMinds : (old new : ℕ → Option Port) → Type 0
+SameMinds old new = (place p : ℕ) → mind_of place (new p) ≡ mind_of place (old p)
+
+pub record Leaves (old new : World) : Type 0 where
+  pub fed : new.fed ≡ old.fed
+  pub minds : SameMinds old.ports new.ports
+
+pub leaves_it : (w : World) → Leaves w w
+leaves_it w = record { fed = refl; minds = λ place p. refl }
+
+pub leaves_both : (u v w : World) → Leaves u v → Leaves v w → Leaves u w
+leaves_both u v w first later = record {
+  fed = later.fed ∙ first.fed;
+  minds = λ place p. later.minds place p ∙ first.minds place p;
+}
+
+-- ---- one port
+
+pub at_either : (place : ℕ) (m : Inspector) (b : Bool) (x y : Option Port) → mind_of place x ≡ m →
+    mind_of place y ≡ m → mind_of place (if b then x else y) ≡ m
+at_either place m true x y one other = one
+at_either place m false x y one other = other
+
+delivered_mind : (place : ℕ) (letter : Letter) (o : Option Port) →
+    mind_of place (option_map (delivered letter) o) ≡ mind_of place o
+delivered_mind place letter None = refl
+delivered_mind place letter (Some p) = refl
+
+notice_minds : (q : Option Bound) (a : Arrival) (left : List (Card × Way))
+    (ports : ℕ → Option Port) → SameMinds ports (with_notice q a left ports)
+notice_minds None a left ports place p = refl
+notice_minds (Some q) a (l ∷ ls) ports place p = refl
+notice_minds (Some q) a [] ports place p =
+    at_either place (mind_of place (ports p)) (p == q.port) _ (ports p)
+    (delivered_mind place (letter_of a.queue q (next_id q) a.card) (ports p)) refl
+
+arrived_leaves : (s : Setting) (w : World) (a : Arrival) → Leaves w (arrived s w a)
+arrived_leaves s w a = record {
+  fed = refl;
+  minds = notice_minds (state_of w.entries a.queue) a (left_at_once w a (room_for s w a)) w.ports;
+}
+
+-- ---- packets that move on
+
+abbrev LeavesAll : (World → Card → Next → Carried) → Type 0
+LeavesAll on = (w : World) (card : Card) (route : Next) → Leaves w (on w card route).world
+
+on_leaves : (on : World → Card → Next → Carried) → LeavesAll on → (w : World) (card : Card)
+    (route : Option Next) → Leaves w (goes_on (on w card) w route).world
+on_leaves on leaves w card None = leaves_it w
+on_leaves on leaves w card (Some route) = leaves w card route
+
+settled_leaves : (on : World → Card → Next → Carried) → LeavesAll on → (s : Setting) (w : World)
+    (left : List (Card × Way)) → Leaves w (settled on s w left).world
+settled_leaves on leaves s w [] = leaves_it w
+settled_leaves on leaves s w (l ∷ ls) = on_leaves on leaves w l.0 (route_after s l)
+
+pub carry_leaves : (memory : ℕ) (s : Setting) → LeavesAll (carry memory s)
+carry_leaves zero s w card Released = leaves_it w
+carry_leaves zero s w card (To queue bypass table) =
+    record { fed = refl; minds = λ place p. refl }
+carry_leaves (suc memory) s w card Released = leaves_it w
+carry_leaves (suc memory) s w card (To queue bypass table) =
+    let a = arrival_to queue bypass table card in
+    leaves_both w (arrived s w a) _ (arrived_leaves s w a)
+    (settled_leaves (carry memory s) (carry_leaves memory s) s (arrived s w a) (turned_away s w a))
+
+all_leave : (s : Setting) (hs : List (Card × Decision)) (w : World) → Leaves w (all_moved s hs w)
+all_leave s [] w = leaves_it w
+all_leave s (h ∷ hs) w =
+    let route = onward_of s.tables s.key h.0 h.1 in
+    leaves_both w (carry_on enough_arrivals s w h.0 route).world _
+    (on_leaves (carry enough_arrivals s) (carry_leaves enough_arrivals s) w h.0 route)
+    (all_leave s hs (carry_on enough_arrivals s w h.0 route).world)
+
+-- ---- messages
+
+out_leaves : (s : Setting) (port call : ℕ) (d : Decoded) (w : World) →
+    Leaves w (carried_out s port call d w)
+out_leaves s port call Nothing w = leaves_it w
+out_leaves s port call (Refused errno) w = leaves_it w
+out_leaves s port call (Asked request) w =
+    leaves_both w (with_ask w port call request) _
+    (record { fed = refl; minds = λ place p. refl })
+    (all_leave s (all_handed (asking w port call request).left) (with_ask w port call request))
+
+-- one message more
+abbrev pub one_call : Inspector → Inspector
+one_call m = record m { call = after_this m.call }
+
+next_after : (c : ℕ) (dids : List Did) (words : AskWords) (answer : Option ℕ) →
+    next_call (dids ++ Sent c words answer ∷ []) ≡ after_this (next_call dids)
+next_after c dids words answer =
+    let more = sum_by-append (λ (d : Did). cond (is_sent d) 1 0) dids (Sent c words answer ∷ []) in
+    omega (arith, more)
+
+received_so : (c : ℕ) (dids : List Did) (words : AskWords) (answer : Option ℕ) →
+    min (count_by is_received (dids ++ Sent c words answer ∷ [])) largest_count
+    ≡ min (count_by is_received dids) largest_count
+received_so c dids words answer =
+    let more = sum_by-append (λ (d : Did). cond (is_received d) 1 0) dids (Sent c words answer ∷ []) in
+    omega (arith, more)
+
+inspector : ℕ → ℕ → ℕ → Bool → Inspector
+inspector place received call is_open =
+    record {
+      machine = record { place = place; received = received };
+      call = call;
+      is_open = is_open;
+    }
+
+sent_mind : (place c : ℕ) (words : AskWords) (answer : Option ℕ) (o : Option Port) →
+    is_open_port o ≡ true →
+    mind_of place (option_map (having_done (Sent c words answer)) o) ≡ one_call (mind_of place o)
+sent_mind place c words answer None is = absurd (cc)
+sent_mind place c words answer (Some p) is = rw (next_after c p.dids words answer, received_so c p.dids words answer) refl
+
+pub sent_fed : (s : Setting) (port : ℕ) (m : NetlinkMessage) (w : World) →
+    (sent s port m w).fed ≡ w.fed
+sent_fed s port m w = (out_leaves s port (call_at (w.ports port)) (decoded m) w).fed
+
+pub sent_others : (s : Setting) (port : ℕ) (m : NetlinkMessage) (w : World) (place p : ℕ) →
+    p ≢ port → mind_of place ((sent s port m w).ports p) ≡ mind_of place (w.ports p)
+sent_others s port m w place p other =
+    let same = (out_leaves s port (call_at (w.ports port)) (decoded m) w).minds place p in
+    elim (cases_Bool (p == port)) [
+      | inl is ↦ absurd (other (eqb-true p port is))
+      | inr is ↦ rw is same
+    ]
+
+pub sent_this : (s : Setting) (port : ℕ) (m : NetlinkMessage) (w : World) (place : ℕ) →
+    is_open_port (w.ports port) ≡ true →
+    mind_of place ((sent s port m w).ports port) ≡ one_call (mind_of place (w.ports port))
+sent_this s port m w place is_open =
+    let same = (out_leaves s port (call_at (w.ports port)) (decoded m) w).minds place port in
+    let still = ap (λ (i : Inspector). i.is_open) same ∙ is_open in
+    rw (eq-eqb port port refl) (sent_mind place _ _ _ _ still ∙ ap one_call same)

@@ -1,0 +1,36 @@
+use Rattle.std.proofs.Common.{◌≡◌, ◌∙◌, subst}
+use Rattle.solo_plane.specs.declared.setting.Setting.{Setting}
+use Rattle.script_runs.specs.Schedule.{emptied_in}
+use Rattle.script_runs.specs.Sending.{all_done}
+use Rattle.solo_run.specs.Running.{port_at, setting_of, world_of}
+use Rattle.solo_run.proofs.Keeping.{with_both}
+use Rattle.solo_run.proofs.Passing.{ended_on, later_open}
+use Rattle.solo_run.proofs.Words.{closes_last}
+use Rattle.solo_run.proofs.parts.end_all.Goals as goal
+
+pub do_all-requires-clause-last : goal.do_all-requires-clause-last
+do_all-requires-clause-last c =
+    closes_last c.args.script.now c.loop-place.place c.in_ok-asks.asks c.in_ok-asks.ensures.asks
+
+pub loop-place-preserved : goal.loop-place-preserved
+loop-place-preserved c =
+    let Does : Setting → Type 0 =
+    λ s. world_of c.do_all.new.run
+    ≡ all_done (λ w. emptied_in c.args.rounds s c.args.script.now w) s
+    (port_at c.args.script.now c.loop-place.place) c.in_ok-asks.asks
+    (world_of c.loop-place.run) in
+    let within = rw c.ports-place-end.ensures.value at c.loop-place-test.true in
+    record {
+      going = c.in_ok-do_all.ensures.going;
+      made_with = with_both c.args.run.now c.loop-place.run c.do_all.new.run
+          c.loop-place.invariant.made_with c.in_ok-do_all.ensures.made_with;
+      fed = c.in_ok-do_all.ensures.others.fed ∙ c.loop-place.invariant.fed;
+      are_open = later_open c.args.script.now c.loop-place.place (world_of c.loop-place.run)
+          (world_of c.do_all.new.run) c.requires.going.apart within
+          c.loop-place.invariant.are_open c.in_ok-do_all.ensures.others;
+      on = ended_on c.args.rounds (setting_of c.args.run.now) c.args.script.now
+          c.loop-place.place c.in_ok-asks.asks (world_of c.loop-place.run)
+          (world_of c.do_all.new.run) within c.in_ok-asks.ensures.asks
+          (subst Does c.loop-place.invariant.made_with.setting c.in_ok-do_all.ensures.done)
+          ∙ c.loop-place.invariant.on;
+    }

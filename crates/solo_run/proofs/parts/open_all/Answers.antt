@@ -1,0 +1,34 @@
+use Rattle.std.proofs.Common.{◌≡◌, ◌∙◌, subst}
+use Rattle.solo_plane.specs.declared.setting.Setting.{Setting}
+use Rattle.script_runs.specs.Sending.{all_done}
+use Rattle.solo_run.specs.Running.{port_at, setting_of, world_of}
+use Rattle.solo_run.proofs.Keeping.{keeps_both, with_both}
+use Rattle.solo_run.proofs.Passing.{opened_on}
+use Rattle.solo_run.proofs.Words.{opening_all_words, opening_last}
+use Rattle.solo_run.proofs.parts.open_all.Goals as goal
+
+pub do_all-requires-clause-last : goal.do_all-requires-clause-last
+do_all-requires-clause-last c =
+    opening_last c.args.script.now c.loop-place.place c.in_ok-asks.asks c.in_ok-asks.ensures.asks
+
+pub loop-place-preserved : goal.loop-place-preserved
+loop-place-preserved c =
+    let Does : Setting → Type 0 =
+    λ s. world_of c.do_all.new.run
+    ≡ all_done (λ w. w) s (port_at c.args.script.now c.loop-place.place) c.in_ok-asks.asks
+    (world_of c.loop-place.run) in
+    record {
+      going = c.in_ok-do_all.ensures.going;
+      made_with = with_both c.args.run.now c.loop-place.run c.do_all.new.run
+          c.loop-place.invariant.made_with c.in_ok-do_all.ensures.made_with;
+      keeps = keeps_both (world_of c.args.run.now) (world_of c.loop-place.run)
+          (world_of c.do_all.new.run) c.loop-place.invariant.keeps
+          (c.in_ok-do_all.ensures.keeps (opening_all_words c.args.script.now c.loop-place.place
+          c.in_ok-asks.asks c.in_ok-asks.ensures.asks));
+      on = opened_on (setting_of c.args.run.now) c.args.script.now c.loop-place.place
+          c.in_ok-asks.asks (world_of c.loop-place.run) (world_of c.do_all.new.run)
+          (rw c.ports-place-end.ensures.value at c.loop-place-test.true)
+          c.in_ok-asks.ensures.asks
+          (subst Does c.loop-place.invariant.made_with.setting c.in_ok-do_all.ensures.done)
+          ∙ c.loop-place.invariant.on;
+    }

@@ -1,0 +1,39 @@
+use Rattle.std.proofs.Common.{◌≡◌, ◌∙◌, subst, false}
+use Rattle.solo_plane.specs.declared.setting.Setting.{Setting}
+use Rattle.script_runs.specs.Schedule.{round}
+use Rattle.solo_run.specs.Running.{setting_of, world_of}
+use Rattle.solo_run.proofs.Keeping.{keeps_both, with_both}
+use Rattle.solo_run.proofs.Looking.{emptied_on, emptied_all}
+use Rattle.solo_run.proofs.rounds.empty.Goals as goal
+
+pub returns-then-not-branch-clause-emptied : goal.returns-then-not-branch-clause-emptied
+returns-then-not-branch-clause-emptied c =
+    let Looks : Setting → Type 0 =
+    λ s. round s c.args.script.now 0 c.args.script.now.ports
+    (record { world = world_of c.loop-round.run; found = false })
+    ≡ record { world = world_of c.round.new.run; found = c.in_ok-round.field-0 } in
+    emptied_all (setting_of c.args.run.now) c.args.script.now c.args.rounds c.loop-round._round
+    (world_of c.loop-round.run) (world_of c.round.new.run) c.loop-round-test.true
+    (rw c.if-not-branch.true at (subst Looks c.loop-round.invariant.made_with.setting
+    c.in_ok-round.ensures.looked))
+    ∙ c.loop-round.invariant.on
+
+pub loop-round-preserved : goal.loop-round-preserved
+loop-round-preserved c =
+    let Looks : Setting → Type 0 =
+    λ s. round s c.args.script.now 0 c.args.script.now.ports
+    (record { world = world_of c.loop-round.run; found = false })
+    ≡ record { world = world_of c.round.new.run; found = c.in_ok-round.field-0 } in
+    record {
+      going = c.in_ok-round.ensures.going;
+      made_with = with_both c.args.run.now c.loop-round.run c.round.new.run
+          c.loop-round.invariant.made_with c.in_ok-round.ensures.made_with;
+      keeps = keeps_both (world_of c.args.run.now) (world_of c.loop-round.run)
+          (world_of c.round.new.run) c.loop-round.invariant.keeps c.in_ok-round.ensures.keeps;
+      on = emptied_on (setting_of c.args.run.now) c.args.script.now c.args.rounds
+          c.loop-round._round (world_of c.loop-round.run) (world_of c.round.new.run)
+          c.loop-round-test.true
+          (rw c.if-not-branch.false at (subst Looks c.loop-round.invariant.made_with.setting
+          c.in_ok-round.ensures.looked))
+          ∙ c.loop-round.invariant.on;
+    }

@@ -1,0 +1,130 @@
+//! The inspectors behind the ports of a run.
+
+ghost use Rattle.std.specs.Prelude.{◌≡◌, ◌≢◌, ◌<◌, ℕ, length, slice_index_or, All, IfOk, OnOk, Some};
+ghost use Rattle.std.specs.Prelude.{false, option_map};
+ghost use Rattle.nfqa_msgs.specs.Read.{notice_of};
+ghost use Rattle.script_lines.specs.Limits.{IsAsk};
+ghost use Rattle.inspector_script.specs.Scripts.{next_count};
+ghost use Rattle.script_runs.specs.NoticeTexts.{told_exactly};
+ghost use Rattle.script_runs.specs.Schedule.{asks_for};
+ghost use Rattle.solo_plane.specs.World.{opened};
+ghost use Rattle.solo_plane.specs.Calls.{after_this};
+ghost use Rattle.solo_run.specs.Running.{mind_of, one_notice};
+ghost use Rattle.solo_run.specs.declared.inspector.Inspector.{Inspector};
+
+use inspector_script::{Asks, PortMachine, Script};
+use nfqa_msgs::{Notice, decode_notice, notices_are_told_apart};
+use packet_entry::{Letter, NoMemory, Sequence};
+use std::alloc::Global;
+
+/// The inspector behind one port.
+#[derive(Debug, Drop)]
+pub(crate) struct Inspector {
+    /// How it answers.
+    pub(crate) machine: PortMachine,
+    /// The number of the port's next message.
+    pub(crate) call: u32,
+    /// Whether the port is open.
+    pub(crate) is_open: bool,
+}
+
+/// The inspectors of so many ports, of which each did nothing yet.
+pub(crate) fn inspectors(alloc: Global, ports: u32) -> Result<Vec<Inspector>, NoMemory>
+    ensures as_many { IfOk result (λ all. length all.items ≡ ports) }
+    ensures each { IfOk result (λ all. (place : ℕ) (d : Inspector) → place < ports →
+        slice_index_or all.items place d ≡ mind_of place (Some opened)) }
+{
+    let mut all = Vec::new(alloc);
+    for place in 0..ports {
+        all.push(Inspector {
+            machine: PortMachine::new(place),
+            call: 1,
+            is_open: true,
+        })?;
+    }
+    Ok(all)
+}
+
+/// The port sent a message more.
+pub(crate) fn count_call(all: &mut Vec<Inspector>, place: usize)
+    requires { place < length all.old.items }
+    ensures as_many { length all.new.items ≡ length all.old.items }
+    ensures others { (k : ℕ) (d : Inspector) → k ≢ place →
+        slice_index_or all.new.items k d ≡ slice_index_or all.old.items k d }
+    ensures this { (d : Inspector) → slice_index_or all.new.items place d
+        ≡ record (slice_index_or all.old.items place d) {
+          call = after_this (slice_index_or all.old.items place d).call;
+        } }
+{
+    let inspector = &mut all[place];
+    inspector.call = inspector.call.wrapping_add(1);
+}
+
+/// The port closed.
+pub(crate) fn count_closing(all: &mut Vec<Inspector>, place: usize)
+    requires { place < length all.old.items }
+    ensures as_many { length all.new.items ≡ length all.old.items }
+    ensures others { (k : ℕ) (d : Inspector) → k ≢ place →
+        slice_index_or all.new.items k d ≡ slice_index_or all.old.items k d }
+    ensures this { (d : Inspector) → slice_index_or all.new.items place d
+        ≡ record (slice_index_or all.old.items place d) { is_open = false } }
+{
+    all[place].is_open = false;
+}
+
+/// What the inspector of a port asks for in answer to a notice, which it counts.
+pub(crate) fn asked(
+    all: &mut Vec<Inspector>,
+    alloc: Global,
+    script: &Script,
+    place: u32,
+    letter: &Letter,
+) -> Result<Asks, NoMemory>
+    requires within { place < length all.old.items }
+    requires has_port { place < length script.now.ports }
+    requires its { (d : Inspector) → (slice_index_or all.old.items place d).machine.place ≡ place }
+    ensures asks { IfOk result (λ asks. (d : Inspector) → asks ≡ asks_for script.now place
+        (next_count (slice_index_or all.old.items place d).machine.received)
+        (told_exactly letter.now.bytes)) }
+    ensures fit { IfOk result (All IsAsk) }
+    ensures as_many { OnOk result (length all.new.items ≡ length all.old.items) }
+    ensures others { OnOk result ((k : ℕ) (d : Inspector) → k ≢ place →
+        slice_index_or all.new.items k d ≡ slice_index_or all.old.items k d) }
+    ensures this { OnOk result ((d : Inspector) → slice_index_or all.new.items place d
+        ≡ one_notice (slice_index_or all.old.items place d)) }
+{
+    let machine = &mut all[place as usize].machine;
+    answered(machine, alloc, script, letter)
+}
+
+/// The same of its machine alone.
+fn answered(
+    machine: &mut PortMachine,
+    alloc: Global,
+    script: &Script,
+    letter: &Letter,
+) -> Result<Asks, NoMemory>
+    requires has_port { machine.old.place < length script.now.ports }
+    ensures asks { IfOk result (λ asks. asks ≡ asks_for script.now machine.old.place
+        (next_count machine.old.received) (told_exactly letter.now.bytes)) }
+    ensures fit { IfOk result (All IsAsk) }
+    ensures counted { OnOk result
+        (machine.new ≡ record machine.old { received = next_count machine.old.received }) }
+{
+    match notice_in(alloc, letter.bytes.as_slice())? {
+        Some(notice) => machine.answer(alloc, script, &notice),
+        None => {
+            machine.pass_over();
+            Ok(Sequence::new(alloc))
+        }
+    }
+}
+
+/// The notice whose text these bytes are.
+fn notice_in(alloc: Global, bytes: &[u8]) -> Result<Option<Notice>, NoMemory>
+    ensures { IfOk result
+        (λ notice. notice ≡ option_map notice_of (told_exactly bytes.now)) }
+{
+    notices_are_told_apart();
+    decode_notice(alloc, bytes)
+}

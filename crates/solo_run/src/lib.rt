@@ -1,0 +1,20 @@
+//! The run on one thread: a script is run over the packets of a capture.
+//!
+//! [`solo`] opens the script's ports, feeds the frames to a plane one after the other, lets the
+//! inspectors behind the ports answer their notices, and closes the ports: step by step as the
+//! schedule of one thread says.
+#![tactic(auto)]
+
+mod between;
+mod inspector;
+mod one_thread;
+mod packet;
+mod parts;
+mod rounds;
+mod run;
+mod sending;
+
+pub use one_thread::solo;
+
+#[cfg(test)]
+mod tests;

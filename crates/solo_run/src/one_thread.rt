@@ -1,0 +1,85 @@
+//! The run on one thread.
+
+ghost use Rattle.std.specs.Prelude.{◌≡◌, ◌≤◌, length, All, IfOk, OnOk};
+ghost use Rattle.packet_entry.specs.Numbers.{longest_packet};
+ghost use Rattle.place_history.specs.History.{AreLegal};
+ghost use Rattle.place_history.specs.Journeys.{AreSound};
+ghost use Rattle.solo_plane.specs.Planes.{beginning};
+ghost use Rattle.script_runs.specs.Entering.{cards};
+ghost use Rattle.script_runs.specs.Schedule.{IsSolo, until_end, until_ends};
+ghost use Rattle.script_runs.specs.Schedule as schedule;
+ghost use Rattle.solo_run.specs.Numbers.{most_frames};
+ghost use Rattle.solo_run.specs.Running.{AreOpen, Goes, IsWith, setting_of, world_of};
+
+use crate::parts::{end_all, open_all, pass_all, rounds_for, take_down};
+use crate::rounds::empty;
+use crate::run::Run;
+use hook_chain::Tables;
+use inspector_script::Script;
+use packet_entry::NoMemory;
+use pcap_io::Capture;
+use place_history::Histories;
+use std::alloc::Global;
+
+/// Runs a script over the packets of a capture, of at most 200,000 frames: the histories of the
+/// schedule of one thread, in which no packet is lost. They are legal, and sound for the packets of
+/// the capture. `NoMemory` also where memory ran out between two queues, so that a packet was lost.
+pub fn solo(
+    alloc: Global,
+    script: &Script,
+    tables: Tables,
+    capture: &Capture,
+) -> Result<Histories, NoMemory>
+    requires frames { length capture.now.frames ≤ most_frames }
+    requires bytes { All (λ f. length f.bytes ≤ longest_packet) capture.now.frames }
+    ensures run { IfOk result (IsSolo script.now tables capture.now) }
+    ensures legal { IfOk result (λ h. AreLegal h.entries) }
+    ensures sound { IfOk result
+        (λ h. AreSound tables script.now.key (cards capture.now) h.entries h.lost) }
+{
+    let mut run = Run::new(alloc, script, tables)?;
+    let outcome = go(&mut run, alloc, script, capture);
+    let histories = run.close(alloc);
+    outcome?;
+    histories
+}
+
+/// Up to where the ports end.
+fn go_to_ends(
+    run: &mut Run,
+    alloc: Global,
+    script: &Script,
+    capture: &Capture,
+) -> Result<(), NoMemory>
+    requires going { Goes script.now run.old }
+    requires frames { length capture.now.frames ≤ most_frames }
+    requires bytes { All (λ f. length f.bytes ≤ longest_packet) capture.now.frames }
+    requires world { world_of run.old ≡ beginning script.now.ports }
+    ensures going { OnOk result (Goes script.now run.new) }
+    ensures made_with { OnOk result (IsWith run.old run.new) }
+    ensures world { OnOk result (world_of run.new
+        ≡ until_ends (setting_of run.old) script.now capture.now) }
+    ensures fed { OnOk result ((world_of run.new).fed ≡ cards capture.now) }
+    ensures open { OnOk result (AreOpen script.now (world_of run.new) 0) }
+{
+    open_all(run, alloc, script)?;
+    take_down(run, script, 0)?;
+    pass_all(run, alloc, script, capture)?;
+    empty(run, alloc, script, rounds_for(capture))
+}
+
+/// All that happens.
+fn go(run: &mut Run, alloc: Global, script: &Script, capture: &Capture) -> Result<(), NoMemory>
+    requires going { Goes script.now run.old }
+    requires frames { length capture.now.frames ≤ most_frames }
+    requires bytes { All (λ f. length f.bytes ≤ longest_packet) capture.now.frames }
+    requires world { world_of run.old ≡ beginning script.now.ports }
+    ensures going { OnOk result (Goes script.now run.new) }
+    ensures made_with { OnOk result (IsWith run.old run.new) }
+    ensures world { OnOk result (world_of run.new
+        ≡ until_end (setting_of run.old) script.now capture.now) }
+    ensures fed { OnOk result ((world_of run.new).fed ≡ cards capture.now) }
+{
+    go_to_ends(run, alloc, script, capture)?;
+    end_all(run, alloc, script, rounds_for(capture))
+}

@@ -1,0 +1,91 @@
+//! Mailboxes that are emptied, round by round.
+
+ghost use Rattle.std.specs.Prelude.{◌≡◌, ◌<◌, ◌||◌, Bool, length, IfOk, OnOk, false};
+ghost use Rattle.script_runs.specs.Schedule.{Looked, emptied_in, looked, round};
+ghost use Rattle.solo_run.specs.Running.{Goes, IsWith, Keeps, port_at, setting_of, world_of};
+
+use crate::between::{Between, Nothing};
+use crate::run::Run;
+use crate::sending::do_all;
+use inspector_script::Script;
+use packet_entry::NoMemory;
+use std::alloc::Global;
+
+/// A port that is open looks into its mailbox: its first notice is received and answered. Whether
+/// there was one.
+fn look(run: &mut Run, alloc: Global, script: &Script, place: u32) -> Result<bool, NoMemory>
+    requires going { Goes script.now run.old }
+    requires place { place < length script.now.ports }
+    ensures going { OnOk result (Goes script.now run.new) }
+    ensures made_with { OnOk result (IsWith run.old run.new) }
+    ensures looked { IfOk result (λ found. (before : Bool) →
+        looked (setting_of run.old) script.now place (port_at script.now place)
+        (record { world = world_of run.old; found = before })
+        ≡ record { world = world_of run.new; found = found || before }) }
+    ensures keeps { OnOk result (Keeps (world_of run.old) (world_of run.new)) }
+{
+    if !run.is_open(script, place) {
+        return Ok(false);
+    }
+    match run.receive(alloc, script, place)? {
+        Some(asks) => {
+            do_all(run, alloc, script, place, asks, &Nothing)?;
+            Ok(true)
+        }
+        None => Ok(false),
+    }
+}
+
+/// Each port looks once, in the script's order. Whether there was a notice.
+fn round(run: &mut Run, alloc: Global, script: &Script) -> Result<bool, NoMemory>
+    requires going { Goes script.now run.old }
+    ensures going { OnOk result (Goes script.now run.new) }
+    ensures made_with { OnOk result (IsWith run.old run.new) }
+    ensures looked { IfOk result (λ found. round (setting_of run.old) script.now 0 script.now.ports
+        (record { world = world_of run.old; found = false })
+        ≡ record { world = world_of run.new; found = found }) }
+    ensures keeps { OnOk result (Keeps (world_of run.old) (world_of run.new)) }
+{
+    let mut found = false;
+    for place in 0..script.ports().len() {
+        found = look(run, alloc, script, place as u32)? | found;
+    }
+    Ok(found)
+}
+
+/// Rounds are made until one finds nothing, but no more than so many.
+pub(crate) fn empty(
+    run: &mut Run,
+    alloc: Global,
+    script: &Script,
+    rounds: u32,
+) -> Result<(), NoMemory>
+    requires going { Goes script.now run.old }
+    ensures going { OnOk result (Goes script.now run.new) }
+    ensures made_with { OnOk result (IsWith run.old run.new) }
+    ensures emptied { OnOk result (world_of run.new
+        ≡ emptied_in rounds (setting_of run.old) script.now (world_of run.old)) }
+    ensures keeps { OnOk result (Keeps (world_of run.old) (world_of run.new)) }
+{
+    for _round in 0..rounds {
+        if !round(run, alloc, script)? {
+            return Ok(());
+        }
+    }
+    Ok(())
+}
+
+/// The mailboxes are emptied.
+#[derive(Debug, Drop)]
+pub(crate) struct Emptied {
+    /// In how many rounds at most.
+    pub(crate) rounds: u32,
+}
+
+impl Between for Emptied {
+    ghost then = { λ emptied s script w. emptied_in emptied.rounds s script w };
+
+    fn go(&self, run: &mut Run, alloc: Global, script: &Script) -> Result<(), NoMemory> {
+        empty(run, alloc, script, self.rounds)
+    }
+}

@@ -1,0 +1,263 @@
+//! A run: the plane, and an inspector for each port.
+
+ghost use Rattle.std.specs.Prelude.{◌≡◌, ◌<◌, ◌^◌, ◌∷◌, ◌++◌, [], ℕ, length, All, IfOk, OnOk, IfSome, Some, true};
+ghost use Rattle.script_lines.specs.Limits.{IsAsk};
+ghost use Rattle.inspector_script.specs.Scripts.{opening, closing};
+ghost use Rattle.solo_run.specs.Numbers.{most_frames};
+ghost use Rattle.solo_plane.specs.Soundness.{IsSound};
+ghost use Rattle.script_runs.specs.Schedule.{is_open_port, letters_at};
+ghost use Rattle.netlink_codec.specs.Messages.{first_message};
+ghost use Rattle.place_history.specs.History.{AreLegal};
+ghost use Rattle.place_history.specs.Journeys.{AreSound};
+ghost use Rattle.solo_plane.specs.Closing.{IsGrouped, logs_in};
+ghost use Rattle.solo_plane.specs.Planes.{beginning, with_closed, without_device};
+ghost use Rattle.script_runs.specs.Schedule as schedule;
+
+use crate::inspector::{Inspector, asked, count_call, count_closing, inspectors};
+use hook_chain::Tables;
+use inspector_script::{Asks, Script};
+use packet_entry::{NoMemory, Packet};
+use place_history::Histories;
+use queue_core::each_packet_stays_or_leaves;
+use solo_plane::{Refused, SoloPlane, histories_stay_sound};
+use std::alloc::Global;
+
+/// A run: the plane, and an inspector for each port of the script, in the script's order.
+pub(crate) struct Run {
+    pub(crate) plane: SoloPlane,
+    pub(crate) inspectors: Vec<Inspector>,
+    /// The acknowledgements of one message. The plane's logs have what they say.
+    pub(crate) replies: Vec<u8>,
+}
+
+impl Run {
+    ghost use Rattle.solo_run.specs.Running.{Goes, IsWith, Keeps, KeepsBut, SendsFirst};
+    ghost use Rattle.solo_run.specs.Running.{ReceivesFirst, is_open_at};
+    ghost use Rattle.solo_run.specs.Running.{port_at, setting_of, order_of, world_of};
+
+    /// Nothing has happened yet.
+    pub(crate) fn new(alloc: Global, script: &Script, tables: Tables) -> Result<Run, NoMemory>
+        ensures going { IfOk result (Goes script.now) }
+        ensures setting { IfOk result (λ r. setting_of r ≡ schedule.setting_of script.now tables) }
+        ensures order { IfOk result (λ r. order_of r ≡ script.now.ports) }
+        ensures world { IfOk result (λ r. world_of r ≡ beginning script.now.ports) }
+    {
+        histories_stay_sound();
+        let ports = script.ports();
+        let inspectors = inspectors(alloc, ports.len() as u32)?;
+        let plane = SoloPlane::new(alloc, ports, script.mail(), tables, script.key())?;
+        Ok(Run {
+            plane,
+            inspectors,
+            replies: Vec::new(alloc),
+        })
+    }
+
+    /// A port sends the first message of some bytes, where one stands there: how many bytes it
+    /// uses, and 0 where none does.
+    pub(crate) fn send_first(
+        &mut self,
+        alloc: Global,
+        script: &Script,
+        place: u32,
+        datagram: &[u8],
+    ) -> Result<u32, NoMemory>
+        requires short { length datagram.now < 2 ^ 31 }
+        requires going { Goes script.now self.old }
+        requires place { place < length script.now.ports }
+        requires open { is_open_at script.now (world_of self.old) place ≡ true }
+        ensures going { OnOk result (Goes script.now self.new) }
+        ensures made_with { OnOk result (IsWith self.old self.new) }
+        ensures sent { IfOk result (SendsFirst (setting_of self.old) (port_at script.now place)
+            (first_message datagram.now) (world_of self.old) (world_of self.new)) }
+        ensures keeps { OnOk result (Keeps (world_of self.old) (world_of self.new)) }
+    {
+        let port = script.ports()[place as usize];
+        let used = self.message(alloc, port, datagram)?;
+        if used > 0 {
+            count_call(&mut self.inspectors, place as usize);
+        }
+        Ok(used)
+    }
+
+    /// The same of the plane alone.
+    fn message(&mut self, alloc: Global, port: u32, datagram: &[u8]) -> Result<u32, NoMemory>
+        requires short { length datagram.now < 2 ^ 31 }
+        requires sound { IsSound (setting_of self.old) [] (world_of self.old) }
+        requires open { is_open_port ((world_of self.old).ports port) ≡ true }
+        ensures made_with { OnOk result (IsWith self.old self.new) }
+        ensures sent { IfOk result (SendsFirst (setting_of self.old) port
+            (first_message datagram.now) (world_of self.old) (world_of self.new)) }
+        ensures sound { OnOk result (IsSound (setting_of self.old) [] (world_of self.new)) }
+        ensures whole { OnOk result ((world_of self.new).lost ≡ []) }
+        ensures inspectors { self.new.inspectors.items ≡ self.old.inspectors.items }
+    {
+        each_packet_stays_or_leaves();
+        histories_stay_sound();
+        self.replies.clear();
+        let used = self
+            .plane
+            .message(alloc, port, datagram, &mut self.replies)?;
+        if self.plane.lost() > 0 {
+            return Err(NoMemory);
+        }
+        Ok(used)
+    }
+
+    /// A port closes, and each of its queues ends. Takes no memory.
+    pub(crate) fn close_port(&mut self, script: &Script, place: u32)
+        requires going { Goes script.now self.old }
+        requires place { place < length script.now.ports }
+        requires open { is_open_at script.now (world_of self.old) place ≡ true }
+        ensures going { Goes script.now self.new }
+        ensures made_with { IsWith self.old self.new }
+        ensures world { world_of self.new
+            ≡ with_closed (world_of self.old) (port_at script.now place) }
+        ensures keeps { KeepsBut (port_at script.now place) (world_of self.old)
+            (world_of self.new) }
+    {
+        let port = script.ports()[place as usize];
+        self.plane.close_port(port);
+        count_closing(&mut self.inspectors, place as usize);
+        // What happened so far is sound.
+        let _lost = self.plane.lost();
+    }
+
+    /// A device goes down.
+    pub(crate) fn device_down(&mut self, script: &Script, device: u32) -> Result<(), NoMemory>
+        requires { Goes script.now self.old }
+        ensures going { OnOk result (Goes script.now self.new) }
+        ensures made_with { OnOk result (IsWith self.old self.new) }
+        ensures world { OnOk result
+            (world_of self.new ≡ without_device (world_of self.old) device) }
+        ensures keeps { OnOk result (Keeps (world_of self.old) (world_of self.new)) }
+    {
+        self.plane.device_down(device)?;
+        // What happened so far is sound.
+        let _lost = self.plane.lost();
+        Ok(())
+    }
+
+    /// A packet is fed, and moved on to its rest or its end.
+    pub(crate) fn feed(
+        &mut self,
+        alloc: Global,
+        script: &Script,
+        packet: Packet,
+    ) -> Result<(), NoMemory>
+        requires going { Goes script.now self.old }
+        requires new { packet.visit ≡ 0 }
+        requires few { length (world_of self.old).fed < most_frames }
+        ensures going { OnOk result (Goes script.now self.new) }
+        ensures made_with { OnOk result (IsWith self.old self.new) }
+        ensures world { OnOk result (world_of self.new
+            ≡ schedule.fed (setting_of self.old) (Some packet) (world_of self.old)) }
+        ensures fed { OnOk result ((world_of self.new).fed ≡ (world_of self.old).fed ++ packet ∷ []) }
+        ensures open { OnOk result ((p : ℕ) → is_open_port ((world_of self.new).ports p)
+            ≡ is_open_port ((world_of self.old).ports p)) }
+    {
+        match self.plane.feed(alloc, packet) {
+            Ok(_) => {}
+            Err(Refused { packet }) => {
+                packet.destroy();
+                return Err(NoMemory);
+            }
+        }
+        if self.plane.lost() > 0 {
+            return Err(NoMemory);
+        }
+        Ok(())
+    }
+
+    /// Whether a port is open.
+    pub(crate) fn is_open(&self, script: &Script, place: u32) -> bool
+        requires going { Goes script.now self.now }
+        requires place { place < length script.now.ports }
+        ensures { result ≡ is_open_at script.now (world_of self.now) place }
+    {
+        self.inspectors[place as usize].is_open
+    }
+
+    /// What the inspector of a port asks for when the port opens.
+    pub(crate) fn opening(
+        &self,
+        alloc: Global,
+        script: &Script,
+        place: u32,
+    ) -> Result<Asks, NoMemory>
+        requires going { Goes script.now self.now }
+        requires place { place < length script.now.ports }
+        ensures asks { IfOk result (λ asks. asks ≡ opening script.now place) }
+        ensures fit { IfOk result (All IsAsk) }
+    {
+        self.inspectors[place as usize]
+            .machine
+            .opening(alloc, script)
+    }
+
+    /// What the inspector of a port asks for at the end.
+    pub(crate) fn closing(
+        &self,
+        alloc: Global,
+        script: &Script,
+        place: u32,
+    ) -> Result<Asks, NoMemory>
+        requires going { Goes script.now self.now }
+        requires place { place < length script.now.ports }
+        ensures asks { IfOk result (λ asks. asks ≡ closing script.now place) }
+        ensures fit { IfOk result (All IsAsk) }
+    {
+        self.inspectors[place as usize]
+            .machine
+            .closing(alloc, script)
+    }
+
+    /// A port receives its first notice: what its inspector asks for in answer. `None` exactly
+    /// where the mailbox is empty.
+    pub(crate) fn receive(
+        &mut self,
+        alloc: Global,
+        script: &Script,
+        place: u32,
+    ) -> Result<Option<Asks>, NoMemory>
+        requires going { Goes script.now self.old }
+        requires place { place < length script.now.ports }
+        requires open { is_open_at script.now (world_of self.old) place ≡ true }
+        ensures going { OnOk result (Goes script.now self.new) }
+        ensures made_with { OnOk result (IsWith self.old self.new) }
+        ensures received { IfOk result (λ asks. ReceivesFirst script.now place
+            (port_at script.now place)
+            (letters_at ((world_of self.old).ports (port_at script.now place))) asks
+            (world_of self.old) (world_of self.new)) }
+        ensures fit { IfOk result (λ asks. IfSome asks (All IsAsk)) }
+        ensures keeps { OnOk result (Keeps (world_of self.old) (world_of self.new)) }
+    {
+        let port = script.ports()[place as usize];
+        match self.plane.receive(port)? {
+            Some(letter) => {
+                // What happened so far is sound.
+                let _lost = self.plane.lost();
+                let asks = asked(&mut self.inspectors, alloc, script, place, &letter)?;
+                Ok(Some(asks))
+            }
+            None => Ok(None),
+        }
+    }
+
+    /// Ends the run: what happened.
+    pub(crate) fn close(self, alloc: Global) -> Result<Histories, NoMemory>
+        ensures entries { IfOk result (λ h. IsGrouped (world_of self).entries h.entries) }
+        ensures logs { IfOk result (λ h. h.logs ≡ logs_in (order_of self) (world_of self)) }
+        ensures lost { IfOk result (λ h. h.lost ≡ (world_of self).lost) }
+        ensures legal { IfOk result (λ h. AreLegal h.entries) }
+        ensures sound { IfOk result (λ h. AreSound (setting_of self).tables (setting_of self).key
+            (world_of self).fed h.entries h.lost) }
+    {
+        let Run {
+            plane,
+            inspectors: _inspectors,
+            replies: _replies,
+        } = self;
+        plane.close(alloc)
+    }
+}
