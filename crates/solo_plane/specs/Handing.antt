@@ -1,9 +1,10 @@
 -- What a request lets go on, and what may be lost of it.
-use Rattle.std.specs.Prelude.{◌≡◌, ℕ, List, Bool, ◌||◌, ◌==◌, nat_le, count_by}
+use Rattle.std.specs.Prelude.{◌≡◌, ◌≢◌, ◌⊎◌, ℕ, List, [], ◌∷◌, Bool, ◌||◌, ◌==◌, nat_le, count_by}
 use Rattle.packet_entry.specs.declared.packet.Card.{Card}
 use Rattle.packet_entry.specs.Numbers.{last_visit}
 use Rattle.hook_chain.specs.declared.chain.Decision.{Decision}
 use Rattle.queue_core.specs.Laws.{times, waiting_in}
+use Rattle.queue_core.specs.Step.{Stepped, Way, Gone, Open}
 use Rattle.place_history.specs.declared.entry.Entry.{Entry}
 use Rattle.place_history.specs.Kept.{state_of}
 
@@ -19,3 +20,10 @@ WaitInTime es = (queue : ℕ) →
 -- and none of these has one
 abbrev pub AreInTime : List (Card × Decision) → Type 0
 AreInTime hs = count_by (λ h. is_out_of_time h.0.visit) hs ≡ 0
+
+-- in an arrival's step nothing leaves but this packet, and before its last visit alone it may go on
+abbrev pub LeavesAlone : Card → Stepped → Type 0
+LeavesAlone card s =
+    (s.left ≡ [])
+    ⊎ ((way : Way) × (s.left ≡ (card, way) ∷ [])
+    × ((way ≡ Gone) ⊎ ((way ≡ Open) × (card.visit ≢ last_visit))))

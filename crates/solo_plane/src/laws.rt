@@ -1,6 +1,6 @@
 //! Laws of the definitions, each the contract of a function that does nothing.
 
-ghost use Rattle.std.specs.Prelude.{◌≡◌, ◌<◌, ◌^◌, ◌∷◌, ◌++◌, ℕ, List, [], Option};
+ghost use Rattle.std.specs.Prelude.{◌≡◌, ◌<◌, ◌^◌, ◌∷◌, ◌++◌, ℕ, Bool, List, [], Option};
 ghost use Rattle.packet_entry.specs.declared.packet.Card.{Card};
 ghost use Rattle.netlink_codec.specs.Messages.{NetlinkMessage, Front};
 ghost use Rattle.nfqa_msgs.specs.declared.request.Request.{Request};
@@ -9,13 +9,17 @@ ghost use Rattle.nfqa_msgs.specs.RequestWriting.{spelling, FitsRequest};
 ghost use Rattle.place_history.specs.declared.log.AskWords.TheVariants.{Plain, Raw};
 ghost use Rattle.place_history.specs.declared.entry.Entry.{Entry};
 ghost use Rattle.place_history.specs.History.{AreLegal};
-ghost use Rattle.place_history.specs.Happenings.{closings, downs};
+ghost use Rattle.place_history.specs.Happenings.{all_handed, closings, downs};
+ghost use Rattle.queue_core.specs.State.{Bound};
+ghost use Rattle.queue_core.specs.declared.event.Event.TheVariants.{Arrive, Ask};
+ghost use Rattle.queue_core.specs.Laws.{times, waiting_in};
+ghost use Rattle.queue_core.specs.Step.{step};
 ghost use Rattle.solo_plane.specs.declared.fed.Fed.{Fed};
 ghost use Rattle.solo_plane.specs.declared.setting.Setting.{Setting};
 ghost use Rattle.solo_plane.specs.World.{World};
 ghost use Rattle.solo_plane.specs.Planes.{IsFed, beginning, with_closed, without_device};
 ghost use Rattle.solo_plane.specs.Messages.{Sends, words_of};
-ghost use Rattle.solo_plane.specs.Handing.{WaitInTime};
+ghost use Rattle.solo_plane.specs.Handing.{AreInTime, LeavesAlone, WaitInTime, is_out_of_time};
 ghost use Rattle.solo_plane.specs.Soundness.{IsSound};
 
 use netlink_codec::one_message_in_front;
@@ -72,4 +76,16 @@ pub fn words_are_the_one_spelling()
 {
     spelling_decodes_to_its_request();
     one_message_in_front();
+}
+
+/// In an arrival's step nothing leaves but the packet that arrives, and it goes on only before its
+/// last visit. Where no packet waits that is out of time, a request lets none go on that is.
+pub fn what_goes_on_is_in_time()
+    ensures arrival { (q : Option Bound) (card : Card) (bypass room : Bool) →
+        LeavesAlone card (step q (Arrive card bypass room)) }
+    ensures request { (q : Option Bound) (port call : ℕ) (request : Request) →
+        times (λ number visit. is_out_of_time visit) (waiting_in q) ≡ 0 →
+        AreInTime (all_handed (step q (Ask port call request)).left) }
+{
+    each_packet_stays_or_leaves();
 }

@@ -20,7 +20,9 @@ mod setting;
 mod words;
 
 pub use fed::{Fed, Refused};
-pub use laws::{histories_stay_sound, only_feeding_feeds, words_are_the_one_spelling};
+pub use laws::{
+    histories_stay_sound, only_feeding_feeds, what_goes_on_is_in_time, words_are_the_one_spelling,
+};
 pub use plane::SoloPlane;
 
 #[cfg(test)]

@@ -15,10 +15,10 @@ use Rattle.nfqa_msgs.specs.declared.request.Decoded.{Decoded}
 use Rattle.nfqa_msgs.specs.declared.request.Decoded.TheVariants.{Nothing, Refused, Asked}
 use Rattle.nfqa_msgs.specs.RequestReading.{decoded}
 use Rattle.queue_core.specs.State.{Bound}
-use Rattle.queue_core.specs.declared.event.Event.{Event}
-use Rattle.queue_core.specs.declared.event.Event.TheVariants.{Ask}
-use Rattle.queue_core.specs.Step.{Way, Gone, Open}
-use Rattle.queue_core.specs.Laws.{IsConserving}
+use Rattle.nfqa_msgs.specs.declared.request.Request.{Request}
+use Rattle.queue_core.specs.declared.event.Event.TheVariants.{Arrive, Ask}
+use Rattle.queue_core.specs.Step.{Way, Gone, Open, step}
+use Rattle.queue_core.specs.Laws.{times, waiting_in}
 use Rattle.place_history.specs.declared.histories.Lost.{Lost}
 use Rattle.place_history.specs.declared.log.Did.TheVariants.{Sent}
 use Rattle.place_history.specs.Kept.{state_of}
@@ -29,9 +29,7 @@ use Rattle.solo_plane.specs.Moving.{Carried, carry, carry_on, settled, goes_on, 
 use Rattle.solo_plane.specs.Moving.{arrival_to, arrived, turned_away, room_for, CarriesAll}
 use Rattle.solo_plane.specs.Messages.{CarriesOut, IsSent, Sends, call_at, words_of, answered}
 use Rattle.solo_plane.specs.Messages.{asking, with_ask}
-use Rattle.solo_plane.specs.Handing.{is_out_of_time, AreInTime, WaitInTime}
-use Rattle.solo_plane.proofs.Leaving.{handed_in_time}
-use Rattle.solo_plane.proofs.Sounding.{leaves_one}
+use Rattle.solo_plane.specs.Handing.{is_out_of_time, AreInTime, LeavesAlone, WaitInTime}
 use Rattle.script_runs.specs.Numbers.{enough_arrivals}
 use Rattle.script_runs.specs.Sending.{all_moved, carried_out, errno_of, errno_in, sent}
 use Rattle.solo_run.specs.Running.{SendsFirst}
@@ -101,24 +99,32 @@ settled_alike on more s w card left last (inr (way, one, how)) alike is =
     by_way way (inr (opened, apart)) is =
         on_alike on more w card (route_after s (card, way)) alike (omega (arith, apart, last)) is
 
-pub carry_enough : (memory more : ℕ) (s : Setting) (w : World) (card : Card) (route : Next) →
+-- what the plane's law says of what goes on (`what_goes_on_is_in_time`)
+pub record GoesOnInTime : Type 0 where
+  pub arrival : (q : Option Bound) (card : Card) (bypass room : Bool) →
+      LeavesAlone card (step q (Arrive card bypass room))
+  pub request : (q : Option Bound) (port call : ℕ) (request : Request) →
+      times (λ number visit. is_out_of_time visit) (waiting_in q) ≡ 0 →
+      AreInTime (all_handed (step q (Ask port call request)).left)
+
+pub carry_enough : GoesOnInTime → (memory more : ℕ) (s : Setting) (w : World) (card : Card) (route : Next) →
     card.visit < last_visit → last_visit ≤ card.visit + more →
     (carry memory s w card route).world.lost ≡ [] →
     carry memory s w card route ≡ carry more s w card route
-carry_enough zero zero s w card route early enough is = absurd (omega (arith, early, enough))
-carry_enough (suc memory) zero s w card route early enough is =
+carry_enough laws zero zero s w card route early enough is = absurd (omega (arith, early, enough))
+carry_enough laws (suc memory) zero s w card route early enough is =
     absurd (omega (arith, early, enough))
-carry_enough zero (suc more) s w card Released early enough is = refl
-carry_enough zero (suc more) s w card (To queue bypass table) early enough is =
+carry_enough laws zero (suc more) s w card Released early enough is = refl
+carry_enough laws zero (suc more) s w card (To queue bypass table) early enough is =
     absurd (no_more w.lost _ is)
-carry_enough (suc memory) (suc more) s w card Released early enough is = refl
-carry_enough (suc memory) (suc more) s w card (To queue bypass table) early enough is =
+carry_enough laws (suc memory) (suc more) s w card Released early enough is = refl
+carry_enough laws (suc memory) (suc more) s w card (To queue bypass table) early enough is =
     let a = arrival_to queue bypass table card in
     settled_alike (carry memory s) (carry more s) s (arrived s w a) a.card (turned_away s w a)
     (omega (arith, early))
-    (leaves_one (state_of w.entries queue) a.card bypass (room_for s w a)).one
+    (laws.arrival (state_of w.entries queue) a.card bypass (room_for s w a))
     (λ next sooner whole.
-    carry_enough memory more s (arrived s w a) a.card next sooner (omega (arith, enough)) whole)
+    carry_enough laws memory more s (arrived s w a) a.card next sooner (omega (arith, enough)) whole)
     is
 
 -- ---- packets that a request lets go on
@@ -133,57 +139,56 @@ once_0 false is = refl
 visit_in_time : (visit : ℕ) → is_out_of_time visit ≡ false → visit < last_visit
 visit_in_time visit is = grind (arith, nat_tests)
 
-one_alike : (memory : ℕ) (s : Setting) (w : World) (card : Card) (route : Option Next) →
+one_alike : GoesOnInTime → (memory : ℕ) (s : Setting) (w : World) (card : Card) (route : Option Next) →
     card.visit < last_visit → (carry_on memory s w card route).world.lost ≡ [] →
     carry_on memory s w card route ≡ carry_on enough_arrivals s w card route
-one_alike memory s w card route early is =
+one_alike laws memory s w card route early is =
     on_alike (carry memory s) (carry enough_arrivals s) w card route
     (λ next sooner whole.
-    carry_enough memory enough_arrivals s w card next sooner (omega arith) whole)
+    carry_enough laws memory enough_arrivals s w card next sooner (omega arith) whole)
     early is
 
-pub all_enough : (s : Setting) (hs : List (Card × Decision)) (w after : World) → AreInTime hs →
+pub all_enough : GoesOnInTime → (s : Setting) (hs : List (Card × Decision)) (w after : World) → AreInTime hs →
     CarriesAll s hs w after → after.lost ≡ [] → (w.lost ≡ []) × (after ≡ all_moved s hs w)
-all_enough s [] w after in_time carries whole =
+all_enough laws s [] w after in_time carries whole =
     (ap (λ (v : World). v.lost) (sym carries) ∙ whole, carries)
-all_enough s (h ∷ hs) w after in_time (memory, carries) whole =
+all_enough laws s (h ∷ hs) w after in_time (memory, carries) whole =
     let both = sum_by-cons (λ (g : Card × Decision). once (is_out_of_time g.0.visit)) h hs in
     let first : once (is_out_of_time h.0.visit) ≡ 0 = omega (arith, both, in_time) in
     let rest : AreInTime hs = omega (arith, both, in_time) in
     let early = visit_in_time h.0.visit (once_0 _ first) in
     let route = onward_of s.tables s.key h.0 h.1 in
     let mid = carry_on memory s w h.0 route in
-    let later = all_enough s hs mid.world after rest carries whole in (
+    let later = all_enough laws s hs mid.world after rest carries whole in (
       on_kept (carry memory s) (carry_kept memory s) w h.0 route later.0,
       later.1 ∙ ap (λ (c : Carried). all_moved s hs c.world)
-          (one_alike memory s w h.0 route early later.0),
+          (one_alike laws memory s w h.0 route early later.0),
     )
 
 -- ---- messages
 
 out_enough : (s : Setting) (port call : ℕ) (d : Decoded) (old between : World) (errno : ℕ) →
-    ((q : Option Bound) (e : Event) → IsConserving q e) → WaitInTime old.entries →
+    GoesOnInTime → WaitInTime old.entries →
     CarriesOut s port call d old between errno → between.lost ≡ [] →
     (between ≡ carried_out s port call d old) × (errno ≡ errno_of port call d old)
-out_enough s port call Nothing old between errno conserves wait is whole = (is.1, is.0)
-out_enough s port call (Refused refusal) old between errno conserves wait is whole = (is.1, is.0)
-out_enough s port call (Asked request) old between errno conserves wait is whole =
+out_enough s port call Nothing old between errno laws wait is whole = (is.1, is.0)
+out_enough s port call (Refused refusal) old between errno laws wait is whole = (is.1, is.0)
+out_enough s port call (Asked request) old between errno laws wait is whole =
     let q = state_of old.entries (queue_of request) in (
-      (all_enough s (all_handed (asking old port call request).left)
+      (all_enough laws s (all_handed (asking old port call request).left)
           (with_ask old port call request) between
-          (handed_in_time q port call request (conserves q (Ask port call request))
-          (wait (queue_of request))) is.moved whole).1,
+          (laws.request q port call request (wait (queue_of request))) is.moved whole).1,
       sym (ap errno_in is.reply),
     )
 
 sent_enough : (s : Setting) (port : ℕ) (m : NetlinkMessage) (old new : World)
-    (before after : List ℕ) → ((q : Option Bound) (e : Event) → IsConserving q e) →
+    (before after : List ℕ) → GoesOnInTime →
     WaitInTime old.entries → IsSent s port m old new before after → new.lost ≡ [] →
     new ≡ sent s port m old
-sent_enough s port m old new before after conserves wait is whole =
+sent_enough s port m old new before after laws wait is whole =
     let call = call_at (old.ports port) in
     let d = decoded m in
-    let out = out_enough s port call d old is.between is.errno conserves wait is.carried_out
+    let out = out_enough s port call d old is.between is.errno laws wait is.carried_out
     (ap (λ (v : World). v.lost) (sym is.logged) ∙ whole) in
     is.logged
     ∙ ap (λ (errno : ℕ). at_port port (having_done (Sent call (words_of port call m.whole d)
@@ -193,9 +198,9 @@ sent_enough s port m old new before after conserves wait is whole =
 
 pub sends_enough : (s : Setting) (port : ℕ) (front : Option (NetlinkMessage × ℕ))
     (old new : World) (before after : List ℕ) (used : ℕ) →
-    ((q : Option Bound) (e : Event) → IsConserving q e) → WaitInTime old.entries →
+    GoesOnInTime → WaitInTime old.entries →
     Sends s port front old new before after used → new.lost ≡ [] →
     SendsFirst s port front old new used
-sends_enough s port None old new before after used conserves wait is whole = (is.0, is.1)
-sends_enough s port (Some (m, n)) old new before after used conserves wait is whole =
-    (is.0, sent_enough s port m old new before after conserves wait is.1 whole)
+sends_enough s port None old new before after used laws wait is whole = (is.0, is.1)
+sends_enough s port (Some (m, n)) old new before after used laws wait is whole =
+    (is.0, sent_enough s port m old new before after laws wait is.1 whole)

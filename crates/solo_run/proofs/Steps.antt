@@ -21,7 +21,7 @@ use Rattle.script_runs.specs.Numbers.{enough_arrivals}
 use Rattle.script_runs.specs.Schedule.{is_received, fed}
 use Rattle.solo_run.specs.Running.{IsGoing, Keeps, KeepsBut, mind_of, mind_at, port_at}
 use Rattle.solo_run.specs.declared.inspector.Inspector.{Inspector}
-use Rattle.solo_run.proofs.Enough.{carry_enough}
+use Rattle.solo_run.proofs.Enough.{GoesOnInTime, carry_enough}
 use Rattle.solo_run.proofs.Minds.{carry_leaves}
 use Rattle.solo_run.proofs.Going.{goes_same, goes_at}
 
@@ -102,11 +102,11 @@ down_goes script s old new minds device going is sound =
 
 -- ---- a packet is fed
 
-fed_world : (s : Setting) (old : World) (card : Card) (new : World) (f : Fed) →
+fed_world : GoesOnInTime → (s : Setting) (old : World) (card : Card) (new : World) (f : Fed) →
     card.visit ≡ 0 → IsFed s old card new f → new.lost ≡ [] →
     new ≡ fed s (Some card) old
-fed_world s old card new f fresh is whole =
-    let enough = carry_enough (suc is.memory) enough_arrivals s (entered old card) card
+fed_world laws s old card new f fresh is whole =
+    let enough = carry_enough laws (suc is.memory) enough_arrivals s (entered old card) card
     (next s.tables s.key card 1) (omega (arith, fresh)) (omega arith)
     (ap (λ (c : Carried). c.world.lost) is.moved ∙ whole) in
     ap (λ (c : Carried). c.world) (sym is.moved ∙ enough)
@@ -129,10 +129,10 @@ pub record Feeds (s : Setting) (card : Card) (old new : World) : Type 0 where
   pub cards : new.fed ≡ old.fed ++ card ∷ []
   pub minds : (place p : ℕ) → mind_of place (new.ports p) ≡ mind_of place (old.ports p)
 
-pub feeds : (s : Setting) (old : World) (card : Card) (new : World) (f : Fed) →
+pub feeds : GoesOnInTime → (s : Setting) (old : World) (card : Card) (new : World) (f : Fed) →
     card.visit ≡ 0 → IsFed s old card new f → new.lost ≡ [] → Feeds s card old new
-feeds s old card new f fresh is whole = record {
-  world = fed_world s old card new f fresh is whole;
+feeds laws s old card new f fresh is whole = record {
+  world = fed_world laws s old card new f fresh is whole;
   cards = fed_cards s old card new f is;
   minds = fed_minds s old card new f is;
 }

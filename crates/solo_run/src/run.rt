@@ -18,8 +18,7 @@ use hook_chain::Tables;
 use inspector_script::{Asks, Script};
 use packet_entry::{NoMemory, Packet};
 use place_history::Histories;
-use queue_core::each_packet_stays_or_leaves;
-use solo_plane::{Refused, SoloPlane, histories_stay_sound};
+use solo_plane::{Refused, SoloPlane, histories_stay_sound, what_goes_on_is_in_time};
 use std::alloc::Global;
 
 /// A run: the plane, and an inspector for each port of the script, in the script's order.
@@ -92,8 +91,8 @@ impl Run {
         ensures whole { OnOk result ((world_of self.new).lost ≡ []) }
         ensures inspectors { self.new.inspectors.items ≡ self.old.inspectors.items }
     {
-        each_packet_stays_or_leaves();
         histories_stay_sound();
+        what_goes_on_is_in_time();
         self.replies.clear();
         let used = self
             .plane
@@ -156,6 +155,7 @@ impl Run {
         ensures open { OnOk result ((p : ℕ) → is_open_port ((world_of self.new).ports p)
             ≡ is_open_port ((world_of self.old).ports p)) }
     {
+        what_goes_on_is_in_time();
         match self.plane.feed(alloc, packet) {
             Ok(_) => {}
             Err(Refused { packet }) => {

@@ -3,15 +3,22 @@ use Rattle.solo_plane.specs.Shown.{world_in}
 use Rattle.solo_run.specs.Running.{world_of}
 use Rattle.solo_run.specs.Running as run
 use Rattle.solo_run.specs.declared.inspector.Inspector.{Inspector}
+use Rattle.solo_run.proofs.Enough.{GoesOnInTime}
 use Rattle.solo_run.proofs.Going.{goes_as}
 use Rattle.solo_run.proofs.Sent.{none_lost}
 use Rattle.solo_run.proofs.Steps.{Feeds, feeds, fed_goes}
 use Rattle.solo_run.proofs.run.Run.feed.Goals as goal
 
+in_time : (c : goal.Else-lost-gt0) → GoesOnInTime
+in_time c = record {
+  arrival = c.what_goes_on_is_in_time.ensures.arrival;
+  request = c.what_goes_on_is_in_time.ensures.request;
+}
+
 feeds_so : (c : goal.Else-lost-gt0) → Feeds (run.setting_of c.args.self.now) c.args.packet
     (world_of c.args.self.now) (world_in c.feed.new.self)
 feeds_so c =
-    feeds (run.setting_of c.args.self.now) (world_of c.args.self.now) c.args.packet
+    feeds (in_time c) (run.setting_of c.args.self.now) (world_of c.args.self.now) c.args.packet
     (world_in c.feed.new.self) c.in-Ok.field-0 c.requires.new c.in-Ok.ensures.fed
     (none_lost _ _ c.lost.ensures.count c.if-lost-gt0.false)
 

@@ -1,0 +1,12 @@
+use Rattle.queue_core.specs.declared.event.Event.TheVariants.{Ask}
+use Rattle.solo_plane.proofs.Leaving.{handed_in_time}
+use Rattle.solo_plane.proofs.Sounding.{leaves_one}
+use Rattle.solo_plane.proofs.laws.what_goes_on_is_in_time.Goals as goal
+
+pub returns-clause-arrival : goal.returns-clause-arrival
+returns-clause-arrival c q card bypass room = (leaves_one q card bypass room).one
+
+pub returns-clause-request : goal.returns-clause-request
+returns-clause-request c q port call request none =
+    handed_in_time q port call request
+    (c.each_packet_stays_or_leaves.ensures q (Ask port call request)) none
