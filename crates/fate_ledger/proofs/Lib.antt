@@ -8,3 +8,7 @@ pub mod LastEvents
 pub mod Releasing
 pub mod Waiting
 pub mod Apart
+pub mod Holding
+pub mod Origins
+pub mod Payloads
+pub mod Lengths

@@ -34,14 +34,14 @@ in_order link (f ∷ fs) (l ∷ ls) same =
     ]
 
 -- bytes are equal to themselves, and to no others
-equal_bytes : (xs ys : List ℕ) → xs ≡ ys → bytes_eq xs ys ≡ true
+pub equal_bytes : (xs ys : List ℕ) → xs ≡ ys → bytes_eq xs ys ≡ true
 equal_bytes xs ys same = subst (λ (zs : List ℕ). bytes_eq xs zs ≡ true) same (own xs)
   where
     own : (xs : List ℕ) → bytes_eq xs xs ≡ true
     own [] = refl
     own (x ∷ xs) = rw (eq-eqb x x refl) (own xs)
 
-unequal_bytes : (xs ys : List ℕ) → bytes_eq xs ys ≡ true → xs ≡ ys
+pub unequal_bytes : (xs ys : List ℕ) → bytes_eq xs ys ≡ true → xs ≡ ys
 unequal_bytes [] [] same = refl
 unequal_bytes [] (y ∷ ys) same = absurd (cc)
 unequal_bytes (x ∷ xs) [] same = absurd (cc)

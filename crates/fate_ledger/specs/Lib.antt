@@ -4,3 +4,4 @@ pub mod Released
 pub mod Fates
 pub mod Following
 pub mod Laws
+pub mod Payloads

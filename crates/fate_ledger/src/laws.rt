@@ -1,6 +1,12 @@
 //! Laws of the definitions, each the contract of a function that does nothing.
 
-ghost use Rattle.std.specs.Prelude.{◌≡◌, ◌≢◌, ◌+◌, ℕ, List, Some, length, slice_get, filter, map};
+ghost use Rattle.std.specs.Prelude.{◌≡◌, ◌≢◌, ◌≤◌, ◌+◌, ℕ, List, Some, length, slice_get, filter};
+ghost use Rattle.std.specs.Prelude.{map, All, Bool, true};
+ghost use Rattle.packet_entry.specs.Numbers.{longest_packet, longest_payload};
+ghost use Rattle.pcap_io.specs.declared.capture.Capture.{Capture as ACapture};
+ghost use Rattle.pcap_io.specs.Text.{IsHeld};
+ghost use Rattle.fate_ledger.specs.Fates.{happenings};
+ghost use Rattle.fate_ledger.specs.Payloads.{AreRead, AreShort, IsPayload};
 ghost use Rattle.std.specs.List.{zip};
 ghost use Rattle.packet_entry.specs.declared.packet.Card.{Card as ACard};
 ghost use Rattle.hook_chain.specs.declared.rule.Rule.{Rule as ARule};
@@ -68,4 +74,37 @@ pub fn released_frames_are_those_let_go()
         (filter (λ p. is_release p.1.fate) (zip frames lines)) }
     ensures each { (link : ℕ) (f : AFrame) (l : ALine) →
         IsWritten link f l (released.written link f l) }
+{}
+
+/// What holds of the number and the bytes of each packet that entered, and of each payload that may
+/// come with a verdict, holds of the packet of each event in sound histories.
+pub fn what_holds_of_packets_stays_so()
+    ensures { (tables : List (List ARule)) (key : ℕ) (entered : List ACard)
+        (es : List AnEntry) (lost : List ALost) (test : ℕ → List ℕ → Bool) →
+        ((number : ℕ) (bytes : List ℕ) → length bytes ≤ longest_payload →
+        test number bytes ≡ true) →
+        All (λ (c : ACard). test c.number c.bytes ≡ true) entered → AreShort es →
+        AreSound tables key entered es lost →
+        All (λ (h : AHappening). test h.card.number h.card.bytes ≡ true) (happenings es) }
+{}
+
+/// Where the packets that entered were read with the capture's frames, the payload of each line in
+/// sound histories is the packet that its frame was read with, or came with a verdict, unless the
+/// packet has no event. So no payload is longer than a frame may be, nor is a released frame, which
+/// has it behind its link header: the released capture can be written.
+pub fn payloads_were_read_or_given()
+    ensures each { (tables : List (List ARule)) (key link : ℕ) (entered : List ACard)
+        (h : AllHistories) (frames : List AFrame) → AreRead link frames entered →
+        AreShort h.entries → AreSound tables key entered h.entries h.lost →
+        (place : ℕ) (f : AFrame) (l : ALine) → slice_get frames place ≡ Some f →
+        slice_get (fates h frames) place ≡ Some l → IsPayload link f l }
+    ensures fit { (tables : List (List ARule)) (key link : ℕ) (entered : List ACard)
+        (h : AllHistories) (frames : List AFrame) → AreRead link frames entered →
+        AreShort h.entries → AreSound tables key entered h.entries h.lost →
+        All (λ (f : AFrame). length f.bytes ≤ longest_packet) frames →
+        All (λ (l : ALine). length l.payload ≤ longest_packet) (fates h frames) }
+    ensures held { (tables : List (List ARule)) (key : ℕ) (entered : List ACard)
+        (h : AllHistories) (c : ACapture) → AreRead c.link c.frames entered →
+        AreShort h.entries → AreSound tables key entered h.entries h.lost → IsHeld c →
+        IsHeld (released.released c (fates h c.frames)) }
 {}

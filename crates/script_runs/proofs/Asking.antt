@@ -1,7 +1,7 @@
 -- How ports of a run do what is due: message by message.
-use Rattle.std.proofs.Common.{◌≡◌, ◌⊎◌, ◌∙◌, ℕ, List, [], ◌∷◌, ◌++◌}
+use Rattle.std.proofs.Common.{◌≡◌, ◌≤◌, ◌⊎◌, ◌∙◌, ◌+◌, ◌*◌, ℕ, suc, List, [], ◌∷◌, ◌++◌}
 use Rattle.std.proofs.Common.{Option, Some, None, Bool, true, false, refl, sym, ap, subst, inl, inr}
-use Rattle.std.specs.Prelude.{map, not, ◌==◌, if◌then◌else◌, option_map}
+use Rattle.std.specs.Prelude.{map, not, ◌==◌, if◌then◌else◌, option_map, length}
 use Rattle.std.proofs.lemmas.Bool.{eq-eqb, eqb-true, cases_Bool}
 use Rattle.packet_entry.specs.declared.letter.Letter.{Letter}
 use Rattle.netlink_codec.specs.Messages.{NetlinkMessage}
@@ -15,6 +15,7 @@ use Rattle.place_history.specs.Journeys.{Arrival}
 use Rattle.place_history.specs.Kept.{state_of}
 use Rattle.place_history.specs.Happenings.{all_handed}
 use Rattle.script_lines.specs.declared.ask.Ask.TheVariants.{Words, Close}
+use Rattle.script_lines.specs.declared.line.Down.{Down}
 use Rattle.inspector_script.specs.Scripts.{ScriptValue}
 use Rattle.solo_plane.specs.declared.setting.Setting.{Setting}
 use Rattle.solo_plane.specs.World.{World, Port, at_port, changed_at, having_done, received, closed}
@@ -27,9 +28,9 @@ use Rattle.script_runs.specs.Sending.{all_sent, done, all_done}
 use Rattle.script_runs.specs.Schedule.{is_open_port}
 use Rattle.script_runs.specs.Log.{Note, Got, Begun, Spoke, Shut, Due, Still, Message, Standing}
 use Rattle.script_runs.specs.Log.{all_due, is_some_due, after}
-use Rattle.script_runs.specs.Log.{IsNext, IsErrno}
+use Rattle.script_runs.specs.Log.{IsNext, IsErrno, standing}
 use Rattle.script_runs.proofs.Carrying.{all_moved_keeps}
-use Rattle.script_runs.proofs.Reaching.{Stand, full, IsAt, noted, put, is_in}
+use Rattle.script_runs.proofs.Reaching.{Stand, full, IsAt, noted, put, put_same, is_in}
 use Rattle.script_runs.proofs.Reaching.{AreAt, all_push, all_arrive, all_as}
 
 -- what is known of entries, ports and what ports did
@@ -56,6 +57,110 @@ pub record Keeps (s : Setting) (P : Kept) : Type 0 where
   pub falls : (w : World) (notes : ℕ → List Note) (device : ℕ) → P w.entries w.ports notes →
       P (without_device w device).entries (without_device w device).ports notes
 
+-- ---- how far a run is
+
+-- Whether all ports have opened; the ranks and the time that what happens next has; and the `down`
+-- lines that took effect.
+pub record Stage : Type 0 where
+  pub is_over : Bool
+  pub early : ℕ
+  pub late : ℕ
+  pub time : ℕ
+  pub fallen : List Down
+
+-- all ports have opened
+abbrev pub IsOver : ScriptValue → Stage → Type 0
+IsOver script st = (st.is_over ≡ true) × (st.early ≡ length script.ports)
+
+-- nothing arrives before that
+abbrev pub MayArrive : ScriptValue → Stage → Arrival → Type 0
+MayArrive script st a = IsOver script st × (2 ≤ a.card.visit)
+
+-- and what arrives for the first time is of the frame that is fed
+pub record MayEnter (script : ScriptValue) (st : Stage) (a : Arrival) : Type 0 where
+  pub over : IsOver script st
+  pub visit : a.card.visit ≡ 1
+  pub late : st.late ≡ 0
+  pub time : st.time ≤ 2 * a.card.number
+
+abbrev pub with_fed : Stage → ℕ → Stage
+with_fed st number = record st { time = 2 * number + 1 }
+
+-- the script's port at this place sends a message of its end, or another one
+abbrev pub MaySpeak : ScriptValue → Stage → ℕ → Bool → Type 0
+MaySpeak script st place true = IsOver script st × (st.late ≡ suc place)
+MaySpeak script st place false = IsOver script st ⊎ ((st.is_over ≡ false) × (st.early ≡ place))
+
+-- what is known of entries, ports and what ports did, at each stage
+abbrev pub Staged : Type 1
+Staged = Stage → Kept
+
+-- a stage that isn't before this one, with the same lines
+pub record Follows (script : ScriptValue) (st u : Stage) : Type 0 where
+  pub early : st.early ≤ u.early
+  pub late : st.late ≤ u.late
+  pub time : st.time ≤ u.time
+  pub fallen : st.fallen ≡ u.fallen
+
+abbrev pub with_fallen : Stage → Down → Stage
+with_fallen st d =
+    record st { time = 2 * d.after + 1; fallen = st.fallen ++ d ∷ [] }
+
+-- Each move that a stage allows keeps it, and so does a stage that follows.
+pub record Goes (s : Setting) (script : ScriptValue) (f : ℕ → ℕ) (P : Staged) : Type 0 where
+  pub arrives : (st : Stage) (w : World) (notes : ℕ → List Note) (a : Arrival) →
+      MayArrive script st a → P st w.entries w.ports notes →
+      P st (arrived s w a).entries (arrived s w a).ports notes
+  pub enters : (st : Stage) (w : World) (notes : ℕ → List Note) (a : Arrival) →
+      MayEnter script st a → P st w.entries w.ports notes →
+      P (with_fed st a.card.number) (arrived s w a).entries (arrived s w a).ports notes
+  pub begins : (st : Stage) (es : List Entry) (ports : ℕ → Option Port) (notes : ℕ → List Note)
+      (port : ℕ) → is_in script f port ≡ true → P st es ports notes →
+      P st es ports (noted port Begun notes)
+  pub speaks : (st : Stage) (w : World) (notes : ℕ → List Note) (port call : ℕ)
+      (m : NetlinkMessage) (at_end : Bool) → is_in script f port ≡ true →
+      is_open_port (w.ports port) ≡ true → MaySpeak script st (f port) at_end →
+      is_some_due (standing script (f port) port (notes port)).owed ≡ not at_end →
+      P st w.entries w.ports notes →
+      P st (sent_as s port call m w).entries (sent_as s port call m w).ports
+      (noted port (Spoke call m (errno_of port call (decoded m) w)) notes)
+  pub gets : (st : Stage) (w : World) (notes : ℕ → List Note) (port : ℕ) (held : Port)
+      (l : Letter) (ls : List Letter) → is_in script f port ≡ true → IsOver script st →
+      w.ports port ≡ Some held → held.letters ≡ l ∷ ls → P st w.entries w.ports notes →
+      P st w.entries (at_port port received w).ports (noted port (Got l) notes)
+  pub closes : (st : Stage) (w : World) (notes : ℕ → List Note) (port : ℕ) →
+      is_in script f port ≡ true → is_open_port (w.ports port) ≡ true →
+      MaySpeak script st (f port) true → P st w.entries w.ports notes →
+      P st (with_closed w port).entries (with_closed w port).ports (noted port Shut notes)
+  pub falls : (st : Stage) (w : World) (notes : ℕ → List Note) (d : Down) → IsOver script st →
+      st.late ≡ 0 → st.time ≤ 2 * d.after + 1 → P st w.entries w.ports notes →
+      P (with_fallen st d) (without_device w d.device).entries (without_device w d.device).ports
+      notes
+  pub goes_on : (st u : Stage) (es : List Entry) (ports : ℕ → Option Port)
+      (notes : ℕ → List Note) → Follows script st u → st.is_over ≡ u.is_over → P st es ports notes →
+      P u es ports notes
+  -- the last port has opened, and none owes anything
+  pub opens_up : (st u : Stage) (es : List Entry) (ports : ℕ → Option Port)
+      (notes : ℕ → List Note) → Follows script st u → IsOver script u →
+      ((p : ℕ) → is_in script f p ≡ true → (standing script (f p) p (notes p)).owed ≡ []) →
+      P st es ports notes → P u es ports notes
+
+-- what each move keeps, whatever the stage
+pub always_goes : (s : Setting) (script : ScriptValue) (f : ℕ → ℕ) (P : Kept) → Keeps s P →
+    Goes s script f (λ st. P)
+always_goes s script f P k = record {
+  arrives = λ st w notes a may is. k.arrives w notes a is;
+  enters = λ st w notes a may is. k.arrives w notes a is;
+  begins = λ st es ports notes port i is. k.begins es ports notes port is;
+  speaks = λ st w notes port call m at_end i op may due is. k.speaks w notes port call m op is;
+  gets = λ st w notes port held l ls i over there mail is.
+      k.gets w notes port held l ls there mail is;
+  closes = λ st w notes port i op may is. k.closes w notes port op is;
+  falls = λ st w notes d over late time is. k.falls w notes d.device is;
+  goes_on = λ st u es ports notes follows same is. is;
+  opens_up = λ st u es ports notes follows over idle is. is;
+}
+
 -- ---- what is due
 
 -- what a port does stands in what it owes, before this end, or is its end
@@ -67,6 +172,10 @@ abbrev pub side : Side → List Due → Stand
 side (Now ends) due = record { owed = due; ends = ends; is_open = true; is_fresh = false }
 side AtEnd due = record { owed = []; ends = due; is_open = true; is_fresh = false }
 
+abbrev pub at_its_end : Side → Bool
+at_its_end (Now ends) = false
+at_its_end AtEnd = true
+
 -- the same, where an ask has just been taken up or not
 abbrev pub cut_side : Side → List Due → Bool → Stand
 cut_side x due fresh = record (side x due) { is_fresh = fresh }
@@ -74,6 +183,11 @@ cut_side x due fresh = record (side x due) { is_fresh = fresh }
 open_is : (x : Side) (ds : List Due) (fresh : Bool) → (cut_side x ds fresh).is_open ≡ true
 open_is (Now ends) ds fresh = refl
 open_is AtEnd ds fresh = refl
+
+owes_so : (x : Side) (d : Due) (ds : List Due) (fresh : Bool) →
+    is_some_due (cut_side x (d ∷ ds) fresh).owed ≡ not (at_its_end x)
+owes_so (Now ends) d ds fresh = refl
+owes_so AtEnd d ds fresh = refl
 
 unfresh : (x : Side) (due : List Due) → side x due ≡ cut_side x due false
 unfresh (Now ends) due = refl
@@ -130,12 +244,13 @@ pub shut_same : (x : Side) (held : Port) (ds es : List Due) →
 shut_same (Now ends) held ds es is = is
 shut_same AtEnd held ds es is = is
 
-module _ (s : Setting) (script : ScriptValue) (f : ℕ → ℕ) (P : Kept) (K : Keeps s P) where
+module _ (s : Setting) (script : ScriptValue) (f : ℕ → ℕ) (P : Staged) (K : Goes s script f P)
+    (st : Stage) where
   -- A run has come here: something is known, each port did what was next, and nobody else did
   -- anything.
   pub record Reached (es : List Entry) (ports : ℕ → Option Port) (T : ℕ → Stand) : Type 0 where
     pub notes : ℕ → List Note
-    pub kept : P es ports notes
+    pub kept : P st es ports notes
     pub are : AreAt script f notes ports T
     pub none : (p : ℕ) → is_in script f p ≡ false → notes p ≡ []
 
@@ -162,10 +277,11 @@ module _ (s : Setting) (script : ScriptValue) (f : ℕ → ℕ) (P : Kept) (K : 
           absurd (cc)
       by (inr h) = rw h (none p out)
 
-  pub arrive_reached : (T : ℕ → Stand) (w : World) (a : Arrival) → At w T → At (arrived s w a) T
-  arrive_reached T w a r = record {
+  pub arrive_reached : (T : ℕ → Stand) (w : World) (a : Arrival) → MayArrive script st a →
+      At w T → At (arrived s w a) T
+  arrive_reached T w a may r = record {
     notes = r.notes;
-    kept = K.arrives w r.notes a r.kept;
+    kept = K.arrives st w r.notes a may r.kept;
     are = all_arrive script f r.notes T (state_of w.entries a.queue) a
         (left_at_once w a (room_for s w a)) w.ports r.are;
     none = r.none;
@@ -178,7 +294,7 @@ module _ (s : Setting) (script : ScriptValue) (f : ℕ → ℕ) (P : Kept) (K : 
       At w (put port (cut_then x (cut_of port (w.ports port) words) ds) T)
   begin_reached T x port words ds w i r = record {
     notes = noted port Begun r.notes;
-    kept = K.begins w.entries w.ports r.notes port r.kept;
+    kept = K.begins st w.entries w.ports r.notes port i r.kept;
     are = record {
       at = λ p j. subst (λ o. IsAt script (f p) p (noted port Begun r.notes p) o
           (put port (cut_then x (cut_of port (w.ports port) words) ds) T p))
@@ -221,7 +337,8 @@ module _ (s : Setting) (script : ScriptValue) (f : ℕ → ℕ) (P : Kept) (K : 
       (all_handed (asking w port call request).left) (with_ask w port call request) are
 
   -- what happens between leaves what the port did
-  same_call : (place port : ℕ) (notes : List Note) (before o : Option Port) (t : Stand) (held : Port) →
+  same_call : (place port : ℕ) (notes : List Note) (before o : Option Port) (t : Stand)
+      (held : Port) →
       IsAt script place port notes before t → IsAt script place port notes o t → o ≡ Some held →
       call_at before ≡ next_call held.dids
   same_call place port notes before o t held was is there =
@@ -239,8 +356,10 @@ module _ (s : Setting) (script : ScriptValue) (f : ℕ → ℕ) (P : Kept) (K : 
 
   send_reached : (T : ℕ → Stand) (x : Side) (port : ℕ) (m : NetlinkMessage) (ds : List Due)
       (fresh : Bool) (w : World) → is_in script f port ≡ true →
-      At w (put port (cut_side x (Message m ∷ ds) fresh) T) → At (sent s port m w) (put port (side x ds) T)
-  send_reached T x port m ds fresh w i r =
+      MaySpeak script st (f port) (at_its_end x) →
+      At w (put port (cut_side x (Message m ∷ ds) fresh) T) →
+      At (sent s port m w) (put port (side x ds) T)
+  send_reached T x port m ds fresh w i may r =
       let call = call_at (w.ports port) in
       let errno = errno_of port call (decoded m) w in
       let between = carried_out s port call (decoded m) w in
@@ -248,15 +367,21 @@ module _ (s : Setting) (script : ScriptValue) (f : ℕ → ℕ) (P : Kept) (K : 
       let are = carried_are U r.notes port call (decoded m) w r.are in
       record {
         notes = noted port (Spoke call m errno) r.notes;
-        kept = K.speaks w r.notes port call m
+        kept = K.speaks st w r.notes port call m (at_its_end x) i
             (is_open (f port) port (r.notes port) (w.ports port) (U port) (r.are.at port i)
-            (rw (eq-eqb port port refl) (open_is x (Message m ∷ ds) fresh))) r.kept;
-        are = all_push script f port (cut_side x (Message m ∷ ds) fresh) (side x ds) (Spoke call m errno)
+            (rw (eq-eqb port port refl) (open_is x (Message m ∷ ds) fresh))) may
+            (ap (λ (t : Standing). is_some_due t.owed) (r.are.at port i).stands
+            ∙ ap (λ (t : Stand). is_some_due t.owed)
+            (put_same port (cut_side x (Message m ∷ ds) fresh) T)
+            ∙ owes_so x (Message m) ds fresh) r.kept;
+        are = all_push script f port (cut_side x (Message m ∷ ds) fresh) (side x ds)
+            (Spoke call m errno)
             (having_done (Sent call (words_of port call m.whole (decoded m)) (answered m errno)))
             r.notes between.ports T are
             (λ held there shut. (
               spoke_may held x m ds call errno fresh
-                  (same_call (f port) port (r.notes port) (w.ports port) (between.ports port) (U port)
+                  (same_call (f port) port (r.notes port) (w.ports port) (between.ports port)
+                  (U port)
                   held (r.are.at port i) (are.at port i) there)
                   (errno_is port call (decoded m) w),
               spoke_leads script (f port) port call m errno held x ds fresh,
@@ -274,48 +399,51 @@ module _ (s : Setting) (script : ScriptValue) (f : ℕ → ℕ) (P : Kept) (K : 
       At (behind w) (put port (side x ds) T)
 
   sends_reached : (behind : World → World) (T : ℕ → Stand) (x : Side) (port : ℕ) →
-      Stays behind port x T → is_in script f port ≡ true → (ms : List NetlinkMessage) (ds : List Due)
+      Stays behind port x T → is_in script f port ≡ true →
+      MaySpeak script st (f port) (at_its_end x) → (ms : List NetlinkMessage) (ds : List Due)
       (w : World) → At w (put port (side x (map Message ms ++ ds)) T) →
       At (all_sent behind s port ms w) (put port (side x ds) T)
-  sends_reached behind T x port stays i [] ds w r = r
-  sends_reached behind T x port stays i (m ∷ ms) ds w r =
-      sends_reached behind T x port stays i ms ds (behind (sent s port m w))
+  sends_reached behind T x port stays i may [] ds w r = r
+  sends_reached behind T x port stays i may (m ∷ ms) ds w r =
+      sends_reached behind T x port stays i may ms ds (behind (sent s port m w))
       (stays (sent s port m w) (map Message ms ++ ds)
-      (send_reached T x port m (map Message ms ++ ds) false w i
+      (send_reached T x port m (map Message ms ++ ds) false w i may
       (subst (λ t. At w (put port t T)) (unfresh x (Message m ∷ (map Message ms ++ ds))) r)))
 
   -- all messages of an ask that was taken up
   cut_reached : (behind : World → World) (T : ℕ → Stand) (x : Side) (port : ℕ) →
-      Stays behind port x T → is_in script f port ≡ true → (ms : List NetlinkMessage)
+      Stays behind port x T → is_in script f port ≡ true →
+      MaySpeak script st (f port) (at_its_end x) → (ms : List NetlinkMessage)
       (ds : List Due) (w : World) → At w (put port (cut_then x ms ds) T) →
       At (all_sent behind s port ms w) (put port (side x ds) T)
-  cut_reached behind T (Now ends) port stays i [] ds w r = r
-  cut_reached behind T AtEnd port stays i [] ds w r = r
-  cut_reached behind T x port stays i (m ∷ ms) ds w r =
-      sends_reached behind T x port stays i ms ds (behind (sent s port m w))
+  cut_reached behind T (Now ends) port stays i may [] ds w r = r
+  cut_reached behind T AtEnd port stays i may [] ds w r = r
+  cut_reached behind T x port stays i may (m ∷ ms) ds w r =
+      sends_reached behind T x port stays i may ms ds (behind (sent s port m w))
       (stays (sent s port m w) (map Message ms ++ ds)
-      (send_reached T x port m (map Message ms ++ ds) true w i r))
+      (send_reached T x port m (map Message ms ++ ds) true w i may r))
 
   pub words_reached : (behind : World → World) (T : ℕ → Stand) (x : Side) (port : ℕ) →
-      Stays behind port x T → is_in script f port ≡ true → (all : List AskWords) (ds : List Due)
+      Stays behind port x T → is_in script f port ≡ true →
+      MaySpeak script st (f port) (at_its_end x) → (all : List AskWords) (ds : List Due)
       (w : World) → At w (put port (side x (all_due (map Words all) ++ ds)) T) →
       At (all_done behind s port (map Words all) w) (put port (side x ds) T)
-  words_reached behind T x port stays i [] ds w r = r
-  words_reached behind T x port stays i (words ∷ more) ds w r =
-      words_reached behind T x port stays i more ds (done behind s port (Words words) w)
-      (cut_reached behind T x port stays i (cut_of port (w.ports port) words)
+  words_reached behind T x port stays i may [] ds w r = r
+  words_reached behind T x port stays i may (words ∷ more) ds w r =
+      words_reached behind T x port stays i may more ds (done behind s port (Words words) w)
+      (cut_reached behind T x port stays i may (cut_of port (w.ports port) words)
       (all_due (map Words more) ++ ds) w
       (begin_reached T x port words (all_due (map Words more) ++ ds) w i r))
 
   pub close_reached : (T : ℕ → Stand) (port : ℕ) (w : World) → is_in script f port ≡ true →
-      At w (put port (side AtEnd (Still Close ∷ [])) T) →
+      MaySpeak script st (f port) true → At w (put port (side AtEnd (Still Close ∷ [])) T) →
       At (with_closed w port) (put port shut_stand T)
-  close_reached T port w i r = record {
+  close_reached T port w i may r = record {
     notes = noted port Shut r.notes;
-    kept = K.closes w r.notes port
+    kept = K.closes st w r.notes port i
         (is_open (f port) port (r.notes port) (w.ports port)
         (put port (side AtEnd (Still Close ∷ [])) T port) (r.are.at port i)
-        (rw (eq-eqb port port refl) refl)) r.kept;
+        (rw (eq-eqb port port refl) refl)) may r.kept;
     are = all_push script f port (side AtEnd (Still Close ∷ []))
         shut_stand Shut closed r.notes w.ports T r.are
         (λ held there shut. ((refl, refl, refl), refl, refl));
@@ -337,4 +465,41 @@ both_kept s P Q k l = record {
   );
   closes = λ w notes port op is. (k.closes w notes port op is.0, l.closes w notes port op is.1);
   falls = λ w notes device is. (k.falls w notes device is.0, l.falls w notes device is.1);
+}
+
+-- and of what stages allow
+pub both_go : (s : Setting) (script : ScriptValue) (f : ℕ → ℕ) (P Q : Staged) →
+    Goes s script f P → Goes s script f Q →
+    Goes s script f (λ st es ports notes. P st es ports notes × Q st es ports notes)
+both_go s script f P Q k l = record {
+  arrives = λ st w notes a may is.
+      (k.arrives st w notes a may is.0, l.arrives st w notes a may is.1);
+  enters = λ st w notes a may is.
+      (k.enters st w notes a may is.0, l.enters st w notes a may is.1);
+  begins = λ st es ports notes port i is.
+      (k.begins st es ports notes port i is.0, l.begins st es ports notes port i is.1);
+  speaks = λ st w notes port call m at_end i op may due is. (
+    k.speaks st w notes port call m at_end i op may due is.0,
+    l.speaks st w notes port call m at_end i op may due is.1,
+  );
+  gets = λ st w notes port held one ls i over there mail is. (
+    k.gets st w notes port held one ls i over there mail is.0,
+    l.gets st w notes port held one ls i over there mail is.1,
+  );
+  closes = λ st w notes port i op may is. (
+    k.closes st w notes port i op may is.0,
+    l.closes st w notes port i op may is.1,
+  );
+  falls = λ st w notes d over late time is. (
+    k.falls st w notes d over late time is.0,
+    l.falls st w notes d over late time is.1,
+  );
+  goes_on = λ st u es ports notes follows same is. (
+    k.goes_on st u es ports notes follows same is.0,
+    l.goes_on st u es ports notes follows same is.1,
+  );
+  opens_up = λ st u es ports notes follows over idle is. (
+    k.opens_up st u es ports notes follows over idle is.0,
+    l.opens_up st u es ports notes follows over idle is.1,
+  );
 }

@@ -29,7 +29,7 @@ pub record Laws : Type 0 where
 
 -- ---- histories that go on
 
-replay_on : (q : Option Bound) (es fs : List Entry) →
+pub replay_on : (q : Option Bound) (es fs : List Entry) →
     replay_from q (es ++ fs) ≡ replay_from (replay_from q es) fs
 replay_on q [] fs = refl
 replay_on q (e ∷ es) fs = replay_on (step q e.event).state es fs

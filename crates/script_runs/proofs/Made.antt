@@ -1,6 +1,7 @@
 -- The schedule's histories are made by the script.
-use Rattle.std.proofs.Common.{◌≡◌, ◌≢◌, ◌∙◌, ◌≤◌, ◌+◌, ℕ, List, [], ◌∷◌, Option, true, false, refl, sym, ap}
-use Rattle.std.proofs.Common.{subst, Bool, Some, None, ◌++◌}
+use Rattle.std.proofs.Common.{◌≡◌, ◌≢◌, ◌∙◌, ◌≤◌, ◌+◌, ℕ, List}
+use Rattle.std.proofs.Common.{[], ◌∷◌, Option, true, false, refl, sym, ap}
+use Rattle.std.proofs.Common.{subst, Bool, Some, None, ◌++◌, arith}
 use Rattle.std.specs.Prelude.{length, map, filter, AllPairs, nat_eq, if◌then◌else◌}
 use Rattle.std.specs.List.{list_any}
 use Rattle.place_history.specs.declared.entry.Entry.{Entry}
@@ -8,7 +9,6 @@ use Rattle.pcap_io.specs.declared.capture.Capture.{Capture}
 use Rattle.hook_chain.specs.declared.rule.Rule.{Rule}
 use Rattle.place_history.specs.History.{history}
 use Rattle.inspector_script.specs.Scripts.{ScriptValue}
-use Rattle.solo_plane.specs.declared.setting.Setting.{Setting}
 use Rattle.solo_plane.specs.World.{Port, opened}
 use Rattle.script_runs.specs.Schedule.{run, setting_of, IsSolo, letters_at}
 use Rattle.solo_plane.specs.Closing.{dids_of, log_of}
@@ -27,22 +27,29 @@ use Rattle.script_runs.specs.Requests.{pleas_in}
 use Rattle.script_runs.specs.Run.{AreLogs, IsMadeBy}
 use Rattle.script_runs.proofs.Ports.{ports_of_logs}
 use Rattle.script_runs.proofs.Reaching.{is_in}
-use Rattle.script_runs.proofs.Asking.{Kept, Keeps, both_kept}
+use Rattle.script_runs.proofs.Asking.{Kept, Staged, Stage, both_kept, always_goes, both_go}
+use Rattle.script_runs.proofs.Going.{Below}
+use Rattle.script_runs.proofs.Feeding.{Fed, nothing_fed}
+use Rattle.script_runs.proofs.Fed.{FedSo, fed_goes}
+use Rattle.script_runs.proofs.Ordering.{Ordered}
+use Rattle.script_runs.proofs.Ordered.{OrderSo, order_goes, told}
+use Rattle.script_runs.specs.Feeder.{IsFed, downs_in_effect}
 use Rattle.script_runs.proofs.Running.{ArePlaced}
-use Rattle.script_runs.proofs.Whole.{run_reached, run_logged, closed_at, ended}
+use Rattle.script_runs.proofs.Whole.{run_reached, run_logged, closed_at, ended, last_stage}
 use Rattle.script_runs.proofs.Pleading.{AreEven, even_kept}
 use Rattle.script_runs.proofs.Noticing.{AreNoticed, Noticed, letters, noticed_kept}
-use Rattle.script_runs.proofs.Placing.{placed_so, place_in}
+use Rattle.script_runs.proofs.Placing.{placed_so}
+use Rattle.script_runs.specs.Order.{place_in, Kind, IsOrdered, kinds_told}
 
-are_logs : (s : Setting) (script : ScriptValue) (f : ℕ → ℕ) (P : Kept) (K : Keeps s P)
+are_logs : (script : ScriptValue) (f : ℕ → ℕ)
     (ports : ℕ → Option Port) (notes : ℕ → List Note) →
     ((p : ℕ) → is_in script f p ≡ true → IsLog script (f p) p (notes p) (dids_of (ports p))) →
-    (place : ℕ) (ps : List ℕ) → ArePlaced s script f P K place ps →
+    (place : ℕ) (ps : List ℕ) → ArePlaced script f place ps →
     AreLogs script notes place (map (log_of ports) ps)
-are_logs s script f P K ports notes each place [] placed = tt
-are_logs s script f P K ports notes each place (p ∷ ps) placed = (
+are_logs script f ports notes each place [] placed = tt
+are_logs script f ports notes each place (p ∷ ps) placed = (
   subst (λ k. IsLog script k p (notes p) (dids_of (ports p))) placed.0 (each p placed.1),
-  are_logs s script f P K ports notes each (place + 1) ps placed.2,
+  are_logs script f ports notes each (place + 1) ps placed.2,
 )
 
 -- a port that is there
@@ -74,10 +81,56 @@ nothing_shut : (p : ℕ) (c : Bool) → IsClosing p (is_shut (if c then Some ope
 nothing_shut p true = refl
 nothing_shut p false = refl
 
-pub made_by_script : Laws → (script : ScriptValue) (tables : List (List Rule)) (c : Capture)
+-- the feeder and the order, of what is kept of them
+is_fed : (st : Stage) (h : List Entry) → Fed st.time st.fallen h → IsFed st.fallen h
+is_fed st h is = record {
+  items = is.items;
+  entries = is.entries;
+  lines = is.lines;
+  each = is.each;
+  times = is.times.ascend;
+}
+
+is_ordered : (ports : List ℕ) (st : Stage) (told : ℕ → List Kind) (h : List Entry) →
+    Ordered ports st.early st.late told h → IsOrdered ports told h
+is_ordered ports st told h is = record {
+  marks = is.marks;
+  entries = is.entries;
+  kinds = is.kinds;
+  early = is.early.ascend;
+  late = is.late.ascend;
+}
+
+-- before anything happened
+abbrev beginning_at : Stage
+beginning_at = record { is_over = false; early = 0; late = 0; time = 0; fallen = [] }
+
+nothing_fed_so : (script : ScriptValue) → FedSo beginning_at []
+nothing_fed_so script = record {
+  none = record { none = λ queue. refl };
+  fed = record { each = λ queue below. nothing_fed };
+}
+
+nothing_ordered : (script : ScriptValue) → OrderSo script beginning_at [] (λ p. [])
+nothing_ordered script = record {
+  none = record { none = λ queue. refl };
+  owe = λ p i. refl;
+  order = record {
+    each = λ queue below. record {
+      marks = [];
+      entries = refl;
+      kinds = λ port. refl;
+      early = record { ascend = tt; last = omega arith };
+      late = record { ascend = tt; last = omega arith };
+    };
+  };
+}
+
+pub made_by_script : Laws → Below → (script : ScriptValue) (tables : List (List Rule)) (c : Capture)
     (h : Histories) → AllPairs (λ p q. p ≢ q) script.ports → IsSolo script tables c h →
-    (notes : ℕ → List Note) × IsMadeBy script h notes (left_in (run script tables c))
-made_by_script laws script tables c h differ is =
+    (notes : ℕ → List Note) × IsMadeBy script (length c.frames) h notes (left_in
+    (run script tables c))
+made_by_script laws below script tables c h differ is =
     let s = setting_of script tables in
     let f = λ (p : ℕ). place_in p script.ports in
     let Even : Kept = λ es ports notes. AreEven es notes in
@@ -86,11 +139,17 @@ made_by_script laws script tables c h differ is =
     let Two : Kept = λ es ports notes. Even es ports notes × Heard es ports notes in
     let Roomy_so : Kept = λ es ports notes. AllRoomy s.mail es ports notes in
     let More : Kept = λ es ports notes. Ended es ports notes × Roomy_so es ports notes in
-    let P : Kept = λ es ports notes. Two es ports notes × More es ports notes in
-    let K = both_kept s Two More (both_kept s Even Heard (even_kept s) (noticed_kept s))
+    let Old : Kept = λ es ports notes. Two es ports notes × More es ports notes in
+    let kept = both_kept s Two More (both_kept s Even Heard (even_kept s) (noticed_kept s))
     (both_kept s Ended Roomy_so (shut_kept laws s) (roomy_kept s)) in
-    let placed = placed_so s script P K differ in
-    let nothing : P [] (opened_ports script.ports) (λ p. []) = (
+    let Fed_so : Staged = λ st es ports notes. FedSo st es in
+    let In_order : Staged = λ st es ports notes. OrderSo script st es notes in
+    let New : Staged = λ st es ports notes. Fed_so st es ports notes × In_order st es ports notes in
+    let P : Staged = λ st es ports notes. Old es ports notes × New st es ports notes in
+    let K = both_go s script f (λ st. Old) New (always_goes s script f Old kept)
+    (both_go s script f Fed_so In_order (fed_goes below s script f) (order_goes script below s)) in
+    let placed = placed_so script differ in
+    let old_nothing : Old [] (opened_ports script.ports) (λ p. []) = (
       (
         record { even = λ p queue. refl },
         record { each = λ p queue. nothing_noticed p queue (list_any (nat_eq p) script.ports) },
@@ -102,34 +161,47 @@ made_by_script laws script tables c h differ is =
         },
       ),
     ) in
-    let r = run_reached script tables c f P K nothing placed in
+    let ran = run_reached script tables c f P K below.leaves
+    (old_nothing, (nothing_fed_so script, nothing_ordered script)) placed in
+    let r = ran.reached in
     let w = run script tables c in (
       r.notes,
       record {
         ports = ap (λ (ls : List PortLog). map (λ (l : PortLog). l.port) ls) is.logs
             ∙ ports_of_logs w script.ports;
         logs = subst (AreLogs script r.notes 0) (sym is.logs)
-            (are_logs s script f P K w.ports r.notes (run_logged script tables c f P K r) 0
+            (are_logs script f w.ports r.notes (run_logged script tables c f P K
+            (last_stage script tables c f P K ran.time) r) 0
             script.ports placed);
         others = r.none;
         requests = λ port queue.
-            ap (pleas_in port) (is.entries.same queue) ∙ r.kept.0.0.even port queue;
+            ap (pleas_in port) (is.entries.same queue) ∙ r.kept.0.0.0.even port queue;
         notices = λ port i queue.
             let here = r.are.at port i in
             noticed_of port queue w.entries (w.ports port) here.held (r.notes port) here.there
-            (r.kept.0.1.each port queue)
+            (r.kept.0.0.1.each port queue)
             ∙ ap (letters_from port None) (sym (is.entries.same queue));
         closings = λ port i queue below.
             let here = r.are.at port i in
             subst (λ b. IsClosing port b (history queue h.entries))
             (sym (closed_at script (f port) port (r.notes port) (w.ports port)
-            (ended s script f P K port) here))
+            (ended script f port) here))
             (subst (IsClosing port (is_shut (w.ports port)))
-            (sym (is.entries.same queue)) (r.kept.1.0.each port queue below));
+            (sym (is.entries.same queue)) (r.kept.0.1.0.each port queue below));
         room = λ port i queue lacks.
             let here = r.are.at port i in
             roomy_of s.mail port queue w.entries (w.ports port) here.held (r.notes port) here.there
-            (r.kept.1.1.each port queue)
+            (r.kept.0.1.1.each port queue)
             (ap (some_lacks port None) (sym (is.entries.same queue)) ∙ lacks);
+        feeder = λ queue below.
+            subst (IsFed (downs_in_effect script (length c.frames))) (sym (is.entries.same queue))
+            (is_fed (last_stage script tables c f P K ran.time) (history queue w.entries)
+            (r.kept.1.0.fed.each queue below));
+        order = λ queue below.
+            subst (IsOrdered script.ports
+            (λ port. kinds_told script queue port (r.notes port))) (sym (is.entries.same queue))
+            (is_ordered script.ports (last_stage script tables c f P K ran.time)
+            (told script r.notes queue) (history queue w.entries)
+            (r.kept.1.1.order.each queue below));
       },
     )

@@ -1,21 +1,15 @@
 -- Ports that differ have one place each.
 use Rattle.std.proofs.Common.{◌≡◌, ◌≢◌, ◌⊎◌, ◌<◌, ◌+◌, ◌∙◌, ℕ, suc, List, [], ◌∷◌}
 use Rattle.std.proofs.Common.{true, false, refl, sym, ap, inl, inr, arith, length, get_or}
-use Rattle.std.specs.Prelude.{◌==◌, nat_eq, if◌then◌else◌, AllPairs}
+use Rattle.std.specs.Prelude.{◌==◌, nat_eq, AllPairs}
 use Rattle.std.specs.List.{list_any}
 use Rattle.std.proofs.lemmas.Bool.{cases_Bool, eq-eqb, eqb-true, ne_eqb}
 use Rattle.inspector_script.specs.Scripts.{ScriptValue}
-use Rattle.solo_plane.specs.declared.setting.Setting.{Setting}
 use Rattle.script_runs.proofs.Reaching.{is_in}
-use Rattle.script_runs.proofs.Asking.{Kept, Keeps}
+use Rattle.script_runs.specs.Order.{place_in}
 use Rattle.script_runs.proofs.Running.{ArePlaced}
 
 -- ---- places
-
--- where a port stands among ports
-abbrev pub place_in : ℕ → List ℕ → ℕ
-place_in p [] = 0
-place_in p (q ∷ qs) = if p == q then 0 else suc (place_in p qs)
 
 abbrev pub AreApart : List ℕ → Type 0
 AreApart [] = Unit {0}
@@ -36,11 +30,11 @@ apart_so (p ∷ ps) pairs = (
       pairs (suc i) (suc j) d (omega (arith, before)) (omega (arith, within))),
 )
 
-module _ (s : Setting) (script : ScriptValue) (f : ℕ → ℕ) (P : Kept) (K : Keeps s P) where
+module _ (script : ScriptValue) (f : ℕ → ℕ) where
   placed_from : (place : ℕ) (ps : List ℕ) → AreApart ps →
       ((p : ℕ) → list_any (nat_eq p) ps ≡ true →
       (f p ≡ place + place_in p ps) × (is_in script f p ≡ true)) →
-      ArePlaced s script f P K place ps
+      ArePlaced script f place ps
   placed_from place [] apart at = tt
   placed_from place (p ∷ ps) apart at =
       let same : (p == p) ≡ true = eq-eqb p p refl in
@@ -64,9 +58,9 @@ module _ (s : Setting) (script : ScriptValue) (f : ℕ → ℕ) (P : Kept) (K : 
               let is = at q there in
               (omega (arith, is.0, next), is.1)
 
-module _ (s : Setting) (script : ScriptValue) (P : Kept) (K : Keeps s P) where
+module _ (script : ScriptValue) where
   pub placed_so : AllPairs (λ p q. p ≢ q) script.ports →
-      ArePlaced s script (λ p. place_in p script.ports) P K 0 script.ports
+      ArePlaced script (λ p. place_in p script.ports) 0 script.ports
   placed_so differ =
-      placed_from s script (λ p. place_in p script.ports) P K 0 script.ports
+      placed_from script (λ p. place_in p script.ports) 0 script.ports
       (apart_so script.ports differ) (λ p i. (omega arith, i))

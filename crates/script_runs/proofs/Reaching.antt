@@ -25,7 +25,7 @@ module _ (script : ScriptValue) (place port : ℕ) where
   next_push t [] n are is = (is, tt)
   next_push t (m ∷ ns) n are is = (are.0, next_push (after script place port t m) ns n are.1 is)
 
-  standing_push : (t : Standing) (ns : List Note) (n : Note) →
+  pub standing_push : (t : Standing) (ns : List Note) (n : Note) →
       standing_from script place port t (ns ++ n ∷ [])
       ≡ after script place port (standing_from script place port t ns) n
   standing_push t [] n = refl

@@ -1,8 +1,8 @@
 -- What each move of a run keeps, the whole run keeps; and each port does what is next.
 use Rattle.std.proofs.Common.{◌≡◌, ◌⊎◌, ◌+◌, ◌∙◌, ℕ, zero, suc, List, [], ◌∷◌, ◌++◌}
 use Rattle.std.proofs.Common.{Option, Some, None, Bool, true, false, refl, sym, ap, subst, inl, inr}
-use Rattle.std.proofs.Common.{append-nil}
-use Rattle.std.specs.Prelude.{map, not, ◌==◌, if◌then◌else◌, option_map, slice_get}
+use Rattle.std.proofs.Common.{append-nil, append_assoc, arith, ◌*◌, ◌≤◌}
+use Rattle.std.specs.Prelude.{map, not, ◌==◌, if◌then◌else◌, option_map, slice_get, length, filter}
 use Rattle.std.specs.Option.{option_map_or}
 use Rattle.std.proofs.lemmas.Bool.{eq-eqb, eqb-true, cases_Bool}
 use Rattle.packet_entry.specs.declared.packet.Card.{Card}
@@ -29,19 +29,24 @@ use Rattle.inspector_script.specs.Scripts.{ScriptValue, answer}
 use Rattle.solo_plane.specs.declared.setting.Setting.{Setting}
 use Rattle.solo_plane.specs.World.{World, Port, at_port, received, received_from}
 use Rattle.solo_plane.specs.Planes.{entered, without_device}
+use Rattle.solo_plane.specs.Moving.{arrival_to, arrived, left_at_once, room_for}
+use Rattle.place_history.specs.Kept.{state_of}
 use Rattle.script_runs.specs.Numbers.{enough_arrivals}
 use Rattle.script_runs.specs.Entering.{card_of}
 use Rattle.script_runs.specs.Sending.{all_done, done}
-use Rattle.script_runs.specs.Schedule.{Looked, letters_at, is_open_port, answered_by, looked_at, looked}
+use Rattle.script_runs.specs.Schedule.{Looked, letters_at, is_open_port}
+use Rattle.script_runs.specs.Schedule.{answered_by, looked_at, looked}
 use Rattle.script_runs.specs.Schedule.{received_in, round, go_on_while, emptied_in}
 use Rattle.script_runs.specs.Schedule.{all_down, fed, frame_passed, frames_passed}
-use Rattle.script_runs.specs.Schedule.{downs_after, is_pause}
-use Rattle.script_runs.specs.Log.{Got, Due, all_due, after}
+use Rattle.script_runs.specs.Schedule.{downs_after, is_after, is_pause}
+use Rattle.script_runs.specs.Feeder.{downs_from}
+use Rattle.script_runs.specs.Log.{Got, Due, Standing, all_due, after}
 use Rattle.script_runs.specs.Log.{answer_to}
-use Rattle.script_runs.proofs.Carrying.{carry_keeps}
+use Rattle.script_runs.proofs.Later.{LeaveAlone, carry_first, IsFresh, is_fresh}
 use Rattle.script_runs.proofs.Reaching.{Stand, full, noted, put, is_in}
-use Rattle.script_runs.proofs.Reaching.{all_push}
-use Rattle.script_runs.proofs.Asking.{Kept, Keeps, Now, side, Reached, At, reached_as}
+use Rattle.script_runs.proofs.Reaching.{all_push, all_arrive}
+use Rattle.script_runs.proofs.Asking.{Staged, Goes, Stage, IsOver, Now, side, Reached, At}
+use Rattle.script_runs.proofs.Asking.{reached_as, MayArrive, Follows}
 use Rattle.script_runs.proofs.Asking.{arrive_reached, words_reached, none_then}
 
 -- ---- what the script asks for
@@ -69,7 +74,7 @@ line_words : (n : Notice) (line : Option OnLine) → AreWords (option_map_or (as
 line_words n None = ([], refl)
 line_words n (Some line) = asked_words n line.asks
 
-answer_words : (n : Notice) (received : ℕ) (b : Option Block) →
+pub answer_words : (n : Notice) (received : ℕ) (b : Option Block) →
     AreWords (option_map_or (block.answer received n) b [])
 answer_words n received None = ([], refl)
 answer_words n received (Some b) = line_words n (block.line_for received n b.lines)
@@ -121,12 +126,13 @@ put_own port t T is p = by (cases_Bool (p == port))
     by (inl h) = rw h (sym is ∙ ap T (sym (eqb-true p port h)))
     by (inr h) = rw h refl
 
-pub put_away : (port : ℕ) (t : Stand) (T : ℕ → Stand) (p : ℕ) → (p == port) ≡ false → put port t T p ≡ T p
+pub put_away : (port : ℕ) (t : Stand) (T : ℕ → Stand) (p : ℕ) → (p == port) ≡ false →
+    put port t T p ≡ T p
 put_away port t T p h = rw h refl
 
 -- ---- looks
 
-module _ (s : Setting) (script : ScriptValue) (f : ℕ → ℕ) (P : Kept) (K : Keeps s P) where
+module _ (script : ScriptValue) (f : ℕ → ℕ) where
   -- nobody owes anything
   abbrev pub AllIdle : (ℕ → Stand) → Type 0
   AllIdle T =
@@ -138,39 +144,46 @@ module _ (s : Setting) (script : ScriptValue) (f : ℕ → ℕ) (P : Kept) (K : 
   ArePlaced place (p ∷ ps) =
       (f p ≡ place) × (is_in script f p ≡ true) × ArePlaced (place + 1) ps
 
+-- all ports have opened
+module _ (s : Setting) (script : ScriptValue) (f : ℕ → ℕ) (P : Staged) (K : Goes s script f P)
+    (st : Stage) (over : IsOver script st) where
   -- the answer is due, and is sent
   answer_reached : (T : ℕ → Stand) (port : ℕ) (t : Option Told) (w : World) (ends : List Due)
       (held : Port) → is_in script f port ≡ true → w.ports port ≡ Some held →
-      At s script f P K w (put port (side (Now ends)
+      At s script f P K st w (put port (side (Now ends)
       (all_due (answer_to script (f port) held.dids t))) T) →
-      At s script f P K (answered_by s script (f port) port t w) (put port (side (Now ends) []) T)
+      At s script f P K st (answered_by s script (f port) port t w) (put port (side
+      (Now ends) []) T)
   answer_reached T port None w ends held i there r = r
   answer_reached T port (Some told) w ends held i there r =
       let count = received_in (w.ports port) in
       let words = answer_words (notice_of told) count (slice_get script.blocks (f port)) in
-      let r2 : At s script f P K w (put port (side (Now ends)
+      let r2 : At s script f P K st w (put port (side (Now ends)
       (all_due (answer script (f port) count (notice_of told)) ++ [])) T) =
-      subst (λ ds. At s script f P K w (put port (side (Now ends) ds) T))
+      subst (λ ds. At s script f P K st w (put port (side (Now ends) ds) T))
       (sym (append-nil (all_due (answer script (f port) count (notice_of told)))))
-      (subst (λ o. At s script f P K w (put port (side (Now ends)
+      (subst (λ o. At s script f P K st w (put port (side (Now ends)
       (all_due (answer script (f port) (received_in o) (notice_of told)))) T)) (sym there) r) in
-      subst (λ asks. At s script f P K (all_done (λ v. v) s port asks w) (put port (side (Now ends) []) T))
+      subst (λ asks. At s script f P K st (all_done (λ v. v) s port asks w) (put port (side
+      (Now ends) []) T))
       (sym words.1)
-      (words_reached s script f P K (λ v. v) T (Now ends) port (λ v ds r. r) i words.0 [] w
-      (subst (λ asks. At s script f P K w (put port (side (Now ends) (all_due asks ++ [])) T)) words.1 r2))
+      (words_reached s script f P K st (λ v. v) T (Now ends) port (λ v ds r. r) i
+      (inl over) words.0 [] w
+      (subst (λ asks. At s script f P K st w (put port (side (Now ends)
+      (all_due asks ++ [])) T)) words.1 r2))
 
   -- the first notice is received, and its answer is due
   pub record Received1 (T : ℕ → Stand) (port : ℕ) (ends : List Due) (l : Letter) (w : World)
       : Type 0 where
     pub held : Port
     pub there : (at_port port received w).ports port ≡ Some held
-    pub reached : At s script f P K (at_port port received w)
+    pub reached : At s script f P K st (at_port port received w)
         (put port (side (Now ends)
         (all_due (answer_to script (f port) held.dids (told_exactly l.bytes)))) T)
 
   get_reached : (T : ℕ → Stand) (port : ℕ) (ends : List Due) (l : Letter) (ls : List Letter)
       (w : World) → is_in script f port ≡ true → letters_at (w.ports port) ≡ l ∷ ls →
-      At s script f P K w (put port (side (Now ends) []) T) → Received1 T port ends l w
+      At s script f P K st w (put port (side (Now ends) []) T) → Received1 T port ends l w
   get_reached T port ends l ls w i letters r =
       let here = r.are.at port i in
       record {
@@ -178,17 +191,19 @@ module _ (s : Setting) (script : ScriptValue) (f : ℕ → ℕ) (P : Kept) (K : 
         there = rw (eq-eqb port port refl) (ap (option_map received) here.there);
         reached = record {
           notes = noted port (Got l) r.notes;
-          kept = K.gets w r.notes port here.held l ls here.there (theirs here.held here.there) r.kept;
+          kept = K.gets st w r.notes port here.held l ls i over here.there
+              (theirs here.held here.there) r.kept;
           are = all_push script f port (side (Now ends) [])
               (side (Now ends)
-              (all_due (answer_to script (f port) (received here.held).dids (told_exactly l.bytes))))
+              (all_due (answer_to script (f port) (received here.held).dids
+              (told_exactly l.bytes))))
               (Got l) received r.notes w.ports T r.are
               (λ held there shut. (
                 (refl, refl, refl),
                 leads here.held here.there held there,
                 same_shut held (theirs held there) shut,
               ));
-          none = none_then s script f P K port (Got l) r.notes i r.none;
+          none = none_then s script f P K st port (Got l) r.notes i r.none;
         };
       }
     where
@@ -206,7 +221,8 @@ module _ (s : Setting) (script : ScriptValue) (f : ℕ → ℕ) (P : Kept) (K : 
       lead_one held is =
           subst (λ ms. after script (f port) port (full held (side (Now ends) [])) (Got l)
           ≡ full (received_from ms held) (side (Now ends)
-          (all_due (answer_to script (f port) (received_from ms held).dids (told_exactly l.bytes)))))
+          (all_due (answer_to script (f port) (received_from ms held).dids
+          (told_exactly l.bytes)))))
           (sym is) refl
 
       leads : (one : Port) → w.ports port ≡ Some one → (held : Port) → w.ports port ≡ Some held →
@@ -220,8 +236,9 @@ module _ (s : Setting) (script : ScriptValue) (f : ℕ → ℕ) (P : Kept) (K : 
           ∙ ap (λ (p : Port). full (received held) (side (Now ends)
           (all_due (answer_to script (f port) (received p).dids (told_exactly l.bytes))))) same
 
-  open_stand : (T : ℕ → Stand) (port : ℕ) (w : World) → AllIdle T → is_in script f port ≡ true →
-      At s script f P K w T → is_open_port (w.ports port) ≡ true →
+  open_stand : (T : ℕ → Stand) (port : ℕ) (w : World) → AllIdle script f T →
+      is_in script f port ≡ true →
+      At s script f P K st w T → is_open_port (w.ports port) ≡ true →
       T port ≡ side (Now (T port).ends) []
   open_stand T port w idle i r op =
       let here = r.are.at port i in
@@ -235,94 +252,241 @@ module _ (s : Setting) (script : ScriptValue) (f : ℕ → ℕ) (P : Kept) (K : 
 
   letters_reached : (T : ℕ → Stand) (port : ℕ) (letters : List Letter) (l : Looked) →
       is_in script f port ≡ true → T port ≡ side (Now (T port).ends) [] →
-      letters_at (l.world.ports port) ≡ letters → At s script f P K l.world T →
-      At s script f P K (looked_at s script (f port) port letters l).world T
+      letters_at (l.world.ports port) ≡ letters → At s script f P K st l.world T →
+      At s script f P K st (looked_at s script (f port) port letters l).world T
   letters_reached T port [] l i is are r = r
   letters_reached T port (letter ∷ letters) l i is are r =
       let E = (T port).ends in
       let got = get_reached T port E letter letters l.world i are
-      (reached_as s script f P K l.world T (put port (side (Now E) []) T) r
+      (reached_as s script f P K st l.world T (put port (side (Now E) []) T) r
       (λ p _. sym (put_own port (side (Now E) []) T is p))) in
       let w = answered_by s script (f port) port (told_exactly letter.bytes)
       (at_port port received l.world) in
-      reached_as s script f P K w (put port (side (Now E) []) T) T
-      (answer_reached T port (told_exactly letter.bytes) (at_port port received l.world) E got.held i
+      reached_as s script f P K st w (put port (side (Now E) []) T) T
+      (answer_reached T port (told_exactly letter.bytes)
+      (at_port port received l.world) E got.held i
       got.there got.reached)
       (λ p _. put_own port (side (Now E) []) T is p)
 
-  look_reached : (T : ℕ → Stand) → AllIdle T → (place port : ℕ) → f port ≡ place →
-      is_in script f port ≡ true → (l : Looked) → At s script f P K l.world T →
-      At s script f P K (looked s script place port l).world T
+  look_reached : (T : ℕ → Stand) → AllIdle script f T → (place port : ℕ) → f port ≡ place →
+      is_in script f port ≡ true → (l : Looked) → At s script f P K st l.world T →
+      At s script f P K st (looked s script place port l).world T
   look_reached T idle place port is i l r =
-      subst (λ k. At s script f P K (looked s script k port l).world T) is
+      subst (λ k. At s script f P K st (looked s script k port l).world T) is
       (by (is_open_port (l.world.ports port)) refl)
     where
       by : (c : Bool) → is_open_port (l.world.ports port) ≡ c →
-          At s script f P K
-          (if c then looked_at s script (f port) port (letters_at (l.world.ports port)) l else l).world
+          At s script f P K st
+          (if c then looked_at s script (f port) port (letters_at
+          (l.world.ports port)) l else l).world
           T
       by true op = letters_reached T port (letters_at (l.world.ports port)) l i
           (open_stand T port l.world idle i r op) refl r
       by false op = r
 
-  round_reached : (T : ℕ → Stand) → AllIdle T → (place : ℕ) (ps : List ℕ) → ArePlaced place ps →
-      (l : Looked) → At s script f P K l.world T →
-      At s script f P K (round s script place ps l).world T
+  round_reached : (T : ℕ → Stand) → AllIdle script f T → (place : ℕ) (ps : List ℕ) →
+      ArePlaced script f place ps →
+      (l : Looked) → At s script f P K st l.world T →
+      At s script f P K st (round s script place ps l).world T
   round_reached T idle place [] placed l r = r
   round_reached T idle place (p ∷ ps) placed l r =
       round_reached T idle (place + 1) ps placed.2 (looked s script place p l)
       (look_reached T idle place p placed.0 placed.1 l r)
 
-  pub emptied_reached : (T : ℕ → Stand) → AllIdle T → ArePlaced 0 script.ports → (rounds : ℕ)
-      (w : World) → At s script f P K w T → At s script f P K (emptied_in rounds s script w) T
+  pub emptied_reached : (T : ℕ → Stand) → AllIdle script f T → ArePlaced script f 0 script.ports →
+      (rounds : ℕ)
+      (w : World) → At s script f P K st w T → At s script f P K st (emptied_in rounds s script w) T
   emptied_reached T idle placed zero w r = r
   emptied_reached T idle placed (suc rounds) w r =
       on (emptied_in rounds s script) (emptied_reached T idle placed rounds)
       (round s script 0 script.ports (record { world = w; found = false }))
       (round_reached T idle 0 script.ports placed (record { world = w; found = false }) r)
     where
-      by : (more : World → World) → ((v : World) → At s script f P K v T → At s script f P K (more v) T) →
-          (w : World) (c : Bool) → At s script f P K w T → At s script f P K (if c then more w else w) T
+      by : (more : World → World) → ((v : World) → At s script f P K st v T →
+          At s script f P K st (more v) T) →
+          (w : World) (c : Bool) → At s script f P K st w T →
+          At s script f P K st (if c then more w else w) T
       by more keeps w true r = keeps w r
       by more keeps w false r = r
 
-      on : (more : World → World) → ((v : World) → At s script f P K v T → At s script f P K (more v) T) →
-          (l : Looked) → At s script f P K l.world T → At s script f P K (go_on_while more l) T
+      on : (more : World → World) → ((v : World) → At s script f P K st v T →
+          At s script f P K st (more v) T) →
+          (l : Looked) → At s script f P K st l.world T → At s script f P K st
+          (go_on_while more l) T
       on more keeps l r = by more keeps l.world l.found r
+
+-- ---- stages that follow
+
+module _ (s : Setting) (script : ScriptValue) (f : ℕ → ℕ) (P : Staged) (K : Goes s script f P) where
+  pub later_reached : (st u : Stage) (T : ℕ → Stand) (w : World) → Follows script st u →
+      st.is_over ≡ u.is_over → At s script f P K st w T → At s script f P K u w T
+  later_reached st u T w follows same r = record {
+    notes = r.notes;
+    kept = K.goes_on st u w.entries w.ports r.notes follows same r.kept;
+    are = r.are;
+    none = r.none;
+  }
+
+  pub over_reached : (st u : Stage) (T : ℕ → Stand) (w : World) → Follows script st u →
+      IsOver script u → AllIdle script f T → At s script f P K st w T → At s script f P K u w T
+  over_reached st u T w follows over idle r = record {
+    notes = r.notes;
+    kept = K.opens_up st u w.entries w.ports r.notes follows over
+        (λ p i. ap (λ (t : Standing). t.owed) (r.are.at p i).stands ∙ (idle p i).0) r.kept;
+    are = r.are;
+    none = r.none;
+  }
 
   -- ---- frames
 
-  feed_reached : (T : ℕ → Stand) (card : Option Card) (w : World) → At s script f P K w T →
-      At s script f P K (fed s card w) T
-  feed_reached T None w r = r
-  feed_reached T (Some card) w r =
-      carry_keeps s (λ es ports. Reached s script f P K es ports T)
-      (λ v a r. arrive_reached s script f P K T v a r) enough_arrivals (entered w card) card
-      (next s.tables s.key card 1) r
+  -- the stage at this time, once these lines took effect
+  abbrev pub at_time : ℕ → List Down → Stage
+  at_time time fallen = record {
+    is_over = true;
+    early = length script.ports;
+    late = 0;
+    time = time;
+    fallen = fallen;
+  }
 
-  pub down_reached : (T : ℕ → Stand) (ds : List Down) (w : World) → At s script f P K w T →
-      At s script f P K (all_down ds w) T
-  down_reached T [] w r = r
-  down_reached T (d ∷ ds) w r = down_reached T ds (without_device w d.device) (record {
-    notes = r.notes;
-    kept = K.falls w r.notes d.device r.kept;
-    are = r.are;
-    none = r.none;
-  })
+  enter_reached : (T : ℕ → Stand) (number time : ℕ) (fallen : List Down) (card : Card)
+      (w : World) → IsFresh number (Some card) → time ≤ 2 * number →
+      At s script f P K (at_time time fallen) w T → (queue : ℕ) (bypass : Bool) (table : ℕ) →
+      At s script f P K (at_time (2 * number + 1) fallen)
+      (arrived s w (arrival_to queue bypass table card)) T
+  enter_reached T number time fallen card w fresh less r queue bypass table =
+      let a = arrival_to queue bypass table card in
+      let st = at_time time fallen in
+      subst (λ n. At s script f P K (at_time (2 * n + 1) fallen) (arrived s w a) T) fresh.1
+      (record {
+        notes = r.notes;
+        kept = K.enters st w r.notes a (record {
+          over = (refl, refl);
+          visit = omega (arith, fresh.0);
+          late = refl;
+          time = omega (arith, less, fresh.1);
+        }) r.kept;
+        are = all_arrive script f r.notes T (state_of w.entries a.queue) a
+            (left_at_once w a (room_for s w a)) w.ports r.are;
+        none = r.none;
+      })
 
-  pub frames_reached : (T : ℕ → Stand) → AllIdle T → ArePlaced 0 script.ports → (rounds : ℕ)
-      (c : Capture) (number : ℕ) (fs : List Frame) (w : World) → At s script f P K w T →
-      At s script f P K (frames_passed rounds s script c number fs w) T
-  frames_reached T idle placed rounds c number [] w r = r
-  frames_reached T idle placed rounds c number (g ∷ gs) w r =
-      frames_reached T idle placed rounds c (number + 1) gs
-      (frame_passed rounds s script c number g w)
-      (by (is_pause script.pace number) (all_down (downs_after script number)
-      (fed s (card_of c number g) w))
-      (down_reached T (downs_after script number) (fed s (card_of c number g) w)
-      (feed_reached T (card_of c number g) w r)))
+  -- a frame of which nothing arrives
+  passed_over : (T : ℕ → Stand) (number time : ℕ) (fallen : List Down) (w : World) →
+      time ≤ 2 * number → At s script f P K (at_time time fallen) w T →
+      At s script f P K (at_time (2 * number + 1) fallen) w T
+  passed_over T number time fallen w less r =
+      later_reached (at_time time fallen) (at_time (2 * number + 1) fallen) T w (record {
+        early = omega arith;
+        late = omega arith;
+        time = omega (arith, less);
+        fallen = refl;
+      }) refl r
+
+  feed_reached : LeaveAlone → (T : ℕ → Stand) (number time : ℕ) (fallen : List Down)
+      (card : Option Card) (w : World) → IsFresh number card → time ≤ 2 * number →
+      At s script f P K (at_time time fallen) w T →
+      At s script f P K (at_time (2 * number + 1) fallen) (fed s card w) T
+  feed_reached leaves T number time fallen None w fresh less r =
+      passed_over T number time fallen w less r
+  feed_reached leaves T number time fallen (Some card) w fresh less r =
+      let st = at_time (2 * number + 1) fallen in
+      carry_first leaves s (λ es ports. Reached s script f P K st es ports T)
+      (MayArrive script st)
+      (λ a later. ((refl, refl), later))
+      (λ v a may r. arrive_reached s script f P K st T v a may r) enough_arrivals (entered w card)
+      card (next s.tables s.key card 1)
+      (λ queue bypass table. enter_reached T number time fallen card (entered w card) fresh less r
+      queue bypass table)
+      (passed_over T number time fallen w less r)
+
+  -- lines that are all after the same frame
+  abbrev pub AreAfter : ℕ → List Down → Type 0
+  AreAfter number [] = Unit {0}
+  AreAfter number (d ∷ ds) = (d.after ≡ number) × AreAfter number ds
+
+  pub are_after : (number : ℕ) (ds : List Down) → AreAfter number (filter (is_after number) ds)
+  are_after number [] = tt
+  are_after number (d ∷ ds) = by (cases_Bool (d.after == number)) (are_after number ds)
     where
-      by : (b : Bool) (v : World) → At s script f P K v T →
-          At s script f P K (if b then emptied_in rounds s script v else v) T
-      by true v r = emptied_reached T idle placed rounds v r
+      by : ((d.after == number) ≡ true) ⊎ ((d.after == number) ≡ false) →
+          AreAfter number (filter (is_after number) ds) →
+          AreAfter number (filter (is_after number) (d ∷ ds))
+      by (inl h) more = rw h (eqb-true d.after number h, more)
+      by (inr h) more = rw h more
+
+  pub down_reached : (T : ℕ → Stand) (number time : ℕ) (fallen ds : List Down) (w : World) →
+      AreAfter number ds → time ≤ 2 * number + 1 →
+      At s script f P K (at_time time fallen) w T →
+      At s script f P K (at_time (2 * number + 1) (fallen ++ ds)) (all_down ds w) T
+  down_reached T number time fallen [] w after less r =
+      later_reached (at_time time fallen) (at_time (2 * number + 1) (fallen ++ [])) T w
+      (record {
+        early = omega arith;
+        late = omega arith;
+        time = less;
+        fallen = sym (append-nil fallen);
+      }) refl r
+  down_reached T number time fallen (d ∷ ds) w after less r =
+      let st = at_time time fallen in
+      let v = without_device w d.device in
+      subst (λ ls. At s script f P K (at_time (2 * number + 1) ls) (all_down ds v) T)
+      (append_assoc fallen (d ∷ []) ds)
+      (down_reached T number (2 * d.after + 1) (fallen ++ d ∷ []) ds v after.1
+      (omega (arith, after.0))
+      (record {
+        notes = r.notes;
+        kept = K.falls st w r.notes d (refl, refl) refl (omega (arith, less, after.0)) r.kept;
+        are = r.are;
+        none = r.none;
+      }))
+
+  pub frame_reached : LeaveAlone → (T : ℕ → Stand) → AllIdle script f T →
+      ArePlaced script f 0 script.ports → (rounds : ℕ) (c : Capture) (number : ℕ) (g : Frame)
+      (time : ℕ) (fallen : List Down) (w : World) → time ≤ 2 * number →
+      At s script f P K (at_time time fallen) w T →
+      At s script f P K (at_time (2 * number + 1) (fallen ++ downs_after script number))
+      (frame_passed rounds s script c number g w) T
+  frame_reached leaves T idle placed rounds c number g time fallen w less r =
+      by (is_pause script.pace number) (all_down (downs_after script number)
+      (fed s (card_of c number g) w))
+      (down_reached T number (2 * number + 1) fallen (downs_after script number)
+      (fed s (card_of c number g) w) (are_after number script.downs) (omega arith)
+      (feed_reached leaves T number time fallen (card_of c number g) w
+      (is_fresh c number g) less r))
+    where
+      st : Stage
+      st = at_time (2 * number + 1) (fallen ++ downs_after script number)
+
+      by : (b : Bool) (v : World) →
+          At s script f P K (at_time (2 * number + 1) (fallen ++ downs_after script number)) v T →
+          At s script f P K (at_time (2 * number + 1) (fallen ++ downs_after script number))
+          (if b then emptied_in rounds s script v else v) T
+      by true v r = emptied_reached s script f P K
+          (at_time (2 * number + 1) (fallen ++ downs_after script number))
+          (refl, refl) T idle placed
+          rounds v r
       by false v r = r
+
+  pub frames_reached : LeaveAlone → (T : ℕ → Stand) → AllIdle script f T →
+      ArePlaced script f 0 script.ports → (rounds : ℕ) (c : Capture) (number time : ℕ)
+      (fs : List Frame) (fallen : List Down) (w : World) → time ≤ 2 * number →
+      At s script f P K (at_time time fallen) w T →
+      (last : ℕ) × At s script f P K
+      (at_time last (fallen ++ downs_from script number (length fs)))
+      (frames_passed rounds s script c number fs w) T
+  frames_reached leaves T idle placed rounds c number time [] fallen w less r = (
+    time,
+    subst (λ ls. At s script f P K (at_time time ls) w T) (sym (append-nil fallen)) r,
+  )
+  frames_reached leaves T idle placed rounds c number time (g ∷ gs) fallen w less r =
+      let v = frame_passed rounds s script c number g w in
+      let more = frames_reached leaves T idle placed rounds c (number + 1) (2 * number + 1) gs
+      (fallen ++ downs_after script number) v (omega arith)
+      (frame_reached leaves T idle placed rounds c number g time fallen w less r) in (
+        more.0,
+        subst (λ ls. At s script f P K (at_time more.0 ls)
+            (frames_passed rounds s script c (number + 1) gs v) T)
+            (append_assoc fallen (downs_after script number)
+            (downs_from script (number + 1) (length gs))) more.1,
+      )

@@ -44,7 +44,7 @@ same_shut : (o : Option Port) (g : Port → Port) →
 same_shut None g same = refl
 same_shut (Some p) g same = same p
 
-not_shut : (o : Option Port) → is_open_port o ≡ true → is_shut o ≡ false
+pub not_shut : (o : Option Port) → is_open_port o ≡ true → is_shut o ≡ false
 not_shut None is = refl
 not_shut (Some p) is = by p.is_closed is
   where
@@ -53,7 +53,7 @@ not_shut (Some p) is = by p.is_closed is
     by false is = refl
 
 -- a port does something that leaves it open or closed
-ports_then : (es : List Entry) (ports : ℕ → Option Port) (port : ℕ) (g : Port → Port) →
+pub ports_then : (es : List Entry) (ports : ℕ → Option Port) (port : ℕ) (g : Port → Port) →
     ((held : Port) → (g held).is_closed ≡ held.is_closed) → AreShut es ports →
     AreShut es (changed_at port g ports)
 ports_then es ports port g same is = record {
@@ -89,7 +89,7 @@ arrival_shut s w a is =
     (others_shut w.entries (e ∷ []) w.ports (λ p. (refl, refl, tt)) is)
 
 -- a request of an open port
-asked_shut : (es : List Entry) (ports : ℕ → Option Port) (port : ℕ) (e : Entry) →
+pub asked_shut : (es : List Entry) (ports : ℕ → Option Port) (port : ℕ) (e : Entry) →
     is_open_port (ports port) ≡ true → ((p : ℕ) → is_closing_of p e ≡ false) →
     ((p : ℕ) → (p == port) ≡ false → AreOthers p (e ∷ [])) → AreShut es ports →
     AreShut (es ++ e ∷ []) ports
@@ -156,7 +156,7 @@ closes_shut laws w port op is = record {
         (others_all p (λ k. happening.closing_of port k (state_of w.entries k))
         (λ k. closing_others p port k (state_of w.entries k) h) every_number) so)
 
-received_stays : (held : Port) → (received held).is_closed ≡ held.is_closed
+pub received_stays : (held : Port) → (received held).is_closed ≡ held.is_closed
 received_stays held = by held.letters
   where
     by : (ls : List Letter) → (received_from ls held).is_closed ≡ held.is_closed

@@ -1,8 +1,8 @@
 -- The whole run: the ports open, the frames pass, and the ports end.
 use Rattle.std.proofs.Common.{◌≡◌, ◌<◌, ◌⊎◌, ◌+◌, ◌∙◌, ℕ, List, [], ◌∷◌, ◌++◌}
-use Rattle.std.proofs.Common.{Option, Bool, true, false, refl, sym, ap, subst, inl, inr}
+use Rattle.std.proofs.Common.{Option, Bool, true, false, refl, sym, ap, subst, inl, inr, suc}
 use Rattle.std.proofs.Common.{arith, append-nil, append_assoc}
-use Rattle.std.specs.Prelude.{map, not, ◌==◌, ◌||◌, nat_eq, if◌then◌else◌, slice_get}
+use Rattle.std.specs.Prelude.{map, not, ◌==◌, ◌||◌, nat_eq, if◌then◌else◌, slice_get, length}
 use Rattle.std.specs.List.{list_any}
 use Rattle.std.proofs.lemmas.Bool.{eqb-true, ne_eqb, cases_Bool}
 use Rattle.std.proofs.lemmas.List.{map-append}
@@ -20,17 +20,23 @@ use Rattle.script_runs.specs.Sending.{all_done}
 use Rattle.script_runs.specs.Schedule.{emptied_in, opened_all, all_down, frames_passed, ended_all}
 use Rattle.script_runs.specs.Schedule.{downs_after, before_ends, run, setting_of, rounds_for}
 use Rattle.solo_plane.specs.Closing.{dids_of}
-use Rattle.script_runs.specs.Log.{Note, Due, Still, Standing, all_due, start, logged, dids_by, after}
+use Rattle.script_runs.specs.Log.{Note, Due, Still, Standing}
+use Rattle.script_runs.specs.Log.{all_due, start, logged, dids_by, after}
 use Rattle.script_runs.specs.Log.{standing_from, IsLog, Got, Begun, Spoke, Shut}
 use Rattle.script_runs.specs.Closing.{is_closed}
 use Rattle.script_runs.proofs.Shut.{is_shut}
 use Rattle.std.proofs.lemmas.List.Folds.{list_any-append}
 use Rattle.script_runs.proofs.Reaching.{Stand, IsAt, put, is_in}
-use Rattle.script_runs.proofs.Asking.{Kept, Keeps, Now, AtEnd, side, At, reached_as}
+use Rattle.script_runs.proofs.Asking.{Staged, Goes, Stage, IsOver, Now, AtEnd, side, At}
+use Rattle.script_runs.proofs.Asking.{reached_as}
 use Rattle.script_runs.proofs.Asking.{words_reached, close_reached}
 use Rattle.script_runs.proofs.Running.{AllIdle, ArePlaced, opening_words, closing_end, stays_open}
 use Rattle.script_runs.proofs.Running.{done_append, put_own, emptied_reached}
-use Rattle.script_runs.proofs.Running.{frames_reached, down_reached}
+use Rattle.script_runs.proofs.Running.{frames_reached, down_reached, are_after, at_time}
+use Rattle.script_runs.proofs.Running.{later_reached, over_reached}
+use Rattle.script_runs.proofs.Later.{LeaveAlone}
+use Rattle.script_runs.specs.Feeder.{downs_in_effect}
+use Rattle.script_lines.specs.declared.line.Down.{Down}
 
 -- ---- a log's dids
 
@@ -56,7 +62,7 @@ pub or_false : (b c : Bool) → c ≡ false → (b || c) ≡ b
 or_false true c is = refl
 or_false false c is = is
 
-or_true : (b : Bool) → (b || true) ≡ true
+pub or_true : (b : Bool) → (b || true) ≡ true
 or_true true = refl
 or_true false = refl
 
@@ -96,7 +102,7 @@ module _ (script : ScriptValue) (place port : ℕ) where
 abbrev pub left_stand : Bool → Stand
 left_stand stays = record { owed = []; ends = []; is_open = stays; is_fresh = false }
 
-module _ (s : Setting) (script : ScriptValue) (f : ℕ → ℕ) (P : Kept) (K : Keeps s P) where
+module _ (script : ScriptValue) (f : ℕ → ℕ) where
   -- where a port stands before it opens, once it has opened, and once it has ended
   abbrev pub unopened : ℕ → Stand
   unopened p = record {
@@ -116,7 +122,7 @@ module _ (s : Setting) (script : ScriptValue) (f : ℕ → ℕ) (P : Kept) (K : 
   abbrev pub turning : (ℕ → Stand) → (ℕ → Stand) → List ℕ → ℕ → Stand
   turning before behind ps p = if list_any (nat_eq p) ps then before p else behind p
 
-  apart : (p place : ℕ) (ps : List ℕ) → f p < place → ArePlaced s script f P K place ps →
+  apart : (p place : ℕ) (ps : List ℕ) → f p < place → ArePlaced script f place ps →
       list_any (nat_eq p) ps ≡ false
   apart p place [] less placed = refl
   apart p place (q ∷ qs) less placed =
@@ -136,47 +142,13 @@ module _ (s : Setting) (script : ScriptValue) (f : ℕ → ℕ) (P : Kept) (K : 
 
   -- and then as behind
   turn_then : (before behind : ℕ → Stand) (place p : ℕ) (ps : List ℕ) (t : Stand) → f p ≡ place →
-      ArePlaced s script f P K (place + 1) ps → behind p ≡ t →
+      ArePlaced script f (place + 1) ps → behind p ≡ t →
       (q : ℕ) → put p t (turning before behind ps) q ≡ turning before behind ps q
   turn_then before behind place p ps t at placed is =
       put_own p t (turning before behind ps)
       (rw (apart p (place + 1) ps (omega (arith, at)) placed) is)
 
-  open_one : (p : ℕ) (ps : List ℕ) (asks : List Ask) (b : Option Block) (w : World) →
-      is_in script f p ≡ true → opening script (f p) ≡ asks →
-      (all : List AskWords) → asks ≡ map Words all →
-      At s script f P K w (turning unopened waiting (p ∷ ps)) →
-      At s script f P K (all_done (λ v. v) s p asks w)
-      (put p (waiting p) (turning unopened waiting ps))
-  open_one p ps asks b w i is all words r =
-      let ends = all_due (closing script (f p)) in
-      let T = turning unopened waiting ps in
-      let owes : unopened p ≡ side (Now ends) (all_due (map Words all) ++ []) =
-      ap (λ (ds : List Due). side (Now ends) ds)
-      (ap all_due (is ∙ words) ∙ sym (append-nil (all_due (map Words all)))) in
-      subst (λ list. At s script f P K (all_done (λ v. v) s p list w) (put p (waiting p) T))
-      (sym words)
-      (words_reached s script f P K (λ v. v) T (Now ends) p (λ v ds r. r) i all [] w
-      (reached_as s script f P K w (turning unopened waiting (p ∷ ps))
-      (put p (side (Now ends) (all_due (map Words all) ++ [])) T) r
-      (λ q _. turn_first unopened waiting p ps (side (Now ends) (all_due (map Words all) ++ []))
-      owes q)))
-
-  opens_reached : (place : ℕ) (ps : List ℕ) (w : World) → ArePlaced s script f P K place ps →
-      At s script f P K w (turning unopened waiting ps) →
-      At s script f P K (opened_all s script place ps w) waiting
-  opens_reached place [] w placed r = r
-  opens_reached place (p ∷ ps) w placed r =
-      let words = opening_words (slice_get script.blocks place) in
-      let v = all_done (λ v. v) s p (opening script place) w in
-      opens_reached (place + 1) ps v placed.2
-      (reached_as s script f P K v (put p (waiting p) (turning unopened waiting ps))
-      (turning unopened waiting ps)
-      (open_one p ps (opening script place) (slice_get script.blocks place) w placed.1
-      (ap (opening script) placed.0) words.0 words.1 r)
-      (λ q _. turn_then unopened waiting place p ps (waiting p) placed.0 placed.2 refl q))
-
-  turning_idle : (ps : List ℕ) → AllIdle s script f P K (turning waiting ended ps)
+  turning_idle : (ps : List ℕ) → AllIdle script f (turning waiting ended ps)
   turning_idle ps p i = by (list_any (nat_eq p) ps)
     where
       by : (c : Bool) → ((if c then waiting p else ended p).owed ≡ [])
@@ -185,7 +157,7 @@ module _ (s : Setting) (script : ScriptValue) (f : ℕ → ℕ) (P : Kept) (K : 
       by false = (refl, refl)
 
   end_idle : (ps : List ℕ) (port : ℕ) (ds : List Due) →
-      AllIdle s script f P K (put port (side AtEnd ds) (turning waiting ended ps))
+      AllIdle script f (put port (side AtEnd ds) (turning waiting ended ps))
   end_idle ps port ds p i = by (p == port)
     where
       by : (c : Bool) → ((if c then side AtEnd ds else turning waiting ended ps p).owed ≡ [])
@@ -193,69 +165,174 @@ module _ (s : Setting) (script : ScriptValue) (f : ℕ → ℕ) (P : Kept) (K : 
       by true = (refl, refl)
       by false = turning_idle ps p i
 
+module _ (s : Setting) (script : ScriptValue) (f : ℕ → ℕ) (P : Staged) (K : Goes s script f P) where
+  -- the stage at which the port with this place opens
+  abbrev pub opening_at : ℕ → Stage
+  opening_at place =
+      record { is_over = false; early = place; late = 0; time = 0; fallen = [] }
+
+  open_one : (p : ℕ) (ps : List ℕ) (asks : List Ask) (b : Option Block) (w : World) →
+      is_in script f p ≡ true → opening script (f p) ≡ asks →
+      (all : List AskWords) → asks ≡ map Words all →
+      At s script f P K (opening_at (f p)) w (turning script f (unopened script f)
+      (waiting script f) (p ∷ ps)) →
+      At s script f P K (opening_at (f p)) (all_done (λ v. v) s p asks w)
+      (put p (waiting script f p) (turning script f (unopened script f) (waiting script f) ps))
+  open_one p ps asks b w i is all words r =
+      let ends = all_due (closing script (f p)) in
+      let T = turning script f (unopened script f) (waiting script f) ps in
+      let owes : unopened script f p ≡ side (Now ends) (all_due (map Words all) ++ []) =
+      ap (λ (ds : List Due). side (Now ends) ds)
+      (ap all_due (is ∙ words) ∙ sym (append-nil (all_due (map Words all)))) in
+      subst (λ list. At s script f P K (opening_at (f p)) (all_done (λ v. v) s p list w)
+      (put p (waiting script f p) T))
+      (sym words)
+      (words_reached s script f P K (opening_at (f p)) (λ v. v) T (Now ends) p (λ v ds r. r) i
+      (inr (refl, refl)) all [] w
+      (reached_as s script f P K (opening_at (f p)) w
+      (turning script f (unopened script f) (waiting script f) (p ∷ ps))
+      (put p (side (Now ends) (all_due (map Words all) ++ [])) T) r
+      (λ q _. turn_first script f (unopened script f) (waiting script f) p ps
+      (side (Now ends) (all_due (map Words all) ++ []))
+      owes q)))
+
+  opens_reached : (place : ℕ) (ps : List ℕ) (w : World) → ArePlaced script f place ps →
+      At s script f P K (opening_at place) w
+      (turning script f (unopened script f) (waiting script f) ps) →
+      At s script f P K (opening_at (place + length ps)) (opened_all s script place ps w)
+      (waiting script f)
+  opens_reached place [] w placed r =
+      later_reached s script f P K (opening_at place) (opening_at (place + 0)) (waiting script f) w
+      (record { early = omega arith; late = omega arith; time = omega arith; fallen = refl }) refl r
+  opens_reached place (p ∷ ps) w placed r =
+      let words = opening_words (slice_get script.blocks place) in
+      let v = all_done (λ v. v) s p (opening script place) w in
+      let T = turning script f (unopened script f) (waiting script f) ps in
+      let one : At s script f P K (opening_at place) v (put p (waiting script f p) T) =
+      subst (λ k. At s script f P K (opening_at k) v (put p (waiting script f p) T)) placed.0
+      (open_one p ps (opening script place) (slice_get script.blocks place) w placed.1
+      (ap (opening script) placed.0) words.0 words.1
+      (subst (λ k. At s script f P K (opening_at k) w
+      (turning script f (unopened script f) (waiting script f) (p ∷ ps))) (sym placed.0) r)) in
+      let two : At s script f P K (opening_at place) v T =
+      reached_as s script f P K (opening_at place) v (put p (waiting script f p) T) T one
+      (λ q _. turn_then script f (unopened script f) (waiting script f) place p ps
+      (waiting script f p) placed.0 placed.2 refl q) in
+      let more = opens_reached (place + 1) ps v placed.2
+      (later_reached s script f P K (opening_at place) (opening_at (place + 1)) T v
+      (record { early = omega arith; late = omega arith; time = omega arith; fallen = refl }) refl
+      two) in
+      later_reached s script f P K (opening_at (place + 1 + length ps))
+      (opening_at (place + length (p ∷ ps))) (waiting script f)
+      (opened_all s script (place + 1) ps v)
+      (record { early = omega arith; late = omega arith; time = omega arith; fallen = refl }) refl
+      more
+
+-- a stage of the end
+module _ (s : Setting) (script : ScriptValue) (f : ℕ → ℕ) (P : Staged) (K : Goes s script f P)
+    (st : Stage) (over : IsOver script st) where
   -- a port's words of the end, and behind them its closing
   shut_reached : (rounds : ℕ) (p : ℕ) (stays : Bool) (T : ℕ → Stand) (w : World) →
-      is_in script f p ≡ true →
-      At s script f P K w (put p (side AtEnd (all_due (if stays then [] else Close ∷ []))) T) →
-      At s script f P K
+      is_in script f p ≡ true → st.late ≡ suc (f p) →
+      At s script f P K st w (put p (side AtEnd (all_due (if stays then [] else Close ∷ []))) T) →
+      At s script f P K st
       (all_done (emptied_in rounds s script) s p (if stays then [] else Close ∷ []) w)
       (put p (left_stand stays) T)
-  shut_reached rounds p true T w i r = r
-  shut_reached rounds p false T w i r = close_reached s script f P K T p w i r
+  shut_reached rounds p true T w i late r = r
+  shut_reached rounds p false T w i late r =
+      close_reached s script f P K st T p w i (over, late) r
 
-  end_one : ArePlaced s script f P K 0 script.ports → (rounds : ℕ) (p : ℕ) (ps : List ℕ)
-      (w : World) → is_in script f p ≡ true →
-      At s script f P K w (turning waiting ended (p ∷ ps)) →
-      At s script f P K
+  end_one : ArePlaced script f 0 script.ports → (rounds : ℕ) (p : ℕ) (ps : List ℕ)
+      (w : World) → is_in script f p ≡ true → st.late ≡ suc (f p) →
+      At s script f P K st w (turning script f (waiting script f) (ended script f) (p ∷ ps)) →
+      At s script f P K st
       (all_done (emptied_in rounds s script) s p (closing script (f p)) w)
-      (put p (ended p) (turning waiting ended ps))
-  end_one placed rounds p ps w i r =
+      (put p (ended script f p) (turning script f (waiting script f) (ended script f) ps))
+  end_one placed rounds p ps w i late r =
       let e = closing_end (slice_get script.blocks (f p)) in
       let stays = stays_open (slice_get script.blocks (f p)) in
       let last = if stays then [] else Close ∷ [] in
-      let T = turning waiting ended ps in
+      let T = turning script f (waiting script f) (ended script f) ps in
       let behind = emptied_in rounds s script in
       let due : all_due (closing script (f p)) ≡ all_due (map Words e.all) ++ all_due last =
       ap all_due e.is ∙ map-append Still (map Words e.all) last in
       let mid = all_done behind s p (map Words e.all) w in
-      subst (λ (asks : List Ask). At s script f P K (all_done behind s p asks w) (put p (ended p) T))
+      subst (λ (asks : List Ask). At s script f P K st (all_done behind s p asks w)
+      (put p (ended script f p) T))
       (sym e.is)
-      (subst (λ (v : World). At s script f P K v (put p (ended p) T))
+      (subst (λ (v : World). At s script f P K st v (put p (ended script f p) T))
       (sym (done_append behind s p (map Words e.all) last w))
-      (shut_reached rounds p stays T mid i
-      (words_reached s script f P K behind T AtEnd p
-      (λ v ds r. emptied_reached s script f P K (put p (side AtEnd ds) T) (end_idle ps p ds) placed
-      rounds v r) i e.all (all_due last) w
-      (reached_as s script f P K w (turning waiting ended (p ∷ ps))
+      (shut_reached rounds p stays T mid i late
+      (words_reached s script f P K st behind T AtEnd p
+      (λ v ds r. emptied_reached s script f P K st over (put p (side AtEnd ds) T)
+      (end_idle script f ps p ds) placed rounds v r) i (over, late) e.all (all_due last) w
+      (reached_as s script f P K st w
+      (turning script f (waiting script f) (ended script f) (p ∷ ps))
       (put p (side AtEnd (all_due (map Words e.all) ++ all_due last)) T) r
-      (λ q _. turn_first waiting ended p ps
+      (λ q _. turn_first script f (waiting script f) (ended script f) p ps
       (side AtEnd (all_due (map Words e.all) ++ all_due last))
       (ap (λ (ds : List Due). side AtEnd ds) due) q)))))
 
-  ends_reached : ArePlaced s script f P K 0 script.ports → (rounds : ℕ) (place : ℕ) (ps : List ℕ)
-      (w : World) → ArePlaced s script f P K place ps →
-      At s script f P K w (turning waiting ended ps) →
-      At s script f P K (ended_all rounds s script place ps w) ended
-  ends_reached all rounds place [] w placed r = r
-  ends_reached all rounds place (p ∷ ps) w placed r =
+module _ (s : Setting) (script : ScriptValue) (f : ℕ → ℕ) (P : Staged) (K : Goes s script f P) where
+  -- the stage at which a port ends, once so many ports have ended or are about to
+  abbrev pub ending_at : ℕ → List Down → ℕ → Stage
+  ending_at time fallen late = record {
+    is_over = true;
+    early = length script.ports;
+    late = late;
+    time = time;
+    fallen = fallen;
+  }
+
+  ends_reached : ArePlaced script f 0 script.ports → (rounds time : ℕ) (fallen : List Down)
+      (place : ℕ) (ps : List ℕ) (w : World) → ArePlaced script f place ps →
+      At s script f P K (ending_at time fallen place) w
+      (turning script f (waiting script f) (ended script f) ps) →
+      At s script f P K (ending_at time fallen (place + length ps))
+      (ended_all rounds s script place ps w) (ended script f)
+  ends_reached all rounds time fallen place [] w placed r =
+      later_reached s script f P K (ending_at time fallen place) (ending_at time fallen (place + 0))
+      (ended script f) w
+      (record { early = omega arith; late = omega arith; time = omega arith; fallen = refl }) refl r
+  ends_reached all rounds time fallen place (p ∷ ps) w placed r =
       let v = all_done (emptied_in rounds s script) s p (closing script place) w in
-      ends_reached all rounds (place + 1) ps v placed.2
-      (reached_as s script f P K v (put p (ended p) (turning waiting ended ps))
-      (turning waiting ended ps)
-      (subst (λ k. At s script f P K (all_done (emptied_in rounds s script) s p (closing script k) w)
-      (put p (ended p) (turning waiting ended ps))) placed.0
-      (end_one all rounds p ps w placed.1 r))
-      (λ q _. turn_then waiting ended place p ps (ended p) placed.0 placed.2 refl q))
+      let st = ending_at time fallen (place + 1) in
+      let T = turning script f (waiting script f) (ended script f) ps in
+      let now = later_reached s script f P K (ending_at time fallen place) st
+      (turning script f (waiting script f) (ended script f) (p ∷ ps)) w
+      (record { early = omega arith; late = omega arith; time = omega arith; fallen = refl }) refl
+      r in
+      let more = ends_reached all rounds time fallen (place + 1) ps v placed.2
+      (reached_as s script f P K st v (put p (ended script f p) T) T
+      (subst (λ k. At s script f P K st
+      (all_done (emptied_in rounds s script) s p (closing script k) w)
+      (put p (ended script f p) T)) placed.0
+      (end_one s script f P K st (refl, refl) all rounds p ps w placed.1
+      (omega (arith, placed.0)) now))
+      (λ q _. turn_then script f (waiting script f) (ended script f) place p ps
+      (ended script f p) placed.0 placed.2 refl q)) in
+      later_reached s script f P K (ending_at time fallen (place + 1 + length ps))
+      (ending_at time fallen (place + length (p ∷ ps))) (ended script f)
+      (ended_all rounds s script (place + 1) ps v)
+      (record { early = omega arith; late = omega arith; time = omega arith; fallen = refl }) refl
+      more
 
 -- ---- the whole
 
-module _ (script : ScriptValue) (tables : List (List Rule)) (c : Capture) (f : ℕ → ℕ) (P : Kept)
-    (K : Keeps (setting_of script tables) P) where
-  begun : P [] (opened_ports script.ports) (λ p. []) →
-      At (setting_of script tables) script f P K (beginning script.ports)
-      (turning (setting_of script tables) script f P K
-      (unopened (setting_of script tables) script f P K)
-      (waiting (setting_of script tables) script f P K) script.ports)
+module _ (script : ScriptValue) (tables : List (List Rule)) (c : Capture) (f : ℕ → ℕ) (P : Staged)
+    (K : Goes (setting_of script tables) script f P) where
+  -- the stage at which nothing has happened
+  abbrev pub first_stage : Stage
+  first_stage = opening_at (setting_of script tables) script f P K 0
+
+  -- the last one: all `down` lines took effect that do at all
+  abbrev pub last_stage : ℕ → Stage
+  last_stage time = ending_at (setting_of script tables) script f P K time
+      (downs_in_effect script (length c.frames)) (0 + length script.ports)
+
+  begun : P first_stage [] (opened_ports script.ports) (λ p. []) →
+      At (setting_of script tables) script f P K first_stage (beginning script.ports)
+      (turning script f (unopened script f) (waiting script f) script.ports)
   begun base = record {
     notes = λ p. [];
     kept = base;
@@ -271,36 +348,52 @@ module _ (script : ScriptValue) (tables : List (List Rule)) (c : Capture) (f : �
     none = λ p out. refl;
   }
 
-  pub run_reached : P [] (opened_ports script.ports) (λ p. []) →
-      ArePlaced (setting_of script tables) script f P K 0 script.ports →
-      At (setting_of script tables) script f P K (run script tables c)
-      (ended (setting_of script tables) script f P K)
-  run_reached base placed =
+  pub record Ran : Type 0 where
+    pub time : ℕ
+    pub reached : At (setting_of script tables) script f P K (last_stage time)
+        (run script tables c) (ended script f)
+
+  pub run_reached : LeaveAlone → P first_stage [] (opened_ports script.ports) (λ p. []) →
+      ArePlaced script f 0 script.ports → Ran
+  run_reached leaves base placed =
       let s = setting_of script tables in
       let rounds = rounds_for c in
-      let T = waiting s script f P K in
+      let T = waiting script f in
+      let count = length script.ports in
       let one = opened_all s script 0 script.ports (beginning script.ports) in
       let two = all_down (downs_after script 0) one in
       let three = frames_passed rounds s script c 1 c.frames two in
-      let idle : AllIdle s script f P K T = λ p i. (refl, refl) in
-      let at_one : At s script f P K one T =
-      opens_reached s script f P K 0 script.ports (beginning script.ports) placed (begun base) in
-      let at_two : At s script f P K two T =
-      down_reached s script f P K T (downs_after script 0) one at_one in
-      let at_three : At s script f P K three T =
-      frames_reached s script f P K T idle placed rounds c 1 c.frames two at_two in
-      let at_four : At s script f P K (before_ends script tables c) T =
-      emptied_reached s script f P K T idle placed rounds three at_three in
-      ends_reached s script f P K placed rounds 0 script.ports (before_ends script tables c) placed
-      (reached_as s script f P K (before_ends script tables c) T
-      (turning s script f P K (waiting s script f P K) (ended s script f P K) script.ports) at_four
-      (λ p i. rw i refl))
+      let idle : AllIdle script f T = λ p i. (refl, refl) in
+      let opened_up = opening_at s script f P K (0 + count) in
+      let fed = at_time s script f P K in
+      let at_one : At s script f P K (fed 0 []) one T =
+      over_reached s script f P K opened_up (fed 0 []) T one
+      (record { early = omega arith; late = omega arith; time = omega arith; fallen = refl })
+      (refl, refl) idle
+      (opens_reached s script f P K 0 script.ports (beginning script.ports) placed (begun base)) in
+      let at_two : At s script f P K (fed 1 (downs_after script 0)) two T =
+      down_reached s script f P K T 0 0 [] (downs_after script 0) one
+      (are_after s script f P K 0 script.downs) (omega arith) at_one in
+      let at_three = frames_reached s script f P K leaves T idle placed rounds c 1 1 c.frames
+      (downs_after script 0) two (omega arith) at_two in
+      let last = fed at_three.0 (downs_in_effect script (length c.frames)) in
+      let at_four : At s script f P K last (before_ends script tables c) T =
+      emptied_reached s script f P K last (refl, refl) T idle placed rounds three at_three.1 in
+      record {
+        time = at_three.0;
+        reached = ends_reached s script f P K placed rounds at_three.0
+            (downs_in_effect script (length c.frames)) 0 script.ports (before_ends script tables c)
+            placed
+            (reached_as s script f P K last (before_ends script tables c) T
+            (turning script f (waiting script f) (ended script f) script.ports) at_four
+            (λ p i. rw i refl));
+      }
 
   -- then each port's log is what the script says
-  pub run_logged : (r : At (setting_of script tables) script f P K (run script tables c)
-      (ended (setting_of script tables) script f P K)) → (p : ℕ) → is_in script f p ≡ true →
+  pub run_logged : (st : Stage) (r : At (setting_of script tables) script f P K st
+      (run script tables c) (ended script f)) → (p : ℕ) → is_in script f p ≡ true →
       IsLog script (f p) p (r.notes p) (dids_of ((run script tables c).ports p))
-  run_logged r p i =
+  run_logged st r p i =
       let here = r.are.at p i in
       record {
         noted = ap dids_of here.there

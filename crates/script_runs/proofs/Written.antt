@@ -6,6 +6,7 @@ use Rattle.script_runs.specs.Run.{IsMadeBy}
 use Rattle.script_runs.specs.Requests.{pleas_told}
 use Rattle.script_runs.specs.Notices.{heard, is_from}
 use Rattle.script_runs.specs.Closing.{is_closed}
+use Rattle.script_runs.specs.Order.{kinds_told}
 use Rattle.script_runs.specs.Log.{logged}
 use Rattle.script_runs.specs.Examples.{run_of_7, silence_of_7, notes_of_7}
 use Rattle.std.proofs.Common.{ℕ, ◌≡◌, List, [], ◌∷◌, true, refl, ◌++◌, false}
@@ -64,7 +65,7 @@ others_of_7 port out = by (port == 7) out
     by true wrong = absurd (cc)
     by false is = refl
 
-pub run_made : IsMadeBy closing_script run_of_7 notes_of_7 (λ port. [])
+pub run_made : IsMadeBy closing_script 0 run_of_7 notes_of_7 (λ port. [])
 run_made = record {
   ports = refl;
   logs = (only_closing, tt);
@@ -76,8 +77,23 @@ run_made = record {
       either_of_7 port (λ ns. IsClosing port (list_any is_closed (logged port ns)) [])
       (record { last = refl; unbound = refl }) refl;
   room = λ port i queue wrong. absurd (cc);
+  feeder = λ queue below. record {
+    items = [];
+    entries = refl;
+    lines = refl;
+    each = tt;
+    times = tt;
+  };
+  order = λ queue below. record {
+    marks = [];
+    entries = refl;
+    kinds = λ port. either_of_7 port
+        (λ ns. [] ≡ kinds_told closing_script queue port ns) refl refl;
+    early = tt;
+    late = tt;
+  };
 }
 
 pub silence_not_made : (notes : ℕ → List Note) (left : ℕ → List Letter) →
-    IsMadeBy closing_script silence_of_7 notes left → ⊥
+    IsMadeBy closing_script 0 silence_of_7 notes left → ⊥
 silence_not_made notes left is = not_empty (notes 7) is.logs.0

@@ -8,6 +8,11 @@ pub mod Requests
 pub mod Notices
 pub mod Closing
 pub mod Room
+pub mod Ascending
+pub mod Feeder
+pub mod Order
 pub mod Left
 pub mod Run
+pub mod Within
 pub mod Examples
+pub mod FedExamples

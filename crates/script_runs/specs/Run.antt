@@ -10,6 +10,8 @@ use Rattle.script_runs.specs.Requests.{AreRequests}
 use Rattle.script_runs.specs.Notices.{AreNotices}
 use Rattle.script_runs.specs.Closing.{AreClosings}
 use Rattle.script_runs.specs.Room.{AreRoomy}
+use Rattle.script_runs.specs.Feeder.{AreFed}
+use Rattle.script_runs.specs.Order.{AreOrdered}
 
 -- the logs of ports that stand from this place on in the script
 abbrev pub AreLogs : ScriptValue → (ℕ → List Note) → ℕ → List PortLog → Type 0
@@ -17,9 +19,9 @@ AreLogs script notes place [] = Unit {0}
 AreLogs script notes place (l ∷ ls) =
     IsLog script place l.port (notes l.port) l.dids × AreLogs script notes (place + 1) ls
 
--- Histories that ports made by this script, with what each port did told in full, and with the
--- notices that are left in its mailbox.
-pub record IsMadeBy (script : ScriptValue) (h : Histories) (notes : ℕ → List Note)
+-- Histories that ports made by this script over so many frames, with what each port did told in
+-- full, and with the notices that are left in its mailbox.
+pub record IsMadeBy (script : ScriptValue) (frames : ℕ) (h : Histories) (notes : ℕ → List Note)
     (left : ℕ → List Letter) : Type 0 where
   -- there is one log for each port of the script, in its order
   pub ports : map (λ (l : PortLog). l.port) h.logs ≡ script.ports
@@ -37,3 +39,7 @@ pub record IsMadeBy (script : ScriptValue) (h : Histories) (notes : ℕ → List
   -- an arrival found no room only where the port was sent as many notices as its mailbox holds
   pub room : (port : ℕ) → list_any (nat_eq port) script.ports ≡ true →
       AreRoomy script.mail h.entries port (notes port) (left port)
+  -- frames arrive in their order, and devices go down between them where the script says it
+  pub feeder : AreFed script frames h.entries
+  -- the ports open before all else and end behind all that was fed, each in their order
+  pub order : AreOrdered script notes h.entries

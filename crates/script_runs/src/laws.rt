@@ -1,12 +1,15 @@
 //! What is known of the schedule's histories.
 
-ghost use Rattle.std.specs.Prelude.{◌≡◌, ℕ, true, List, [], ◌∷◌, map};
+ghost use Rattle.std.specs.Prelude.{◌≡◌, ◌≤◌, ℕ, true, List, [], ◌∷◌, map};
+ghost use Rattle.std.specs.Prelude.{◌+◌, ◌<◌, All, length};
 ghost use Rattle.hook_chain.specs.declared.rule.Rule.{Rule};
 ghost use Rattle.pcap_io.specs.declared.capture.Capture.{Capture};
+ghost use Rattle.place_history.specs.Numbers.{queue_count};
+ghost use Rattle.place_history.specs.declared.entry.Entry.{Entry};
 ghost use Rattle.place_history.specs.declared.histories.Histories.{Histories};
 ghost use Rattle.place_history.specs.declared.log.PortLog.{PortLog};
 ghost use Rattle.inspector_script.specs.Scripts.{ScriptValue, IsScript};
-ghost use Rattle.script_runs.specs.Schedule.{IsSolo, run};
+ghost use Rattle.script_runs.specs.Schedule.{IsSolo, is_open_port, run};
 ghost use Rattle.nfqa_msgs.specs.declared.request.Request.{Request};
 ghost use Rattle.place_history.specs.declared.log.Did.{Did};
 ghost use Rattle.place_history.specs.declared.log.Did.TheVariants.{Closed};
@@ -15,11 +18,21 @@ ghost use Rattle.script_runs.specs.Requests.{AreRequests};
 ghost use Rattle.script_runs.specs.Closing.{IsClosing};
 ghost use Rattle.script_runs.specs.Examples.{closing_script, one_request, two_closings};
 ghost use Rattle.script_runs.specs.Examples.{run_of_7, silence_of_7, notes_of_7};
+ghost use Rattle.script_runs.specs.FedExamples.{down_5, whole, kinds_of_7, opens_7, ends_7};
+ghost use Rattle.script_runs.specs.FedExamples.{no_kinds, binds, asks, arrives, falls, shuts};
+ghost use Rattle.script_runs.specs.Feeder.{IsFed};
+ghost use Rattle.script_runs.specs.Order.{IsOrdered};
 ghost use Rattle.packet_entry.specs.declared.letter.Letter.{Letter};
+ghost use Rattle.packet_entry.specs.Numbers.{longest_packet};
+ghost use Rattle.script_runs.specs.Entering.{cards};
+ghost use Rattle.script_runs.specs.Within.{AreRead, AreShort, AreSmall};
 ghost use Rattle.script_runs.specs.Left.{left_in};
 ghost use Rattle.script_runs.specs.Run.{IsMadeBy};
 
-use place_history::a_closed_port_has_no_queues;
+use netlink_codec::{written_attributes_are_walked, written_message_is_in_front};
+use place_history::{a_closed_port_has_no_queues, a_device_that_goes_down_leaves_nothing_waiting};
+use queue_core::each_packet_stays_or_leaves;
+use solo_plane::what_goes_on_is_in_time;
 
 /// There is one log for each port of the script, in the script's order, and no other.
 pub fn each_port_has_its_log()
@@ -35,13 +48,20 @@ pub fn each_port_has_its_log()
 /// ones, which are left in the mailboxes; no claim is made here of how many they are. Where a port
 /// closed, no queue is bound to it in the end, and none has a second closing or a later request of
 /// it. An arrival found no room only where the port was sent as many notices as its mailbox holds.
+/// In each queue's history frames arrive in their order, and each `down` line that takes effect
+/// stands between those of the frames up to its own and those of later ones. What ports ask as they
+/// open stands before all else, and what they ask as they end, with their closings, behind all that
+/// was fed, each in the order of the ports.
 pub fn ports_do_what_the_script_says()
     ensures { (script : ScriptValue) (tables : List (List Rule)) (c : Capture) (h : Histories) →
         IsScript script → IsSolo script tables c h →
         (notes : ℕ → List Note)
-        × IsMadeBy script h notes (left_in (run script tables c)) }
+        × IsMadeBy script (length c.frames) h notes (left_in (run script tables c)) }
 {
     a_closed_port_has_no_queues();
+    a_device_that_goes_down_leaves_nothing_waiting();
+    each_packet_stays_or_leaves();
+    what_goes_on_is_in_time();
 }
 
 /// Examples of what a run has and hasn't. The log of a port that only closes is its closing, and
@@ -55,7 +75,71 @@ pub fn runs_of_one_port()
         IsLog closing_script 0 7 notes (Closed ∷ did ∷ []) → ⊥ }
     ensures request { (request : Request) → AreRequests (one_request request) 7 [] → ⊥ }
     ensures closings { IsClosing 7 true two_closings → ⊥ }
-    ensures run { IsMadeBy closing_script run_of_7 notes_of_7 (λ port. []) }
+    ensures run { IsMadeBy closing_script 0 run_of_7 notes_of_7 (λ port. []) }
     ensures no_run { (notes : ℕ → List Note) (left : ℕ → List Letter) →
-        IsMadeBy closing_script silence_of_7 notes left → ⊥ }
+        IsMadeBy closing_script 0 silence_of_7 notes left → ⊥ }
 {}
+
+/// Histories of one queue, written out. A queue is bound by an opening message, two frames arrive
+/// with a device that goes down between them, and its port asks something at its end and closes:
+/// this is fed with that line, and in order. Where the queue is absent the line passes without an
+/// entry, but not where it is bound. A history isn't fed where the device goes down behind the
+/// first arrival of a later frame, or where a frame arrives twice, or behind a later one. And it
+/// isn't in order where an opening message stands behind an arrival, one of the end before one, or
+/// where the later of two ports closes first.
+pub fn feeding_and_order_by_hand()
+    ensures fed { (request : Request) → IsFed down_5 (whole request) }
+    ensures absent { IsFed down_5 (arrives 1 ∷ []) }
+    ensures missed { IsFed down_5 (binds ∷ arrives 1 ∷ []) → ⊥ }
+    ensures late { IsFed down_5 (arrives 2 ∷ falls 5 ∷ []) → ⊥ }
+    ensures backward { (m n : ℕ) → n ≤ m → IsFed [] (arrives m ∷ arrives n ∷ []) → ⊥ }
+    ensures ordered { (request : Request) → IsOrdered (7 ∷ []) kinds_of_7 (whole request) }
+    ensures opening { IsOrdered (7 ∷ []) opens_7 (arrives 1 ∷ binds ∷ []) → ⊥ }
+    ensures ending { (request : Request) →
+        IsOrdered (7 ∷ []) ends_7 (asks request ∷ arrives 1 ∷ []) → ⊥ }
+    ensures closings { IsOrdered (7 ∷ 9 ∷ []) no_kinds (shuts 9 ∷ shuts 7 ∷ []) → ⊥ }
+{}
+
+/// No packet that arrives is longer than a frame may be, and no payload that is asked for longer
+/// than one attribute may be, where the frames of the capture aren't longer than they may be.
+pub fn packets_and_payloads_are_within_bounds()
+    ensures packets { (script : ScriptValue) (tables : List (List Rule)) (c : Capture)
+        (h : Histories) → IsScript script → All (λ f. length f.bytes ≤ longest_packet) c.frames →
+        IsSolo script tables c h → AreSmall h.entries }
+    ensures payloads { (script : ScriptValue) (tables : List (List Rule)) (c : Capture)
+        (h : Histories) → IsScript script → All (λ f. length f.bytes ≤ longest_packet) c.frames →
+        IsSolo script tables c h → AreShort h.entries }
+{
+    written_message_is_in_front();
+    written_attributes_are_walked();
+}
+
+/// Each packet enters with its frame's bytes, from where the packet starts, and its number is the
+/// frame's, counted from 1.
+pub fn packets_are_read_with_their_frames()
+    ensures { (c : Capture) → AreRead c.link c.frames (cards c) }
+{}
+
+/// No notice is left in a mailbox at the end: at no port that is still open then, whatever the
+/// queues' numbers; and at no port at all where the numbers of queues in the histories are of 16
+/// bits, as `Entry` has them. So the ports received all notices of the arrivals that their queues
+/// took, and the histories are made by the script with nothing left.
+pub fn no_notice_is_left()
+    ensures open_ports { (script : ScriptValue) (tables : List (List Rule)) (c : Capture) →
+        IsScript script → (port : ℕ) →
+        is_open_port ((run script tables c).ports port) ≡ true →
+        left_in (run script tables c) port ≡ [] }
+    ensures every_port { (script : ScriptValue) (tables : List (List Rule)) (c : Capture)
+        (h : Histories) → IsScript script → IsSolo script tables c h →
+        All (λ (e : Entry). e.queue < queue_count) h.entries →
+        (port : ℕ) → left_in (run script tables c) port ≡ [] }
+    ensures made { (script : ScriptValue) (tables : List (List Rule)) (c : Capture)
+        (h : Histories) → IsScript script → IsSolo script tables c h →
+        All (λ (e : Entry). e.queue < queue_count) h.entries →
+        (notes : ℕ → List Note) × IsMadeBy script (length c.frames) h notes (λ port. []) }
+{
+    a_closed_port_has_no_queues();
+    each_packet_stays_or_leaves();
+    what_goes_on_is_in_time();
+    ports_do_what_the_script_says();
+}

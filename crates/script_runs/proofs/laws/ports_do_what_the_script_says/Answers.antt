@@ -6,4 +6,9 @@ returns c = λ script tables capture h is solo.
     made_by_script (record {
       entries = c.a_closed_port_has_no_queues.ensures.entries;
       none = c.a_closed_port_has_no_queues.ensures.none;
+    }) (record {
+      leaves = c.what_goes_on_is_in_time.ensures.arrival;
+      conserve = c.each_packet_stays_or_leaves.ensures;
+      closings = c.a_closed_port_has_no_queues.ensures.entries;
+      downs = c.a_device_that_goes_down_leaves_nothing_waiting.ensures.entries;
     }) script tables capture h is.ports_differ solo

@@ -1,0 +1,98 @@
+-- What a message makes of the queues, where what is handed on comes to a later visit.
+use Rattle.std.proofs.Common.{◌≡◌, ◌≤◌, ◌⊎◌, ℕ, List, [], ◌∷◌, ◌++◌}
+use Rattle.std.proofs.Common.{Bool, true, false, refl, sym, subst, inl, inr, arith}
+use Rattle.std.specs.Prelude.{◌==◌}
+use Rattle.std.proofs.lemmas.Bool.{ne_eqb}
+use Rattle.packet_entry.specs.declared.packet.Card.{Card}
+use Rattle.hook_chain.specs.declared.chain.Decision.{Decision}
+use Rattle.nfqa_msgs.specs.declared.request.Request.{Request}
+use Rattle.nfqa_msgs.specs.declared.request.Decoded.TheVariants.{Asked}
+use Rattle.place_history.specs.declared.entry.Entry.{Entry}
+use Rattle.queue_core.specs.Laws.{times}
+use Rattle.place_history.specs.Kept.{entry_of, state_of, every_number}
+use Rattle.place_history.specs.Journeys.{Arrival}
+use Rattle.place_history.specs.Happenings as happening
+use Rattle.inspector_script.specs.Scripts.{ScriptValue}
+use Rattle.solo_plane.specs.declared.setting.Setting.{Setting}
+use Rattle.solo_plane.specs.World.{World}
+use Rattle.solo_plane.specs.Moving.{arrived, room_for}
+use Rattle.solo_plane.specs.Messages.{asking, with_ask}
+use Rattle.queue_core.specs.declared.event.Event.TheVariants.{Ask}
+use Rattle.script_runs.specs.Sending.{carried_out, all_moved}
+use Rattle.script_runs.proofs.Carrying.{Known, Of}
+use Rattle.script_runs.proofs.Asking.{Stage, IsOver, MayArrive, MaySpeak}
+use Rattle.script_runs.proofs.Later.{LeaveAlone, MayGo, moved_later}
+use Rattle.script_runs.proofs.Feeding.{ClosingLaw, DownLaw}
+use Rattle.script_runs.proofs.Zeros.{Conserve, NoneWaits, Brings, barred, test, none_then, one_free}
+use Rattle.script_runs.proofs.Zeros.{request_free, none_go, all_later, bring_all, closing_brings}
+use Rattle.script_runs.proofs.Zeros.{down_brings}
+
+-- the laws of the crates below on which these parts stand
+pub record Below : Type 0 where
+  pub leaves : LeaveAlone
+  pub conserve : Conserve
+  pub closings : ClosingLaw
+  pub downs : DownLaw
+
+visited : (card : Card) → 1 ≤ card.visit → times (test true) (card ∷ []) ≡ 0
+visited card least =
+    let none : (card.visit == 0) ≡ false =
+    ne_eqb card.visit 0 (λ same. absurd (omega (arith, same, least))) in
+    one_free true card none
+
+module _ (laws : Below) (s : Setting) (script : ScriptValue) (st : Stage) where
+  pub arrival_none : (w : World) (a : Arrival) → st.is_over ≡ true → 1 ≤ a.card.visit →
+      NoneWaits st.is_over w.entries → NoneWaits st.is_over (arrived s w a).entries
+  arrival_none w a over least is =
+      let e = entry_of w.entries a.queue (happening.arrive a (room_for s w a)) in
+      none_then laws.conserve st.is_over w.entries (e ∷ [])
+      (subst (λ b. Brings b e.event) (sym over) (visited a.card least), tt) is
+
+  pub ask_none : (w : World) (port call : ℕ) (r : Request) → NoneWaits st.is_over w.entries →
+      NoneWaits st.is_over (with_ask w port call r).entries
+  ask_none w port call r is =
+      none_then laws.conserve st.is_over w.entries
+      (entry_of w.entries (happening.queue_of r) (Ask port call r) ∷ []) (refl, tt) is
+
+  pub closings_none : (port : ℕ) (es : List Entry) → NoneWaits st.is_over es →
+      NoneWaits st.is_over (es ++ happening.closings port es)
+  closings_none port es is =
+      none_then laws.conserve st.is_over es (happening.closings port es)
+      (bring_all st.is_over (λ k. happening.closing_of port k (state_of es k))
+      (λ k. closing_brings st.is_over port k (state_of es k)) every_number) is
+
+  pub downs_none : (device : ℕ) (es : List Entry) → NoneWaits st.is_over es →
+      NoneWaits st.is_over (es ++ happening.downs device es)
+  downs_none device es is =
+      none_then laws.conserve st.is_over es (happening.downs device es)
+      (bring_all st.is_over (λ k. happening.down_of device k (state_of es k))
+      (λ k. down_brings st.is_over device k (state_of es k)) every_number) is
+
+  -- ports have opened, or not
+  pub either_so : (place : ℕ) (at_end : Bool) → MaySpeak script st place at_end →
+      IsOver script st ⊎ (st.is_over ≡ false)
+  either_so place true may = inl may.0
+  either_so place false (inl over) = inl over
+  either_so place false (inr not_yet) = inr not_yet.0
+
+  -- a message is carried out
+  module _ (Q : Known) (move : (w : World) (a : Arrival) → MayArrive script st a → Of Q w →
+      Of Q (arrived s w a)) where
+    moved_so : (hs : List (Card × Decision)) (w : World) →
+        IsOver script st ⊎ (st.is_over ≡ false) →
+        MayGo (λ v. barred st.is_over v ≡ false) hs → Of Q w → Of Q (all_moved s hs w)
+    moved_so hs w (inl over) may q =
+        moved_later laws.leaves s Q (MayArrive script st)
+        (λ a later. (over, later))
+        move hs w (all_later hs (subst (λ b. MayGo (λ v. barred b v ≡ false) hs) over.0 may)) q
+    moved_so hs w (inr not_yet) may q =
+        subst (λ gs. Of Q (all_moved s gs w))
+        (sym (none_go hs (subst (λ b. MayGo (λ v. barred b v ≡ false) hs) not_yet may))) q
+
+    pub asked_so : (w : World) (port call : ℕ) (r : Request) →
+        IsOver script st ⊎ (st.is_over ≡ false) → NoneWaits st.is_over w.entries →
+        Of Q (with_ask w port call r) → Of Q (carried_out s port call (Asked r) w)
+    asked_so w port call r either none q =
+        moved_so (happening.all_handed (asking w port call r).left) (with_ask w port call r) either
+        (request_free laws.conserve st.is_over (state_of w.entries (happening.queue_of r)) port call
+        r (none.none (happening.queue_of r))) q

@@ -1,0 +1,363 @@
+-- Order: a run keeps the histories in order.
+use Rattle.std.proofs.Common.{◌≡◌, ◌⊎◌, ◌∙◌, ℕ, List, [], ◌∷◌, ◌++◌, Bool}
+use Rattle.std.proofs.Common.{◌≤◌}
+use Rattle.std.proofs.Common.{true, false, refl, sym, ap, subst, inl, inr, arith}
+use Rattle.std.proofs.Common.{append-nil, append_assoc}
+use Rattle.std.specs.Prelude.{map, length, not, ◌==◌, if◌then◌else◌}
+use Rattle.std.proofs.lemmas.Bool.{cases_Bool, eqb-true, ne_eqb, eq-eqb}
+use Rattle.packet_entry.specs.declared.letter.Letter.{Letter}
+use Rattle.netlink_codec.specs.Messages.{NetlinkMessage}
+use Rattle.nfqa_msgs.specs.declared.request.Request.{Request}
+use Rattle.nfqa_msgs.specs.declared.request.Decoded.{Decoded}
+use Rattle.nfqa_msgs.specs.declared.request.Decoded.TheVariants.{Nothing, Refused, Asked}
+use Rattle.nfqa_msgs.specs.RequestReading.{decoded}
+use Rattle.queue_core.specs.declared.event.Event.TheVariants.{Ask}
+use Rattle.place_history.specs.declared.entry.Entry.{Entry}
+use Rattle.place_history.specs.Kept.{entry_of}
+use Rattle.place_history.specs.Journeys.{Arrival}
+use Rattle.place_history.specs.Happenings as happening
+use Rattle.inspector_script.specs.Scripts.{ScriptValue}
+use Rattle.solo_plane.specs.declared.setting.Setting.{Setting}
+use Rattle.solo_plane.specs.World.{World}
+use Rattle.solo_plane.specs.Moving.{arrived, room_for}
+use Rattle.script_runs.specs.Sending.{carried_out, errno_of}
+use Rattle.script_runs.specs.Log.{Note, Got, Begun, Spoke, Shut}
+use Rattle.script_runs.specs.Log.{Due, Standing, start, after, standing}
+use Rattle.script_runs.specs.Log.{is_some_due, standing_from}
+use Rattle.script_runs.specs.Requests.{Plea, plea_of, pleas_told}
+use Rattle.script_runs.specs.Order.{Kind, Answers, kind_by, kind_at, kinds_from}
+use Rattle.script_runs.specs.Order.{kinds_told, place_in, early_by, late_by, late_asked}
+use Rattle.script_runs.proofs.Asking.{Stage, IsOver, MayArrive, MaySpeak, Goes, MayEnter, with_fed}
+use Rattle.script_runs.proofs.Reaching.{noted, is_in}
+use Rattle.script_runs.proofs.Zeros.{NoneWaits, none_less}
+use Rattle.script_runs.proofs.Rising.{IsNow}
+use Rattle.script_runs.proofs.Owing.{Owes, AllOwe, has_received, quiet_owes, got_owes, noted_owe}
+use Rattle.script_runs.proofs.Ordering.{Told, AllOrdered, all_ordered_later, entry_ordered}
+use Rattle.script_runs.proofs.Ordering.{unasked_ordered, closings_ordered, downs_ordered}
+use Rattle.script_runs.proofs.Going.{Below, arrival_none, ask_none, closings_none, downs_none}
+use Rattle.script_runs.proofs.Going.{either_so, asked_so}
+
+-- ---- one note more
+
+kinds_push : (script : ScriptValue) (place queue port : ℕ) (t : Standing) (ns : List Note)
+    (n : Note) → kinds_from script place queue port t (ns ++ n ∷ [])
+    ≡ kinds_from script place queue port t ns
+    ++ map (λ (x : Plea). kind_at (standing_from script place port t ns)) (pleas_told queue n)
+kinds_push script place queue port t [] n =
+    append-nil (map (λ (x : Plea). kind_at t) (pleas_told queue n))
+kinds_push script place queue port t (m ∷ ns) n =
+    ap (λ ks. map (λ (x : Plea). kind_at t) (pleas_told queue m) ++ ks)
+    (kinds_push script place queue port (after script place port t m) ns n)
+    ∙ sym (append_assoc (map (λ (x : Plea). kind_at t) (pleas_told queue m))
+    (kinds_from script place queue port (after script place port t m) ns)
+    (map (λ (x : Plea).
+    kind_at (standing_from script place port (after script place port t m) ns))
+    (pleas_told queue n)))
+
+-- the kind of a message that a port's request is
+abbrev own_kinds : ℕ → ℕ → Kind → List Plea → List Kind
+own_kinds p port k pleas = if p == port then map (λ (x : Plea). k) pleas else []
+
+nothing_more : (c : Bool) (ks : List Kind) → ks ≡ ks ++ (if c then [] else [])
+nothing_more true ks = sym (append-nil ks)
+nothing_more false ks = sym (append-nil ks)
+
+module _ (script : ScriptValue) where
+  abbrev place : ℕ → ℕ
+  place p = place_in p script.ports
+
+  abbrev pub told : (ℕ → List Note) → Told
+  told notes queue p = kinds_told script queue p (notes p)
+
+  abbrev kind_of : (ℕ → List Note) → ℕ → Kind
+  kind_of notes port = kind_at (standing script (place port) port (notes port))
+
+  told_then : (notes : ℕ → List Note) (port : ℕ) (n : Note) (queue p : ℕ) →
+      told notes queue p ++ own_kinds p port (kind_of notes port) (pleas_told queue n)
+      ≡ told (noted port n notes) queue p
+  told_then notes port n queue p = by (cases_Bool (p == port))
+    where
+      own : (q : ℕ) → p ≡ q →
+          told notes queue p ++ map (λ (x : Plea). kind_of notes q) (pleas_told queue n)
+          ≡ kinds_told script queue p (notes p ++ n ∷ [])
+      own q same = subst (λ q. told notes queue p
+          ++ map (λ (x : Plea). kind_of notes q) (pleas_told queue n)
+          ≡ kinds_told script queue p (notes p ++ n ∷ [])) same
+          (sym (kinds_push script (place p) queue p (start script (place p)) (notes p) n))
+
+      by : ((p == port) ≡ true) ⊎ ((p == port) ≡ false) →
+          told notes queue p ++ own_kinds p port (kind_of notes port) (pleas_told queue n)
+          ≡ told (noted port n notes) queue p
+      by (inl h) = rw h (own port (eqb-true p port h))
+      by (inr h) = rw h (append-nil (told notes queue p))
+
+  quiet_told : (notes : ℕ → List Note) (port : ℕ) (n : Note) →
+      ((queue : ℕ) → pleas_told queue n ≡ []) → (queue p : ℕ) →
+      told notes queue p ≡ told (noted port n notes) queue p
+  quiet_told notes port n none queue p =
+      nothing_more (p == port) (told notes queue p)
+      ∙ ap (λ (ps : List Plea). told notes queue p ++ own_kinds p port (kind_of notes port) ps)
+      (sym (none queue))
+      ∙ told_then notes port n queue p
+
+  -- ---- a message is of the stage
+
+  fit : (st : Stage) (port call : ℕ) (r : Request) (at_end : Bool) (owed : List Due)
+      (received : Bool) → MaySpeak script st (place port) at_end →
+      is_some_due owed ≡ not at_end →
+      (st.is_over ≡ true → (owed ≡ []) ⊎ (received ≡ true)) →
+      (st.is_over ≡ false → received ≡ false) →
+      (early_by script.ports (kind_by owed received) (Ask port call r) ≡ st.early)
+      × IsNow st.late (late_asked script.ports port (kind_by owed received))
+  fit st port call r true [] received may due over early =
+      (sym may.0.1, inr (ap (λ k. k ∷ []) (sym may.1)))
+  fit st port call r true (d ∷ ds) received may due over early = absurd (cc)
+  fit st port call r false [] received may due over early = absurd (cc)
+  fit st port call r false (d ∷ ds) true (inl is) due over early = (sym is.1, inl refl)
+  fit st port call r false (d ∷ ds) false (inl is) due over early =
+      absurd (wrong (over is.0))
+    where
+      wrong : (d ∷ ds ≡ []) ⊎ (false ≡ true) → ⊥
+      wrong (inl is) = cc
+      wrong (inr is) = cc
+  fit st port call r false (d ∷ ds) true (inr not_yet) due over early =
+      let wrong = early not_yet.0 in absurd (cc)
+  fit st port call r false (d ∷ ds) false (inr not_yet) due over early =
+      (sym not_yet.1, inl refl)
+
+  owes_over : (b : Bool) (t : Standing) → Owes b t → b ≡ true →
+      (t.owed ≡ []) ⊎ (has_received t ≡ true)
+  owes_over true t is so = is
+  owes_over false t is wrong = absurd (cc)
+
+  owes_early : (b : Bool) (t : Standing) → Owes b t → b ≡ false → has_received t ≡ false
+  owes_early true t is wrong = absurd (cc)
+  owes_early false t is so = is
+
+  -- ---- what is kept
+
+  pub record OrderSo (st : Stage) (es : List Entry) (notes : ℕ → List Note) : Type 0 where
+    pub none : NoneWaits st.is_over es
+    pub owe : AllOwe script place st.is_over notes
+    pub order : AllOrdered script.ports st.early st.late (told notes) es
+
+  -- histories in order, where these kinds are told
+  record InOrder (st : Stage) (kinds : Told) (es : List Entry) : Type 0 where
+    none : NoneWaits st.is_over es
+    order : AllOrdered script.ports st.early st.late kinds es
+
+  late_later : (late : ℕ) (a : Arrival) (room : Bool) → 2 ≤ a.card.visit →
+      IsNow late (late_by script.ports Answers (happening.arrive a room))
+  late_later late a room later =
+      let no : (a.card.visit == 1) ≡ false =
+      ne_eqb a.card.visit 1 (λ same. absurd (omega (arith, same, later))) in
+      rw no (inl refl)
+
+  late_first : (late : ℕ) (a : Arrival) (room : Bool) → a.card.visit ≡ 1 → late ≡ 0 →
+      IsNow late (late_by script.ports Answers (happening.arrive a room))
+  late_first late a room is none =
+      let so : (a.card.visit == 1) ≡ true = eq-eqb a.card.visit 1 is in
+      rw so (inr (ap (λ n. n ∷ []) (sym none)))
+
+  module _ (laws : Below) (s : Setting) where
+    arrival_order : (st : Stage) (kinds : Told) (w : World) (a : Arrival) →
+        MayArrive script st a → InOrder st kinds w.entries →
+        InOrder st kinds (arrived s w a).entries
+    arrival_order st kinds w a may is =
+        let room = room_for s w a in
+        record {
+          none = arrival_none laws s script st w a may.0.0 (omega (arith, may.1)) is.none;
+          order = unasked_ordered script.ports st.early st.late kinds w.entries
+              (entry_of w.entries a.queue (happening.arrive a room)) (sym may.0.1)
+              (late_later st.late a room may.1) (λ p. refl) is.order;
+        }
+
+    enter_order : (st : Stage) (notes : ℕ → List Note) (w : World) (a : Arrival) →
+        MayEnter script st a → OrderSo st w.entries notes →
+        OrderSo (with_fed st a.card.number) (arrived s w a).entries notes
+    enter_order st notes w a may is =
+        let room = room_for s w a in
+        record {
+          none = arrival_none laws s script st w a may.over.0 (omega (arith, may.visit)) is.none;
+          owe = is.owe;
+          order = unasked_ordered script.ports st.early st.late (told notes) w.entries
+              (entry_of w.entries a.queue (happening.arrive a room)) (sym may.over.1)
+              (late_first st.late a room may.visit may.late) (λ p. refl) is.order;
+        }
+
+    -- with the kind of this message
+    abbrev with_kind : Told → ℕ → ℕ → Kind → ℕ → Decoded → Told
+    with_kind kinds port call k errno d queue p =
+        kinds queue p ++ own_kinds p port k (plea_of queue call errno d)
+
+    away : (queue : ℕ) (r : Request) (p port call errno : ℕ) (k : Kind) (ks : List Kind) →
+        (happening.queue_of r == queue) ≡ false →
+        ks ≡ ks ++ own_kinds p port k (plea_of queue call errno (Asked r))
+    away queue r p port call errno k ks h = rw h (nothing_more (p == port) ks)
+
+    here : (queue : ℕ) (r : Request) (p port call errno : ℕ) (k : Kind) (ks : List Kind) →
+        (happening.queue_of r == queue) ≡ true →
+        ks ++ map (λ (x : Plea). k)
+        (if p == port then record { call = call; request = r; errno = errno } ∷ [] else [])
+        ≡ ks ++ own_kinds p port k (plea_of queue call errno (Asked r))
+    here queue r p port call errno k ks h = rw h (by (p == port))
+      where
+        x : Plea
+        x = record { call = call; request = r; errno = errno }
+
+        by : (c : Bool) → ks ++ map (λ (x : Plea). k) (if c then x ∷ [] else [])
+            ≡ ks ++ (if c then map (λ (x : Plea). k) (x ∷ []) else [])
+        by true = refl
+        by false = refl
+
+    carried_order : (st : Stage) (kinds : Told) (w : World) (port call : ℕ) (k : Kind)
+        (d : Decoded) → IsOver script st ⊎ (st.is_over ≡ false) →
+        ((r : Request) → (early_by script.ports k (Ask port call r) ≡ st.early)
+        × IsNow st.late (late_asked script.ports port k)) →
+        InOrder st kinds w.entries →
+        InOrder st (with_kind kinds port call k (errno_of port call d w) d)
+        (carried_out s port call d w).entries
+    carried_order st kinds w port call k Nothing either fits is = record {
+      none = is.none;
+      order = all_ordered_later script.ports st.early st.early st.late st.late kinds
+          (with_kind kinds port call k 0 Nothing) w.entries (omega arith) (omega arith)
+          (λ queue p. nothing_more (p == port) (kinds queue p)) is.order;
+    }
+    carried_order st kinds w port call k (Refused errno) either fits is = record {
+      none = is.none;
+      order = all_ordered_later script.ports st.early st.early st.late st.late kinds
+          (with_kind kinds port call k errno (Refused errno)) w.entries (omega arith) (omega arith)
+          (λ queue p. nothing_more (p == port) (kinds queue p)) is.order;
+    }
+    carried_order st kinds w port call k (Asked r) either fits is =
+        let errno = errno_of port call (Asked r) w in
+        let more = with_kind kinds port call k errno (Asked r) in
+        asked_so laws s script st (λ es ports. InOrder st more es)
+        (λ v a may is. arrival_order st more v a may is) w port call r either is.none (record {
+          none = ask_none laws s script st w port call r is.none;
+          order = entry_ordered script.ports st.early st.late kinds more w.entries
+              (record {
+                entry = entry_of w.entries (happening.queue_of r) (Ask port call r);
+                kind = k;
+              }) (fits r).0 (fits r).1
+              (λ queue p h. away queue r p port call errno k (kinds queue p) h)
+              (λ queue p h. here queue r p port call errno k (kinds queue p) h) is.order;
+        })
+
+    speaks_order : (st : Stage) (w : World) (notes : ℕ → List Note) (port call : ℕ)
+        (m : NetlinkMessage) (at_end : Bool) → is_in script place port ≡ true →
+        MaySpeak script st (place port) at_end →
+        is_some_due (standing script (place port) port (notes port)).owed ≡ not at_end →
+        OrderSo st w.entries notes →
+        OrderSo st (carried_out s port call (decoded m) w).entries
+        (noted port (Spoke call m (errno_of port call (decoded m) w)) notes)
+    speaks_order st w notes port call m at_end i may due is =
+        let errno = errno_of port call (decoded m) w in
+        let n = Spoke call m errno in
+        let t = standing script (place port) port (notes port) in
+        let k = kind_of notes port in
+        let so = carried_order st (told notes) w port call k (decoded m)
+        (either_so laws s script st (place port) at_end may)
+        (λ r. fit st port call r at_end t.owed (has_received t) may due
+        (owes_over st.is_over t (is.owe port i)) (owes_early st.is_over t (is.owe port i)))
+        (record { none = is.none; order = is.order }) in
+        record {
+          none = so.none;
+          owe = noted_owe script place st.is_over notes port n
+              (λ p t owes. quiet_owes script (place p) p st.is_over t n tt owes) is.owe;
+          order = all_ordered_later script.ports st.early st.early st.late st.late
+              (with_kind (told notes) port call k errno (decoded m))
+              (told (noted port n notes)) (carried_out s port call (decoded m) w).entries
+              (omega arith) (omega arith) (λ queue p. told_then notes port n queue p) so.order;
+        }
+
+    -- a note of no message
+    quiet_order : (st : Stage) (es : List Entry) (notes : ℕ → List Note) (port : ℕ) (n : Note) →
+        ((queue : ℕ) → pleas_told queue n ≡ []) →
+        ((p : ℕ) (t : Standing) → Owes st.is_over t →
+        Owes st.is_over (after script (place p) p t n)) → OrderSo st es notes →
+        OrderSo st es (noted port n notes)
+    quiet_order st es notes port n none owes is = record {
+      none = is.none;
+      owe = noted_owe script place st.is_over notes port n owes is.owe;
+      order = all_ordered_later script.ports st.early st.early st.late st.late (told notes)
+          (told (noted port n notes)) es (omega arith) (omega arith)
+          (quiet_told notes port n none) is.order;
+    }
+
+    got_over : (b : Bool) → b ≡ true → (l : Letter) (p : ℕ) (t : Standing) →
+        Owes b (after script (place p) p t (Got l))
+    got_over true is l p t = got_owes script (place p) p t l
+    got_over false wrong l p t = absurd (cc)
+
+    opens : (b : Bool) (es : List Entry) → NoneWaits b es → NoneWaits true es
+    opens true es is = is
+    opens false es is = none_less false es laws.conserve is refl
+
+    -- at a stage where all have opened, with what stands in a history
+    early_is : (st : Stage) (notes : ℕ → List Note) (es : List Entry) → IsOver script st →
+        AllOrdered script.ports st.early st.late (told notes) es →
+        AllOrdered script.ports (length script.ports) st.late (told notes) es
+    early_is st notes es over is =
+        subst (λ e. AllOrdered script.ports e st.late (told notes) es) over.1 is
+
+    closes_order : (st : Stage) (w : World) (notes : ℕ → List Note) (port : ℕ) →
+        MaySpeak script st (place port) true → OrderSo st w.entries notes →
+        OrderSo st (w.entries ++ happening.closings port w.entries) notes
+    closes_order st w notes port may is = record {
+      none = closings_none laws s script st port w.entries is.none;
+      owe = is.owe;
+      order = subst (λ e. AllOrdered script.ports e st.late (told notes)
+          (w.entries ++ happening.closings port w.entries)) (sym may.0.1)
+          (closings_ordered script.ports laws.closings st.late port (told notes) w.entries may.1
+          (early_is st notes w.entries may.0 is.order));
+    }
+
+    falls_order : (st : Stage) (w : World) (notes : ℕ → List Note) (device : ℕ) →
+        IsOver script st → st.late ≡ 0 → OrderSo st w.entries notes →
+        AllOrdered script.ports st.early st.late (told notes)
+        (w.entries ++ happening.downs device w.entries)
+    falls_order st w notes device over late is =
+        let es = w.entries ++ happening.downs device w.entries in
+        subst (λ e. AllOrdered script.ports e st.late (told notes) es) (sym over.1)
+        (subst (λ l. AllOrdered script.ports (length script.ports) l (told notes) es) (sym late)
+        (downs_ordered script.ports laws.downs device (told notes) w.entries
+        (subst (λ l. AllOrdered script.ports (length script.ports) l (told notes) w.entries) late
+        (early_is st notes w.entries over is.order))))
+
+    pub order_goes : Goes s script place (λ st es ports notes. OrderSo st es notes)
+    order_goes = record {
+      arrives = λ st w notes a may is.
+          let so = arrival_order st (told notes) w a may
+          (record { none = is.none; order = is.order }) in
+          record { none = so.none; owe = is.owe; order = so.order };
+      enters = λ st w notes a may is. enter_order st notes w a may is;
+      begins = λ st es ports notes port i is. quiet_order st es notes port Begun (λ queue. refl)
+          (λ p t owes. quiet_owes script (place p) p st.is_over t Begun tt owes) is;
+      speaks = λ st w notes port call m at_end i op may due is.
+          speaks_order st w notes port call m at_end i may due is;
+      gets = λ st w notes port held l ls i over there mail is.
+          quiet_order st w.entries notes port (Got l) (λ queue. refl)
+          (λ p t owes. got_over st.is_over over.0 l p t) is;
+      closes = λ st w notes port i op may is.
+          quiet_order st (w.entries ++ happening.closings port w.entries) notes port Shut
+          (λ queue. refl) (λ p t owes. quiet_owes script (place p) p st.is_over t Shut tt owes)
+          (closes_order st w notes port may is);
+      falls = λ st w notes d over late time is. record {
+        none = downs_none laws s script st d.device w.entries is.none;
+        owe = is.owe;
+        order = falls_order st w notes d.device over late is;
+      };
+      goes_on = λ st u es ports notes follows same is. record {
+        none = subst (λ b. NoneWaits b es) same is.none;
+        owe = subst (λ b. AllOwe script place b notes) same is.owe;
+        order = all_ordered_later script.ports st.early u.early st.late u.late (told notes)
+            (told notes) es follows.early follows.late (λ queue p. refl) is.order;
+      };
+      opens_up = λ st u es ports notes follows over idle is. record {
+        none = subst (λ b. NoneWaits b es) (sym over.0) (opens st.is_over es is.none);
+        owe = subst (λ b. AllOwe script place b notes) (sym over.0) (λ p i. inl (idle p i));
+        order = all_ordered_later script.ports st.early u.early st.late u.late (told notes)
+            (told notes) es follows.early follows.late (λ queue p. refl) is.order;
+      };
+    }
