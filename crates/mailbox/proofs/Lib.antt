@@ -1,0 +1,5 @@
+mod Seats
+mod Manning
+mod Gauging
+mod Posting
+mod Keeping

@@ -1,0 +1,254 @@
+-- The ends keep their roles, through each change of them.
+use Rattle.std.proofs.Common.{◌≡◌, ℕ, ◌+◌, ◌≢◌, ◌⊎◌, inl, inr, ⊎_elim, Bool, true, false}
+use Rattle.std.proofs.Common.{List, [], ◌∷◌, ◌++◌, length, set, refl, sym, ap, ◌∙◌, subst, arith}
+use Rattle.std.proofs.Common.{true≢false}
+use mathlib.Core.Option.{some, some-ne-none}
+use mathlib.Core.Logic.{dite}
+use native.Mathlib.Decide.{ℕ_discrete}
+use lib.ListN.{get_elem?}
+use Rattle.mailbox.specs.declared.view.Role.{Role}
+use Rattle.mailbox.specs.Roles.{In, HasAll, Fits, Manned, first_role, sending_role}
+use Rattle.mailbox.specs.Roles.{receiving_role, spent_role, parent_role, child_role, joined_role}
+use Rattle.mailbox.specs.Roles.{made_known}
+use Rattle.mailbox.proofs.Seats.{not_true, at_number, at_same, at_other, each_set, each_new}
+use Rattle.mailbox.proofs.Seats.{each_joined}
+
+pub in_append : (k n : ℕ) (xs : List ℕ) → In k (xs ++ n ∷ []) → In k xs ⊎ (k ≡ n)
+in_append k n [] (inl e) = inr e
+in_append k n [] (inr h) = absurd h
+in_append k n (x ∷ xs) (inl e) = inl (inl e)
+in_append k n (x ∷ xs) (inr h) = ⊎_elim (λ (l : In k xs). inl (inr l)) (λ (e : k ≡ n). inr e)
+    (in_append k n xs h)
+
+-- what a number knows of how many were made, by whether it is number 0
+pub known_zero : (n made before : ℕ) → n ≡ 0 → made_known n made before ≡ made
+known_zero n made before e = at_same 0 n made (λ _. before) e
+
+pub known_other : (n made before : ℕ) → n ≢ 0 → made_known n made before ≡ before
+known_other n made before e = at_other 0 n made (λ _. before) e
+
+-- who has ended still has when one more ends
+pub still_ended : (n k : ℕ) (ended : ℕ → Bool) → ended k ≡ true → at_number n true ended k ≡ true
+still_ended n k ended h = dite (ℕ_discrete k n) (λ e. at_same n k true ended e)
+    (λ ne. at_other n k true ended ne ∙ h)
+
+-- the opening
+pub first_fits : Fits (λ _. 0) 0 1 (λ _. false) 0 first_role
+first_fits = record {
+  sender = λ _. (refl, omega arith, refl);
+  zero = λ _ _. refl;
+  receiver = λ _. (refl, λ k h. absurd h);
+  all_made = λ _ h. absurd (true≢false (sym h));
+}
+
+module _ {V : Type 0} (role : V → Role) where
+  abbrev pub opens : (v : V) → role v ≡ first_role → Manned role (v ∷ [])
+  opens v is = record {
+    seat = λ _. 0;
+    reader = 0;
+    made = 1;
+    ended = λ _. false;
+    started = omega arith;
+    unmade = λ k h. refl;
+    fits = each_new (λ id u. Fits (λ _. 0) 0 1 (λ _. false) id (role u)) [] v
+        (λ i u at. absurd (some-ne-none u (sym at)))
+        (subst (Fits (λ _. 0) 0 1 (λ _. false) 0) (sym is) first_fits);
+  }
+
+  -- an end changes, and keeps its role
+  abbrev pub stays : (vs : List V) (m : Manned role vs) (me : ℕ) (v w : V)
+      → get_elem? vs me ≡ some v → role w ≡ role v → Manned role (set vs me w)
+  stays vs m me v w at same = record {
+    seat = m.seat;
+    reader = m.reader;
+    made = m.made;
+    ended = m.ended;
+    started = m.started;
+    unmade = m.unmade;
+    fits = each_set (λ id u. Fits m.seat m.reader m.made m.ended id (role u)) vs me w
+        (subst (Fits m.seat m.reader m.made m.ended me) (sym same) (m.fits me v at))
+        (λ i u ne at_u. m.fits i u at_u);
+  }
+
+  -- no other end receives
+  pub one_gets : (vs : List V) (m : Manned role vs) (me i : ℕ) (v u : V) → get_elem? vs me ≡ some v
+      → get_elem? vs i ≡ some u → (role v).gets ≡ true → (role u).gets ≡ true → i ≢ me → ⊥
+  one_gets vs m me i v u at at_u gets gets_u ne =
+      ne (sym ((m.fits i u at_u).receiver gets_u).0 ∙ ((m.fits me v at).receiver gets).0)
+
+  -- no two ends have one number
+  pub one_number : (vs : List V) (m : Manned role vs) (me i : ℕ) (v u : V)
+      → get_elem? vs me ≡ some v → get_elem? vs i ≡ some u → (role v).sends ≡ true
+      → (role u).sends ≡ true → i ≢ me → (role u).number ≢ (role v).number
+  one_number vs m me i v u at at_u sends sends_u ne e =
+      ne (sym ((m.fits i u at_u).sender sends_u).0 ∙ ap m.seat e
+      ∙ ((m.fits me v at).sender sends).0)
+
+  -- the receiver's end is cut off
+  abbrev pub cuts : (vs : List V) (m : Manned role vs) (me : ℕ) (v l r : V)
+      → get_elem? vs me ≡ some v → role v ≡ first_role → role l ≡ sending_role
+      → role r ≡ receiving_role → Manned role (set vs me l ++ r ∷ [])
+  cuts vs m me v l r at is is_l is_r =
+      let n : ℕ = length (set vs me l) in
+      let F : ℕ → V → Type 0 = λ id u. Fits m.seat n m.made m.ended id (role u) in
+      let old : Fits m.seat m.reader m.made m.ended me first_role =
+      subst (Fits m.seat m.reader m.made m.ended me) is (m.fits me v at) in
+      let gets_v : (role v).gets ≡ true = ap (λ (x : Role). x.gets) is in
+      let left : Fits m.seat n m.made m.ended me sending_role = record {
+        sender = old.sender;
+        zero = old.zero;
+        receiver = λ h. absurd (true≢false (sym h));
+        all_made = λ h _. absurd (true≢false (sym h));
+      } in
+      let right : Fits m.seat n m.made m.ended n receiving_role = record {
+        sender = λ h. absurd (true≢false (sym h));
+        zero = λ h _. absurd (true≢false (sym h));
+        receiver = λ _. (refl, λ k h. absurd h);
+        all_made = λ _ h. absurd (true≢false (sym h ∙ (old.sender refl).2));
+      } in record {
+        seat = m.seat;
+        reader = n;
+        made = m.made;
+        ended = m.ended;
+        started = m.started;
+        unmade = m.unmade;
+        fits = each_new F (set vs me l) r
+            (each_set F vs me l (subst (Fits m.seat n m.made m.ended me) (sym is_l) left)
+            (λ i u ne at_u. let f = m.fits i u at_u in record {
+              sender = f.sender;
+              zero = f.zero;
+              receiver = λ h. absurd (one_gets vs m me i v u at at_u gets_v h ne);
+              all_made = λ h _. absurd (one_gets vs m me i v u at at_u gets_v h ne);
+            }))
+            (subst (Fits m.seat n m.made m.ended n) (sym is_r) right);
+      }
+
+  -- the sender of number 0 makes another
+  abbrev pub splits : (vs : List V) (m : Manned role vs) (me : ℕ) (v l r : V)
+      → get_elem? vs me ≡ some v → (role v).sends ≡ true → (role v).gets ≡ false
+      → (role v).number ≡ 0 → role l ≡ parent_role (role v) → role r ≡ child_role (role v)
+      → Manned role (set vs me l ++ r ∷ [])
+  splits vs m me v l r at sends gets is_zero is_l is_r =
+      let n : ℕ = length (set vs me l) in
+      let made : ℕ = (role v).made in
+      let old = m.fits me v at in
+      let same : made ≡ m.made = old.zero sends is_zero in
+      let seat : ℕ → ℕ = at_number made n m.seat in
+      let mine = old.sender sends in
+      let low = mine.1 in
+      let F : ℕ → V → Type 0 = λ id u. Fits seat m.reader (made + 1) m.ended id (role u) in
+      let started = m.started in
+      let left : Fits seat m.reader (made + 1) m.ended me (parent_role (role v)) = record {
+        sender = λ _. (
+          at_other made (role v).number n m.seat (λ e. omega arith) ∙ mine.0,
+          omega arith,
+          mine.2,
+        );
+        zero = λ _ _. refl;
+        receiver = λ h. absurd (true≢false (sym h ∙ gets));
+        all_made = λ h _. absurd (true≢false (sym h ∙ gets));
+      } in
+      let right : Fits seat m.reader (made + 1) m.ended n (child_role (role v)) = record {
+        sender = λ _. (
+          at_same made made n m.seat refl,
+          omega arith,
+          m.unmade made (omega arith),
+        );
+        zero = λ _ e. absurd (omega arith);
+        receiver = λ h. absurd (true≢false (sym h));
+        all_made = λ h _. absurd (true≢false (sym h));
+      } in record {
+        seat = seat;
+        reader = m.reader;
+        made = made + 1;
+        ended = m.ended;
+        started = omega arith;
+        unmade = λ k h. m.unmade k (omega arith);
+        fits = each_new F (set vs me l) r
+            (each_set F vs me l
+            (subst (Fits seat m.reader (made + 1) m.ended me) (sym is_l) left)
+            (λ i u ne at_u. let f = m.fits i u at_u in record {
+              sender = λ h. let t = f.sender h in let below = t.1 in (
+                at_other made (role u).number n m.seat (λ e. omega arith) ∙ t.0,
+                omega arith,
+                t.2,
+              );
+              zero = λ h e. absurd (one_number vs m me i v u at at_u sends h ne
+                  (e ∙ sym is_zero));
+              receiver = f.receiver;
+              all_made = λ _ h. absurd (true≢false (sym h ∙ ap m.ended (sym is_zero) ∙ mine.2));
+            }))
+            (subst (Fits seat m.reader (made + 1) m.ended n) (sym is_r) right);
+      }
+
+  -- a sender is joined into the receiver
+  abbrev pub joins : (vs : List V) (m : Manned role vs) (me o : ℕ) (v w b e : V)
+      → get_elem? vs me ≡ some v → get_elem? vs o ≡ some w → ¬ (o ≡ me)
+      → (role v).sends ≡ false → (role v).gets ≡ true → (role w).sends ≡ true
+      → role b ≡ joined_role (role v) (role w) → role e ≡ spent_role
+      → Manned role (set (set vs me b) o e)
+  joins vs m me o v w b e at at_w ne sends gets sends_w is_b is_e =
+      let n : ℕ = (role w).number in
+      let ended : ℕ → Bool = at_number n true m.ended in
+      let F : ℕ → V → Type 0 = λ id u. Fits m.seat m.reader m.made ended id (role u) in
+      let old = m.fits me v at in
+      let theirs = (m.fits o w at_w).sender sends_w in
+      let low = theirs.1 in
+      let taker : Fits m.seat m.reader m.made ended me (joined_role (role v) (role w)) = record {
+        sender = λ h. absurd (true≢false (sym h ∙ sends));
+        zero = λ h _. absurd (true≢false (sym h ∙ sends));
+        receiver = λ _. (
+          (old.receiver gets).0,
+          λ k h. ⊎_elim
+              (λ (i : In k (role v).joined). still_ended n k m.ended ((old.receiver gets).1 k i))
+              (λ (i : k ≡ n). at_same n k true m.ended i) (in_append k n (role v).joined h),
+        );
+        all_made = λ _ h. dite (ℕ_discrete n 0)
+            (λ z. known_zero n (role w).made (role v).made z
+            ∙ (m.fits o w at_w).zero sends_w z)
+            (λ nz. known_other n (role w).made (role v).made nz
+            ∙ old.all_made gets
+            (sym (at_other n 0 true m.ended (λ z. nz (sym z))) ∙ h));
+      } in
+      let gone : Fits m.seat m.reader m.made ended o spent_role = record {
+        sender = λ h. absurd (true≢false (sym h));
+        zero = λ h _. absurd (true≢false (sym h));
+        receiver = λ h. absurd (true≢false (sym h));
+        all_made = λ h _. absurd (true≢false (sym h));
+      } in record {
+        seat = m.seat;
+        reader = m.reader;
+        made = m.made;
+        ended = ended;
+        started = m.started;
+        unmade = λ k h. at_other n k true m.ended (λ z. omega arith) ∙ m.unmade k h;
+        fits = each_joined F vs me o b e
+            (subst (Fits m.seat m.reader m.made ended me) (sym is_b) taker)
+            (subst (Fits m.seat m.reader m.made ended o) (sym is_e) gone)
+            (λ i u ne_me ne_o at_u. let f = m.fits i u at_u in record {
+              sender = λ h. let t = f.sender h in (
+                t.0,
+                t.1,
+                at_other n (role u).number true m.ended
+                    (one_number vs m o i w u at_w at_u sends_w h ne_o)
+                    ∙ t.2,
+              );
+              zero = f.zero;
+              receiver = λ h. absurd (one_gets vs m me i v u at at_u gets h ne_me);
+              all_made = λ h _. absurd (one_gets vs m me i v u at at_u gets h ne_me);
+            });
+      }
+
+  -- once all senders are joined, no other end sends or receives
+  pub alone : (vs : List V) (m : Manned role vs) (me : ℕ) (v : V) → get_elem? vs me ≡ some v
+      → (role v).gets ≡ true → HasAll (role v).made (role v).joined → (i : ℕ) (u : V) → i ≢ me
+      → get_elem? vs i ≡ some u → ((role u).sends ≡ false) × ((role u).gets ≡ false)
+  alone vs m me v at gets (zeroth, each) i u ne at_u =
+      let old = m.fits me v at in
+      let ends = (old.receiver gets).1 in
+      let made : (role v).made ≡ m.made = old.all_made gets (ends 0 zeroth) in (
+        not_true (role u).sends (λ h. let t = (m.fits i u at_u).sender h in
+            let low = t.1 in
+            true≢false (sym (ends (role u).number (each (role u).number (omega arith))) ∙ t.2)),
+        not_true (role u).gets (λ h. one_gets vs m me i v u at at_u gets h ne),
+      )

@@ -1,0 +1,19 @@
+-- What one turn at receiving came to.
+use Rattle.std.specs.Prelude.{◌≡◌, ℕ, length}
+use Rattle.mailbox.specs.declared.mailbox.Turn.{Turn}
+use Rattle.mailbox.specs.declared.mailbox.Turn.TheVariants.{Got, Empty, Again}
+use Rattle.mailbox.specs.Views.{ReceiverView, receiver_with, receiver_empty, HasAllSenders}
+use Rattle.mailbox.specs.Views.{ArePrefixes, AreWhole, letters_in}
+
+-- what was received is a prefix of what was sent, and the same where it is as much
+pub record IsFaithful (r : ReceiverView) : Type 0 where
+  pub prefix : ArePrefixes r
+  pub whole : HasAllSenders r → letters_in r.joined ≡ length r.received → AreWhole r
+
+-- a letter was received; the mailbox was found empty; or nothing happened
+abbrev pub TurnTells : ReceiverView → ReceiverView → Turn → Type 0
+TurnTells old new (Got letter) =
+    ((from : ℕ) × (new ≡ receiver_with old from letter)) × IsFaithful new
+TurnTells old new Empty =
+    (new ≡ receiver_empty old) × IsFaithful new × (HasAllSenders new → AreWhole new)
+TurnTells old new Again = new ≡ old

@@ -1,0 +1,123 @@
+-- What contracts see of a mailbox and its ends, and what each call makes of it.
+use Rattle.std.specs.Prelude.{◌≡◌, ℕ, ◌+◌, List, [], ◌∷◌, ◌++◌, length, map, nat_eq}
+use Rattle.std.specs.Prelude.{if◌then◌else◌}
+use mathlib.Core.List.{IsPrefix}
+use Rattle.atomic_table.specs.Seated.{TableId}
+use Rattle.packet_entry.specs.declared.letter.Letter.{Letter}
+use Rattle.mailbox.specs.declared.view.Post.{Post}
+use Rattle.mailbox.specs.Roles.{HasAll, made_known}
+
+-- a mailbox: its two parts, by their own identities, and how many letters it holds at most
+pub record MailboxView : Type 0 where
+  pub queue : TableId
+  pub gauge : TableId
+  pub capacity : ℕ
+
+-- what a sender knows
+pub record SenderView : Type 0 where
+  pub mailbox : MailboxView
+  pub number : ℕ
+  -- of number 0, how many senders were made, itself among them; else 0
+  pub made : ℕ
+  -- the letters that it sent, in this order
+  pub sent : List Letter
+  -- how often a look found the mailbox full, and a letter came back
+  pub full : ℕ
+
+-- what the receiver knows
+pub record ReceiverView : Type 0 where
+  pub mailbox : MailboxView
+  -- the letters that it received, in this order, each with the number of its sender
+  pub received : List Post
+  -- how often a look found the mailbox empty
+  pub empty : ℕ
+  -- the senders that were joined into it, by number, each with the letters that it had sent
+  pub joined : List (ℕ × List Letter)
+  -- how many senders were made, once number 0 is joined; before, 0
+  pub made : ℕ
+  -- how often a letter came back to those joined
+  pub full : ℕ
+
+-- ---- senders
+-- the sender that a new mailbox has
+abbrev pub opening_sender : MailboxView → SenderView
+opening_sender m = record { mailbox = m; number = 0; made = 1; sent = []; full = 0 }
+
+-- a letter more was sent
+abbrev pub sender_with : SenderView → Letter → SenderView
+sender_with s letter = record s { sent = s.sent ++ letter ∷ [] }
+
+-- a letter came back
+abbrev pub sender_back : SenderView → SenderView
+sender_back s = record s { full = s.full + 1 }
+
+-- the sender of number 0, which made another
+abbrev pub parent_sender : SenderView → SenderView
+parent_sender s = record s { made = s.made + 1 }
+
+-- and the other: its number is how many were made before
+abbrev pub child_sender : SenderView → SenderView
+child_sender s = record { mailbox = s.mailbox; number = s.made; made = 0; sent = []; full = 0 }
+
+-- ---- the receiver
+-- the receiver that a new mailbox has
+abbrev pub opening_receiver : MailboxView → ReceiverView
+opening_receiver m =
+    record { mailbox = m; received = []; empty = 0; joined = []; made = 0; full = 0 }
+
+-- a letter more was received
+abbrev pub receiver_with : ReceiverView → ℕ → Letter → ReceiverView
+receiver_with r from letter =
+    record r { received = r.received ++ record { from = from; letter = letter } ∷ [] }
+
+-- the mailbox was found empty
+abbrev pub receiver_empty : ReceiverView → ReceiverView
+receiver_empty r = record r { empty = r.empty + 1 }
+
+-- a sender was joined
+abbrev pub receiver_joined : ReceiverView → SenderView → ReceiverView
+receiver_joined r s =
+    record r {
+      joined = r.joined ++ (s.number, s.sent) ∷ [];
+      made = made_known s.number s.made r.made;
+      full = r.full + s.full;
+    }
+
+-- ---- what was received of each sender
+-- the letters of one sender, in their order
+abbrev pub letters_of : ℕ → List Post → List Letter
+letters_of k [] = []
+letters_of k (p ∷ ps) =
+    if nat_eq p.from k then p.letter ∷ letters_of k ps else letters_of k ps
+
+-- the numbers of the senders
+abbrev pub numbers : List (ℕ × List Letter) → List ℕ
+numbers known = map (λ s. s.0) known
+
+-- how many letters they sent together
+abbrev pub letters_in : List (ℕ × List Letter) → ℕ
+letters_in [] = 0
+letters_in (s ∷ ss) = length s.1 + letters_in ss
+
+-- it holds of each sender
+abbrev pub All : (ℕ × List Letter → Type 0) → List (ℕ × List Letter) → Type 0
+All P [] = Unit {0}
+All P (s ∷ ss) = P s × All P ss
+
+-- of each sender, the letters received are a prefix of those that it sent
+abbrev pub Prefixes : List Post → List (ℕ × List Letter) → Type 0
+Prefixes received known = All (λ s. IsPrefix (letters_of s.0 received) s.1) known
+
+-- of each sender, the letters received are those that it sent
+abbrev pub Wholes : List Post → List (ℕ × List Letter) → Type 0
+Wholes received known = All (λ s. letters_of s.0 received ≡ s.1) known
+
+-- number 0 and every other sender made were joined
+abbrev pub HasAllSenders : ReceiverView → Type 0
+HasAllSenders r = HasAll r.made (numbers r.joined)
+
+abbrev pub ArePrefixes : ReceiverView → Type 0
+ArePrefixes r = Prefixes r.received r.joined
+
+abbrev pub AreWhole : ReceiverView → Type 0
+AreWhole r = Wholes r.received r.joined

@@ -1,0 +1,17 @@
+//! Letters to a port: each sender's are received in its order, each once. A letter comes back
+//! exactly where the mailbox was found full, and none is received exactly where it was found empty.
+#![tactic(auto)]
+
+mod fill;
+mod line;
+mod mailbox;
+mod receiver;
+mod sender;
+mod view;
+
+pub use mailbox::Mailbox;
+pub use receiver::Receiver;
+pub use sender::Sender;
+
+#[cfg(test)]
+mod tests;
