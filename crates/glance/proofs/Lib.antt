@@ -1,0 +1,4 @@
+mod Seats
+mod Reading
+mod Stepping
+mod Making

@@ -1,0 +1,5 @@
+pub mod Numbers
+pub mod Words
+pub mod Views
+pub mod Rule
+pub mod Kept

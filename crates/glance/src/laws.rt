@@ -1,0 +1,35 @@
+//! Laws: of the definitions, and of what was read against what was published.
+ghost use Rattle.std.specs.Prelude.{◌≡◌, ◌∷◌, ◌<◌, ◌^◌};
+ghost use Rattle.glance.specs.declared.totals.Totals.{Totals};
+ghost use Rattle.glance.specs.Words.{FitOneWord, word_of, totals_of};
+ghost use Rattle.glance.specs.Views.{opening, ReadOff, readings_of};
+
+use crate::board::Board;
+use crate::pass::GlancePass;
+use crate::steps::{Compare, Note, TakeNote};
+use crate::writer::Writer;
+
+/// The word for totals that fit is one of 64 bits, and stands for these totals.
+pub fn totals_stand_in_one_word()
+    ensures { (t : Totals) → FitOneWord t →
+        (word_of t < 2 ^ 64) × (totals_of (word_of t) ≡ t) }
+{}
+
+/// Whatever a pass read of a place is the opening zeros or what the place's Writer published, in
+/// the order in which it was published: the readings are read off the list of all these, none
+/// before the one that was read before it. Nothing is changed and no memory taken; it makes three
+/// loads.
+pub fn readings_were_published(board: &Board, pass: &mut GlancePass, writer: &mut Writer)
+    requires { (pass.old.board ≡ board.now) × (writer.old.board ≡ board.now) }
+    ensures unchanged { (pass.new ≡ pass.old) × (writer.new ≡ writer.old) }
+    ensures published { ReadOff (opening ∷ writer.old.published)
+        (readings_of writer.old.place pass.old.readings) }
+{
+    let note = board.table.shared.split_seat::<Note>(&mut pass.seat);
+    board
+        .table
+        .shared
+        .join_seat::<TakeNote>(&mut writer.seat, note);
+    let place = usize::from(writer.place);
+    board.table.shared.load::<Compare>(&mut writer.seat, place);
+}
