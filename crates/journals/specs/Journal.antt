@@ -57,15 +57,15 @@ request (Batch queue h mark) =
     codes "batch " ++ decimal queue ++ codes " " ++ head h ++ part (codes " mark ") mark
 
 abbrev pub outcome : Outcome → List ℕ
-outcome (Taken id) = codes "taken:" ++ decimal id ++ codes "\n"
-outcome Overflow = codes "overflow\n"
-outcome OverflowOpen = codes "overflow-open\n"
-outcome (UserFull id) = codes "userfull:" ++ decimal id ++ codes "\n"
-outcome (UserFullOpen id) = codes "userfull-open:" ++ decimal id ++ codes "\n"
-outcome NoQueue = codes "noqueue\n"
-outcome Bypassed = codes "bypassed\n"
-outcome CopyNone = codes "copynone\n"
-outcome Loop = codes "loop\n"
+outcome (Taken id) = codes "taken:" ++ decimal id
+outcome Overflow = codes "overflow"
+outcome OverflowOpen = codes "overflow-open"
+outcome (UserFull id) = codes "userfull:" ++ decimal id
+outcome (UserFullOpen id) = codes "userfull-open:" ++ decimal id
+outcome NoQueue = codes "noqueue"
+outcome Bypassed = codes "bypassed"
+outcome CopyNone = codes "copynone"
+outcome Loop = codes "loop"
 
 abbrev pub journey : Card → List ℕ
 journey c =
@@ -85,9 +85,8 @@ card c bypass room =
 -- an arrival's outcome, a request's errno and how many packets left, or this number alone
 abbrev pub reply : Reply → List ℕ
 reply (Arrived o) = outcome o
-reply (Answer errno taken) =
-    codes " = " ++ decimal errno ++ codes " " ++ decimal taken ++ codes "\n"
-reply (Flushed taken) = codes " " ++ decimal taken ++ codes "\n"
+reply (Answer errno taken) = codes " = " ++ decimal errno ++ codes " " ++ decimal taken
+reply (Flushed taken) = codes " " ++ decimal taken
 
 abbrev pub event : ℕ → Event → List ℕ
 event queue (Arrive c bypass room) =
@@ -98,26 +97,33 @@ event queue (Ask port call asked) =
 event queue (PortClosed port) = codes "C " ++ decimal queue ++ codes " " ++ decimal port
 event queue (DeviceDown device) = codes "D " ++ decimal queue ++ codes " " ++ decimal device
 
+-- an entry's line, without its end
+abbrev pub entry_line : Entry → List ℕ
+entry_line e = event e.queue e.event ++ reply e.reply
+
 abbrev pub entry : Entry → List ℕ
-entry e = event e.queue e.event ++ reply e.reply
+entry e = entry_line e ++ codes "\n"
 
 -- the errno of the acknowledgement, `-` where there was none
 abbrev pub answer : Option ℕ → List ℕ
-answer None = codes " = -\n"
-answer (Some errno) = codes " = " ++ decimal errno ++ codes "\n"
+answer None = codes " = -"
+answer (Some errno) = codes " = " ++ decimal errno
 
 -- what a port sent: a request, or the bytes of another message
 abbrev pub ask : AskWords → List ℕ
 ask (Plain asked) = request asked
 ask (Raw bytes) = codes "raw " ++ hexadecimal bytes
 
-abbrev pub did : Did → List ℕ
-did (Received queue number visit) =
+-- the line of what a port did, without its end
+abbrev pub did_line : Did → List ℕ
+did_line (Received queue number visit) =
     codes "R " ++ decimal queue ++ codes " " ++ decimal number ++ codes " " ++ decimal visit
-    ++ codes "\n"
-did (Sent call asked answered) =
+did_line (Sent call asked answered) =
     codes "S " ++ decimal call ++ codes " " ++ ask asked ++ answer answered
-did Closed = codes "X\n"
+did_line Closed = codes "X"
+
+abbrev pub did : Did → List ℕ
+did d = did_line d ++ codes "\n"
 
 abbrev pub entries : List Entry → List ℕ
 entries [] = []
@@ -127,8 +133,12 @@ abbrev pub dids : List Did → List ℕ
 dids [] = []
 dids (d ∷ ds) = did d ++ dids ds
 
+-- the line that a port's log begins with, without its end
+abbrev pub port_line : ℕ → List ℕ
+port_line port = codes "P " ++ decimal port
+
 abbrev pub log : PortLog → List ℕ
-log l = codes "P " ++ decimal l.port ++ codes "\n" ++ dids l.dids
+log l = port_line l.port ++ codes "\n" ++ dids l.dids
 
 abbrev pub logs : List PortLog → List ℕ
 logs [] = []

@@ -1,1 +1,5 @@
 pub mod Journal
+pub mod JournalFile
+pub mod Lines
+pub mod Reading
+pub mod WellFormed

@@ -3,10 +3,25 @@
 #![tactic(auto)]
 
 mod appending;
+mod fault;
+mod fields;
+mod laws;
+mod line;
+mod line_reading;
+mod reader;
+mod reading;
+mod request_reading;
 mod room;
+mod stop;
 mod writing;
 
 pub use appending::append_text;
+pub use fault::JournalFault;
+pub use laws::{
+    a_text_has_one_refused_line, a_text_has_one_value, each_text_is_read_or_refused,
+    no_journal_begins_another, no_line_of_a_journal_is_refused, values_have_journals_of_their_own,
+};
+pub use reading::read_journal;
 pub use writing::journal_text;
 
 #[cfg(test)]

@@ -81,6 +81,14 @@ fn push_dids(alloc: Global, dids: &Dids, out: &mut String) -> Result<(), AllocEr
 fn push_entry(alloc: Global, entry: &Entry, out: &mut String) -> Result<(), AllocError>
     ensures { OnOk result (string_bytes out.new ≡ string_bytes out.old ++ text.entry entry.now) }
 {
+    push_entry_line(alloc, entry, out)?;
+    out.push_str("\n")
+}
+
+fn push_entry_line(alloc: Global, entry: &Entry, out: &mut String) -> Result<(), AllocError>
+    ensures { OnOk result (string_bytes out.new ≡ string_bytes out.old
+        ++ text.entry_line entry.now) }
+{
     let queue = entry.queue;
     match &entry.event {
         Event::Arrive { card, bypass, room } => {
@@ -258,7 +266,7 @@ fn push_bytes(alloc: Global, bytes: &[u8], out: &mut String) -> Result<(), Alloc
     out.push_str(hex::encode(alloc, bytes)?.as_str())
 }
 
-/// What an entry's line says of its reply, with the line's end.
+/// What an entry's line says of its reply.
 fn push_reply(reply: &Reply, out: &mut String) -> Result<(), AllocError>
     ensures { OnOk result (string_bytes out.new ≡ string_bytes out.old ++ text.reply reply.now) }
 {
@@ -267,11 +275,11 @@ fn push_reply(reply: &Reply, out: &mut String) -> Result<(), AllocError>
         Reply::Answer { errno, taken } => {
             let errno = *errno;
             let taken = *taken;
-            writeln!(out, " = {errno} {taken}")
+            write!(out, " = {errno} {taken}")
         }
         Reply::Flushed { taken } => {
             let taken = *taken;
-            writeln!(out, " {taken}")
+            write!(out, " {taken}")
         }
     }
 }
@@ -280,20 +288,27 @@ fn push_outcome(outcome: Outcome, out: &mut String) -> Result<(), AllocError>
     ensures { OnOk result (string_bytes out.new ≡ string_bytes out.old ++ text.outcome outcome) }
 {
     match outcome {
-        Outcome::Taken { id } => writeln!(out, "taken:{id}"),
-        Outcome::Overflow => out.push_str("overflow\n"),
-        Outcome::OverflowOpen => out.push_str("overflow-open\n"),
-        Outcome::UserFull { id } => writeln!(out, "userfull:{id}"),
-        Outcome::UserFullOpen { id } => writeln!(out, "userfull-open:{id}"),
-        Outcome::NoQueue => out.push_str("noqueue\n"),
-        Outcome::Bypassed => out.push_str("bypassed\n"),
-        Outcome::CopyNone => out.push_str("copynone\n"),
-        Outcome::Loop => out.push_str("loop\n"),
+        Outcome::Taken { id } => write!(out, "taken:{id}"),
+        Outcome::Overflow => out.push_str("overflow"),
+        Outcome::OverflowOpen => out.push_str("overflow-open"),
+        Outcome::UserFull { id } => write!(out, "userfull:{id}"),
+        Outcome::UserFullOpen { id } => write!(out, "userfull-open:{id}"),
+        Outcome::NoQueue => out.push_str("noqueue"),
+        Outcome::Bypassed => out.push_str("bypassed"),
+        Outcome::CopyNone => out.push_str("copynone"),
+        Outcome::Loop => out.push_str("loop"),
     }
 }
 
 fn push_did(alloc: Global, did: &Did, out: &mut String) -> Result<(), AllocError>
     ensures { OnOk result (string_bytes out.new ≡ string_bytes out.old ++ text.did did.now) }
+{
+    push_did_line(alloc, did, out)?;
+    out.push_str("\n")
+}
+
+fn push_did_line(alloc: Global, did: &Did, out: &mut String) -> Result<(), AllocError>
+    ensures { OnOk result (string_bytes out.new ≡ string_bytes out.old ++ text.did_line did.now) }
 {
     match did {
         Did::Received {
@@ -304,7 +319,7 @@ fn push_did(alloc: Global, did: &Did, out: &mut String) -> Result<(), AllocError
             let queue = *queue;
             let number = *number;
             let visit = *visit;
-            writeln!(out, "R {queue} {number} {visit}")
+            write!(out, "R {queue} {number} {visit}")
         }
         Did::Sent { call, ask, answer } => {
             let call = *call;
@@ -312,7 +327,7 @@ fn push_did(alloc: Global, did: &Did, out: &mut String) -> Result<(), AllocError
             push_ask(alloc, ask, out)?;
             push_answer(*answer, out)
         }
-        Did::Closed => out.push_str("X\n"),
+        Did::Closed => out.push_str("X"),
     }
 }
 
@@ -329,13 +344,13 @@ fn push_ask(alloc: Global, ask: &AskWords, out: &mut String) -> Result<(), Alloc
     }
 }
 
-/// The errno of an acknowledgement, `-` where there was none, and the line's end.
+/// The errno of an acknowledgement, `-` where there was none.
 fn push_answer(answer: Option<u16>, out: &mut String) -> Result<(), AllocError>
     ensures { OnOk result (string_bytes out.new ≡ string_bytes out.old ++ text.answer answer) }
 {
     match answer {
-        Some(answer) => writeln!(out, " = {answer}"),
-        None => out.push_str(" = -\n"),
+        Some(answer) => write!(out, " = {answer}"),
+        None => out.push_str(" = -"),
     }
 }
 
