@@ -1,9 +1,3 @@
-pub mod Digits
-pub mod Fair
-pub mod Lines
-pub mod Outcomes
-pub mod Passing
-pub mod Prefixes
-pub mod Spelling
-pub mod Texts
-pub mod Writing
+pub mod Numbering
+pub mod Saying
+pub mod Endings

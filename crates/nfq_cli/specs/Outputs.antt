@@ -1,28 +1,24 @@
--- What a run writes: the three texts, by the schedule's histories and the fates in them.
+-- What a run writes: three texts, which are functions of its capture and its histories.
 use Rattle.std.specs.Prelude.{ℕ, List}
 use Rattle.pcap_io.specs.declared.capture.Capture.{Capture}
-use Rattle.pcap_io.specs.declared.capture.Frame.{Frame}
 use Rattle.pcap_io.specs.Text.{capture_text}
-use Rattle.nfq_cli.specs.declared.script.Verdict.{Verdict}
-use Rattle.nfq_cli.specs.declared.script.OnId.{OnId}
-use Rattle.nfq_cli.specs.declared.ledger.FateLine.{FateLine}
-use Rattle.nfq_cli.specs.Journal as journal
-use Rattle.nfq_cli.specs.Ledger as ledger
-use Rattle.nfq_cli.specs.Released as released
-use Rattle.nfq_cli.specs.Fates.{fates}
-use Rattle.nfq_cli.specs.Solo.{solo_histories}
+use Rattle.place_history.specs.declared.histories.Histories.{Histories}
+use Rattle.fate_ledger.specs.declared.fate.FateLine.{FateLine}
+use Rattle.fate_ledger.specs.Fates.{fates}
+use Rattle.fate_ledger.specs.Ledger.{ledger}
+use Rattle.fate_ledger.specs.Released.{released}
+use Rattle.journals.specs.Journal.{journal}
 
--- what became of each frame in the schedule's run
-abbrev pub solo_fates : ℕ → List OnId → Verdict → List Frame → List FateLine
-solo_fates port lines rest frames = fates (solo_histories port lines rest frames).entries frames
+-- what became of each frame
+abbrev pub fates_of : Capture → Histories → List FateLine
+fates_of c h = fates h c.frames
 
 -- the frames that were released, as a capture file
-abbrev pub output_text : ℕ → List OnId → Verdict → Capture → List ℕ
-output_text port lines rest c =
-    capture_text (released.capture c (solo_fates port lines rest c.frames))
+abbrev pub output_text : Capture → Histories → List ℕ
+output_text c h = capture_text (released c (fates_of c h))
 
-abbrev pub ledger_text : ℕ → List OnId → Verdict → Capture → List ℕ
-ledger_text port lines rest c = ledger.ledger (solo_fates port lines rest c.frames)
+abbrev pub ledger_text : Capture → Histories → List ℕ
+ledger_text c h = ledger (fates_of c h)
 
-abbrev pub journal_text : ℕ → List OnId → Verdict → Capture → List ℕ
-journal_text port lines rest c = journal.journal (solo_histories port lines rest c.frames)
+abbrev pub journal_text : Histories → List ℕ
+journal_text h = journal h

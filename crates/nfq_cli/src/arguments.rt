@@ -4,12 +4,18 @@ ghost use Rattle.std.specs.Prelude.{◌≡◌, None, Some, map, MatchOption, IfS
 ghost use Rattle.std.specs.String.{string_bytes};
 ghost use Rattle.nfq_cli.specs.Arguments as named;
 
-/// The files that `play` reads and writes, by the names that its arguments give them.
+/// The files that a run is made from, by the names that the arguments give them.
 #[derive(Clone, Copy, Debug)]
-pub struct Play<'a> {
+pub struct Inputs<'a> {
     pub rules: &'a str,
     pub script: &'a str,
-    pub input: &'a str,
+    pub capture: &'a str,
+}
+
+/// The files that `play` reads and writes.
+#[derive(Clone, Copy, Debug)]
+pub struct Play<'a> {
+    pub inputs: Inputs<'a>,
     pub output: &'a str,
     pub ledger: &'a str,
     pub journal: &'a str,
@@ -20,14 +26,17 @@ pub fn play_of(words: &[String]) -> Option<Play<'_>>
     ensures files { MatchOption result (named.play_of (map string_bytes words.now) ≡ None)
         (λ p. named.play_of (map string_bytes words.now) ≡ Some (named.files_of p)) }
     ensures apart { IfSome result (λ p. named.are_apart (named.files_of p) ≡ true) }
+    ensures files_all { IfSome result (λ p. named.are_files (named.files_of p) ≡ true) }
 {
-    let [verb, rules, script, input, output, ledger, journal] = words else {
+    let [verb, rules, script, capture, output, ledger, journal] = words else {
         return None;
     };
     let play = Play {
-        rules: rules.as_str(),
-        script: script.as_str(),
-        input: input.as_str(),
+        inputs: Inputs {
+            rules: rules.as_str(),
+            script: script.as_str(),
+            capture: capture.as_str(),
+        },
         output: output.as_str(),
         ledger: ledger.as_str(),
         journal: journal.as_str(),
@@ -43,12 +52,16 @@ pub fn play_of(words: &[String]) -> Option<Play<'_>>
 fn are_files(play: &Play<'_>) -> bool
     ensures { result ≡ named.are_files (named.files_of play.now) }
 {
-    is_file(play.rules)
-        && is_file(play.script)
-        && is_file(play.input)
+    are_inputs(&play.inputs)
         && is_file(play.output)
         && is_file(play.ledger)
         && is_file(play.journal)
+}
+
+fn are_inputs(inputs: &Inputs<'_>) -> bool
+    ensures { result ≡ named.are_inputs (named.inputs_of inputs.now) }
+{
+    is_file(inputs.rules) && is_file(inputs.script) && is_file(inputs.capture)
 }
 
 /// Whether the written files have names of their own.

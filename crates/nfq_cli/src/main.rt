@@ -1,21 +1,17 @@
 //! `nfq`: the command line. `play` reads rules, a script and a capture, runs the packets of the
-//! capture through the queue on one thread, and writes the released frames, a ledger and a journal.
+//! capture through the queues on one thread, and writes the released frames, a ledger and a
+//! journal.
 #![tactic(auto)]
 
+mod account;
 mod arguments;
-mod fault;
-mod forms;
-mod journal;
-mod laws;
-mod ledger;
+mod inputs;
+mod numbered;
 mod outputs;
 mod play;
+mod printing;
 mod program;
-mod reading;
-mod released;
-mod rules;
-mod run;
-mod script;
+mod refusal;
 mod stop;
 
 use host_io::FileHost;

@@ -1,23 +1,17 @@
 //! What a run writes.
 
 ghost use Rattle.std.specs.Prelude.{◌≡◌, ◌≤◌, length, IfOk, All};
-ghost use Rattle.std.specs.String.{string_bytes};
 ghost use Rattle.packet_entry.specs.Numbers.{longest_packet};
-ghost use Rattle.nfq_cli.specs.Numbers.{most_frames};
-ghost use Rattle.pcap_io.specs.Text.{IsHeld};
-ghost use Rattle.place_history.specs.History.{IsLegal};
-ghost use Rattle.nfq_cli.specs.Solo.{solo_histories};
-ghost use Rattle.nfq_cli.specs.Law.{IsFair};
-ghost use Rattle.nfq_cli.specs.Outputs.{output_text, ledger_text, journal_text};
+ghost use Rattle.pcap_io.specs.Text.{IsHeld, capture_text};
+ghost use Rattle.place_history.specs.History.{AreLegal};
+ghost use Rattle.solo_run.specs.Numbers.{most_frames};
+ghost use Rattle.fate_ledger.specs.Released.{released};
+ghost use Rattle.nfq_cli.specs.Outputs as text;
 
-use crate::journal::journal_text;
-use crate::laws::every_packet_leaves_once;
-use crate::ledger::ledger_text;
-use crate::released::released_capture;
-use crate::run::solo;
-use crate::script::Script;
+use fate_ledger::{FateLines, fates, journal_text, ledger_text, released_capture};
 use packet_entry::NoMemory;
 use pcap_io::{Capture, write_capture};
+use place_history::Histories;
 use std::alloc::Global;
 
 /// The three files that a run writes.
@@ -25,42 +19,50 @@ use std::alloc::Global;
 pub struct Outputs {
     /// The frames that were released.
     pub capture: Vec<u8>,
-    pub ledger: String,
-    pub journal: String,
+    pub ledger: Vec<u8>,
+    pub journal: Vec<u8>,
 }
 
-/// Runs the script over the capture.
-pub fn outputs_of(alloc: Global, script: &Script, capture: Capture) -> Result<Outputs, NoMemory>
-    requires frames { length capture.frames ≤ most_frames }
-    requires held { IsHeld capture }
+/// The texts of these histories.
+pub fn outputs_of(
+    alloc: Global,
+    capture: &Capture,
+    histories: Histories,
+) -> Result<Outputs, NoMemory>
+    requires frames { length capture.now.frames ≤ most_frames }
+    requires legal { AreLegal histories.entries }
+    requires payloads { All (λ l. length l.payload ≤ longest_packet)
+        (text.fates_of capture.now histories) }
+    requires held { IsHeld (released capture.now (text.fates_of capture.now histories)) }
     ensures output { IfOk result (λ o. o.capture.items
-        ≡ output_text script.now.port script.now.lines.items script.now.rest capture) }
-    ensures ledger { IfOk result (λ o. string_bytes o.ledger
-        ≡ ledger_text script.now.port script.now.lines.items script.now.rest capture) }
-    ensures legal { IfOk result (λ _. IsLegal
-        (solo_histories script.now.port script.now.lines.items script.now.rest
-        capture.frames).entries) }
-    ensures fair { IfOk result (λ _. IsFair script.now.port script.now.lines.items script.now.rest
-        capture.frames) }
-    ensures journal { IfOk result
-        (λ o. string_bytes o.journal ≡ journal_text script.now.port script.now.lines.items
-        script.now.rest capture) }
+        ≡ text.output_text capture.now histories) }
+    ensures ledger { IfOk result (λ o. o.ledger.items
+        ≡ text.ledger_text capture.now histories) }
+    ensures journal { IfOk result (λ o. o.journal.items ≡ text.journal_text histories) }
 {
-    every_packet_leaves_once();
-    let run = solo(alloc, script, &capture)?;
-    let mut journal = String::new(alloc);
-    journal_text(alloc, &run.histories, &mut journal)?;
+    let mut journal = Vec::new(alloc);
+    journal_text(alloc, &histories, &mut journal)?;
+    let lines = fates(alloc, capture, &histories)?;
     // The histories are as large as the texts: they end here.
-    let lines = run.lines;
-    drop(run.histories);
-    let mut ledger = String::new(alloc);
-    ledger_text(&lines, &mut ledger)?;
-    let released = released_capture(alloc, capture, &lines)?;
-    let mut output = Vec::new(alloc);
-    write_capture(&released, &mut output)?;
+    drop(histories);
+    let mut ledger = Vec::new(alloc);
+    ledger_text(alloc, &lines, &mut ledger)?;
     Ok(Outputs {
-        capture: output,
+        capture: released_file(alloc, capture, &lines)?,
         ledger,
         journal,
     })
+}
+
+/// The released frames as a capture file.
+fn released_file(alloc: Global, capture: &Capture, lines: &FateLines) -> Result<Vec<u8>, NoMemory>
+    requires lines { length capture.now.frames ≡ length lines.now }
+    requires payloads { All (λ l. length l.payload ≤ longest_packet) lines.now }
+    requires held { IsHeld (released capture.now lines.now) }
+    ensures { IfOk result (λ file. file.items ≡ capture_text (released capture.now lines.now)) }
+{
+    let released = released_capture(alloc, capture, lines)?;
+    let mut file = Vec::new(alloc);
+    write_capture(&released, &mut file)?;
+    Ok(file)
 }

@@ -1,11 +1,16 @@
 //! Why a command stops before its end.
 
 ghost use Rattle.std.specs.Prelude.{◌≡◌};
-ghost use Rattle.nfq_cli.specs.Stops.{of_read, of_capture, status_of};
+ghost use Rattle.nfq_cli.specs.Statuses as statuses;
+ghost use Rattle.nfq_cli.specs.declared.refusal.Refusal.TheVariants as refusal;
+ghost use Rattle.nfq_cli.specs.declared.stop.Stop.TheVariants as stop;
 
+use crate::refusal::{Limit, Refusal};
 use host_io::{ReadStop, WriteFault};
 use packet_entry::NoMemory;
 use pcap_io::CaptureFault;
+use std::alloc::AllocError;
+use text_lines::LineFault;
 
 /// Why a command stops before its end, each with a status of its own.
 #[derive(Clone, Copy, Debug, PartialEq, Eq)]
@@ -14,41 +19,72 @@ pub enum Stop {
     ReadFault,
     /// An output couldn't be written.
     WriteFault,
-    /// An input isn't in its form.
-    NotInForm,
+    /// An input is refused.
+    Refused { why: Refusal },
     NoMemory,
 }
 
 impl Stop {
     /// The exit status.
     pub fn status(self) -> u8
-        ensures { result ≡ status_of self }
+        ensures { result ≡ statuses.status_of self }
     {
         match self {
             Stop::ReadFault => 2,
             Stop::WriteFault => 3,
-            Stop::NotInForm => 9,
+            Stop::Refused { why } => why.status(),
             Stop::NoMemory => 8,
         }
     }
-}
 
-impl From<ReadStop> for Stop {
-    ghost from_gives = { λ stop e. e ≡ of_read stop };
-
-    fn from(stop: ReadStop) -> Self {
-        match stop {
+    /// Of a file that wasn't read whole, of which this limit is asked.
+    pub fn of_read(limit: Limit, fault: ReadStop) -> Stop
+        ensures { result ≡ statuses.of_read limit fault }
+    {
+        match fault {
             ReadStop::ReadFault => Stop::ReadFault,
-            ReadStop::TooLarge => Stop::NotInForm,
+            ReadStop::TooLarge => Stop::too_large(limit),
             ReadStop::NoMemory => Stop::NoMemory,
         }
     }
-}
 
-impl From<CaptureFault> for Stop {
-    ghost from_gives = { λ fault e. e ≡ of_capture fault };
+    /// Something is above this limit.
+    pub fn too_large(limit: Limit) -> Stop
+        ensures { result ≡ stop.Refused (refusal.TooLarge limit) }
+    {
+        Stop::Refused {
+            why: Refusal::TooLarge { limit },
+        }
+    }
 
-    fn from(fault: CaptureFault) -> Self {
+    /// Of rules that aren't taken.
+    pub fn of_rules(fault: LineFault) -> Stop
+        ensures { result ≡ statuses.of_rules fault }
+    {
+        match fault {
+            LineFault::Bad { line } => Stop::Refused {
+                why: Refusal::Rules { number: line },
+            },
+            LineFault::NoMemory => Stop::NoMemory,
+        }
+    }
+
+    /// Of a script that isn't taken.
+    pub fn of_script(fault: LineFault) -> Stop
+        ensures { result ≡ statuses.of_script fault }
+    {
+        match fault {
+            LineFault::Bad { line } => Stop::Refused {
+                why: Refusal::Script { number: line },
+            },
+            LineFault::NoMemory => Stop::NoMemory,
+        }
+    }
+
+    /// Of a capture that isn't taken.
+    pub fn of_capture(fault: CaptureFault) -> Stop
+        ensures { result ≡ statuses.of_capture fault }
+    {
         match fault {
             CaptureFault::NoMemory => Stop::NoMemory,
             CaptureFault::Magic
@@ -59,15 +95,14 @@ impl From<CaptureFault> for Stop {
             | CaptureFault::TooLong {
                 frame: _,
                 length: _,
-            } => Stop::NotInForm,
+            } => Stop::Refused {
+                why: Refusal::Capture { fault },
+            },
         }
     }
 }
 
 impl From<NoMemory> for Stop {
-    ghost use Rattle.std.specs.Prelude.{◌≡◌};
-    ghost use Rattle.nfq_cli.specs.declared.stop.Stop.TheVariants as stop;
-
     ghost from_gives = { λ _ e. e ≡ stop.NoMemory };
 
     fn from(_: NoMemory) -> Self {
@@ -75,10 +110,15 @@ impl From<NoMemory> for Stop {
     }
 }
 
-impl From<WriteFault> for Stop {
-    ghost use Rattle.std.specs.Prelude.{◌≡◌};
-    ghost use Rattle.nfq_cli.specs.declared.stop.Stop.TheVariants as stop;
+impl From<AllocError> for Stop {
+    ghost from_gives = { λ _ e. e ≡ stop.NoMemory };
 
+    fn from(_: AllocError) -> Self {
+        Stop::NoMemory
+    }
+}
+
+impl From<WriteFault> for Stop {
     ghost from_gives = { λ _ e. e ≡ stop.WriteFault };
 
     fn from(_: WriteFault) -> Self {

@@ -1,9 +1,0 @@
-use Rattle.std.proofs.Common.{refl}
-use Rattle.nfq_cli.specs.Journal as text
-use Rattle.nfq_cli.proofs.Texts.{told_on}
-use Rattle.nfq_cli.proofs.journal.push_dids.Goals as goal
-
-pub loop-did-preserved : goal.loop-did-preserved
-loop-did-preserved c =
-    told_on text.dids c.in-Some.did.now _ _ (text.did c.in-Some.did.now) _ _ _
-    c.in-Some.ensures.steps refl c.in_ok-push_did.ensures c.loop-did.invariant

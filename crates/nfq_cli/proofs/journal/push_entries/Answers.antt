@@ -1,9 +1,0 @@
-use Rattle.std.proofs.Common.{refl}
-use Rattle.nfq_cli.specs.Journal as text
-use Rattle.nfq_cli.proofs.Texts.{told_on}
-use Rattle.nfq_cli.proofs.journal.push_entries.Goals as goal
-
-pub loop-entry-preserved : goal.loop-entry-preserved
-loop-entry-preserved c =
-    told_on text.entries c.in-Some.entry.now _ _ (text.entry c.in-Some.entry.now) _ _ _
-    c.in-Some.ensures.steps refl c.in_ok-push_entry.ensures c.loop-entry.invariant

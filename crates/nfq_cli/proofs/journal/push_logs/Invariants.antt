@@ -1,9 +1,0 @@
-use Rattle.std.proofs.Common.{◌≡◌, ◌++◌}
-use Rattle.std.specs.String.{string_bytes}
-use Rattle.nfq_cli.specs.Journal as text
-use Rattle.nfq_cli.proofs.journal.push_logs.Given as goal
-
--- the text so far, and that of what is still to come
-abbrev pub invariant-loop-log : goal.invariant-loop-log
-invariant-loop-log l =
-    string_bytes l.out ++ text.logs l.log-iterator ≡ string_bytes l.fn.out ++ text.logs l.logs

@@ -1,0 +1,69 @@
+-- What is known of a run's histories: each packet of the capture is accounted for.
+use Rattle.std.specs.Prelude.{◌≡◌, ◌≢◌, ℕ, ◌+◌, List, [], Some, length, map, filter, slice_get}
+use Rattle.std.specs.List.{zip}
+use Rattle.pcap_io.specs.declared.capture.Capture.{Capture}
+use Rattle.pcap_io.specs.declared.capture.Frame.{Frame}
+use Rattle.hook_chain.specs.declared.rule.Rule.{Rule}
+use Rattle.place_history.specs.declared.histories.Histories.{Histories}
+use Rattle.place_history.specs.History.{AreLegal}
+use Rattle.place_history.specs.Moves.{moves}
+use Rattle.place_history.specs.Journeys.{AreSound}
+use Rattle.place_history.specs.Endings.{AreQueuesOf, times_waiting, times_over, times_entered}
+use Rattle.inspector_script.specs.Scripts.{ScriptValue}
+use Rattle.script_runs.specs.Entering.{cards}
+use Rattle.script_runs.specs.Log.{Note}
+use Rattle.script_runs.specs.Run.{IsMadeBy}
+use Rattle.script_runs.specs.Schedule.{IsSolo}
+use Rattle.fate_ledger.specs.declared.fate.Fate.TheVariants.{Waiting}
+use Rattle.fate_ledger.specs.declared.fate.FateLine.{FateLine}
+use Rattle.fate_ledger.specs.declared.happening.Happening.{Happening}
+use Rattle.fate_ledger.specs.Laws.{AreApart, IsLastEvent, IsLineOf, LeftThere, Waits}
+use Rattle.fate_ledger.specs.Ledger.{is_release}
+use Rattle.fate_ledger.specs.Released as released
+use Rattle.nfq_cli.specs.Outputs.{fates_of}
+
+-- Each frame's line is that of its packet's last event, which is an entry of these histories: the
+-- packet left in that entry's step, or it came with it and still waits. A packet that left a queue
+-- didn't leave it again.
+pub record AreLinesOf (c : Capture) (h : Histories) : Type 0 where
+  pub named : (place : ℕ) (f : Frame) (l : FateLine) → slice_get c.frames place ≡ Some f →
+      slice_get (fates_of c h) place ≡ Some l → IsLineOf h (place + 1) f l
+  pub left : (number : ℕ) (last : Happening) → IsLastEvent h.entries number last →
+      last.fate ≢ Waiting → LeftThere h.entries last
+  pub waits : (number : ℕ) (last : Happening) → IsLastEvent h.entries number last →
+      last.fate ≡ Waiting → Waits h.entries last
+
+-- Each packet that met a queue is over or still waits, just one of the two and just once, whichever
+-- queues it went through.
+abbrev pub IsEachOnce : List (List Rule) → ScriptValue → Capture → Histories → Type 0
+IsEachOnce tables script c h =
+    (number : ℕ) (queues : List ℕ) → AreQueuesOf h.entries queues →
+    times_waiting number queues h.entries
+    + times_over tables script.key number (moves h.entries)
+    ≡ times_entered tables script.key number (cards c)
+
+-- the frames that are written are those whose fate is a release, in their order
+abbrev pub AreReleased : Capture → Histories → Type 0
+AreReleased c h =
+    released.frames c.link c.frames (fates_of c h)
+    ≡ map (λ p. released.written c.link p.0 p.1)
+    (filter (λ p. is_release p.1.fate) (zip c.frames (fates_of c h)))
+
+-- Histories of a run of this script over this capture, under these rules.
+pub record IsAccounted (tables : List (List Rule)) (script : ScriptValue) (c : Capture)
+    (h : Histories) : Type 0 where
+  -- they are those of the schedule of one thread, in which nothing is lost
+  pub schedule : IsSolo script tables c h
+  -- at every moment each queue's state is the replay of its history by the sequential queue
+  pub legal : AreLegal h.entries
+  -- packets enter, and move from queue to queue, as rules and verdicts say
+  pub sound : AreSound tables script.key (cards c) h.entries h.lost
+  -- each port did what the script says, which is told in full, and received every notice that was
+  -- for it
+  pub notes : ℕ → List Note
+  pub made : IsMadeBy script (length c.frames) h notes (λ port. [])
+  -- no packet came twice at one visit, and each is over or waits
+  pub apart : AreApart h.entries
+  pub once : IsEachOnce tables script c h
+  pub lines : AreLinesOf c h
+  pub released : AreReleased c h

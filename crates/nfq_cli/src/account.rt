@@ -1,0 +1,56 @@
+//! What is known of the histories of a run.
+
+ghost use Rattle.std.specs.Prelude.{◌<◌, ◌≤◌, List, length, All};
+ghost use Rattle.hook_chain.specs.declared.rule.Rule.{Rule};
+ghost use Rattle.inspector_script.specs.Scripts.{ScriptValue, IsScript};
+ghost use Rattle.packet_entry.specs.Numbers.{longest_packet};
+ghost use Rattle.pcap_io.specs.declared.capture.Capture.{Capture};
+ghost use Rattle.pcap_io.specs.Text.{IsHeld};
+ghost use Rattle.place_history.specs.Numbers.{queue_count};
+ghost use Rattle.place_history.specs.declared.entry.Entry.{Entry};
+ghost use Rattle.place_history.specs.declared.histories.Histories.{Histories};
+ghost use Rattle.place_history.specs.History.{AreLegal};
+ghost use Rattle.place_history.specs.Journeys.{AreSound};
+ghost use Rattle.script_runs.specs.Entering.{cards};
+ghost use Rattle.script_runs.specs.Schedule.{IsSolo};
+ghost use Rattle.fate_ledger.specs.Released.{released};
+ghost use Rattle.nfq_cli.specs.Account.{IsAccounted};
+ghost use Rattle.nfq_cli.specs.Outputs.{fates_of};
+
+use fate_ledger::{
+    each_line_names_the_last_event, no_visit_arrives_twice, payloads_were_read_or_given,
+    released_frames_are_those_let_go, the_last_event_is_where_it_left_or_waits,
+};
+use place_history::each_packet_waits_is_lost_or_is_over;
+use script_runs::{
+    no_notice_is_left, packets_and_payloads_are_within_bounds, packets_are_read_with_their_frames,
+};
+
+/// Over every script, rules and capture, each packet of the schedule's histories is accounted for,
+/// where they are legal and sound and their queues' numbers have 16 bits: and those that
+/// `solo_run::solo` answers are. What is released of a capture that the format can hold can be
+/// written again.
+pub fn each_packet_is_accounted_for()
+    ensures account { (tables : List (List Rule)) (script : ScriptValue) (c : Capture)
+        (h : Histories) → IsScript script → IsSolo script tables c h → AreLegal h.entries →
+        All (λ (e : Entry). e.queue < queue_count) h.entries →
+        AreSound tables script.key (cards c) h.entries h.lost → IsAccounted tables script c h }
+    ensures fit { (tables : List (List Rule)) (script : ScriptValue) (c : Capture)
+        (h : Histories) → IsScript script → IsHeld c → IsSolo script tables c h →
+        AreSound tables script.key (cards c) h.entries h.lost →
+        All (λ l. length l.payload ≤ longest_packet) (fates_of c h) }
+    ensures held { (tables : List (List Rule)) (script : ScriptValue) (c : Capture)
+        (h : Histories) → IsScript script → IsHeld c → IsSolo script tables c h →
+        AreSound tables script.key (cards c) h.entries h.lost →
+        IsHeld (released c (fates_of c h)) }
+{
+    no_notice_is_left();
+    packets_and_payloads_are_within_bounds();
+    packets_are_read_with_their_frames();
+    each_line_names_the_last_event();
+    the_last_event_is_where_it_left_or_waits();
+    no_visit_arrives_twice();
+    each_packet_waits_is_lost_or_is_over();
+    released_frames_are_those_let_go();
+    payloads_were_read_or_given();
+}
