@@ -1,17 +1,16 @@
 -- What holds of the packets that arrive, and stays where a verdict edits them, holds of those that
 -- wait and of those that leave.
-use Rattle.std.proofs.Common.{◌≡◌, ◌≤◌, ◌∙◌, ℕ, zero, suc, List, [], ◌∷◌, ◌++◌, length, map, drop}
-use Rattle.std.proofs.Common.{Option, Some, None, Bool, true, false, cond, refl, sym, subst}
+use Rattle.std.proofs.Common.{◌≤◌, ℕ, zero, suc, List, [], ◌∷◌, ◌++◌, length, map, drop}
+use Rattle.std.proofs.Common.{Option, Some, None, Bool, true, false, sym, subst}
 use Rattle.std.specs.Prelude.{IfSome, is_some, is_none, ◌&&◌, ◌||◌, ◌==◌, not, unwrap_or}
 use Rattle.std.specs.List.{AllByRecursion}
 use Rattle.std.specs.Map.{lookup, remove_entry}
 use Rattle.packet_entry.specs.declared.packet.Card.{Card}
 use Rattle.packet_entry.specs.Card.{edited}
 use Rattle.packet_entry.specs.Numbers.{last_visit, longest_payload}
-use Rattle.nfqa_msgs.specs.Numbers.{copy_none, copy_meta, copy_packet, command_bind}
+use Rattle.nfqa_msgs.specs.Numbers.{copy_none, command_bind}
 use Rattle.nfqa_msgs.specs.Numbers.{command_unbind, command_pf_bind, command_pf_unbind}
 use Rattle.nfqa_msgs.specs.Numbers.{input_device, output_device, eperm, einval}
-use Rattle.nfqa_msgs.specs.declared.request.Params.{Params}
 use Rattle.nfqa_msgs.specs.declared.request.Head.{Head}
 use Rattle.nfqa_msgs.specs.declared.request.Request.{Request}
 use Rattle.nfqa_msgs.specs.declared.request.Request.TheVariants.{Config, Verdict, Batch}
@@ -20,7 +19,7 @@ use Rattle.queue_core.specs.declared.event.Event.{Event}
 use Rattle.queue_core.specs.declared.event.Event.TheVariants.{Arrive, Ask, PortClosed, DeviceDown}
 use Rattle.queue_core.specs.Ids.{after, is_id}
 use Rattle.queue_core.specs.Decision.{is_verdict}
-use Rattle.queue_core.specs.State.{Bound, bound_to, configured, params_set, maximum_set, flags_set}
+use Rattle.queue_core.specs.State.{Bound, bound_to}
 use Rattle.queue_core.specs.State.{fails_open}
 use Rattle.queue_core.specs.Share.{share}
 use Rattle.queue_core.specs.Step.{Way, Gone, Stepped, step, arrive, arrive_in_time}
@@ -31,6 +30,7 @@ use Rattle.queue_core.specs.Step.{leaving, marking}
 use Rattle.queue_core.specs.Step.{Ruling, Refused, Allowed, refusal, ask, is_full}
 use Rattle.place_history.specs.declared.entry.Entry.{Entry}
 use Rattle.place_history.specs.History.{history, is_of, replay, replay_from}
+use Rattle.fate_ledger.proofs.Tables.{either, configured_waiting}
 
 -- something that is known of packets
 abbrev pub Known : Type 1
@@ -68,10 +68,6 @@ HoldsAll F (Some q) = AllWait F q.waiting
 
 abbrev pub IsGood : Known → Stepped → Type 0
 IsGood F s = HoldsAll F s.state × AllLeave F s.left
-
-either : {X : Type 0} (P : X → Type 0) (b : Bool) (s t : X) → P s → P t → P (cond b s t)
-either P true s t h k = h
-either P false s t h k = k
 
 module _ (F : Known) (stays : Stays F) where
   -- ---- lists of what waits
@@ -135,24 +131,6 @@ module _ (F : Known) (stays : Stays F) where
       (either (IsGood F) (not room && fails_open q) _ _ (held, (small, tt))
       (either (IsGood F) (not room) _ _ (held, (small, tt))
       (push_all q.waiting _ held small, tt))))))
-
-  configured_waiting : (params : Option Params) (maximum flags mask : Option ℕ) (q : Bound) →
-      (configured params maximum flags mask q).waiting ≡ q.waiting
-  configured_waiting params maximum flags mask q =
-      flags_waiting flags mask (maximum_set maximum (params_set params q)) ∙ params_waiting params
-    where
-      flags_waiting : (flags mask : Option ℕ) (q : Bound) →
-          (flags_set flags mask q).waiting ≡ q.waiting
-      flags_waiting None mask q = refl
-      flags_waiting (Some flags) None q = refl
-      flags_waiting (Some flags) (Some mask) q = refl
-
-      params_waiting : (params : Option Params) → (params_set params q).waiting ≡ q.waiting
-      params_waiting None = refl
-      params_waiting (Some p) =
-          either (λ (r : Bound). r.waiting ≡ q.waiting)
-          ((p.mode == copy_none) || (p.mode == copy_meta)) _ _ refl
-          (either (λ (r : Bound). r.waiting ≡ q.waiting) (p.mode == copy_packet) _ _ refl refl)
 
   unbind_good : (q : Option Bound) → HoldsAll F q → IsGood F (unbind q)
   unbind_good None held = (tt, tt)

@@ -1,9 +1,15 @@
 -- The last event of each packet, event by event.
-use Rattle.std.proofs.Common.{◌≡◌, ◌≢◌, ℕ, zero, suc, ◌+◌, ◌-◌, ◌<◌, ◌≤◌, List, [], ◌∷◌, ◌++◌, length}
-use Rattle.std.proofs.Common.{Option, Some, None, Bool, true, false, cond, refl, sym, ap, ◌∙◌, arith}
+use Rattle.std.proofs.Common.{◌≡◌, ◌≢◌, ℕ, zero, suc, ◌+◌, ◌-◌, ◌<◌, ◌≤◌, List, [], ◌∷◌, ◌++◌}
+use Rattle.std.proofs.Common.{length}
+use Rattle.std.proofs.Common.{Option, Some, None, Bool, true, false, cond, refl, sym, ap, ◌∙◌}
+use Rattle.std.proofs.Common.{arith}
 use Rattle.std.proofs.Common.{inl, inr, append_assoc}
 use Rattle.std.proofs.lemmas.List.{append-nil}
-use Rattle.std.specs.Prelude.{◌==◌, slice_get, slice_set, ◌&&◌}
+use Rattle.std.specs.Prelude.{◌==◌, slice_get, slice_set, ◌&&◌, ◌||◌}
+use Rattle.std.specs.Ordering.{nat_cmp}
+use Rattle.std.specs.Cmp.{unsigned_ties}
+use Rattle.std.specs.BTreeMap.{is_at}
+use Rattle.std.specs.BTreeSet.{BTreeSet, contains}
 use Rattle.std.proofs.lemmas.Bool.{eq-eqb, ne_eqb, cases_lt}
 use Rattle.fate_ledger.specs.declared.happening.Happening.{Happening}
 use Rattle.pcap_io.specs.declared.capture.Frame.{Frame}
@@ -139,17 +145,40 @@ length-lasts hs k zero = refl
 length-lasts hs k (suc n) = ap suc (length-lasts hs (k + 1) n)
 
 -- the lines of frames with their packets' last events are their fates
-pub lines_are : (hs : List Happening) (lost : List Lost) (k : ℕ) (fs : List Frame) →
-    lines_with lost k fs (lasts hs k (length fs)) ≡ fates_from hs lost k fs
-lines_are hs lost k [] = refl
-lines_are hs lost k (f ∷ fs) =
-    ap (λ ls. fate_line (is_lost lost k) k f (last_of k hs None) ∷ ls)
-    (lines_are hs lost (k + 1) fs)
+pub lines_are : (hs : List Happening) (lost : List Lost) (test : ℕ → Bool) →
+    ((number : ℕ) → test number ≡ is_lost lost number) → (k : ℕ) (fs : List Frame) →
+    lines_with test k fs (lasts hs k (length fs)) ≡ fates_from hs lost k fs
+lines_are hs lost test same k [] = refl
+lines_are hs lost test same k (f ∷ fs) =
+    ap (λ b. fate_line b k f (last_of k hs None)
+    ∷ lines_with test (k + 1) fs (lasts hs (k + 1) (length fs))) (same k)
+    ∙ ap (λ ls. fate_line (is_lost lost k) k f (last_of k hs None) ∷ ls)
+    (lines_are hs lost test same (k + 1) fs)
 
 -- one line for each frame
-pub length-lines : (lost : List Lost) (k : ℕ) (fs : List Frame) (ls : List (Option Happening)) →
-    length ls ≡ length fs → length (lines_with lost k fs ls) ≡ length fs
-length-lines lost k [] ls same = refl
-length-lines lost k (f ∷ fs) [] same = absurd (omega (arith, same))
-length-lines lost k (f ∷ fs) (l ∷ ls) same =
-    ap suc (length-lines lost (k + 1) fs ls (omega (arith, same)))
+pub length-lines : (test : ℕ → Bool) (k : ℕ) (fs : List Frame) (ls : List (Option Happening)) →
+    length ls ≡ length fs → length (lines_with test k fs ls) ≡ length fs
+length-lines test k [] ls same = refl
+length-lines test k (f ∷ fs) [] same = absurd (omega (arith, same))
+length-lines test k (f ∷ fs) (l ∷ ls) same =
+    ap suc (length-lines test (k + 1) fs ls (omega (arith, same)))
+
+-- ---- lost packets
+
+moved : (a b c : Bool) → cond a true b || c ≡ b || (a || c)
+moved true true c = refl
+moved true false c = refl
+moved false true c = refl
+moved false false c = refl
+
+-- one number more is kept, and the others are still to come
+pub lost_on : (old new : BTreeSet ℕ) (left rest whole : List Lost) (one : Lost) →
+    left ≡ one ∷ rest → ((q : ℕ) → contains nat_cmp new q
+    ≡ cond (is_at (nat_cmp one.number) q) true (contains nat_cmp old q)) →
+    ((q : ℕ) → contains nat_cmp old q || is_lost left q ≡ is_lost whole q) →
+    (q : ℕ) → contains nat_cmp new q || is_lost rest q ≡ is_lost whole q
+lost_on old new left rest whole one front added before q =
+    ap (λ b. b || is_lost rest q)
+    (added q ∙ ap (λ b. cond b true (contains nat_cmp old q)) (sym (unsigned_ties one.number q)))
+    ∙ moved (one.number == q) (contains nat_cmp old q) (is_lost rest q)
+    ∙ ap (λ (ls : List Lost). contains nat_cmp old q || is_lost ls q) (sym front) ∙ before q

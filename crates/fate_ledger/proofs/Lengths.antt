@@ -36,6 +36,7 @@ use Rattle.fate_ledger.specs.Released as text
 use Rattle.fate_ledger.proofs.Origins.{HoldsOf}
 use Rattle.fate_ledger.proofs.Payloads.{each_right}
 use Rattle.fate_ledger.proofs.Releasing.{equal_bytes, unequal_bytes}
+use Rattle.fate_ledger.proofs.Tables.{either}
 
 -- ---- what is read with a frame, as a test
 
@@ -61,10 +62,6 @@ or_true false = refl
 
 or_also : (b c : Bool) → c ≡ true → (b || c) ≡ true
 or_also b c is = ap (λ d. b || d) is ∙ or_true b
-
-either : {X : Type 0} (P : X → Type 0) (b : Bool) (s t : X) → P s → P t → P (cond b s t)
-either P true s t h k = h
-either P false s t h k = k
 
 -- ---- the last event
 

@@ -1,6 +1,7 @@
 pub mod Keeping
-pub mod Places
+pub mod Indexed
 pub mod Leaving
+pub mod Tables
 pub mod Steps
 pub mod Lasts
 pub mod Underway

@@ -6,7 +6,7 @@ use Rattle.std.proofs.lemmas.Bool.{cases_Bool}
 use Rattle.packet_entry.specs.declared.packet.Card.{Card}
 use Rattle.packet_entry.specs.Card.{edited}
 use Rattle.packet_entry.specs.Numbers.{last_visit}
-use Rattle.nfqa_msgs.specs.Numbers.{copy_none, copy_meta, copy_packet, command_bind}
+use Rattle.nfqa_msgs.specs.Numbers.{copy_none, command_bind}
 use Rattle.nfqa_msgs.specs.Numbers.{command_unbind, command_pf_bind, command_pf_unbind}
 use Rattle.nfqa_msgs.specs.Numbers.{input_device, output_device, eperm, einval}
 use Rattle.nfqa_msgs.specs.declared.request.Params.{Params}
@@ -18,7 +18,7 @@ use Rattle.queue_core.specs.declared.event.Event.TheVariants as event
 use Rattle.queue_core.specs.declared.event.Reply.{Reply}
 use Rattle.queue_core.specs.Ids.{after}
 use Rattle.queue_core.specs.Decision.{Edit, is_verdict}
-use Rattle.queue_core.specs.State.{Bound, bound_to, configured, params_set, maximum_set, flags_set}
+use Rattle.queue_core.specs.State.{Bound, bound_to}
 use Rattle.queue_core.specs.State.{fails_open}
 use Rattle.queue_core.specs.Share.{share}
 use Rattle.queue_core.specs.Step.{Stepped, Gone, step, arrive_bound, arrive_in_time}
@@ -33,17 +33,13 @@ use Rattle.fate_ledger.specs.declared.fate.Fate.{Fate}
 use Rattle.fate_ledger.specs.Fates.{happens, departing, fate_by_verdict}
 use Rattle.fate_ledger.specs.Following.{Waiting, waiting_of, told, waiting_after, first_leave}
 use Rattle.fate_ledger.specs.Following.{happening, how_at, fate_of}
+use Rattle.fate_ledger.proofs.Tables.{either, configured_waiting}
 
 -- a step's reply tells what leaves in it, and what waits afterwards
 abbrev IsTold : ℕ → ℕ → Event → Option Bound → Stepped → Type 0
 IsTold queue at e q s =
     (told queue at e s.reply (waiting_of q) ≡ happens queue at e s)
     × (waiting_after e s.reply (waiting_of q) ≡ waiting_of s.state)
-
--- one test of a table: what holds of its line and of the lines after it holds of the table
-either : {X : Type 0} (P : X → Type 0) (b : Bool) (s t : X) → P s → P t → P (cond b s t)
-either P true s t h k = h
-either P false s t h k = k
 
 module _ (queue at : ℕ) where
   -- ---- arrivals
@@ -82,24 +78,6 @@ module _ (queue at : ℕ) where
 
   abbrev asking : ℕ → ℕ → Request → Event
   asking port call asked = event.Ask port call asked
-
-  configured_waiting : (params : Option Params) (maximum flags mask : Option ℕ) (q : Bound) →
-      (configured params maximum flags mask q).waiting ≡ q.waiting
-  configured_waiting params maximum flags mask q =
-      flags_waiting flags mask (maximum_set maximum (params_set params q)) ∙ params_waiting params
-    where
-      flags_waiting : (flags mask : Option ℕ) (q : Bound) →
-          (flags_set flags mask q).waiting ≡ q.waiting
-      flags_waiting None mask q = refl
-      flags_waiting (Some flags) None q = refl
-      flags_waiting (Some flags) (Some mask) q = refl
-
-      params_waiting : (params : Option Params) → (params_set params q).waiting ≡ q.waiting
-      params_waiting None = refl
-      params_waiting (Some p) =
-          either (λ (r : Bound). r.waiting ≡ q.waiting)
-          ((p.mode == copy_none) || (p.mode == copy_meta)) _ _ refl
-          (either (λ (r : Bound). r.waiting ≡ q.waiting) (p.mode == copy_packet) _ _ refl refl)
 
   module _ (port call named : ℕ) (command : Option ℕ) (params : Option Params)
       (maximum flags mask : Option ℕ) where

@@ -19,7 +19,8 @@ use Rattle.place_history.specs.History.{IsLegalFrom, AreLegal}
 use Rattle.fate_ledger.specs.declared.happening.Happening.{Happening}
 use Rattle.fate_ledger.specs.Fates.{happens_after, happenings_after, happenings}
 use Rattle.fate_ledger.specs.Following.{FollowedQueues, Follows, IsFollowed, AreFollowed, told_by}
-use Rattle.fate_ledger.specs.Following.{lasts, noted_all, at_in, waiting_in, waiting_of, place_after}
+use Rattle.fate_ledger.specs.Following.{lasts, noted_all, at_in, waiting_in, waiting_of}
+use Rattle.fate_ledger.specs.Following.{place_after}
 use Rattle.fate_ledger.specs.Following.{told, waiting_after}
 use Rattle.fate_ledger.proofs.Steps.{entry_tells}
 use Rattle.fate_ledger.proofs.Lasts.{all_noted}

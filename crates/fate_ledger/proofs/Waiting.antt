@@ -1,7 +1,8 @@
 -- A packet whose last event is an arrival that was taken waits; any other left in its last event's
 -- step.
 use Rattle.std.proofs.Common.{◌≡◌, ◌≢◌, ℕ, ◌+◌, ◌<◌, ◌≤◌, List, [], ◌∷◌, ◌++◌, length, map}
-use Rattle.std.proofs.Common.{Option, Some, None, Bool, true, false, cond, refl, sym, ap, ◌∙◌, arith}
+use Rattle.std.proofs.Common.{Option, Some, None, Bool, true, false, cond, refl, sym, ap, ◌∙◌}
+use Rattle.std.proofs.Common.{arith}
 use Rattle.std.proofs.Common.{inl, inr, ◌⊎◌, append_assoc, subst}
 use Rattle.std.specs.Prelude.{◌==◌, ◌&&◌, not, Contains}
 use Rattle.std.specs.List.{AllByRecursion}
@@ -36,12 +37,9 @@ use Rattle.std.proofs.lemmas.List.{append-nil}
 use Rattle.fate_ledger.specs.Laws.{IsLastEvent, Tells, Leaves, step_after, is_visit}
 use Rattle.fate_ledger.specs.Laws.{AreApart, Waits, LeftThere}
 use Rattle.fate_ledger.proofs.Underway.{history_on, own_on, other_on, step_at, replay_on}
+use Rattle.fate_ledger.proofs.Tables.{either}
 
 -- ---- an arrival's step
-
-either : {X : Type 0} (P : X → Type 0) (b : Bool) (s t : X) → P s → P t → P (cond b s t)
-either P true s t h k = h
-either P false s t h k = k
 
 -- nothing leaves, or the packet that arrives
 abbrev AtMost : Card → Stepped → Type 0

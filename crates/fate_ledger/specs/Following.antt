@@ -2,7 +2,7 @@
 -- no table of a queue's rules has to be asked.
 use Rattle.std.specs.Prelude.{◌≡◌, ℕ, ◌+◌, ◌-◌, suc, zero, List, [], ◌∷◌, ◌++◌, map, length, take}
 use Rattle.std.specs.Prelude.{drop, Option, Some, None, ◌==◌, if◌then◌else◌, slice_get, slice_set}
-use Rattle.std.specs.Prelude.{◌%◌, ◌^◌, false}
+use Rattle.std.specs.Prelude.{◌%◌, ◌^◌, Bool, false}
 use Rattle.std.specs.Map.{lookup, remove_entry}
 use Rattle.std.specs.BTreeMap.{BTreeMap, get, is_at}
 use Rattle.std.specs.Ordering.{nat_cmp}
@@ -22,7 +22,6 @@ use Rattle.queue_core.specs.Decision.{decision_of}
 use Rattle.queue_core.specs.State.{Bound}
 use Rattle.queue_core.specs.Step.{way_of}
 use Rattle.place_history.specs.declared.entry.Entry.{Entry}
-use Rattle.place_history.specs.declared.histories.Lost.{Lost}
 use Rattle.place_history.specs.History.{history, replay}
 use Rattle.fate_ledger.specs.declared.happening.Happening.{Happening}
 use Rattle.fate_ledger.specs.declared.happening.How.{How}
@@ -31,7 +30,6 @@ use Rattle.fate_ledger.specs.declared.fate.Fate.{Fate}
 use Rattle.fate_ledger.specs.declared.fate.Fate.TheVariants as fate
 use Rattle.fate_ledger.specs.declared.fate.FateLine.{FateLine}
 use Rattle.fate_ledger.specs.Fates.{fate_at_arrival, fate_by_verdict, is_later, last_of, fate_line}
-use Rattle.fate_ledger.specs.Fates.{is_lost}
 
 -- ---- what waits
 
@@ -147,7 +145,7 @@ at_in (Some f) = f.at
 
 abbrev pub waiting_in : Option Followed → Waiting
 waiting_in None = []
-waiting_in (Some f) = f.waiting.items
+waiting_in (Some f) = f.waiting
 
 -- the number after this one, of 64 bits
 abbrev pub place_after : ℕ → ℕ
@@ -179,9 +177,10 @@ AreFollowed before queues = (queue : ℕ) →
 
 -- ---- lines
 
--- the lines of frames from this number on, whose packets have these last events
-abbrev pub lines_with : List Lost → ℕ → List Frame → List (Option Happening) → List FateLine
+-- the lines of frames from this number on, whose packets have these last events, with a test for
+-- the numbers of packets that were lost
+abbrev pub lines_with : (ℕ → Bool) → ℕ → List Frame → List (Option Happening) → List FateLine
 lines_with lost number [] ls = []
 lines_with lost number (f ∷ fs) [] = []
 lines_with lost number (f ∷ fs) (l ∷ ls) =
-    fate_line (is_lost lost number) number f l ∷ lines_with lost (number + 1) fs ls
+    fate_line (lost number) number f l ∷ lines_with lost (number + 1) fs ls

@@ -57,7 +57,8 @@ pub record IsEventOf (before : List Entry) (e : Entry) (h : Happening) : Type 0 
 
 -- the packet with this number has no greater visit than this among these events, or a smaller one
 abbrev pub NoGreater : ℕ → ℕ → List Happening → Type 0
-NoGreater number visit hs = All (λ (h : Happening). h.card.number ≡ number → h.card.visit ≤ visit) hs
+NoGreater number visit hs =
+    All (λ (h : Happening). h.card.number ≡ number → h.card.visit ≤ visit) hs
 
 abbrev pub AllSmaller : ℕ → ℕ → List Happening → Type 0
 AllSmaller number visit hs =

@@ -2,6 +2,8 @@
 
 ghost use Rattle.std.specs.Prelude.{◌≡◌, ◌<◌, ◌+◌, ◌^◌, [], ◌∷◌, ◌++◌, ℕ, List, length, OnOk, IfOk};
 ghost use Rattle.std.specs.Prelude.{None, replicate};
+ghost use Rattle.std.specs.Ordering.{nat_cmp};
+ghost use Rattle.std.specs.BTreeSet.{contains};
 ghost use Rattle.place_history.specs.History.{AreLegal};
 ghost use Rattle.fate_ledger.specs.Fates as fates;
 ghost use Rattle.fate_ledger.specs.Following as following;
@@ -13,7 +15,10 @@ use packet_entry::NoMemory;
 use pcap_io::{Capture, Frame, Frames};
 use place_history::{Entries, Entry, Histories, Losts};
 use std::alloc::Global;
-use std::collections::BTreeMap;
+use std::collections::{BTreeMap, BTreeSet};
+
+/// Numbers of packets.
+type Numbers = BTreeSet<u32>;
 
 /// What became of each frame, in the order of the capture: the line of its packet's last event.
 ///
@@ -27,7 +32,8 @@ pub fn fates(alloc: Global, capture: &Capture, histories: &Histories) -> Result<
     ensures one_each { IfOk result (λ lines. length lines ≡ length capture.now.frames) }
 {
     let lasts = last_events(alloc, &histories.entries, capture.frames.len())?;
-    lines_with(alloc, &capture.frames, lasts, &histories.lost)
+    let lost = lost_numbers(alloc, &histories.lost)?;
+    lines_with(alloc, &capture.frames, lasts, &lost)
 }
 
 /// The last event of each packet, up to this number.
@@ -77,17 +83,29 @@ fn follow(
     Ok(())
 }
 
+/// The numbers of the packets that were lost.
+fn lost_numbers(alloc: Global, losts: &Losts) -> Result<Numbers, NoMemory>
+    ensures { IfOk result (λ numbers. (number : ℕ) →
+        contains nat_cmp numbers number ≡ fates.is_lost losts.now number) }
+{
+    let mut numbers = Numbers::new(alloc);
+    for one in losts {
+        numbers.insert(one.number)?;
+    }
+    Ok(numbers)
+}
+
 /// The lines of frames whose packets have these last events.
 fn lines_with(
     alloc: Global,
     frames: &Frames,
     lasts: Lasts,
-    lost: &Losts,
+    lost: &Numbers,
 ) -> Result<FateLines, NoMemory>
     requires few { length frames.now + 1 < 2 ^ 32 }
     requires lasts { length lasts.items ≡ length frames.now }
     ensures { IfOk result (λ lines.
-        lines ≡ following.lines_with lost.now 1 frames.now lasts.items) }
+        lines ≡ following.lines_with (contains nat_cmp lost.now) 1 frames.now lasts.items) }
 {
     let mut lines = Vec::with_capacity(alloc, frames.len())?;
     let mut rest = frames.iter();
@@ -104,13 +122,13 @@ fn lines_with(
 
 /// The line of the frame with this number, whose packet has this last event.
 fn line(
-    lost: &Losts,
+    lost: &Numbers,
     number: u32,
     frame: &Frame,
     last: Option<Happening>,
 ) -> Result<FateLine, NoMemory>
     ensures { IfOk result (λ line. line
-        ≡ fates.fate_line (fates.is_lost lost.now number) number frame.now last) }
+        ≡ fates.fate_line (contains nat_cmp lost.now number) number frame.now last) }
 {
     match last {
         Some(
@@ -140,19 +158,12 @@ fn line(
 }
 
 /// The fate of the packet with this number, unless it was lost between two queues.
-fn fate_unless_lost(lost: &Losts, number: u32, fate: Fate) -> Fate
-    ensures { result ≡ fates.fate_unless (fates.is_lost lost.now number) fate }
+fn fate_unless_lost(lost: &Numbers, number: u32, fate: Fate) -> Fate
+    ensures { result ≡ fates.fate_unless (contains nat_cmp lost.now number) fate }
 {
-    if is_lost(lost, number) {
+    if lost.contains(&number) {
         Fate::NoMemory
     } else {
         fate
     }
-}
-
-/// Whether the packet with this number was lost between two queues.
-fn is_lost(lost: &Losts, number: u32) -> bool
-    ensures { result ≡ fates.is_lost lost.now number }
-{
-    lost.iter().any(|one| one.number == number)
 }

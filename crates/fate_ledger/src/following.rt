@@ -1,24 +1,20 @@
 //! Entries of one queue, followed by their replies.
 
-ghost use Rattle.std.specs.Prelude.{◌≡◌, ◌<◌, ◌+◌, ◌^◌, [], OnOk, IfOk, MatchOption, None, drop};
+ghost use Rattle.std.specs.Prelude.{◌≡◌, [], OnOk, IfOk, None, drop};
 ghost use Rattle.std.specs.Map.{lookup, remove_entry};
 ghost use Rattle.packet_entry.specs.Card.{edited};
 ghost use Rattle.queue_core.specs.Ids.{is_id};
-ghost use Rattle.queue_core.specs.Place.{IsPlace};
 ghost use Rattle.fate_ledger.specs.Fates as fates;
 ghost use Rattle.fate_ledger.specs.Following as following;
 
 use crate::Fate;
 use crate::happening::{Happening, How, Lasts, note, share_card};
+use crate::waiting_list::WaitingList;
 use nfqa_msgs::{Head, Request};
 use packet_entry::{Bytes, Card, NoMemory};
 use place_history::{Entry, Event, Reply};
 use queue_core::{ACCEPT, DROP, Outcome, QUEUE, REPEAT, VERDICT_MASK};
 use std::alloc::Global;
-use std::collections::VecDeque;
-
-/// What waits, oldest first, each under its id.
-pub(crate) type Waiting = VecDeque<(u32, Card)>;
 
 /// A queue whose history was followed so far.
 #[derive(Debug, Drop)]
@@ -26,18 +22,18 @@ pub(crate) struct Followed {
     /// How many entries its history has so far, which is fewer than 2^64.
     pub at: u64,
     /// What waits.
-    pub waiting: Waiting,
+    pub waiting: WaitingList,
 }
 
 impl Followed {
     /// A queue without an entry.
     pub fn new(alloc: Global) -> Followed
         ensures at { result.at ≡ 0 }
-        ensures waiting { result.waiting.items ≡ [] }
+        ensures waiting { result.waiting ≡ [] }
     {
         Followed {
             at: 0,
-            waiting: Waiting::new(alloc),
+            waiting: WaitingList::new(alloc),
         }
     }
 
@@ -45,12 +41,12 @@ impl Followed {
     /// is an event of.
     pub fn follow(&mut self, entry: &Entry, lasts: &mut Lasts) -> Result<(), NoMemory>
         ensures at { OnOk result (self.new.at ≡ following.place_after self.old.at) }
-        ensures waiting { OnOk result (self.new.waiting.items
-            ≡ following.waiting_after entry.now.event entry.now.reply self.old.waiting.items) }
+        ensures waiting { OnOk result (self.new.waiting
+            ≡ following.waiting_after entry.now.event entry.now.reply self.old.waiting) }
         ensures lasts { OnOk result (lasts.new.items
             ≡ following.noted_all (following.told entry.now.queue
             (following.place_after self.old.at) entry.now.event entry.now.reply
-            self.old.waiting.items) lasts.old.items) }
+            self.old.waiting) lasts.old.items) }
     {
         let at = self.at.wrapping_add(1);
         self.at = at;
@@ -84,11 +80,11 @@ fn arrive(
     at: u64,
     card: &Card,
     outcome: Outcome,
-    waiting: &mut Waiting,
+    waiting: &mut WaitingList,
     lasts: &mut Lasts,
 ) -> Result<(), NoMemory>
-    ensures waiting { OnOk result (waiting.new.items
-        ≡ following.waiting_after_arrival card.now outcome waiting.old.items) }
+    ensures waiting { OnOk result (waiting.new
+        ≡ following.waiting_after_arrival card.now outcome waiting.old) }
     ensures lasts { OnOk result (lasts.new.items
         ≡ following.noted (following.happening
         (following.how_at queue at (fates.fate_at_arrival outcome)) card.now) lasts.old.items) }
@@ -96,7 +92,7 @@ fn arrive(
     let fate = fate_at_arrival(outcome);
     note(How { queue, at, fate }.happening(share_card(card)?), lasts);
     if let Outcome::Taken { id } = outcome {
-        waiting.push_back((id, share_card(card)?))?;
+        waiting.push(id, share_card(card)?)?;
     }
     Ok(())
 }
@@ -107,13 +103,13 @@ fn ask(
     at: u64,
     request: &Request,
     taken: u32,
-    waiting: &mut Waiting,
+    waiting: &mut WaitingList,
     lasts: &mut Lasts,
 ) -> Result<(), NoMemory>
-    ensures waiting { OnOk result (waiting.new.items
-        ≡ following.waiting_after_ask request.now taken waiting.old.items) }
+    ensures waiting { OnOk result (waiting.new
+        ≡ following.waiting_after_ask request.now taken waiting.old) }
     ensures lasts { OnOk result (lasts.new.items
-        ≡ following.noted_all (following.asked queue at request.now taken waiting.old.items)
+        ≡ following.noted_all (following.asked queue at request.now taken waiting.old)
         lasts.old.items) }
 {
     match request {
@@ -148,14 +144,20 @@ fn ask(
 }
 
 /// So many of the oldest leave, each with the mark that is given.
-fn first_leave(how: How, mark: Option<u32>, count: u32, waiting: &mut Waiting, lasts: &mut Lasts)
-    ensures waiting { waiting.new.items ≡ drop count waiting.old.items }
+fn first_leave(
+    how: How,
+    mark: Option<u32>,
+    count: u32,
+    waiting: &mut WaitingList,
+    lasts: &mut Lasts,
+)
+    ensures waiting { waiting.new ≡ drop count waiting.old }
     ensures lasts { lasts.new.items
-        ≡ following.noted_all (following.first_leave how mark count waiting.old.items)
+        ≡ following.noted_all (following.first_leave how mark count waiting.old)
         lasts.old.items }
 {
     for _ in 0..count {
-        let Some((_, card)) = waiting.pop_front() else {
+        let Some(card) = waiting.pop_front() else {
             return;
         };
         note(how.happening(marked(card, mark)), lasts);
@@ -178,16 +180,16 @@ fn one_leaves(
     id: u32,
     mark: Option<u32>,
     payload: &Option<Bytes>,
-    waiting: &mut Waiting,
+    waiting: &mut WaitingList,
     lasts: &mut Lasts,
 ) -> Result<(), NoMemory>
-    ensures waiting { OnOk result (waiting.new.items
-        ≡ remove_entry (is_id id) waiting.old.items) }
+    ensures waiting { OnOk result (waiting.new
+        ≡ remove_entry (is_id id) waiting.old) }
     ensures lasts { OnOk result (lasts.new.items
         ≡ following.noted_all (following.one_leaves how mark payload.now
-        (lookup (is_id id) waiting.old.items)) lasts.old.items) }
+        (lookup (is_id id) waiting.old)) lasts.old.items) }
 {
-    let Some(card) = take_under(waiting, id) else {
+    let Some(card) = waiting.take(id) else {
         return Ok(());
     };
     note(how.happening(replaced(marked(card, mark), payload)?), lasts);
@@ -202,30 +204,6 @@ fn replaced(mut card: Card, payload: &Option<Bytes>) -> Result<Card, NoMemory>
         card.bytes = given.share()?;
     }
     Ok(card)
-}
-
-/// Takes out what waits under an id, if anything does.
-fn take_under(waiting: &mut Waiting, id: u32) -> Option<Card>
-    ensures found { result ≡ lookup (is_id id) waiting.old.items }
-    ensures others { waiting.new.items ≡ remove_entry (is_id id) waiting.old.items }
-{
-    let (_, card) = waiting.remove(place_of(waiting, id)?)?;
-    Some(card)
-}
-
-/// Where it stands that waits under an id.
-fn place_of(waiting: &Waiting, id: u32) -> Option<usize>
-    ensures { MatchOption result (lookup (is_id id) waiting.now.items ≡ None)
-        (IsPlace waiting.now.items id) }
-{
-    for place in 0..waiting.len() {
-        if let Some(w) = waiting.get(place) {
-            if w.0 == id {
-                return Some(place);
-            }
-        }
-    }
-    None
 }
 
 /// An arrival's fate: what is taken waits.

@@ -54,8 +54,8 @@ pub fn the_last_event_is_where_it_left_or_waits()
     each_stay_ends_once();
 }
 
-/// In sound histories no two arrivals are of one packet at one visit, where the packets that entered
-/// have numbers of their own, as those of a capture's frames.
+/// In sound histories no two arrivals are of one packet at one visit, where the packets that
+/// entered have numbers of their own, as those of a capture's frames.
 pub fn no_visit_arrives_twice()
     ensures { (tables : List (List ARule)) (key : ℕ) (entered : List ACard)
         (es : List AnEntry) (lost : List ALost) → DifferInNumber entered →

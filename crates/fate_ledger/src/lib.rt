@@ -3,7 +3,7 @@
 //!
 //! [`fates`] reads it off histories, [`ledger_text`] and [`counts_text`] append texts of it, and
 //! [`released_capture`] keeps the released frames. [`journal_text`] appends the histories
-//! themselves as text.
+//! themselves as text, which [`read_journal`] reads back or refuses with a [`JournalFault`].
 #![tactic(auto)]
 
 mod counts;
@@ -14,12 +14,13 @@ mod happening;
 mod laws;
 mod ledger;
 mod released;
+mod waiting_list;
 
 pub use counts::counts_text;
 pub use fate::{Fate, FateLine, FateLines};
 pub use fate_lines::fates;
 pub use happening::Happening;
-pub use journals::journal_text;
+pub use journals::{JournalFault, journal_text, read_journal};
 pub use laws::{
     each_line_names_the_last_event, no_visit_arrives_twice, payloads_were_read_or_given,
     released_frames_are_those_let_go, the_last_event_is_where_it_left_or_waits,

@@ -307,8 +307,8 @@ fn are_short(lines: &FateLines) -> bool
     true
 }
 
-/// The ledger's lines, the counts, and the bytes of the released frames, where all these happen at a
-/// place and this was lost.
+/// The ledger's lines, the counts, and the bytes of the released frames, where all these happen at
+/// a place and this was lost.
 fn told_of(
     alloc: Global,
     count: u8,
@@ -377,6 +377,33 @@ fn accepted_and_dropped_packets(rt: HostRuntime) -> Result<(), Fail> {
         [0, 20, 2, 20].as_slice(),
     );
     assert!(rt; agrees(rt.alloc(), 3, &all, told)?);
+    Ok(())
+}
+
+#[test]
+fn packets_that_leave_out_of_order(rt: HostRuntime) -> Result<(), Fail> {
+    use Happens::{Arrives, Asks};
+    let all = [
+        Asks(0, Words::Bind),
+        Asks(0, Words::Packets(1024)),
+        Arrives(0, 1, 1),
+        Arrives(0, 2, 1),
+        Arrives(0, 3, 1),
+        Arrives(0, 4, 1),
+        Asks(0, Words::Verdict(0, 3)),
+        Asks(0, Words::Verdict(1, 2)),
+        Asks(0, Words::Batch(5, 1)),
+        Asks(0, Words::Verdict(4, 4)),
+    ];
+    let ledger = b"record fate queue at mark bytes\n1 stop 0 9 0 20\n2 accept 0 8 0 20\n\
+        3 drop 0 7 0 20\n4 repeat 0 10 0 20\n";
+    let counts = b"accept 1\nstop 1\nrepeat 1\ndrop 1\n";
+    let told = (
+        ledger.as_slice(),
+        counts.as_slice(),
+        [0, 20, 1, 20, 3, 20].as_slice(),
+    );
+    assert!(rt; agrees(rt.alloc(), 4, &all, told)?);
     Ok(())
 }
 

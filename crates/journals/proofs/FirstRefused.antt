@@ -2,7 +2,8 @@
 -- can't stand in one.
 use Rattle.std.proofs.Common.{◌≡◌, ℕ, ◌+◌, Bool, false, eqb, inl, inr}
 use Rattle.std.proofs.Common.{List, [], ◌∷◌, ◌++◌, length, Option, Some, None, ◌∙◌, refl, sym, ap}
-use Rattle.std.proofs.Common.{length-append, subst, arith, codes, Result, Ok, Err, IfOk, append_assoc, append-nil}
+use Rattle.std.proofs.Common.{length-append, subst, arith, codes, Result, Ok, Err, IfOk}
+use Rattle.std.proofs.Common.{append_assoc, append-nil}
 use Rattle.std.specs.Prelude.{◌≢◌, bytes_eq, filter, option_map}
 use Rattle.std.proofs.lemmas.Bool.{false≢true}
 use Rattle.std.proofs.lemmas.List.Elements.{filter-append}
@@ -319,7 +320,8 @@ never_both text h n j (inl bad) =
       record {
         well_formed = j.well_formed;
         text_is = line_before bad.front bad.line bad.later
-            ∙ ap (λ z. bad.front ++ z) (sym (cut_some 10 bad.rest (bad.line, bad.later) bad.line_is))
+            ∙ ap (λ z. bad.front ++ z)
+            (sym (cut_some 10 bad.rest (bad.line, bad.later) bad.line_is))
             ∙ sym bad.text_is ∙ j.text_is;
       },
     )

@@ -5,7 +5,8 @@ use Rattle.std.proofs.Common.{ℕ, List, ◌++◌, codes, IfOk}
 use Rattle.std.specs.Prelude.{◌≢◌, OnOk}
 use Rattle.std.proofs.lemmas.Bool.{false≢true}
 use Rattle.journals.specs.declared.line.Line.{Line}
-use Rattle.journals.specs.declared.line.Line.TheVariants.{Heading, EntryLine, PortLine, DidLine, End}
+use Rattle.journals.specs.declared.line.Line.TheVariants.{Heading, EntryLine, PortLine, DidLine}
+use Rattle.journals.specs.declared.line.Line.TheVariants.{End}
 use Rattle.journals.specs.declared.stop.Stop.{Stop}
 use Rattle.journals.specs.declared.stop.Stop.TheVariants.{Refused, NoMemory}
 use Rattle.journals.specs.JournalFile.{Follows, FollowsText, HasRead, IsSound, Moves, Place}

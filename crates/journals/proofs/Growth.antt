@@ -9,7 +9,8 @@ use Rattle.place_history.specs.declared.entry.Entry.{Entry}
 use Rattle.place_history.specs.declared.log.Did.{Did}
 use Rattle.place_history.specs.declared.log.PortLog.{PortLog}
 use Rattle.journals.specs.declared.line.Line.{Line}
-use Rattle.journals.specs.declared.line.Line.TheVariants.{Heading, EntryLine, PortLine, DidLine, End}
+use Rattle.journals.specs.declared.line.Line.TheVariants.{Heading, EntryLine, PortLine, DidLine}
+use Rattle.journals.specs.declared.line.Line.TheVariants.{End}
 use Rattle.journals.specs.Journal as text
 use Rattle.journals.specs.Lines.{line_text}
 use Rattle.journals.specs.JournalFile.{Place, after, so_far, is_port}

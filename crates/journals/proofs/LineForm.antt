@@ -19,7 +19,8 @@ use Rattle.place_history.specs.declared.log.Did.{Did}
 use Rattle.place_history.specs.declared.log.Did.TheVariants.{Received, Sent, Closed}
 use Rattle.place_history.specs.declared.log.AskWords.{AskWords}
 use Rattle.journals.specs.declared.line.Line.{Line}
-use Rattle.journals.specs.declared.line.Line.TheVariants.{Heading, EntryLine, PortLine, DidLine, End}
+use Rattle.journals.specs.declared.line.Line.TheVariants.{Heading, EntryLine, PortLine, DidLine}
+use Rattle.journals.specs.declared.line.Line.TheVariants.{End}
 use Rattle.journals.specs.Journal as text
 use Rattle.journals.specs.Lines.{FitsLine, line_text}
 use Rattle.journals.specs.WellFormed.{FitsAsk, FitsDid, FitsOutcome, FitsRequest}
@@ -29,8 +30,10 @@ use Rattle.journals.specs.Reading.{both, card_in, device_down_in, field, half, l
 use Rattle.journals.specs.Reading.{line_in, outcome_in, port_closed_in, received_in, request_in}
 use Rattle.journals.specs.Reading.{said_in, sent_in}
 use Rattle.journals.proofs.Wording.{Laws, bind_some, cut_some, map_some, taken, uncut_append}
-use Rattle.journals.proofs.Formats.{Any, BeforeEquals, IsField, IsWord, behind_some, both_is, last_is}
-use Rattle.journals.proofs.Spelt.{number_field, number_word, outcome_word, pick, said_text, said_word}
+use Rattle.journals.proofs.Formats.{Any, BeforeEquals, IsField, IsWord, behind_some, both_is}
+use Rattle.journals.proofs.Formats.{last_is}
+use Rattle.journals.proofs.Spelt.{number_field, number_word, outcome_word, pick, said_text}
+use Rattle.journals.proofs.Spelt.{said_word}
 use Rattle.journals.proofs.Requests.{half_field, number_text, request_field, request_text}
 use Rattle.journals.proofs.Lines.{FitsTold, Told, asked_field, asked_text, card_field}
 use Rattle.journals.proofs.Lines.{card_text, card_told, fits_told, pair_field, spaced_ask}
@@ -444,14 +447,15 @@ entry_line : Laws → (q : ℕ) (event : Event) (reply : Reply) → IsHalf q →
     IsReplyTo event reply → cut_at 10 (text.event q event ++ text.reply reply) ≡ None
 entry_line laws q (Arrive c b r) (Arrived o) qf ef rf =
     ap (cut_at 10) (arrival_told q c b r o)
-    ∙ uncut_append 10 (codes "A ") (arrival_text ((q, (c, (b, r))), o)) refl ((arrival_word laws).one_line ((q, (c, (b, r))), o)
-    ((qf, fits_told (c, (b, r)) ef), rf))
+    ∙ uncut_append 10 (codes "A ") (arrival_text ((q, (c, (b, r))), o)) refl
+    ((arrival_word laws).one_line ((q, (c, (b, r))), o) ((qf, fits_told (c, (b, r)) ef), rf))
 entry_line laws q (Arrive c b r) (Answer e t) qf ef rf = absurd rf
 entry_line laws q (Arrive c b r) (Flushed t) qf ef rf = absurd rf
 entry_line laws q (Ask p c r) (Arrived o) qf ef rf = absurd rf
 entry_line laws q (Ask p c r) (Answer e t) qf ef rf =
     ap (cut_at 10) (asking_told q p c r e t)
-    ∙ uncut_append 10 (codes "M ") (asking_text (((q, (p, c)), r), (e, t))) refl ((asking_word laws).one_line (((q, (p, c)), r), (e, t))
+    ∙ uncut_append 10 (codes "M ") (asking_text (((q, (p, c)), r), (e, t))) refl
+    ((asking_word laws).one_line (((q, (p, c)), r), (e, t))
     (((qf, (ef.0, ef.1)), ef.2), (rf.0, rf.1)))
 entry_line laws q (Ask p c r) (Flushed t) qf ef rf = absurd rf
 entry_line laws q (PortClosed p) (Arrived o) qf ef rf = absurd rf

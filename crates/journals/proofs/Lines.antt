@@ -109,7 +109,8 @@ spaced_request (Verdict q h m b) z =
     let a : List ℕ = codes "verdict " ++ (decimal q ++ 32 ∷ []) in
     let mt = part_text (codes "mark") number_text m in
     let bt = part_text (codes "payload") bytes_text b in
-    more ((a ++ text.head h) ++ text.part (codes " mark ") m) ((a ++ head_text h) ++ mt) (text.payload b) bt
+    more ((a ++ text.head h) ++ text.part (codes " mark ") m) ((a ++ head_text h) ++ mt)
+    (text.payload b) bt
     (more (a ++ text.head h) (a ++ head_text h) (text.part (codes " mark ") m) mt
     (behind_front a (text.head h) (head_text h) (spaced_head h)) (shift_number (codes "mark") m))
     (shift_payload b) z

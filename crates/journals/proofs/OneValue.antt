@@ -10,7 +10,8 @@ use Rattle.journals.specs.Journal as text
 use Rattle.journals.specs.Lines.{IsLine}
 use Rattle.journals.specs.Reading.{line_in}
 use Rattle.journals.specs.WellFormed.{IsWellFormed}
-use Rattle.journals.specs.JournalFile.{IsJournal, IsSound, Place, after, histories_of, so_far, start}
+use Rattle.journals.specs.JournalFile.{IsJournal, IsSound, Place, after, histories_of, so_far}
+use Rattle.journals.specs.JournalFile.{start}
 use Rattle.journals.proofs.Ahead.{Ahead, IsFront, front_more, front_start, next}
 use Rattle.journals.proofs.FirstRefused.{ends_here, line_is_whole, tail_of, uncut_tail}
 use Rattle.journals.proofs.Growth.{grows}

@@ -23,7 +23,8 @@ use Rattle.journals.proofs.Wording.{Laws, bind_some, cut_front, cut_some, map_so
 use Rattle.journals.proofs.Wording.{uncut_append}
 use Rattle.journals.proofs.Formats.{Any, BeforeEquals, IsField, NotBehind, apart, behind_some}
 use Rattle.journals.proofs.Formats.{both_is, equals_apart, made_is, part_is, part_text, weaker}
-use Rattle.journals.proofs.Spelt.{below_field, bytes_field, number_field, number_no_dash, number_unblank}
+use Rattle.journals.proofs.Spelt.{below_field, bytes_field, number_field, number_no_dash}
+use Rattle.journals.proofs.Spelt.{number_unblank}
 use Rattle.journals.proofs.Spelt.{pick}
 
 abbrev pub number_text : ℕ → List ℕ
@@ -293,7 +294,8 @@ headed_field laws =
     (head_field laws) (λ y rest fits any. tt)
 
 abbrev body_read : List ℕ → Option ((Option ℕ × Option (List ℕ)) × List ℕ)
-body_read = both (part (codes "mark") (field digits.decimal)) (part (codes "payload") (field bytes_in))
+body_read =
+    both (part (codes "mark") (field digits.decimal)) (part (codes "payload") (field bytes_in))
 
 abbrev body_text : (Option ℕ × Option (List ℕ)) → List ℕ
 body_text p = part_text (codes "mark") number_text p.0 ++ part_text (codes "payload") bytes_text p.1

@@ -15,7 +15,8 @@ use Rattle.place_history.specs.declared.log.Did.{Did}
 use Rattle.place_history.specs.declared.log.Did.TheVariants.{Received, Sent, Closed}
 use Rattle.place_history.specs.declared.log.PortLog.{PortLog}
 use Rattle.journals.specs.declared.line.Line.{Line}
-use Rattle.journals.specs.declared.line.Line.TheVariants.{Heading, EntryLine, PortLine, DidLine, End}
+use Rattle.journals.specs.declared.line.Line.TheVariants.{Heading, EntryLine, PortLine, DidLine}
+use Rattle.journals.specs.declared.line.Line.TheVariants.{End}
 use Rattle.journals.specs.Lines.{FitsLine}
 use Rattle.journals.specs.WellFormed.{FitsDid, IsEntry, IsLog, IsWide, IsWellFormed}
 use Rattle.journals.specs.JournalFile.{IsSound, Place, after, histories_of, is_closing, is_port}

@@ -1,6 +1,7 @@
 -- A journal's text: of which histories it is one, and how far a reader of it has come.
 use Rattle.std.specs.Prelude.{◌≡◌, ◌≢◌, ℕ, ◌≤◌, ◌&&◌, nat_le, is_none, Bool, true, false, List}
-use Rattle.std.specs.Prelude.{[], ◌∷◌, ◌++◌, All, AllPairs, Option, Some, None, IfSome, map, ⊤, codes}
+use Rattle.std.specs.Prelude.{[], ◌∷◌, ◌++◌, All, AllPairs, Option, Some, None, IfSome, map, ⊤}
+use Rattle.std.specs.Prelude.{codes}
 use Rattle.std.specs.Prelude.{option_map, option_to_list, Result, Ok, Err, if◌then◌else◌, ◌==◌}
 use Rattle.std.specs.Prelude.{◌+◌, ◌⊎◌, filter, length}
 use Rattle.std.specs.List.{list_any}
@@ -16,7 +17,8 @@ use Rattle.journals.specs.declared.fault.JournalFault.{JournalFault}
 use Rattle.journals.specs.declared.fault.JournalFault.TheVariants.{Bad}
 use Rattle.journals.specs.declared.fault.JournalFault.TheVariants as fault
 use Rattle.journals.specs.declared.line.Line.{Line}
-use Rattle.journals.specs.declared.line.Line.TheVariants.{Heading, EntryLine, PortLine, DidLine, End}
+use Rattle.journals.specs.declared.line.Line.TheVariants.{Heading, EntryLine, PortLine, DidLine}
+use Rattle.journals.specs.declared.line.Line.TheVariants.{End}
 use Rattle.journals.specs.declared.reader.Reader.{Reader}
 use Rattle.journals.specs.declared.stop.Stop.{Stop}
 use Rattle.journals.specs.declared.stop.Stop.TheVariants.{Refused, NoMemory}

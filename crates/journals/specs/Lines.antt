@@ -1,7 +1,8 @@
 -- The lines of a journal, each without its end.
 use Rattle.std.specs.Prelude.{ℕ, ◌≡◌, ⊤, List, codes}
 use Rattle.journals.specs.declared.line.Line.{Line}
-use Rattle.journals.specs.declared.line.Line.TheVariants.{Heading, EntryLine, PortLine, DidLine, End}
+use Rattle.journals.specs.declared.line.Line.TheVariants.{Heading, EntryLine, PortLine, DidLine}
+use Rattle.journals.specs.declared.line.Line.TheVariants.{End}
 use Rattle.journals.specs.Journal.{did_line, entry_line, port_line}
 use Rattle.journals.specs.WellFormed.{FitsDid, IsEntry, IsWide}
 

@@ -23,7 +23,8 @@ use Rattle.place_history.specs.declared.log.Did.TheVariants.{Received, Sent, Clo
 use Rattle.place_history.specs.declared.log.AskWords.{AskWords}
 use Rattle.place_history.specs.declared.log.AskWords.TheVariants.{Plain, Raw}
 use Rattle.journals.specs.declared.line.Line.{Line}
-use Rattle.journals.specs.declared.line.Line.TheVariants.{Heading, EntryLine, PortLine, DidLine, End}
+use Rattle.journals.specs.declared.line.Line.TheVariants.{Heading, EntryLine, PortLine, DidLine}
+use Rattle.journals.specs.declared.line.Line.TheVariants.{End}
 use Rattle.journals.specs.WellFormed.{queue_of}
 
 -- ---- fields in general: what is read, and the text behind it
@@ -111,7 +112,8 @@ outcome_in word =
 
 -- the errno of an acknowledgement, or `-`
 abbrev pub answer_in : List ℕ → Option (Option ℕ)
-answer_in word = if bytes_eq word (codes "-") then Some None else option_map (λ n. Some n) (half word)
+answer_in word =
+    if bytes_eq word (codes "-") then Some None else option_map (λ n. Some n) (half word)
 
 -- `= ANSWER`
 abbrev pub said_in : List ℕ → Option (Option ℕ)

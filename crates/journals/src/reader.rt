@@ -2,7 +2,8 @@
 
 ghost use Rattle.std.specs.Prelude.{◌≡◌, ◌∷◌, ◌++◌, [], IfOk, Some, OnOk, option_to_list};
 ghost use Rattle.journals.specs.declared.line.Line.TheVariants as line;
-ghost use Rattle.journals.specs.JournalFile.{FollowsText, HasRead, IsSound, KnowsPorts, Moves, after};
+ghost use Rattle.journals.specs.JournalFile.{FollowsText, HasRead, IsSound, KnowsPorts, Moves};
+ghost use Rattle.journals.specs.JournalFile.{after};
 ghost use Rattle.journals.specs.JournalFile.{Follows, closed, start};
 ghost use Rattle.journals.specs.JournalFile.{histories_of, is_closing, is_end, place_of, put};
 

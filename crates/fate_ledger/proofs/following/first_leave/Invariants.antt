@@ -5,8 +5,8 @@ use Rattle.fate_ledger.proofs.following.first_leave.Given as goal
 -- so many have left, and the others are still to be noted
 abbrev pub invariant-loop : goal.invariant-loop
 invariant-loop l =
-    (drop (l.count - l.counter) l.waiting.items ≡ drop l.count l.fn.waiting.items)
+    (drop (l.count - l.counter) l.waiting ≡ drop l.count l.fn.waiting)
     × (following.noted_all
-    (following.first_leave l.how l.mark (l.count - l.counter) l.waiting.items) l.lasts.items
-    ≡ following.noted_all (following.first_leave l.how l.mark l.count l.fn.waiting.items)
+    (following.first_leave l.how l.mark (l.count - l.counter) l.waiting) l.lasts.items
+    ≡ following.noted_all (following.first_leave l.how l.mark l.count l.fn.waiting)
     l.fn.lasts.items)

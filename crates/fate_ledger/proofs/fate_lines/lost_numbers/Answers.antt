@@ -1,0 +1,7 @@
+use Rattle.fate_ledger.proofs.Lasts.{lost_on}
+use Rattle.fate_ledger.proofs.fate_lines.lost_numbers.Goals as goal
+
+pub loop-one-preserved : goal.loop-one-preserved
+loop-one-preserved c =
+    lost_on _ _ _ _ _ c.in-Some.one.now c.in-Some.ensures.steps c.in_ok-insert.ensures.updates.0
+    c.loop-one.invariant
