@@ -1,7 +1,8 @@
 #!/bin/sh
 # A benchmark, not a test: plays captures that it makes itself, and prints for each shape the processor time and the
 # peak memory of `nfq play`, and their ratios to two programs of baselines.c: one by hand that writes the same bytes
-# without a proof, and a floor that reads the inputs and writes files of the outputs' sizes.
+# without a proof, and a floor that reads the inputs and writes files of the outputs' sizes. Last come `gen`, `play` of
+# what it writes, and `trial`, of 200,000 packets.
 set -eu
 top=$(cd "$(dirname "$0")/.." && pwd)
 work=$(mktemp -d)
@@ -83,7 +84,7 @@ def measured(words):
     runs = []
     for _ in range(5):
         start = time.monotonic()
-        child = subprocess.Popen(words)
+        child = subprocess.Popen(words, stdout=subprocess.DEVNULL)
         _, status, usage = os.wait4(child.pid, 0)
         if status != 0:
             sys.exit(f"{words[0]} ended with {status >> 8}")
@@ -107,4 +108,10 @@ for name, frames, rules, script, capture, by_hand in SHAPES:
     for who, it in (("nfq play", play), *others):
         print(f"  {who:9} {it[0]:.3f} s of processor time, {it[1]:.3f} s in all, {it[2]:.0f} MiB at the peak; "
               f"nfq play takes {play[0] / it[0]:.1f} times the time and {play[2] / it[2]:.1f} times the memory")
+
+print("generated from the number 7, 200,000 packets")
+for name, words in (("gen", ["gen", "7", "200000", *INPUTS]), ("play", ["play", *INPUTS, *OUTPUTS]),
+                    ("trial", ["trial", "7", "200000"])):
+    it = measured([sys.argv[1], *words])
+    print(f"  {name:9} {it[0]:.3f} s of processor time, {it[1]:.3f} s in all, {it[2]:.0f} MiB at the peak")
 PY

@@ -2,4 +2,4 @@ pub mod Numbers
 pub mod Words
 pub mod Views
 pub mod Rule
-pub mod Kept
+pub mod Invariants

@@ -20,7 +20,7 @@ impl Model for Board {
 
     ghost Value = { BoardView };
 
-    ghost use Rattle.glance.specs.Kept.{board_of, IsBoard};
+    ghost use Rattle.glance.specs.Invariants.{board_of, IsBoard};
 
     ghost view = { λ b. board_of b.table.shared.table_id };
 

@@ -14,7 +14,7 @@ impl Model for GlancePass {
 
     ghost Value = { PassView };
 
-    ghost use Rattle.glance.specs.Kept.{pass_of};
+    ghost use Rattle.glance.specs.Invariants.{pass_of};
 
     ghost view = { λ p. pass_of p.seat };
 }

@@ -15,7 +15,7 @@ impl Model for Writer {
 
     ghost Value = { WriterView };
 
-    ghost use Rattle.glance.specs.Kept.{writer_of, IsWriter};
+    ghost use Rattle.glance.specs.Invariants.{writer_of, IsWriter};
 
     ghost view = { λ w. writer_of w.seat };
 

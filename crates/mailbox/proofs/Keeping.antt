@@ -11,7 +11,7 @@ use Rattle.mailbox.specs.Lines.{IsTold, got_line, joined_line}
 use Rattle.mailbox.specs.Fills.{empty_look, freeing, joined_fill}
 use Rattle.mailbox.specs.Views.{numbers, letters_in, Wholes, receiver_with}
 use Rattle.mailbox.specs.Views.{receiver_empty}
-use Rattle.mailbox.specs.Kept.{IsReceiver, IsSender, receiver_of}
+use Rattle.mailbox.specs.Invariants.{IsReceiver, IsSender, receiver_of}
 use Rattle.mailbox.proofs.Posting.{numbers_more, letters_in_more}
 
 -- that all senders are joined, as the seat at the gauge knows it

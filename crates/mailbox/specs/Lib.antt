@@ -3,5 +3,5 @@ pub mod Roles
 pub mod Views
 pub mod Lines
 pub mod Fills
-pub mod Kept
+pub mod Invariants
 pub mod Turns

@@ -51,7 +51,8 @@ joined_role r s =
 -- senders were made, and of these the `ended` were joined
 pub record Fits (seat : ℕ → ℕ) (reader made : ℕ) (ended : ℕ → Bool) (id : ℕ) (r : Role) : Type 0
   where
-    pub sender : r.sends ≡ true → (seat r.number ≡ id) × (r.number < made) × (ended r.number ≡ false)
+    pub sender : r.sends ≡ true →
+        (seat r.number ≡ id) × (r.number < made) × (ended r.number ≡ false)
     pub zero : r.sends ≡ true → r.number ≡ 0 → r.made ≡ made
     pub receiver : r.gets ≡ true → (reader ≡ id) × ((k : ℕ) → In k r.joined → ended k ≡ true)
     pub all_made : r.gets ≡ true → ended 0 ≡ true → r.made ≡ made

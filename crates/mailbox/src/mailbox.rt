@@ -28,7 +28,7 @@ impl Model for Mailbox {
 
     ghost Value = { MailboxView };
 
-    ghost use Rattle.mailbox.specs.Kept.{mailbox_of, queue_id, IsMailbox};
+    ghost use Rattle.mailbox.specs.Invariants.{mailbox_of, queue_id, IsMailbox};
 
     ghost view = { λ m. mailbox_of (queue_id m.queue) m.gauge.shared.table_id m.capacity };
 
@@ -57,7 +57,7 @@ impl Mailbox {
     ghost use Rattle.mailbox.specs.Fills.{claiming, full_look, freeing};
     ghost use Rattle.mailbox.specs.Lines.{put_line};
     ghost use Rattle.mailbox.specs.declared.mailbox.Turn.TheVariants.{Got, Empty, Again};
-    ghost use Rattle.mailbox.specs.Kept.{IsChairOf};
+    ghost use Rattle.mailbox.specs.Invariants.{IsChairOf};
     ghost use Rattle.mailbox.specs.Turns.{TurnTells};
 
     /// A mailbox of this capacity, its first sender, which has number 0, and its receiver.

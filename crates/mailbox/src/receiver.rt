@@ -17,7 +17,7 @@ impl Model for Receiver {
 
     ghost Value = { ReceiverView };
 
-    ghost use Rattle.mailbox.specs.Kept.{receiver_of, IsReceiver};
+    ghost use Rattle.mailbox.specs.Invariants.{receiver_of, IsReceiver};
 
     ghost view = { λ r. receiver_of r.pass r.chair };
 

@@ -19,7 +19,7 @@ impl Model for Sender {
 
     ghost Value = { SenderView };
 
-    ghost use Rattle.mailbox.specs.Kept.{sender_of, IsSender};
+    ghost use Rattle.mailbox.specs.Invariants.{sender_of, IsSender};
 
     ghost view = { λ s. sender_of s.pass s.chair };
 

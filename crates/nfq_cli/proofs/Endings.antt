@@ -1,16 +1,19 @@
 -- How a command ends: facts by cases on why it stopped, and over a longer time.
 use Rattle.std.proofs.Common.{◌≡◌, ◌≤◌, ◌⊎◌, ◌∙◌, ℕ, List, Option, Some, None, Result, Ok, Err}
-use Rattle.std.proofs.Common.{OnOk, OnErr, refl, sym, ap, subst, inl, inr, arith}
+use Rattle.std.proofs.Common.{OnOk, OnErr, refl, sym, ap, subst, inl, inr, arith, [], ◌∷◌, map}
+use Rattle.std.specs.Prelude.{IsErrAnd, IsSomeAnd}
 use Rattle.host_io.specs.Host.{Rises, SameFiles, Rises_over}
 use Rattle.nfq_cli.specs.declared.refusal.Refusal.{Refusal}
 use Rattle.nfq_cli.specs.declared.refusal.Refusal.TheVariants as refusal
 use Rattle.nfq_cli.specs.declared.stop.Stop.{Stop}
 use Rattle.nfq_cli.specs.declared.stop.Stop.TheVariants as stop
-use Rattle.nfq_cli.specs.Arguments.{InputFiles, PlayFiles}
+use Rattle.nfq_cli.specs.Arguments.{Call, InputFiles, PlayFiles}
 use Rattle.nfq_cli.specs.Causes.{IsAnswered, IsRefused, IsTurnedDown}
-use Rattle.nfq_cli.specs.Files.{Contents, Counts, IsPrinted, IsStoppedAfter}
+use Rattle.nfq_cli.specs.Files.{Contents, Counts, IsPrinted, IsStoppedAfter, Stay, Text}
+use Rattle.nfq_cli.specs.Headline.{texts_as}
 use Rattle.nfq_cli.specs.Printed.{line_of}
-use Rattle.nfq_cli.specs.Statuses.{IfStopRefuses, IsStopFor, status_of, status_of_refusal}
+use Rattle.nfq_cli.specs.Statuses.{IfRefused, IfStopRefuses, IsStopFor, status_of}
+use Rattle.nfq_cli.specs.Statuses.{status_of_refusal}
 use Rattle.nfq_cli.proofs.Saying.{ok_is_no_err}
 
 -- ---- one outcome
@@ -28,11 +31,45 @@ pub on_err : {T E : Type 0} (P : Type 0) (r : Result T E) (e : E) → r ≡ Err 
 on_err P (Ok x) e is h = absurd (ok_is_no_err x e is)
 on_err P (Err x) e is h = h
 
-pub same_files : (o : Option PlayFiles) (f named : PlayFiles) → o ≡ Some f → o ≡ Some named →
-    named ≡ f
-same_files o f named is_f is_named = cc
+-- a call that fails in one way alone did nothing in any other
+pub in_no_other_way : {T : Type 0} (P : Type 0) (r : Result T Stop) (s : Stop) →
+    OnErr r (r ≡ Err s) → OnErr r ((r ≡ Err s → ⊥) → P)
+in_no_other_way P (Ok x) s only = tt
+in_no_other_way P (Err e) s only = λ other. absurd (other only)
+
+pub by_this_alone : {T : Type 0} (P : Type 0) (r : Result T Stop) (s : Stop) →
+    IsErrAnd r (λ e. e ≡ s) → OnErr r ((r ≡ Err s → ⊥) → P)
+by_this_alone P (Ok x) s only = tt
+by_this_alone P (Err e) s only = λ other. absurd (other (ap Err only))
+
+pub same_call : (o : Option Call) (c named : Call) → o ≡ Some c → o ≡ Some named → named ≡ c
+same_call o c named is_c is_named = cc
+
+pub same_inputs : (o : Option InputFiles) (i named : InputFiles) → o ≡ Some i →
+    o ≡ Some named → i ≡ named
+same_inputs o i named is_i is_named = cc
+
+abbrev IsThere : {A : Type 0} → Option A → Type 0
+IsThere (Some x) = Unit {0}
+IsThere None = ⊥
+
+some_is_no_none : {A : Type 0} (x : A) → Some x ≡ None → ⊥
+some_is_no_none {A} x same = subst (λ (o : Option A). IsThere o) same tt
+
+pub none_read : (o : Option InputFiles) (i : InputFiles) → o ≡ Some i → o ≡ None → ⊥
+none_read (Some j) i is_i is_none = some_is_no_none j is_none
+none_read None i is_i is_none = some_is_no_none i (sym is_i)
 
 -- ---- why it stopped
+
+-- a call that refuses nothing tells of each refusal whatever is asked
+pub never_refused : {T : Type 0} (P : Refusal → Type 0) (r : Result T Stop) →
+    IfRefused r (λ w. ⊥) → IfRefused r P
+never_refused P (Ok x) none = tt
+never_refused P (Err stop.ReadFault) none = tt
+never_refused P (Err stop.WriteFault) none = tt
+never_refused P (Err (stop.Refused w)) none = absurd none
+never_refused P (Err stop.NoMemory) none = tt
 
 -- what holds of a refusal where the host tells its contents, which it does
 pub once_told : (s : Stop) (Tells : Type 0) (P : Refusal → Type 0) →
@@ -54,21 +91,30 @@ is_write_fault stop.WriteFault is = refl
 is_write_fault (stop.Refused w) is = absurd (is_no_3 w is)
 is_write_fault stop.NoMemory is = absurd (omega (arith, is))
 
-pub turned_down : (i : InputFiles) (s : Stop) (old_count new_count : Counts) (old new : Contents) →
-    4 ≤ status_of s → status_of s ≤ 7 → IfStopRefuses s (λ why. IsRefused i old why) →
-    IfStopRefuses s (λ why. IsPrinted (line_of why) old_count new_count new) →
-    IsTurnedDown i (status_of s) old_count new_count old new
-turned_down i stop.ReadFault old_count new_count old new least most refused printed =
-    absurd (omega (arith, least))
-turned_down i stop.WriteFault old_count new_count old new least most refused printed =
-    absurd (omega (arith, least))
-turned_down i (stop.Refused w) old_count new_count old new least most refused printed =
+by_refusal : (o : Option InputFiles) (w : Refusal) (old_count new_count : Counts)
+    (old new : Contents) → IsSomeAnd o (λ i. IsRefused i old w) →
+    IsPrinted (line_of w) old_count new_count new →
+    IsSomeAnd o (λ i. IsTurnedDown i (status_of_refusal w) old_count new_count old new)
+by_refusal (Some i) w old_count new_count old new refused printed =
     record {
       why = w;
       refused = refused;
       answered = record { status_is = refl; printed = printed };
     }
-turned_down i stop.NoMemory old_count new_count old new least most refused printed =
+by_refusal None w old_count new_count old new refused printed = refused
+
+pub turned_down : (o : Option InputFiles) (s : Stop) (old_count new_count : Counts)
+    (old new : Contents) → 4 ≤ status_of s → status_of s ≤ 7 →
+    IfStopRefuses s (λ why. IsSomeAnd o (λ i. IsRefused i old why)) →
+    IfStopRefuses s (λ why. IsPrinted (line_of why) old_count new_count new) →
+    IsSomeAnd o (λ i. IsTurnedDown i (status_of s) old_count new_count old new)
+turned_down o stop.ReadFault old_count new_count old new least most refused printed =
+    absurd (omega (arith, least))
+turned_down o stop.WriteFault old_count new_count old new least most refused printed =
+    absurd (omega (arith, least))
+turned_down o (stop.Refused w) old_count new_count old new least most refused printed =
+    by_refusal o w old_count new_count old new refused printed
+turned_down o stop.NoMemory old_count new_count old new least most refused printed =
     absurd (omega (arith, most))
 
 pub answered : (why : Refusal) (s : Stop) (old_count new_count : Counts) (new : Contents)
@@ -93,13 +139,29 @@ answered why stop.NoMemory old_count new_count new Unread stops printed unread =
 rises_since : (before old new : ℕ) → before ≤ old → Rises old new → Rises before new
 rises_since before old new early rises = Rises_over before old new new early rises (omega arith)
 
+stay_since : (ts : List Text) (k0 k1 k2 : Contents) → SameFiles k0 k1 →
+    Stay (map (λ (u : Text). u.name) ts) k1 k2 → Stay (map (λ (u : Text). u.name) ts) k0 k2
+stay_since [] k0 k1 k2 same stay = tt
+stay_since (t ∷ ts) k0 k1 k2 same stay =
+    (stay.0 ∙ same t.name, stay_since ts k0 k1 k2 same stay.1)
+
+since : (ts : List Text) (c0 c1 c2 : Counts) (k0 k1 k2 : Contents) →
+    ((n : List ℕ) → c0 n ≤ c1 n) → SameFiles k0 k1 →
+    IsStoppedAfter ts c1 c2 k1 k2 → IsStoppedAfter ts c0 c2 k0 k2
+since [] c0 c1 c2 k0 k1 k2 early same none = none
+since (t ∷ ts) c0 c1 c2 k0 k1 k2 early same (inl (rises, stay)) =
+    inl (rises_since _ _ _ (early t.name) rises, stay_since ts k0 k1 k2 same stay)
+since (t ∷ ts) c0 c1 c2 k0 k1 k2 early same (inr (whole, rest)) =
+    inr (whole, since ts c0 c1 c2 k0 k1 k2 early same rest)
+
 -- the writing began after the reading, and the texts are known by other names
-pub stopped_since : (f : PlayFiles) (o p l m : List ℕ) (c0 c1 c2 : Counts)
-    (k0 k1 k2 : Contents) → o ≡ p → l ≡ m → ((n : List ℕ) → c0 n ≤ c1 n) → SameFiles k0 k1 →
-    IsStoppedAfter o l f c1 c2 k1 k2 → IsStoppedAfter p m f c0 c2 k0 k2
-stopped_since f o p l m c0 c1 c2 k0 k1 k2 is_o is_l early same (inl (rises, led, jou)) =
-    inl (rises_since _ _ _ (early f.output) rises, led ∙ same f.ledger, jou ∙ same f.journal)
-stopped_since f o p l m c0 c1 c2 k0 k1 k2 is_o is_l early same (inr (inl (out, rises, jou))) =
-    inr (inl (out ∙ ap Some is_o, rises_since _ _ _ (early f.ledger) rises, jou ∙ same f.journal))
-stopped_since f o p l m c0 c1 c2 k0 k1 k2 is_o is_l early same (inr (inr (out, led, rises))) =
-    inr (inr (out ∙ ap Some is_o, led ∙ ap Some is_l, rises_since _ _ _ (early f.journal) rises))
+pub stopped_since : (ts us : List Text) (c0 c1 c2 : Counts) (k0 k1 k2 : Contents) → ts ≡ us →
+    ((n : List ℕ) → c0 n ≤ c1 n) → SameFiles k0 k1 →
+    IsStoppedAfter ts c1 c2 k1 k2 → IsStoppedAfter us c0 c2 k0 k2
+stopped_since ts us c0 c1 c2 k0 k1 k2 is early same h =
+    since us c0 c1 c2 k0 k1 k2 early same
+    (subst (λ (xs : List Text). IsStoppedAfter xs c1 c2 k1 k2) is h)
+
+pub same_texts : (f : PlayFiles) (o l j p m k : List ℕ) → o ≡ p → l ≡ m → j ≡ k →
+    texts_as f o l j ≡ texts_as f p m k
+same_texts f o l j p m k is_o is_l is_j = cc

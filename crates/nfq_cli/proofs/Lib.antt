@@ -1,3 +1,4 @@
 pub mod Numbering
+pub mod Digits
 pub mod Saying
 pub mod Endings

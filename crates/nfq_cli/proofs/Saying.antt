@@ -1,5 +1,5 @@
 -- What a reader answered is what the text says, and nothing else is said of it.
-use Rattle.std.proofs.Common.{◌≡◌, ◌≤◌, ◌<◌, ◌≢◌, ◌∙◌, ℕ, List, Option, Some, None, Result, Ok, Err}
+use Rattle.std.proofs.Common.{◌≡◌, ◌≤◌, ◌<◌, ◌∙◌, ℕ, List, Option, Some, None, Result, Ok, Err}
 use Rattle.std.proofs.Common.{refl, sym, ap, subst, length, arith}
 use Rattle.std.specs.Prelude.{IsSomeAnd}
 use Rattle.hook_chain.specs.declared.rule.Rule.{Rule}

@@ -1,7 +1,7 @@
 -- What the files of a command hold, and how many faults each has had, as a host tells it.
-use Rattle.std.specs.Prelude.{◌≡◌, ◌≢◌, ◌⊎◌, ℕ, List, Option, Some}
+use Rattle.std.specs.Prelude.{◌≡◌, ◌≢◌, ◌⊎◌, ℕ, ⊤, List, [], ◌∷◌, map, Option, Some}
 use Rattle.host_io.specs.Host.{Rises}
-use Rattle.nfq_cli.specs.Arguments.{InputFiles, PlayFiles, standard_output}
+use Rattle.nfq_cli.specs.Arguments.{InputFiles, standard_output}
 
 -- what each name holds
 abbrev pub Contents : Type 0
@@ -17,36 +17,50 @@ ReadFaultRose i old new =
     Rises (old i.rules) (new i.rules) ⊎ Rises (old i.script) (new i.script)
     ⊎ Rises (old i.capture) (new i.capture)
 
--- the write count of one of the outputs rose
-abbrev pub WriteFaultRose : PlayFiles → Counts → Counts → Type 0
-WriteFaultRose f old new =
-    Rises (old f.output) (new f.output) ⊎ Rises (old f.ledger) (new f.ledger)
-    ⊎ Rises (old f.journal) (new f.journal)
+-- the write count of one of these names rose
+abbrev pub WriteFaultRose : List (List ℕ) → Counts → Counts → Type 0
+WriteFaultRose [] old new = ⊥
+WriteFaultRose (name ∷ names) old new =
+    Rises (old name) (new name) ⊎ WriteFaultRose names old new
 
--- The writing, in the order output, ledger, journal, stopped at a file whose write count rose, and
--- the files after it hold what they held.
-abbrev pub IsStopped : PlayFiles → Counts → Counts → Contents → Contents → Type 0
-IsStopped f old_count new_count old new =
-    (Rises (old_count f.output) (new_count f.output) × (new f.ledger ≡ old f.ledger)
-    × (new f.journal ≡ old f.journal))
-    ⊎ (Rises (old_count f.ledger) (new_count f.ledger) × (new f.journal ≡ old f.journal))
-    ⊎ Rises (old_count f.journal) (new_count f.journal)
+-- each of these names holds what it held
+abbrev pub Stay : List (List ℕ) → Contents → Contents → Type 0
+Stay [] old new = ⊤
+Stay (name ∷ names) old new = (new name ≡ old name) × Stay names old new
 
--- The same where the contents are told, with the texts that the files before it hold.
-abbrev pub IsStoppedAfter : List ℕ → List ℕ → PlayFiles → Counts → Counts → Contents → Contents →
-    Type 0
-IsStoppedAfter output ledger f old_count new_count old new =
-    (Rises (old_count f.output) (new_count f.output) × (new f.ledger ≡ old f.ledger)
-    × (new f.journal ≡ old f.journal))
-    ⊎ ((new f.output ≡ Some output) × Rises (old_count f.ledger) (new_count f.ledger)
-    × (new f.journal ≡ old f.journal))
-    ⊎ ((new f.output ≡ Some output) × (new f.ledger ≡ Some ledger)
-    × Rises (old_count f.journal) (new_count f.journal))
+-- The writing, in the order of these names, stopped at one whose write count rose, and those after
+-- it hold what they held.
+abbrev pub IsStopped : List (List ℕ) → Counts → Counts → Contents → Contents → Type 0
+IsStopped [] old_count new_count old new = ⊥
+IsStopped (name ∷ names) old_count new_count old new =
+    (Rises (old_count name) (new_count name) × Stay names old new)
+    ⊎ IsStopped names old_count new_count old new
 
--- every name but the outputs holds what it held
-abbrev pub OthersStay : PlayFiles → Contents → Contents → Type 0
-OthersStay f old new =
-    (name : List ℕ) → name ≢ f.output → name ≢ f.ledger → name ≢ f.journal → new name ≡ old name
+-- a name, and the text that is to be written there
+pub record Text : Type 0 where
+  pub name : List ℕ
+  pub text : List ℕ
+
+-- each of these texts stands under its name
+abbrev pub AreWritten : List Text → Contents → Type 0
+AreWritten [] new = ⊤
+AreWritten (t ∷ ts) new = (new t.name ≡ Some t.text) × AreWritten ts new
+
+-- The same where the contents are told: those before it hold their whole texts.
+abbrev pub IsStoppedAfter : List Text → Counts → Counts → Contents → Contents → Type 0
+IsStoppedAfter [] old_count new_count old new = ⊥
+IsStoppedAfter (t ∷ ts) old_count new_count old new =
+    (Rises (old_count t.name) (new_count t.name) × Stay (map (λ (u : Text). u.name) ts) old new)
+    ⊎ ((new t.name ≡ Some t.text) × IsStoppedAfter ts old_count new_count old new)
+
+-- a name is none of these
+abbrev pub IsNoneOf : List (List ℕ) → List ℕ → Type 0
+IsNoneOf [] name = ⊤
+IsNoneOf (other ∷ others) name = (name ≢ other) × IsNoneOf others name
+
+-- every name but these holds what it held
+abbrev pub OthersStay : List (List ℕ) → Contents → Contents → Type 0
+OthersStay names old new = (name : List ℕ) → IsNoneOf names name → new name ≡ old name
 
 -- a line was printed: standard output holds just that, unless its write count rose
 abbrev pub IsPrinted : List ℕ → Counts → Counts → Contents → Type 0

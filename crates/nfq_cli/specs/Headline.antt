@@ -1,14 +1,24 @@
--- The headline: what stands in the files after a run.
-use Rattle.std.specs.Prelude.{◌≡◌, ℕ, List, Some}
+-- The headline: what stands in the files after a command.
+use Rattle.std.specs.Prelude.{◌≡◌, ℕ, ⊤, List, [], ◌∷◌, Some, IsSomeAnd}
 use Rattle.hook_chain.specs.declared.rule.Rule.{Rule}
+use Rattle.hook_chain.specs.Grammar.{IsRulesFile}
+use Rattle.inspector_script.specs.Grammar.{IsScriptFile}
 use Rattle.inspector_script.specs.Scripts.{ScriptValue}
 use Rattle.pcap_io.specs.declared.capture.Capture.{Capture}
+use Rattle.pcap_io.specs.Text.{capture_text}
 use Rattle.place_history.specs.declared.histories.Histories.{Histories}
-use Rattle.nfq_cli.specs.Arguments.{PlayFiles}
+use Rattle.place_history.specs.Listing.{listing}
+use Rattle.script_runs.specs.Schedule.{before_ends}
+use Rattle.generated.specs.Captures.{generated_capture}
+use Rattle.generated.specs.Texts.{rules_text, script_text}
+use Rattle.nfq_cli.specs.Arguments.{Call, Generates, GenFiles, InputFiles, Lists, ListFiles}
+use Rattle.nfq_cli.specs.Arguments.{PlayFiles, Plays, Sample, standard_output, Tries}
 use Rattle.nfq_cli.specs.Account.{IsAccounted}
 use Rattle.nfq_cli.specs.Causes.{AreRead}
-use Rattle.nfq_cli.specs.Files.{Contents, Counts, IsStoppedAfter}
-use Rattle.nfq_cli.specs.Outputs.{output_text, ledger_text, journal_text}
+use Rattle.nfq_cli.specs.Files.{AreWritten, Contents, Counts, IsStoppedAfter, Text}
+use Rattle.nfq_cli.specs.Outputs.{output_text, ledger_text, journal_text, counts_text}
+
+-- ---- play
 
 -- The outputs are the texts of one run on what the three inputs say: the journal is its histories,
 -- at every moment each queue's state is the replay of its history, every packet that was read was
@@ -25,6 +35,14 @@ pub record IsPlayed (f : PlayFiles) (old new : Contents) : Type 0 where
   pub ledger_is : new f.ledger ≡ Some (ledger_text capture histories)
   pub journal_is : new f.journal ≡ Some (journal_text histories)
 
+-- three texts, by the names of the files that they are for, in the order of their writing
+abbrev pub texts_as : PlayFiles → List ℕ → List ℕ → List ℕ → List Text
+texts_as f output ledger journal =
+    record { name = f.output; text = output }
+    ∷ record { name = f.ledger; text = ledger }
+    ∷ record { name = f.journal; text = journal }
+    ∷ []
+
 -- What stands where the writing of such a run stopped at a file that couldn't be written: what was
 -- written before it is whole.
 pub record IsCutShort (f : PlayFiles) (old_count new_count : Counts) (old new : Contents) : Type 0
@@ -35,5 +53,66 @@ pub record IsCutShort (f : PlayFiles) (old_count new_count : Counts) (old new : 
     pub histories : Histories
     pub inputs : AreRead f.inputs old tables script capture
     pub account : IsAccounted tables script capture histories
-    pub stopped : IsStoppedAfter (output_text capture histories) (ledger_text capture histories) f
-        old_count new_count old new
+    pub stopped : IsStoppedAfter (texts_as f (output_text capture histories)
+        (ledger_text capture histories) (journal_text histories)) old_count new_count old new
+
+-- ---- list
+
+-- The output is the listing of the queues of such a run as they stand before the ports end: all
+-- frames have passed and every notice was received.
+pub record IsListed (f : ListFiles) (old new : Contents) : Type 0 where
+  pub tables : List (List Rule)
+  pub script : ScriptValue
+  pub capture : Capture
+  pub inputs : AreRead f.inputs old tables script capture
+  pub output_is : new f.output ≡ Some (listing (before_ends script tables capture).entries)
+
+-- ---- gen
+
+-- the inputs, by their names, in the order of their writing
+abbrev pub input_texts : InputFiles → List ℕ → List Text
+input_texts i capture =
+    record { name = i.rules; text = rules_text }
+    ∷ record { name = i.script; text = script_text }
+    ∷ record { name = i.capture; text = capture }
+    ∷ []
+
+abbrev pub gen_texts : GenFiles → List Text
+gen_texts g =
+    input_texts g.files (capture_text (generated_capture g.sample.number g.sample.count))
+
+-- the three files are the generated ones
+abbrev pub IsGenerated : GenFiles → Contents → Type 0
+IsGenerated g new = AreWritten (gen_texts g) new
+
+-- ---- trial
+
+-- A text is that of the counts of a run like that of `play` on the generated inputs.
+pub record IsCounted (s : Sample) (text : List ℕ) : Type 0 where
+  pub tables : List (List Rule)
+  pub script : ScriptValue
+  pub histories : Histories
+  pub rules_say : IsRulesFile rules_text tables
+  pub script_says : IsScriptFile script_text script
+  pub account : IsAccounted tables script (generated_capture s.number s.count) histories
+  pub text_is : text ≡ counts_text (generated_capture s.number s.count) histories
+
+abbrev pub IsTried : Sample → Contents → Type 0
+IsTried s new = IsSomeAnd (new standard_output) (IsCounted s)
+
+-- ---- any command
+
+-- what stands after it
+abbrev pub IsDone : Call → Contents → Contents → Type 0
+IsDone (Plays f) old new = IsPlayed f old new
+IsDone (Lists f) old new = IsListed f old new
+IsDone (Generates g) old new = IsGenerated g new
+IsDone (Tries s) old new = IsTried s new
+
+-- what stands where its writing stopped, beside what `IsStopped` says
+abbrev pub IsCut : Call → Counts → Counts → Contents → Contents → Type 0
+IsCut (Plays f) old_count new_count old new = IsCutShort f old_count new_count old new
+IsCut (Lists f) old_count new_count old new = ⊤
+IsCut (Generates g) old_count new_count old new =
+    IsStoppedAfter (gen_texts g) old_count new_count old new
+IsCut (Tries s) old_count new_count old new = ⊤

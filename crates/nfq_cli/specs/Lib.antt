@@ -1,4 +1,5 @@
 pub mod Numbers
+pub mod Numerals
 pub mod Arguments
 pub mod Inputs
 pub mod Statuses

@@ -1,46 +1,76 @@
-//! What is known of the histories of a run.
+//! The histories of a run, and what is known of them.
 
-ghost use Rattle.std.specs.Prelude.{◌<◌, ◌≤◌, List, length, All};
+ghost use Rattle.std.specs.Prelude.{◌<◌, ◌≤◌, List, length, All, IfOk};
 ghost use Rattle.hook_chain.specs.declared.rule.Rule.{Rule};
 ghost use Rattle.inspector_script.specs.Scripts.{ScriptValue, IsScript};
 ghost use Rattle.packet_entry.specs.Numbers.{longest_packet};
-ghost use Rattle.pcap_io.specs.declared.capture.Capture.{Capture};
+ghost use Rattle.pcap_io.specs.declared.capture.Capture.{Capture as ACapture};
 ghost use Rattle.pcap_io.specs.Text.{IsHeld};
 ghost use Rattle.place_history.specs.Numbers.{queue_count};
 ghost use Rattle.place_history.specs.declared.entry.Entry.{Entry};
-ghost use Rattle.place_history.specs.declared.histories.Histories.{Histories};
+ghost use Rattle.place_history.specs.declared.histories.Histories.{Histories as AHistories};
 ghost use Rattle.place_history.specs.History.{AreLegal};
 ghost use Rattle.place_history.specs.Journeys.{AreSound};
 ghost use Rattle.script_runs.specs.Entering.{cards};
 ghost use Rattle.script_runs.specs.Schedule.{IsSolo};
 ghost use Rattle.fate_ledger.specs.Released.{released};
+ghost use Rattle.solo_run.specs.Numbers.{most_frames};
 ghost use Rattle.nfq_cli.specs.Account.{IsAccounted};
 ghost use Rattle.nfq_cli.specs.Outputs.{fates_of};
 
+use crate::numbered::queues_have_16_bits;
 use fate_ledger::{
     each_line_names_the_last_event, no_visit_arrives_twice, payloads_were_read_or_given,
     released_frames_are_those_let_go, the_last_event_is_where_it_left_or_waits,
 };
-use place_history::each_packet_waits_is_lost_or_is_over;
+use hook_chain::Tables;
+use inspector_script::Script;
+use packet_entry::NoMemory;
+use pcap_io::Capture;
+use place_history::{Histories, each_packet_waits_is_lost_or_is_over};
 use script_runs::{
     no_notice_is_left, packets_and_payloads_are_within_bounds, packets_are_read_with_their_frames,
 };
+use solo_run::solo;
+use std::alloc::Global;
+
+/// Runs a script over the packets of a capture, each of which is accounted for in the histories.
+/// What is released can be written as a capture.
+pub fn histories_of(
+    alloc: Global,
+    script: &Script,
+    tables: Tables,
+    capture: &Capture,
+) -> Result<Histories, NoMemory>
+    requires script { IsScript script.now }
+    requires held { IsHeld capture.now }
+    requires frames { length capture.now.frames ≤ most_frames }
+    ensures account { IfOk result (IsAccounted tables script.now capture.now) }
+    ensures fit { IfOk result
+        (λ h. All (λ l. length l.payload ≤ longest_packet) (fates_of capture.now h)) }
+    ensures held { IfOk result (λ h. IsHeld (released capture.now (fates_of capture.now h))) }
+{
+    each_packet_is_accounted_for();
+    let histories = solo(alloc, script, tables, capture)?;
+    queues_have_16_bits(&histories.entries);
+    Ok(histories)
+}
 
 /// Over every script, rules and capture, each packet of the schedule's histories is accounted for,
 /// where they are legal and sound and their queues' numbers have 16 bits: and those that
 /// `solo_run::solo` answers are. What is released of a capture that the format can hold can be
 /// written again.
-pub fn each_packet_is_accounted_for()
-    ensures account { (tables : List (List Rule)) (script : ScriptValue) (c : Capture)
-        (h : Histories) → IsScript script → IsSolo script tables c h → AreLegal h.entries →
+fn each_packet_is_accounted_for()
+    ensures account { (tables : List (List Rule)) (script : ScriptValue) (c : ACapture)
+        (h : AHistories) → IsScript script → IsSolo script tables c h → AreLegal h.entries →
         All (λ (e : Entry). e.queue < queue_count) h.entries →
         AreSound tables script.key (cards c) h.entries h.lost → IsAccounted tables script c h }
-    ensures fit { (tables : List (List Rule)) (script : ScriptValue) (c : Capture)
-        (h : Histories) → IsScript script → IsHeld c → IsSolo script tables c h →
+    ensures fit { (tables : List (List Rule)) (script : ScriptValue) (c : ACapture)
+        (h : AHistories) → IsScript script → IsHeld c → IsSolo script tables c h →
         AreSound tables script.key (cards c) h.entries h.lost →
         All (λ l. length l.payload ≤ longest_packet) (fates_of c h) }
-    ensures held { (tables : List (List Rule)) (script : ScriptValue) (c : Capture)
-        (h : Histories) → IsScript script → IsHeld c → IsSolo script tables c h →
+    ensures held { (tables : List (List Rule)) (script : ScriptValue) (c : ACapture)
+        (h : AHistories) → IsScript script → IsHeld c → IsSolo script tables c h →
         AreSound tables script.key (cards c) h.entries h.lost →
         IsHeld (released c (fates_of c h)) }
 {

@@ -1,18 +1,25 @@
 //! `nfq`: the command line. `play` reads rules, a script and a capture, runs the packets of the
 //! capture through the queues on one thread, and writes the released frames, a ledger and a
-//! journal.
+//! journal. `list` makes the same run up to where the ports end, and writes how the queues stand.
+//! `gen` writes inputs that are made from a number, and `trial` makes the run on these in memory
+//! and prints how many packets had each fate.
 #![tactic(auto)]
 
 mod account;
 mod arguments;
+mod command;
+mod generation;
 mod inputs;
+mod list;
 mod numbered;
+mod numerals;
 mod outputs;
 mod play;
 mod printing;
 mod program;
 mod refusal;
 mod stop;
+mod trial;
 
 use host_io::FileHost;
 use std::env;

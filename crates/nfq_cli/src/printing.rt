@@ -9,7 +9,7 @@ ghost use Rattle.nfq_cli.specs.Printed.{usage_line};
 use host_io::{Host, write_whole};
 
 /// The name of standard output.
-const STANDARD_OUTPUT: &str = "-";
+pub const STANDARD_OUTPUT: &str = "-";
 
 /// All commands, with their arguments.
 const USAGE_LINE: &str = "usage: play RULES SCRIPT IN OUT LEDGER JOURNAL \

@@ -2,18 +2,20 @@
 //! status. `main` hands both on and does nothing else.
 
 ghost use Rattle.std.specs.Prelude.{◌≡◌, ◌≤◌, ◌⊎◌, ◌≢◌, None, Some, drop, IsTrue, IfOk};
-ghost use Rattle.std.specs.Prelude.{IsErr, IsErrOf, IsOkAnd};
+ghost use Rattle.std.specs.Prelude.{IfSome, IsErr, IsErrOf, IsOkAnd, IsSomeAnd};
 ghost use Rattle.std.specs.Vec.Iter.{into_iter_items};
 ghost use Rattle.host_io.specs.Host.{IsLater, SameFiles, ChangesOnly};
 ghost use Rattle.nfq_cli.specs.declared.refusal.Refusal.{Refusal};
-ghost use Rattle.nfq_cli.specs.Arguments.{PlayFiles, arguments_of_play, standard_output};
+ghost use Rattle.nfq_cli.specs.Arguments.{Call, call_of_arguments, Generates, GenFiles};
+ghost use Rattle.nfq_cli.specs.Arguments.{InputFiles, inputs, Lists, ListFiles, outputs};
+ghost use Rattle.nfq_cli.specs.Arguments.{PlayFiles, Plays, Sample, standard_output, Tries};
 ghost use Rattle.nfq_cli.specs.Causes.{AreTaken, IsAnswered, IsRefused, IsTurnedDown, IsUnread};
 ghost use Rattle.nfq_cli.specs.Files.{IsPrinted, IsStopped, OthersStay};
 ghost use Rattle.nfq_cli.specs.Files.{ReadFaultRose, WriteFaultRose};
-ghost use Rattle.nfq_cli.specs.Headline.{IsCutShort, IsPlayed};
+ghost use Rattle.nfq_cli.specs.Headline.{IsCut, IsGenerated, IsListed, IsPlayed, IsTried};
 ghost use Rattle.nfq_cli.specs.Printed.{usage_line};
 
-use crate::play::{USAGE, play};
+use crate::command::{USAGE, play};
 use crate::printing::print_usage;
 use host_io::Host;
 use std::alloc::{AllocError, Global};
@@ -28,52 +30,68 @@ const NO_MEMORY: u8 = 8;
 pub fn program<H: Host>(alloc: Global, arguments: Result<Args, Error>, host: &mut H) -> u8
     ensures statuses { result ≤ 8 }
 
-    // 1 comes only where the arguments aren't the command, and there 1 or 8 comes.
-    ensures usage { result ≡ 1 → arguments_of_play arguments ≡ None }
-    ensures no_command { arguments_of_play arguments ≡ None → (result ≡ 1) ⊎ (result ≡ 8) }
+    // 1 comes only where the arguments aren't a command, and there 1 or 8 comes.
+    ensures usage { result ≡ 1 → call_of_arguments arguments ≡ None }
+    ensures no_command { call_of_arguments arguments ≡ None → (result ≡ 1) ⊎ (result ≡ 8) }
     ensures usage_printed { result ≡ 1 → IsTrue (H.tells host.old) → IsPrinted usage_line
         (H.write_faults host.old) (H.write_faults host.new) (H.content host.new) }
 
-    ensures read_fault { result ≡ 2 → (f : PlayFiles) → arguments_of_play arguments ≡ Some f →
-        ReadFaultRose f.inputs (H.read_faults host.old) (H.read_faults host.new) }
-    ensures write_fault { result ≡ 3 → (f : PlayFiles) → arguments_of_play arguments ≡ Some f →
-        WriteFaultRose f (H.write_faults host.old) (H.write_faults host.new) }
-    ensures unread { result ≡ 2 → (f : PlayFiles) → arguments_of_play arguments ≡ Some f →
-        IsTrue (H.tells host.old) →
-        IsUnread f.inputs (H.read_faults host.old) (H.read_faults host.new) (H.content host.old) }
-    ensures stopped { result ≡ 3 → (f : PlayFiles) → arguments_of_play arguments ≡ Some f →
-        IsStopped f (H.write_faults host.old) (H.write_faults host.new) (H.content host.old)
-        (H.content host.new) }
-    ensures cut_short { result ≡ 3 → (f : PlayFiles) → arguments_of_play arguments ≡ Some f →
-        IsTrue (H.tells host.old) →
-        IsCutShort f (H.write_faults host.old) (H.write_faults host.new) (H.content host.old)
-        (H.content host.new) }
-    ensures refused { 4 ≤ result → result ≤ 7 → (f : PlayFiles) →
-        arguments_of_play arguments ≡ Some f → IsTrue (H.tells host.old) →
-        IsTurnedDown f.inputs result (H.write_faults host.old) (H.write_faults host.new)
+    ensures read_fault { result ≡ 2 → (c : Call) → call_of_arguments arguments ≡ Some c →
+        IsSomeAnd (inputs c) (λ i.
+        ReadFaultRose i (H.read_faults host.old) (H.read_faults host.new)) }
+    ensures write_fault { result ≡ 3 → (c : Call) → call_of_arguments arguments ≡ Some c →
+        WriteFaultRose (outputs c) (H.write_faults host.old) (H.write_faults host.new) }
+    ensures unread { result ≡ 2 → (c : Call) → call_of_arguments arguments ≡ Some c →
+        IsTrue (H.tells host.old) → IsSomeAnd (inputs c) (λ i.
+        IsUnread i (H.read_faults host.old) (H.read_faults host.new) (H.content host.old)) }
+    ensures stopped { result ≡ 3 → (c : Call) → call_of_arguments arguments ≡ Some c →
+        IsStopped (outputs c) (H.write_faults host.old) (H.write_faults host.new)
         (H.content host.old) (H.content host.new) }
-    ensures exact { (f : PlayFiles) (why : Refusal) → arguments_of_play arguments ≡ Some f →
-        IsTrue (H.tells host.old) → IsRefused f.inputs (H.content host.old) why →
+    ensures cut_short { result ≡ 3 → (c : Call) → call_of_arguments arguments ≡ Some c →
+        IsTrue (H.tells host.old) →
+        IsCut c (H.write_faults host.old) (H.write_faults host.new) (H.content host.old)
+        (H.content host.new) }
+
+    ensures refused { 4 ≤ result → result ≤ 7 → (c : Call) → call_of_arguments arguments ≡ Some c →
+        IsTrue (H.tells host.old) → IsSomeAnd (inputs c) (λ i.
+        IsTurnedDown i result (H.write_faults host.old) (H.write_faults host.new)
+        (H.content host.old) (H.content host.new)) }
+    ensures exact { (c : Call) (i : InputFiles) (why : Refusal) →
+        call_of_arguments arguments ≡ Some c → inputs c ≡ Some i →
+        IsTrue (H.tells host.old) → IsRefused i (H.content host.old) why →
         IsAnswered why result (H.write_faults host.old) (H.write_faults host.new)
-        (H.content host.new) ⊎ (result ≡ 8) ⊎ ((result ≡ 2) × IsUnread f.inputs
+        (H.content host.new) ⊎ (result ≡ 8) ⊎ ((result ≡ 2) × IsUnread i
         (H.read_faults host.old) (H.read_faults host.new) (H.content host.old)) }
 
     // The headline.
-    ensures played { result ≡ 0 → (f : PlayFiles) → arguments_of_play arguments ≡ Some f →
-        IsTrue (H.tells host.old) → IsPlayed f (H.content host.old) (H.content host.new) }
-    ensures complete { (f : PlayFiles) → arguments_of_play arguments ≡ Some f →
-        IsTrue (H.tells host.old) → AreTaken f.inputs (H.content host.old) →
+    ensures played { result ≡ 0 → (f : PlayFiles) →
+        call_of_arguments arguments ≡ Some (Plays f) →
+        IsTrue (H.tells host.old) →
+        IsPlayed f (H.content host.old) (H.content host.new) }
+    ensures listed { result ≡ 0 → (f : ListFiles) →
+        call_of_arguments arguments ≡ Some (Lists f) →
+        IsTrue (H.tells host.old) →
+        IsListed f (H.content host.old) (H.content host.new) }
+    ensures generated { result ≡ 0 → (g : GenFiles) →
+        call_of_arguments arguments ≡ Some (Generates g) →
+        IsTrue (H.tells host.old) → IsGenerated g (H.content host.new) }
+    ensures tried { result ≡ 0 → (s : Sample) → call_of_arguments arguments ≡ Some (Tries s) →
+        IsTrue (H.tells host.old) → IsTried s (H.content host.new) }
+    ensures complete { (c : Call) → call_of_arguments arguments ≡ Some c →
+        IsTrue (H.tells host.old) →
+        IfSome (inputs c) (λ i. AreTaken i (H.content host.old)) →
         (result ≡ 0) ⊎ (result ≡ 8)
-        ⊎ ReadFaultRose f.inputs (H.read_faults host.old) (H.read_faults host.new)
-        ⊎ WriteFaultRose f (H.write_faults host.old) (H.write_faults host.new) }
+        ⊎ IsSomeAnd (inputs c) (λ i.
+        ReadFaultRose i (H.read_faults host.old) (H.read_faults host.new))
+        ⊎ WriteFaultRose (outputs c) (H.write_faults host.old) (H.write_faults host.new) }
 
     ensures untouched { result ≢ 0 → result ≢ 3 →
         ChangesOnly standard_output (H.content host.old) (H.content host.new) }
     ensures quiet { (result ≡ 2) ⊎ (result ≡ 8) →
         SameFiles (H.content host.old) (H.content host.new) }
-    ensures others { (result ≡ 0) ⊎ (result ≡ 3) → (f : PlayFiles) →
-        arguments_of_play arguments ≡ Some f →
-        OthersStay f (H.content host.old) (H.content host.new) }
+    ensures others { (result ≡ 0) ⊎ (result ≡ 3) → (c : Call) →
+        call_of_arguments arguments ≡ Some c →
+        OthersStay (outputs c) (H.content host.old) (H.content host.new) }
     ensures later { IsLater H.tells H.read_faults H.write_faults host.old host.new }
 {
     match words_of(alloc, arguments) {

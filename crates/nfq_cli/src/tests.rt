@@ -1,10 +1,13 @@
-//! Runs of `play` over a machine in memory. What they expect was written out by hand.
+//! Runs of the commands over a machine in memory. What they expect was written out by hand.
 
+mod frames;
+mod listed;
 mod refused;
+mod tried;
 mod whole;
 mod worked;
 
-use crate::play::play;
+use crate::command::play;
 use host_io::MemoryHost;
 use std::alloc::{AllocError, Global};
 use std::process::Abort;

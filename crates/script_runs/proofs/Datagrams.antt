@@ -129,7 +129,7 @@ spelling_size sizes port call request fits =
       parts_size sizes request fits,
     )
 
-bytes_size : Sizes → (port call : ℕ) (words : AskWords) → IsWords words →
+pub bytes_size : Sizes → (port call : ℕ) (words : AskWords) → IsWords words →
     length (bytes_of port call words) ≤ longest_payload
 bytes_size sizes port call (Plain request) is = spelling_size sizes port call request is
 bytes_size sizes port call (Raw bytes) is = omega (arith, is.1)

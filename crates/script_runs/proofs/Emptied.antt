@@ -34,7 +34,7 @@ use Rattle.script_runs.specs.Numbers.{enough_arrivals}
 use Rattle.script_runs.specs.Entering.{card_of}
 use Rattle.script_runs.specs.NoticeTexts.{told_exactly}
 use Rattle.script_runs.specs.Closing.{IsClosing}
-use Rattle.script_runs.specs.Left.{left_in}
+use Rattle.script_runs.specs.LettersLeft.{left_in}
 use Rattle.script_runs.specs.Log.{Note}
 use Rattle.script_runs.specs.Run.{IsMadeBy}
 use Rattle.script_runs.specs.Sending.{sent, all_sent, done, all_done, messages_in, bytes_of}

@@ -35,7 +35,7 @@ use Rattle.place_history.specs.Happenings as happening
 use Rattle.solo_plane.specs.declared.setting.Setting.{Setting}
 use Rattle.solo_plane.specs.World.{World, Port, at_port, changed_at, delivered, having_done, closed}
 use Rattle.solo_plane.specs.World.{received}
-use Rattle.solo_plane.specs.Handing.{LeavesAlone}
+use Rattle.solo_plane.specs.HandedOn.{LeavesAlone}
 use Rattle.solo_plane.specs.Moving.{arrived, arrival_to, left_at_once, room_for, turned_away}
 use Rattle.solo_plane.specs.Moving.{with_notice, carry, carry_on, settled, goes_on}
 use Rattle.solo_plane.specs.Moving.{Carried}

@@ -18,7 +18,7 @@ use Rattle.queue_core.specs.declared.event.Event.TheVariants.{Arrive}
 use Rattle.place_history.specs.Journeys.{Arrival}
 use Rattle.solo_plane.specs.declared.setting.Setting.{Setting}
 use Rattle.solo_plane.specs.World.{World}
-use Rattle.solo_plane.specs.Handing.{LeavesAlone}
+use Rattle.solo_plane.specs.HandedOn.{LeavesAlone}
 use Rattle.solo_plane.specs.Moving.{arrival_to, arrived, turned_away, settled, carry, carry_on}
 use Rattle.solo_plane.specs.Moving.{goes_on, route_after, Carried, left_at_once, room_for}
 use Rattle.place_history.specs.Kept.{state_of}

@@ -20,7 +20,7 @@ use Rattle.script_runs.proofs.Shut.{AreShut, is_shut, shut_kept}
 use Rattle.script_runs.proofs.Closings.{Laws}
 use Rattle.script_runs.specs.Room.{some_lacks}
 use Rattle.script_runs.proofs.Roomy.{AllRoomy, Roomy, lacking, roomy_kept}
-use Rattle.script_runs.specs.Left.{left_in}
+use Rattle.script_runs.specs.LettersLeft.{left_in}
 use Rattle.script_runs.specs.Notices.{heard, is_from, letters_from}
 use Rattle.script_runs.specs.Log.{Note, IsLog}
 use Rattle.script_runs.specs.Requests.{pleas_in}

@@ -24,7 +24,8 @@ use Rattle.place_history.specs.Journeys.{Arrival}
 use Rattle.place_history.specs.Kept.{entry_of, entry_in, state_of, every_number}
 use Rattle.place_history.specs.Happenings as happening
 use Rattle.solo_plane.specs.declared.setting.Setting.{Setting}
-use Rattle.solo_plane.specs.World.{World, Port, delivered, received, received_from, having_done, closed}
+use Rattle.solo_plane.specs.World.{World, Port, delivered, received}
+use Rattle.solo_plane.specs.World.{received_from, having_done, closed}
 use Rattle.solo_plane.specs.World.{changed_at}
 use Rattle.solo_plane.specs.Moving.{arrived, room_for, with_notice}
 use Rattle.solo_plane.specs.Messages.{asking, with_ask, words_of, answered}
@@ -51,7 +52,8 @@ letters_append p q (e ∷ es) fs =
 -- one entry more
 letters_push : (p queue : ℕ) (es : List Entry) (e : Entry) →
     letters p queue (es ++ e ∷ [])
-    ≡ letters p queue es ++ (if e.queue == queue then letters_under p (state_of es e.queue) e else [])
+    ≡ letters p queue es
+    ++ (if e.queue == queue then letters_under p (state_of es e.queue) e else [])
 letters_push p queue es e =
     ap (letters_from p None) (filter-append (is_of queue) es (e ∷ []))
     ∙ letters_append p None (history queue es) (history queue (e ∷ []))
@@ -258,7 +260,8 @@ carried_noticed s w notes port call (Asked r) is =
     all_moved_keeps s (λ es ports. AreNoticed es ports notes)
     (λ v a is. arrival_noticed s v a notes is)
     (happening.all_handed (asking w port call r).left) (with_ask w port call r)
-    (quiet_noticed w.entries (entry_of w.entries (happening.queue_of r) (Ask port call r) ∷ []) w.ports
+    (quiet_noticed w.entries (entry_of w.entries (happening.queue_of r) (Ask port call r) ∷ [])
+    w.ports
     notes (λ queue q. refl, tt) is)
 
 -- a port does something that leaves all mailboxes
@@ -292,11 +295,13 @@ begun_noticed es ports notes port is = record {
 
 -- a notice is received
 got_one : (p queue : ℕ) (es : List Entry) (held : Port) (l : Letter) (ls mail : List Letter)
-    (notes : List Note) → mail ≡ l ∷ ls → filter (is_from queue) (heard notes ++ mail) ≡ letters p queue es →
+    (notes : List Note) → mail ≡ l ∷ ls →
+    filter (is_from queue) (heard notes ++ mail) ≡ letters p queue es →
     filter (is_from queue) (heard (notes ++ Got l ∷ []) ++ (received_from mail held).letters)
     ≡ letters p queue es
 got_one p queue es held l ls mail notes is so =
-    subst (λ m. filter (is_from queue) (heard (notes ++ Got l ∷ []) ++ (received_from m held).letters)
+    subst (λ m. filter (is_from queue) (heard (notes ++ Got l ∷ [])
+    ++ (received_from m held).letters)
     ≡ letters p queue es) (sym is)
     (ap (λ hs. filter (is_from queue) (hs ++ ls)) (flat_map-append heard_by notes (Got l ∷ []))
     ∙ ap (filter (is_from queue)) (append_assoc (heard notes) (l ∷ []) ls)
@@ -313,7 +318,8 @@ got_noticed w notes port held l ls there mail is = record {
     own : (p queue : ℕ) → w.ports p ≡ Some held → Noticed p queue w.entries (w.ports p) (notes p) →
         Noticed p queue w.entries (option_map received (w.ports p)) (notes p ++ Got l ∷ [])
     own p queue at so =
-        subst (λ o. Noticed p queue w.entries (option_map received o) (notes p ++ Got l ∷ [])) (sym at)
+        subst (λ o. Noticed p queue w.entries (option_map received o) (notes p ++ Got l ∷ []))
+        (sym at)
         (got_one p queue w.entries held l ls held.letters (notes p) mail
         (subst (λ o. Noticed p queue w.entries o (notes p)) at so))
 
@@ -336,7 +342,8 @@ noticed_kept s = record {
       (λ held. refl) (carried_noticed s w notes port call (decoded m) is);
   gets = λ w notes port held l ls there mail is. got_noticed w notes port held l ls there mail is;
   closes = λ w notes port op is.
-      quiet_then (w.entries ++ happening.closings port w.entries) w.ports notes port Shut closed refl
+      quiet_then (w.entries ++ happening.closings port w.entries)
+      w.ports notes port Shut closed refl
       (λ held. refl)
       (quiet_noticed w.entries (happening.closings port w.entries) w.ports notes
       (quiet_all (λ k. happening.closing_of port k (state_of w.entries k))

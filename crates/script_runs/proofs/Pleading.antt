@@ -69,7 +69,8 @@ closing_none : (p queue port k : ℕ) (o : Option Bound) →
 closing_none p queue port k None = refl
 closing_none p queue port k (Some b) = by (b.port == port)
   where
-    by : (c : Bool) → pleas p queue (if c then entry_in k (Some b) (PortClosed port) ∷ [] else []) ≡ []
+    by : (c : Bool) →
+        pleas p queue (if c then entry_in k (Some b) (PortClosed port) ∷ [] else []) ≡ []
     by true = no_plea p queue (entry_in k (Some b) (PortClosed port)) refl
     by false = refl
 
@@ -170,7 +171,8 @@ even_kept s = record {
   };
   gets = λ w notes port held l ls there letters is.
       quiet w.entries notes port (Got l) (λ queue. refl) is;
-  closes = λ w notes port op is. quiet (w.entries ++ happening.closings port w.entries) notes port Shut
+  closes = λ w notes port op is.
+      quiet (w.entries ++ happening.closings port w.entries) notes port Shut
       (λ queue. refl) (record {
         even = λ p queue. pleas_stay p queue w.entries (happening.closings port w.entries)
             (no_pleas p queue (λ k. happening.closing_of port k (state_of w.entries k))

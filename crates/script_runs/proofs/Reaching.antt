@@ -21,7 +21,8 @@ use Rattle.script_runs.specs.Log.{IsNext, AreNextFrom, standing_from, standing}
 
 module _ (script : ScriptValue) (place port : ℕ) where
   next_push : (t : Standing) (ns : List Note) (n : Note) → AreNextFrom script place port t ns →
-      IsNext (standing_from script place port t ns) n → AreNextFrom script place port t (ns ++ n ∷ [])
+      IsNext (standing_from script place port t ns) n →
+      AreNextFrom script place port t (ns ++ n ∷ [])
   next_push t [] n are is = (is, tt)
   next_push t (m ∷ ns) n are is = (are.0, next_push (after script place port t m) ns n are.1 is)
 
@@ -121,7 +122,8 @@ module _ (script : ScriptValue) (f : ℕ → ℕ) where
       × (after script (f port) port (full held t) n ≡ full (g held) u)
       × ((g held).is_closed ≡ not u.is_open)) →
       AreAt (noted port n notes) (changed_at port g ports) (put port u T)
-  all_push port t u n g notes ports T are may = record { at = λ p i. by p i (cases_Bool (p == port)) }
+  all_push port t u n g notes ports T are may =
+      record { at = λ p i. by p i (cases_Bool (p == port)) }
     where
       own : (p : ℕ) → p ≡ port → IsAt script (f p) p (notes p) (ports p) t →
           IsAt script (f p) p (notes p ++ n ∷ []) (option_map g (ports p)) u
@@ -144,7 +146,8 @@ module _ (script : ScriptValue) (f : ℕ → ℕ) where
       AreAt notes (with_notice o a left ports) T
   all_arrive notes T None a left ports are = are
   all_arrive notes T (Some q) a (l ∷ ls) ports are = are
-  all_arrive notes T (Some q) a [] ports are = record { at = λ p i. by p (p == q.port) _ (are.at p i) }
+  all_arrive notes T (Some q) a [] ports are =
+      record { at = λ p i. by p (p == q.port) _ (are.at p i) }
     where
       by : (p : ℕ) (c : Bool) (letter : Letter) → IsAt script (f p) p (notes p) (ports p) (T p) →
           IsAt script (f p) p (notes p)

@@ -24,7 +24,8 @@ use Rattle.place_history.specs.Happenings as happening
 use Rattle.solo_plane.specs.declared.setting.Setting.{Setting}
 use Rattle.solo_plane.specs.World.{World, Port, received, received_from, having_done, closed}
 use Rattle.solo_plane.specs.World.{changed_at, delivered}
-use Rattle.solo_plane.specs.Moving.{arrived, room_for, has_room, takes_one, with_notice, left_at_once}
+use Rattle.solo_plane.specs.Moving.{arrived, room_for, has_room}
+use Rattle.solo_plane.specs.Moving.{takes_one, with_notice, left_at_once}
 use Rattle.solo_plane.specs.Messages.{asking, with_ask, words_of, answered}
 use Rattle.script_runs.specs.Sending.{carried_out, errno_of}
 use Rattle.script_runs.specs.Log.{Note, Got, Begun, Spoke, Shut}
@@ -253,7 +254,8 @@ module _ (s : Setting) where
         where
           here : (c : Bool) → (if c
               then lacks_under p (state_of w.entries a.queue)
-              (entry_of w.entries a.queue (happening.arrive a (room_for s w a))) else false) ≡ true →
+              (entry_of w.entries a.queue (happening.arrive a (room_for s w a))) else false)
+              ≡ true →
               lacks_under p (state_of w.entries a.queue)
               (entry_of w.entries a.queue (happening.arrive a (room_for s w a))) ≡ true
           here true is = is
@@ -262,7 +264,8 @@ module _ (s : Setting) where
           by : (lacking p queue w.entries ≡ true)
               ⊎ ((if a.queue == queue
               then lacks_under p (state_of w.entries a.queue)
-              (entry_of w.entries a.queue (happening.arrive a (room_for s w a))) else false) ≡ true) →
+              (entry_of w.entries a.queue (happening.arrive a (room_for s w a))) else false)
+              ≡ true) →
               s.mail ≤ length (heard (notes p) ++ held.letters)
           by (inl was) = so was
           by (inr now) =
@@ -273,7 +276,8 @@ module _ (s : Setting) where
 
   carried_roomy : (w : World) (notes : ℕ → List Note) (port call : ℕ) (d : Decoded) →
       AllRoomy s.mail w.entries w.ports notes →
-      AllRoomy s.mail (carried_out s port call d w).entries (carried_out s port call d w).ports notes
+      AllRoomy s.mail (carried_out s port call d w).entries
+      (carried_out s port call d w).ports notes
   carried_roomy w notes port call Nothing is = is
   carried_roomy w notes port call (Refused errno) is = is
   carried_roomy w notes port call (Asked r) is =
@@ -281,7 +285,8 @@ module _ (s : Setting) where
       (λ v a is. arrival_roomy v a notes is)
       (happening.all_handed (asking w port call r).left) (with_ask w port call r)
       (calm_roomy s.mail w.entries
-      (entry_of w.entries (happening.queue_of r) (Ask port call r) ∷ []) w.ports notes (refl, tt) is)
+      (entry_of w.entries (happening.queue_of r) (Ask port call r) ∷ [])
+      w.ports notes (refl, tt) is)
 
 -- a note that is no notice
 same_length : (ns : List Note) (n : Note) (mail more : List Letter) → heard_by n ≡ [] →
@@ -294,7 +299,8 @@ same_length ns n mail more none same =
 
 -- a notice that is received
 got_length : (ns : List Note) (held : Port) (l : Letter) (ls mail : List Letter) → mail ≡ l ∷ ls →
-    length (heard ns ++ mail) ≤ length (heard (ns ++ Got l ∷ []) ++ (received_from mail held).letters)
+    length (heard ns ++ mail)
+    ≤ length (heard (ns ++ Got l ∷ []) ++ (received_from mail held).letters)
 got_length ns held l ls mail is =
     subst (λ m. length (heard ns ++ m)
     ≤ length (heard (ns ++ Got l ∷ []) ++ (received_from m held).letters)) (sym is)
@@ -338,7 +344,8 @@ roomy_kept s = record {
       let same : one ≡ held = cc in
       got_length ns one l ls one.letters (ap (λ (p : Port). p.letters) same ∙ mail)) is;
   closes = λ w notes port op is.
-      done_roomy s.mail (w.entries ++ happening.closings port w.entries) w.ports notes port Shut closed
+      done_roomy s.mail (w.entries ++ happening.closings port w.entries)
+      w.ports notes port Shut closed
       (λ ns held there. same_length ns Shut held.letters held.letters refl refl)
       (calm_roomy s.mail w.entries (happening.closings port w.entries) w.ports notes
       (calm_all (λ k. happening.closing_of port k (state_of w.entries k))

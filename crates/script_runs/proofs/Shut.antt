@@ -37,7 +37,8 @@ is_shut None = false
 is_shut (Some p) = p.is_closed
 
 pub record AreShut (es : List Entry) (ports : ℕ → Option Port) : Type 0 where
-  pub each : (p queue : ℕ) → queue < queue_count → IsClosing p (is_shut (ports p)) (history queue es)
+  pub each : (p queue : ℕ) → queue < queue_count →
+      IsClosing p (is_shut (ports p)) (history queue es)
 
 same_shut : (o : Option Port) (g : Port → Port) →
     ((held : Port) → (g held).is_closed ≡ held.is_closed) → is_shut (option_map g o) ≡ is_shut o

@@ -6,7 +6,8 @@ use Rattle.std.specs.Prelude.{is_some, is_none, unwrap_or}
 use Rattle.packet_entry.specs.Numbers.{last_visit}
 use Rattle.packet_entry.specs.declared.packet.Card.{Card}
 use Rattle.nfqa_msgs.specs.Numbers.{copy_none, command_bind, command_unbind, command_pf_bind}
-use Rattle.nfqa_msgs.specs.Numbers.{command_pf_unbind, input_device, output_device, copy_meta, copy_packet}
+use Rattle.nfqa_msgs.specs.Numbers.{command_pf_unbind, input_device, output_device}
+use Rattle.nfqa_msgs.specs.Numbers.{copy_meta, copy_packet}
 use Rattle.nfqa_msgs.specs.Numbers.{eperm, einval}
 use Rattle.nfqa_msgs.specs.declared.request.Head.{Head}
 use Rattle.nfqa_msgs.specs.declared.request.Request.{Request}
@@ -15,9 +16,11 @@ use Rattle.nfqa_msgs.specs.declared.request.Params.{Params}
 use Rattle.queue_core.specs.Decision.{Edit}
 use Rattle.queue_core.specs.Share.{share}
 use Rattle.queue_core.specs.State.{Bound, fails_open, bound_to, configured, params_set}
-use Rattle.queue_core.specs.Step.{Stepped, step, arrive, arrive_in_time, ask, is_full, ConfigAsk, config, is_command}
+use Rattle.queue_core.specs.Step.{Stepped, step, arrive, arrive_in_time, ask}
+use Rattle.queue_core.specs.Step.{is_full, ConfigAsk, config, is_command}
 use Rattle.queue_core.specs.Step.{has_unknown_flags, has_refused_flags, is_bound_elsewhere, unbind}
-use Rattle.queue_core.specs.Step.{set_up, Ruling, Refused, Allowed, refusal, verdict_under, batch_under}
+use Rattle.queue_core.specs.Step.{set_up, Ruling, Refused, Allowed}
+use Rattle.queue_core.specs.Step.{refusal, verdict_under, batch_under}
 use Rattle.queue_core.specs.Step.{carried_out, card_under, shared_out}
 use Rattle.queue_core.specs.declared.event.Event.{Event}
 use Rattle.queue_core.specs.declared.event.Event.TheVariants.{Arrive, Ask, PortClosed, DeviceDown}
@@ -55,7 +58,8 @@ params_port (Some p) b =
     by ((p.mode == copy_none) || (p.mode == copy_meta)) (p.mode == copy_packet)
   where
     by : (c d : Bool) → (if c then record b { mode = p.mode; range = 0 }
-        else if d then record b { mode = copy_packet; range = range_of p.range } else b).port ≡ b.port
+        else if d then record b { mode = copy_packet; range = range_of p.range }
+        else b).port ≡ b.port
     by true d = refl
     by false true = refl
     by false false = refl
@@ -81,7 +85,8 @@ config_frees : (p : ℕ) (q : Option Bound) (port : ℕ) (ask : ConfigAsk) → (
     is_bound_to p q ≡ false → is_bound_to p (config q port ask).state ≡ false
 config_frees p q port ask other free =
     let P = λ (s : Stepped). is_bound_to p s.state ≡ false in
-    either P (is_command command_pf_bind ask.command || is_command command_pf_unbind ask.command) _ _
+    either P
+    (is_command command_pf_bind ask.command || is_command command_pf_unbind ask.command) _ _
     free
     (either P (is_some ask.flags && is_none ask.mask) _ _ free
     (either P (has_unknown_flags ask.flags) _ _ free

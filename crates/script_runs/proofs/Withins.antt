@@ -22,7 +22,7 @@ use Rattle.place_history.specs.History.{history, is_of}
 use Rattle.inspector_script.specs.Scripts.{ScriptValue, IsScript, IsBlock}
 use Rattle.script_runs.specs.Schedule.{IsSolo, run, setting_of}
 use Rattle.script_runs.specs.Entering.{card_at, card_of, cards, cards_from}
-use Rattle.script_runs.specs.Within.{AreSmall, AreShort, IsRead, AreRead}
+use Rattle.script_runs.specs.Bounds.{AreSmall, AreShort, IsRead, AreRead}
 use Rattle.script_runs.proofs.Small.{Fits, AllFit, history_fits}
 use Rattle.script_runs.proofs.Bounded.{run_fits}
 use Rattle.script_runs.proofs.Datagrams.{Sizes, words_fit}

@@ -11,8 +11,8 @@ pub mod Room
 pub mod Ascending
 pub mod Feeder
 pub mod Order
-pub mod Left
+pub mod LettersLeft
 pub mod Run
-pub mod Within
+pub mod Bounds
 pub mod Examples
 pub mod FedExamples

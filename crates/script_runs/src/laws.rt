@@ -23,10 +23,13 @@ ghost use Rattle.script_runs.specs.FedExamples.{no_kinds, binds, asks, arrives, 
 ghost use Rattle.script_runs.specs.Feeder.{IsFed};
 ghost use Rattle.script_runs.specs.Order.{IsOrdered};
 ghost use Rattle.packet_entry.specs.declared.letter.Letter.{Letter};
-ghost use Rattle.packet_entry.specs.Numbers.{longest_packet};
+ghost use Rattle.packet_entry.specs.Numbers.{longest_packet, longest_payload};
+ghost use Rattle.place_history.specs.declared.log.AskWords.{AskWords};
+ghost use Rattle.script_lines.specs.Limits.{IsWords};
+ghost use Rattle.script_runs.specs.Sending.{bytes_of};
 ghost use Rattle.script_runs.specs.Entering.{cards};
-ghost use Rattle.script_runs.specs.Within.{AreRead, AreShort, AreSmall};
-ghost use Rattle.script_runs.specs.Left.{left_in};
+ghost use Rattle.script_runs.specs.Bounds.{AreRead, AreShort, AreSmall};
+ghost use Rattle.script_runs.specs.LettersLeft.{left_in};
 ghost use Rattle.script_runs.specs.Run.{IsMadeBy};
 
 use netlink_codec::{written_attributes_are_walked, written_message_is_in_front};
@@ -109,6 +112,15 @@ pub fn packets_and_payloads_are_within_bounds()
     ensures payloads { (script : ScriptValue) (tables : List (List Rule)) (c : Capture)
         (h : Histories) → IsScript script → All (λ f. length f.bytes ≤ longest_packet) c.frames →
         IsSolo script tables c h → AreShort h.entries }
+{
+    written_message_is_in_front();
+    written_attributes_are_walked();
+}
+
+/// The bytes of an ask are no longer than one attribute may be.
+pub fn datagrams_are_short()
+    ensures { (port call : ℕ) (words : AskWords) → IsWords words →
+        length (bytes_of port call words) ≤ longest_payload }
 {
     written_message_is_in_front();
     written_attributes_are_walked();

@@ -1,5 +1,6 @@
 -- No call but feeding adds to the packets that were fed.
-use Rattle.std.proofs.Common.{◌≡◌, ◌+◌, ℕ, zero, suc, List, [], ◌∷◌, ◌++◌, Option, Some, None, refl, sym}
+use Rattle.std.proofs.Common.{◌≡◌, ◌+◌, ℕ, zero, suc, List, []}
+use Rattle.std.proofs.Common.{◌∷◌, ◌++◌, Option, Some, None, refl, sym}
 use Rattle.std.proofs.Common.{ap, ◌∙◌}
 use Rattle.packet_entry.specs.declared.packet.Card.{Card}
 use Rattle.netlink_codec.specs.Messages.{NetlinkMessage}

@@ -13,7 +13,7 @@ use Rattle.queue_core.specs.Step.{Way, Gone, Open, Decided, step}
 use Rattle.queue_core.specs.Laws.{IsConserving, times, waiting_in}
 use Rattle.place_history.specs.Kept.{waiting_at}
 use Rattle.place_history.specs.Happenings.{all_handed}
-use Rattle.solo_plane.specs.Handing.{is_out_of_time, AreInTime}
+use Rattle.solo_plane.specs.HandedOn.{is_out_of_time, AreInTime}
 
 -- 1 where the test passes
 abbrev pub once : Bool → ℕ

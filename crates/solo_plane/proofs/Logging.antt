@@ -8,7 +8,7 @@ use Rattle.std.specs.Ordering.{nat_cmp}
 use Rattle.solo_plane.specs.declared.port.PortState.{PortState}
 use Rattle.packet_entry.specs.declared.letter.Letter.{Letter}
 use Rattle.solo_plane.specs.World.{Port, changed_at, received, received_from}
-use Rattle.solo_plane.specs.Ported.{Log, log_in, port_of, ports_of, logs_of, OnPort}
+use Rattle.solo_plane.specs.PortView.{Log, log_in, port_of, ports_of, logs_of, OnPort}
 use Rattle.solo_plane.specs.Messages.{call_at}
 use Rattle.solo_plane.specs.Calls.{next_call}
 

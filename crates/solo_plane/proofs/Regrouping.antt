@@ -1,5 +1,6 @@
 -- Moves of the same queues in another order between queues: all sums over them are the same.
-use Rattle.std.proofs.Common.{◌≡◌, ◌≤◌, ◌+◌, ℕ, zero, suc, List, [], ◌∷◌, ◌++◌, length, Bool, true, false}
+use Rattle.std.proofs.Common.{◌≡◌, ◌≤◌, ◌+◌, ℕ, zero, suc, List}
+use Rattle.std.proofs.Common.{[], ◌∷◌, ◌++◌, length, Bool, true, false}
 use Rattle.std.proofs.Common.{refl, sym, ap, ◌∙◌, arith, inl, inr}
 use Rattle.std.specs.Prelude.{filter, sum_by, count_by, not}
 use Rattle.std.proofs.lemmas.Bool.{eq-eqb, cases_Bool, eqb-true}
@@ -135,7 +136,8 @@ filters_commute p r (m ∷ ms) =
 same_sums : (f : Move → ℕ) (n : ℕ) (ms ns : List Move) → length ms ≤ n →
     ((queue : ℕ) → part queue ms ≡ part queue ns) → sum_by f ms ≡ sum_by f ns
 same_sums f n [] [] few same = refl
-same_sums f n [] (k ∷ ns) few same = absurd (none (rw (eq-eqb k.entry.queue k.entry.queue refl) at (same k.entry.queue)))
+same_sums f n [] (k ∷ ns) few same =
+    absurd (none (rw (eq-eqb k.entry.queue k.entry.queue refl) at (same k.entry.queue)))
   where
     none : [] ≡ k ∷ part k.entry.queue ns → ⊥
     none is = cc

@@ -27,7 +27,7 @@ use Rattle.solo_plane.specs.declared.setting.Setting.{Setting}
 use Rattle.solo_plane.specs.World.{World}
 use Rattle.solo_plane.specs.Moving.{carry_on, CarriesAll}
 use Rattle.solo_plane.specs.Messages.{asking, with_ask, IsAsked}
-use Rattle.solo_plane.specs.Handing.{is_out_of_time, AreInTime}
+use Rattle.solo_plane.specs.HandedOn.{is_out_of_time, AreInTime}
 use Rattle.solo_plane.specs.Soundness.{IsSound}
 use Rattle.solo_plane.proofs.Known.{Laws}
 use Rattle.solo_plane.proofs.Leaving.{once}
@@ -45,10 +45,12 @@ pub record Closed (s : Stepped) : Type 0 where
 
 gone_closed : (ls : List (Card × Way)) → All (λ (l : Card × Way). l.1 ≡ Gone) ls → NoneOpen ls
 gone_closed [] gone = tt
-gone_closed (l ∷ ls) gone = (apart, gone_closed ls (All-tail (λ (k : Card × Way). k.1 ≡ Gone) l ls gone))
+gone_closed (l ∷ ls) gone =
+    (apart, gone_closed ls (All-tail (λ (k : Card × Way). k.1 ≡ Gone) l ls gone))
   where
     apart : l.1 ≢ Open
-    apart is = let wrong : Gone ≡ Open = sym (All-head (λ (k : Card × Way). k.1 ≡ Gone) l ls gone) ∙ is in cc
+    apart is = let wrong : Gone ≡ Open = sym (All-head (λ (k : Card × Way). k.1 ≡ Gone) l ls gone) ∙
+        is in cc
 
 pub decided : (d : Decision) → way_of d ≢ Open
 decided decision.Drop is = cc
@@ -132,7 +134,8 @@ all_keep laws s (h ∷ hs) w after owed in_time (memory, carries) is =
     let rest : AreInTime hs = omega (arith, both, in_time) in
     let visit = visit_in_time h.0.visit (once_0 _ first) in
     let owes : IsSound s (owed_of s h ++ (owed_all s hs ++ owed)) w =
-    subst (λ (l : List Arrival). IsSound s l w) (append_assoc (owed_of s h) (owed_all s hs) owed) is in
+    subst (λ (l : List Arrival). IsSound s l w)
+    (append_assoc (owed_of s h) (owed_all s hs) owed) is in
     all_keep laws s hs (carry_on memory s w h.0 (onward_of s.tables s.key h.0 h.1)).world after
     owed rest carries
     (keeps_on s memory (carry_keeps laws s memory) w h.0 (onward_of s.tables s.key h.0 h.1)
@@ -147,9 +150,12 @@ asked_keeps laws s port call request old new errno in_time asked is =
     let q = state_of old.entries queue in
     let legal = laws.goes_on old.entries e is.legal (record { reply = refl; allowed = tt }) in
     let sound = enters_so laws s old e [] legal is.sound in
-    let owed = owed_are s (asking old port call request).left (request_closed laws q port request).none in
-    let entered : IsSound s (flat_map (going_on s.tables s.key) (asking old port call request).left ++ [])
+    let owed = owed_are s (asking old port call request).left
+    (request_closed laws q port request).none in
+    let entered : IsSound s (flat_map (going_on s.tables s.key)
+    (asking old port call request).left ++ [])
     (with_ask old port call request) = record { legal = legal; sound = sound } in
     all_keep laws s (all_handed (asking old port call request).left)
     (with_ask old port call request) new [] in_time asked.moved
-    (subst (λ (l : List Arrival). IsSound s (l ++ []) (with_ask old port call request)) owed entered)
+    (subst (λ (l : List Arrival). IsSound s (l ++ []) (with_ask old port call request))
+    owed entered)

@@ -30,8 +30,8 @@ use Rattle.solo_plane.specs.World.{World, Port, changed_at, delivered}
 use Rattle.solo_plane.specs.Moving.{Carried, arrived, turned_away, room_for, has_room, with_notice}
 use Rattle.solo_plane.specs.Moving.{left_at_once, happened}
 use Rattle.solo_plane.specs.Moving.{settled, goes_on, route_after, takes_one}
-use Rattle.solo_plane.specs.Ported.{port_of, ports_of}
-use Rattle.solo_plane.specs.Coming.{CameAs, came_to, way_by}
+use Rattle.solo_plane.specs.PortView.{port_of, ports_of}
+use Rattle.solo_plane.specs.OnTheWay.{CameAs, came_to, way_by}
 
 -- what holds of both lines holds of the table
 pub either : (P : Stepped → Type 0) (b : Bool) (s t : Stepped) → P s → P t → P (if b then s else t)
@@ -170,7 +170,8 @@ pub room_offered : (s : Setting) (w : World) (q : Option Bound) (bound : Bound) 
 room_offered s w q bound card is undecided = rw (is, undecided) refl
 
 -- a notice that was offered is put into its mailbox
-pub world_posted : (s : Setting) (w : World) (a : Arrival) (port : ℕ) (letter : Letter) (room : Bool)
+pub world_posted : (s : Setting) (w : World) (a : Arrival)
+    (port : ℕ) (letter : Letter) (room : Bool)
     (id : ℕ) → (o : IsOffered a port letter w.entries) → IsTaken a room id w.entries →
     room_for s w a ≡ room →
     record w {

@@ -13,8 +13,8 @@ use Rattle.solo_plane.specs.declared.arrivals.Came.TheVariants.{Ended, GoesOn}
 use Rattle.solo_plane.specs.World.{World}
 use Rattle.solo_plane.specs.Moving.{carry}
 use Rattle.solo_plane.specs.Moving.{ending}
-use Rattle.solo_plane.specs.Coming.{StepsTo, IsCarried, HasVisit, arrivals_left, KeepsRoom}
-use Rattle.solo_plane.specs.Coming.{NeedsRoom, SpendsRoom, WasToArrive, came_to}
+use Rattle.solo_plane.specs.OnTheWay.{StepsTo, IsCarried, HasVisit, arrivals_left, KeepsRoom}
+use Rattle.solo_plane.specs.OnTheWay.{NeedsRoom, SpendsRoom, WasToArrive, came_to}
 
 pub nearer : (visit : ℕ) (came : Came) → visit < last_visit → HasVisit (visit + 1) came →
     arrivals_left came < suc (last_visit - visit)
@@ -38,7 +38,10 @@ moved_from memory s old new card route came same moved =
 -- a packet that finds no memory is lost
 pub lost_at : (memory : ℕ) (s : Setting) (old new : World) (card : Card) (route : Next)
     (back : Card) → WasToArrive card route back →
-    new ≡ record old { lost = old.lost ++ record { number = back.number; visit = back.visit } ∷ [] } →
+    new ≡ record old {
+      lost = old.lost
+          ++ record { number = back.number; visit = back.visit } ∷ [];
+    } →
     StepsTo memory s old new card (Some route) (Ended fed.Lost)
 lost_at memory s old new card Released back was is = absurd was
 lost_at memory s old new card (To queue bypass table) back was is =
@@ -47,7 +50,8 @@ lost_at memory s old new card (To queue bypass table) back was is =
       steps = ap (λ w. ending w fed.Lost) (rw was at (sym is));
     }
 
-pub carried_on : (s : Setting) (old mid new : World) (card : Card) (route : Option Next) (came : Came)
+pub carried_on : (s : Setting) (old mid new : World)
+    (card : Card) (route : Option Next) (came : Came)
     (fed : Fed) → ((memory : ℕ) → StepsTo memory s old mid card route came) →
     IsCarried s mid came new fed → IsCarried s old (GoesOn card route) new fed
 carried_on s old mid new card route came fed steps is =
@@ -57,7 +61,8 @@ pub room_after : (came : Came) (old new : ℕ) → 0 < old → KeepsRoom old new
 room_after (Ended fed) old new some keeps = tt
 room_after (GoesOn card route) old new some keeps = omega (arith, keeps)
 
-pub room_spent : (came : Came) (old mid new : ℕ) → KeepsRoom old mid came → SpendsRoom came mid new →
+pub room_spent : (came : Came) (old mid new : ℕ) →
+    KeepsRoom old mid came → SpendsRoom came mid new →
     old ≤ new + 1
 room_spent (Ended fed) old mid new keeps spends = omega (arith, keeps, spends)
 room_spent (GoesOn card route) old mid new keeps spends = omega (arith, keeps, spends)

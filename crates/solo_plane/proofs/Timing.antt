@@ -12,7 +12,7 @@ use Rattle.queue_core.specs.Step.{step}
 use Rattle.queue_core.specs.Laws.{times, waiting_in}
 use Rattle.place_history.specs.declared.entry.Entry.{Entry}
 use Rattle.place_history.specs.History.{IsAllowed, IsLegalFrom, AreLegal, history, replay_from}
-use Rattle.solo_plane.specs.Handing.{is_out_of_time, WaitInTime}
+use Rattle.solo_plane.specs.HandedOn.{is_out_of_time, WaitInTime}
 use Rattle.solo_plane.proofs.Known.{Laws}
 use Rattle.solo_plane.proofs.Leaving.{once, out_of_time}
 

@@ -1,5 +1,6 @@
 -- A message is logged in words exactly where it is the one spelling of a request.
-use Rattle.std.proofs.Common.{◌≡◌, ◌<◌, ◌^◌, ℕ, List, ◌++◌, length, Option, Some, None, Bool, true, false}
+use Rattle.std.proofs.Common.{◌≡◌, ◌<◌, ◌^◌, ℕ, List, ◌++◌, length}
+use Rattle.std.proofs.Common.{Option, Some, None, Bool, true, false}
 use Rattle.std.proofs.Common.{refl, sym, ap, ◌∙◌}
 use Rattle.std.specs.Prelude.{if◌then◌else◌}
 use Rattle.std.specs.Str.{bytes_eq}

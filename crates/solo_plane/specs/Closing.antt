@@ -10,7 +10,7 @@ use Rattle.place_history.specs.declared.log.PortLog.{PortLog}
 use Rattle.place_history.specs.History.{history}
 use Rattle.solo_plane.specs.declared.port.PortState.{PortState}
 use Rattle.solo_plane.specs.World.{World, Port}
-use Rattle.solo_plane.specs.Ported.{ports_of}
+use Rattle.solo_plane.specs.PortView.{ports_of}
 
 -- entries by ascending queue number, each queue's in their order
 pub record IsGrouped (es grouped : List Entry) : Type 0 where

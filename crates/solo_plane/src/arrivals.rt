@@ -12,12 +12,12 @@ ghost use Rattle.place_history.specs.Kept.{state_of};
 ghost use Rattle.solo_plane.specs.World.{World};
 ghost use Rattle.solo_plane.specs.Moving.{Carried, arrived, turned_away, goes_on, route_after};
 ghost use Rattle.solo_plane.specs.Moving.{carry};
-ghost use Rattle.solo_plane.specs.Ported.{world_of, ports_of, logs_of, OnPort, IsReady};
+ghost use Rattle.solo_plane.specs.PortView.{world_of, ports_of, logs_of, OnPort, IsReady};
 ghost use Rattle.solo_plane.specs.declared.arrivals.Came.TheVariants.{Ended, GoesOn};
 ghost use Rattle.solo_plane.specs.declared.fed.Fed.TheVariants as fed;
-ghost use Rattle.solo_plane.specs.Coming.{CameAs, came_to, IsInTime, way_by, arrivals_left};
-ghost use Rattle.solo_plane.specs.Coming.{StepsTo, HasVisit, KeepsRoom, NeedsRoom, SpendsRoom};
-ghost use Rattle.solo_plane.specs.Coming.{IsCarried, WasToArrive};
+ghost use Rattle.solo_plane.specs.OnTheWay.{CameAs, came_to, IsInTime, way_by, arrivals_left};
+ghost use Rattle.solo_plane.specs.OnTheWay.{StepsTo, HasVisit, KeepsRoom, NeedsRoom, SpendsRoom};
+ghost use Rattle.solo_plane.specs.OnTheWay.{IsCarried, WasToArrive};
 
 use crate::fed::Fed;
 use crate::held::Held;

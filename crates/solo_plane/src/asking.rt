@@ -4,9 +4,9 @@ ghost use Rattle.std.specs.Prelude.{◌≡◌, ◌≤◌, length, IfOk, OnOk, On
 ghost use Rattle.nfqa_msgs.specs.RequestReading.{PayloadFits};
 ghost use Rattle.place_history.specs.Happenings.{all_handed};
 ghost use Rattle.solo_plane.specs.Moving.{CarriesAll};
-ghost use Rattle.solo_plane.specs.Ported.{world_of, logs_of, IsReady};
+ghost use Rattle.solo_plane.specs.PortView.{world_of, logs_of, IsReady};
 ghost use Rattle.solo_plane.specs.Messages.{IsAsked, asking};
-ghost use Rattle.solo_plane.specs.Handing.{AreInTime, WaitInTime};
+ghost use Rattle.solo_plane.specs.HandedOn.{AreInTime, WaitInTime};
 
 use crate::arrivals::{Came, carry};
 use crate::held::Held;

@@ -6,7 +6,7 @@ ghost use Rattle.std.specs.Ordering.{nat_cmp};
 ghost use Rattle.place_history.specs.History.{AreLegal};
 ghost use Rattle.place_history.specs.Journeys.{AreSound};
 ghost use Rattle.solo_plane.specs.declared.setting.Setting.{Setting};
-ghost use Rattle.solo_plane.specs.Ported.{ports_of, IsReady, HasSound};
+ghost use Rattle.solo_plane.specs.PortView.{ports_of, IsReady, HasSound};
 ghost use Rattle.solo_plane.specs.Closing.{IsGrouped, AreApart, dids_of, log_at};
 
 use crate::held::Held;

@@ -5,7 +5,7 @@ ghost use Rattle.place_history.specs.History.{AreLegal};
 ghost use Rattle.place_history.specs.Kept.{told, taken_in};
 ghost use Rattle.place_history.specs.Happenings.{downs};
 ghost use Rattle.solo_plane.specs.declared.setting.Setting.{Setting};
-ghost use Rattle.solo_plane.specs.Ported.{world_of, OnPort, IsReady, HasSound};
+ghost use Rattle.solo_plane.specs.PortView.{world_of, OnPort, IsReady, HasSound};
 ghost use Rattle.solo_plane.specs.Planes.{with_closed, without_device};
 
 use crate::held::Held;

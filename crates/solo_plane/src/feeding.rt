@@ -2,8 +2,8 @@
 
 ghost use Rattle.std.specs.Prelude.{◌≡◌, ◌<◌, IfOk, OnOk, IfErr, OnErr};
 ghost use Rattle.hook_chain.specs.Route.{next};
-ghost use Rattle.solo_plane.specs.Ported.{world_of, logs_of, IsReady};
-ghost use Rattle.solo_plane.specs.Coming.{HandsBack};
+ghost use Rattle.solo_plane.specs.PortView.{world_of, logs_of, IsReady};
+ghost use Rattle.solo_plane.specs.OnTheWay.{HandsBack};
 ghost use Rattle.solo_plane.specs.Planes.{IsFed};
 
 use crate::arrivals::{attempt, carry};

@@ -19,7 +19,7 @@ ghost use Rattle.solo_plane.specs.declared.setting.Setting.{Setting};
 ghost use Rattle.solo_plane.specs.World.{World};
 ghost use Rattle.solo_plane.specs.Planes.{IsFed, beginning, with_closed, without_device};
 ghost use Rattle.solo_plane.specs.Messages.{Sends, words_of};
-ghost use Rattle.solo_plane.specs.Handing.{AreInTime, LeavesAlone, WaitInTime, is_out_of_time};
+ghost use Rattle.solo_plane.specs.HandedOn.{AreInTime, LeavesAlone, WaitInTime, is_out_of_time};
 ghost use Rattle.solo_plane.specs.Soundness.{IsSound};
 
 use netlink_codec::one_message_in_front;

@@ -10,9 +10,9 @@ ghost use Rattle.netlink_codec.specs.Acknowledgements.{answer};
 ghost use Rattle.netlink_codec.specs.Messages.{message_of, first_message};
 ghost use Rattle.nfqa_msgs.specs.RequestReading.{AskedFits};
 ghost use Rattle.solo_plane.specs.World.{closed_ports};
-ghost use Rattle.solo_plane.specs.Ported.{world_of, logs_of, IsReady};
+ghost use Rattle.solo_plane.specs.PortView.{world_of, logs_of, IsReady};
 ghost use Rattle.solo_plane.specs.Messages.{CarriesOut, IsSent, Sends, answered};
-ghost use Rattle.solo_plane.specs.Handing.{WaitInTime};
+ghost use Rattle.solo_plane.specs.HandedOn.{WaitInTime};
 
 use crate::asking::ask;
 use crate::held::Held;

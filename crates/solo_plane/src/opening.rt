@@ -1,7 +1,7 @@
 //! Ports that open.
 
 ghost use Rattle.std.specs.Prelude.{◌≡◌, IfOk, OnOk};
-ghost use Rattle.solo_plane.specs.Ported.{ports_of};
+ghost use Rattle.solo_plane.specs.PortView.{ports_of};
 ghost use Rattle.solo_plane.specs.Planes.{opened_ports, with_opened};
 
 use crate::port::PortState;

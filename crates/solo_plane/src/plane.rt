@@ -11,7 +11,7 @@ ghost use Rattle.place_history.specs.Kept.{told, taken_in};
 ghost use Rattle.place_history.specs.Happenings.{downs};
 ghost use Rattle.place_history.specs.Listing as text;
 ghost use Rattle.solo_plane.specs.Numbers.{most_fed, most_mail, most_ports};
-ghost use Rattle.solo_plane.specs.Kept.{IsPlane};
+ghost use Rattle.solo_plane.specs.Invariant.{IsPlane};
 
 use crate::endings::legal_at;
 use crate::fed::{Fed, Refused};
@@ -36,12 +36,12 @@ pub struct SoloPlane {
 
 impl SoloPlane {
     ghost use Rattle.solo_plane.specs.World.{at_port, received, first_of, closed_ports};
-    ghost use Rattle.solo_plane.specs.Coming.{HandsBack};
+    ghost use Rattle.solo_plane.specs.OnTheWay.{HandsBack};
     ghost use Rattle.solo_plane.specs.Messages.{Sends};
     ghost use Rattle.solo_plane.specs.Planes.{IsFed, beginning, with_closed, without_device};
     ghost use Rattle.solo_plane.specs.Closing.{IsGrouped, logs_in};
     ghost use Rattle.solo_plane.specs.Soundness.{IsSound};
-    ghost use Rattle.solo_plane.specs.Shown.{setting_of, order_of, world_in, IsWith};
+    ghost use Rattle.solo_plane.specs.PlaneView.{setting_of, order_of, world_in, IsWith};
 
     /// A plane with these ports, 1 to 32 of them, none twice and none of them 0. Packets go through
     /// the tables; `key` is the flow hash's. Each port's mailbox holds `mail` notices, 1 to 65,536.

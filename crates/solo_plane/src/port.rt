@@ -27,7 +27,7 @@ pub(crate) struct PortState {
 impl PortState {
     ghost use Rattle.solo_plane.specs.Calls.{next_call};
     ghost use Rattle.solo_plane.specs.World.{first_of, received, having_done, closed};
-    ghost use Rattle.solo_plane.specs.Ported.{port_of};
+    ghost use Rattle.solo_plane.specs.PortView.{port_of};
 
     /// A port that did nothing yet.
     pub(crate) fn new(alloc: Global) -> Result<PortState, NoMemory>

@@ -7,7 +7,7 @@ ghost use Rattle.place_history.specs.declared.log.Did.TheVariants.{Sent};
 ghost use Rattle.solo_plane.specs.World.{changed_at, delivered, first_of, received, having_done};
 ghost use Rattle.solo_plane.specs.World.{closed};
 ghost use Rattle.solo_plane.specs.Moving.{takes_one};
-ghost use Rattle.solo_plane.specs.Ported.{ports_of, logs_of, OnPort};
+ghost use Rattle.solo_plane.specs.PortView.{ports_of, logs_of, OnPort};
 ghost use Rattle.solo_plane.specs.Messages.{call_at};
 
 use crate::port::PortState;

@@ -58,7 +58,8 @@ nothing_left : (left : List Ask) (port : ℕ) (w : World) → left ≡ [] → Is
 nothing_left [] port w none = tt
 nothing_left (a ∷ left) port w none = absurd (cc)
 
-pub does_next : (then : World → World) (s : Setting) (port : ℕ) (asks : List Ask) (old mid new : World)
+pub does_next : (then : World → World) (s : Setting) (port : ℕ) (asks : List Ask)
+    (old mid new : World)
     (ask : Ask) (left : List Ask) → IsDoing then s port asks old (ask ∷ left) mid →
     LeavesBy ask port mid new → new ≡ done then s port ask mid →
     IsDoing then s port asks old left new

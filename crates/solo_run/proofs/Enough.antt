@@ -29,7 +29,7 @@ use Rattle.solo_plane.specs.Moving.{Carried, carry, carry_on, settled, goes_on, 
 use Rattle.solo_plane.specs.Moving.{arrival_to, arrived, turned_away, room_for, CarriesAll}
 use Rattle.solo_plane.specs.Messages.{CarriesOut, IsSent, Sends, call_at, words_of, answered}
 use Rattle.solo_plane.specs.Messages.{asking, with_ask}
-use Rattle.solo_plane.specs.Handing.{is_out_of_time, AreInTime, LeavesAlone, WaitInTime}
+use Rattle.solo_plane.specs.HandedOn.{is_out_of_time, AreInTime, LeavesAlone, WaitInTime}
 use Rattle.script_runs.specs.Numbers.{enough_arrivals}
 use Rattle.script_runs.specs.Sending.{all_moved, carried_out, errno_of, errno_in, sent}
 use Rattle.solo_run.specs.Running.{SendsFirst}
@@ -107,7 +107,8 @@ pub record GoesOnInTime : Type 0 where
       times (λ number visit. is_out_of_time visit) (waiting_in q) ≡ 0 →
       AreInTime (all_handed (step q (Ask port call request)).left)
 
-pub carry_enough : GoesOnInTime → (memory more : ℕ) (s : Setting) (w : World) (card : Card) (route : Next) →
+pub carry_enough : GoesOnInTime → (memory more : ℕ) (s : Setting) (w : World)
+    (card : Card) (route : Next) →
     card.visit < last_visit → last_visit ≤ card.visit + more →
     (carry memory s w card route).world.lost ≡ [] →
     carry memory s w card route ≡ carry more s w card route
@@ -124,7 +125,8 @@ carry_enough laws (suc memory) (suc more) s w card (To queue bypass table) early
     (omega (arith, early))
     (laws.arrival (state_of w.entries queue) a.card bypass (room_for s w a))
     (λ next sooner whole.
-    carry_enough laws memory more s (arrived s w a) a.card next sooner (omega (arith, enough)) whole)
+    carry_enough laws memory more s (arrived s w a) a.card next sooner
+    (omega (arith, enough)) whole)
     is
 
 -- ---- packets that a request lets go on
@@ -139,7 +141,8 @@ once_0 false is = refl
 visit_in_time : (visit : ℕ) → is_out_of_time visit ≡ false → visit < last_visit
 visit_in_time visit is = grind (arith, nat_tests)
 
-one_alike : GoesOnInTime → (memory : ℕ) (s : Setting) (w : World) (card : Card) (route : Option Next) →
+one_alike : GoesOnInTime → (memory : ℕ) (s : Setting) (w : World)
+    (card : Card) (route : Option Next) →
     card.visit < last_visit → (carry_on memory s w card route).world.lost ≡ [] →
     carry_on memory s w card route ≡ carry_on enough_arrivals s w card route
 one_alike laws memory s w card route early is =
@@ -148,7 +151,8 @@ one_alike laws memory s w card route early is =
     carry_enough laws memory enough_arrivals s w card next sooner (omega arith) whole)
     early is
 
-pub all_enough : GoesOnInTime → (s : Setting) (hs : List (Card × Decision)) (w after : World) → AreInTime hs →
+pub all_enough : GoesOnInTime → (s : Setting) (hs : List (Card × Decision))
+    (w after : World) → AreInTime hs →
     CarriesAll s hs w after → after.lost ≡ [] → (w.lost ≡ []) × (after ≡ all_moved s hs w)
 all_enough laws s [] w after in_time carries whole =
     (ap (λ (v : World). v.lost) (sym carries) ∙ whole, carries)

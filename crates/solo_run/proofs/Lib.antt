@@ -4,7 +4,6 @@ pub mod Going
 pub mod Sent
 pub mod Cutting
 pub mod Keeping
-pub mod Sizes
 pub mod Steps
 pub mod Doing
 pub mod Receiving

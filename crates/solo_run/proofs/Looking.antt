@@ -46,7 +46,8 @@ pub looked_one : (s : Setting) (script : ScriptValue) (place port : ℕ) (asks :
     looked s script place port (record { world = old; found = before })
     ≡ record { world = new; found = true }
 looked_one s script place port asks old mid new before open_ is did =
-    rw open_ (at_one s script place port (letters_at (old.ports port)) asks old mid new before is did)
+    rw open_ (at_one s script place port (letters_at (old.ports port))
+    asks old mid new before is did)
 
 at_none : (s : Setting) (script : ScriptValue) (place port : ℕ) (letters : List Letter)
     (old new : World) (before : Bool) → ReceivesFirst script place port letters None old new →

@@ -139,7 +139,8 @@ received_so : (c : ℕ) (dids : List Did) (words : AskWords) (answer : Option �
     min (count_by is_received (dids ++ Sent c words answer ∷ [])) largest_count
     ≡ min (count_by is_received dids) largest_count
 received_so c dids words answer =
-    let more = sum_by-append (λ (d : Did). cond (is_received d) 1 0) dids (Sent c words answer ∷ []) in
+    let more = sum_by-append (λ (d : Did). cond (is_received d) 1 0)
+    dids (Sent c words answer ∷ []) in
     omega (arith, more)
 
 inspector : ℕ → ℕ → ℕ → Bool → Inspector
@@ -154,7 +155,8 @@ sent_mind : (place c : ℕ) (words : AskWords) (answer : Option ℕ) (o : Option
     is_open_port o ≡ true →
     mind_of place (option_map (having_done (Sent c words answer)) o) ≡ one_call (mind_of place o)
 sent_mind place c words answer None is = absurd (cc)
-sent_mind place c words answer (Some p) is = rw (next_after c p.dids words answer, received_so c p.dids words answer) refl
+sent_mind place c words answer (Some p) is =
+    rw (next_after c p.dids words answer, received_so c p.dids words answer) refl
 
 pub sent_fed : (s : Setting) (port : ℕ) (m : NetlinkMessage) (w : World) →
     (sent s port m w).fed ≡ w.fed

@@ -1,5 +1,6 @@
 -- The parts of a run, port by port, line by line and frame by frame.
-use Rattle.std.proofs.Common.{◌≡◌, ◌≢◌, ◌<◌, ◌≤◌, ◌+◌, ◌∙◌, ℕ, List, [], ◌∷◌, ◌++◌, length, drop, Option}
+use Rattle.std.proofs.Common.{◌≡◌, ◌≢◌, ◌<◌, ◌≤◌, ◌+◌, ◌∙◌, ℕ}
+use Rattle.std.proofs.Common.{List, [], ◌∷◌, ◌++◌, length, drop, Option}
 use Rattle.std.proofs.Common.{Some, None, sym, ap, arith, inl, inr, append_assoc}
 use Rattle.std.specs.Prelude.{AllPairs, filter, option_to_list}
 use Rattle.std.proofs.lemmas.Bool.{cases_Bool}
@@ -18,7 +19,8 @@ use Rattle.script_runs.specs.Sending.{all_done}
 use Rattle.solo_run.specs.Running.{AreOpen, KeepsBut, port_at}
 use Rattle.solo_run.proofs.Going.{ports_apart}
 
-pub opened_on : (s : Setting) (script : ScriptValue) (place : ℕ) (asks : List Ask) (w after : World) →
+pub opened_on : (s : Setting) (script : ScriptValue) (place : ℕ) (asks : List Ask)
+    (w after : World) →
     place < length script.ports → asks ≡ opening script place →
     after ≡ all_done (λ v. v) s (port_at script place) asks w →
     opened_all s script (place + 1) (drop (place + 1) script.ports) after

@@ -1,5 +1,6 @@
 -- A notice that is received.
-use Rattle.std.proofs.Common.{◌≡◌, ◌≢◌, ◌<◌, ◌∙◌, ℕ, List, [], ◌∷◌, ◌++◌, length, Option, Some, None}
+use Rattle.std.proofs.Common.{◌≡◌, ◌≢◌, ◌<◌, ◌∙◌, ℕ, List, []}
+use Rattle.std.proofs.Common.{◌∷◌, ◌++◌, length, Option, Some, None}
 use Rattle.std.proofs.Common.{Bool, true, false, refl, sym, ap, subst, arith, inl, inr, cond, min}
 use Rattle.std.specs.Prelude.{count_by, slice_index_or, ◌==◌, option_map, IsSomeAnd, if◌then◌else◌}
 use Rattle.std.proofs.Math.Path.{fun_ext}
@@ -12,12 +13,14 @@ use Rattle.place_history.specs.declared.log.Did.TheVariants.{Received}
 use Rattle.script_lines.specs.declared.ask.Ask.{Ask}
 use Rattle.inspector_script.specs.Scripts.{ScriptValue, next_count}
 use Rattle.solo_plane.specs.declared.setting.Setting.{Setting}
-use Rattle.solo_plane.specs.World.{World, Port, at_port, changed_at, received, received_from, first_of}
+use Rattle.solo_plane.specs.World.{World, Port, at_port, changed_at}
+use Rattle.solo_plane.specs.World.{received, received_from, first_of}
 use Rattle.solo_plane.specs.Calls.{is_sent, next_call}
 use Rattle.solo_plane.specs.Soundness.{IsSound}
 use Rattle.script_runs.specs.NoticeTexts.{told_exactly}
 use Rattle.script_runs.specs.Schedule.{is_received, letters_at, received_in, asks_for}
-use Rattle.solo_run.specs.Running.{IsGoing, Keeps, ReceivesFirst, mind_of, mind_at, port_at, one_notice}
+use Rattle.solo_run.specs.Running.{IsGoing, Keeps, ReceivesFirst, mind_of}
+use Rattle.solo_run.specs.Running.{mind_at, port_at, one_notice}
 use Rattle.solo_run.specs.declared.inspector.Inspector.{Inspector}
 use Rattle.solo_run.proofs.Going.{goes_at}
 
@@ -63,7 +66,8 @@ nothing_received old new port has is =
     is ∙ ap (λ (ports : ℕ → Option Port). record old { ports = ports })
     (fun_ext (same_at old.ports port has))
 
-pub goes_unchanged : (script : ScriptValue) (s : Setting) (old new : World) (minds : List Inspector) →
+pub goes_unchanged : (script : ScriptValue) (s : Setting) (old new : World)
+    (minds : List Inspector) →
     new ≡ old → IsGoing script s old minds → IsGoing script s new minds
 goes_unchanged script s old new minds is going =
     subst (λ (v : World). IsGoing script s v minds) (sym is) going
@@ -199,7 +203,8 @@ pub receives_some : (script : ScriptValue) (s : Setting) (place : ℕ) (asks : L
     ((d : Inspector) → asks ≡ asks_for script place
     (next_count (slice_index_or minds place d).machine.received) (told_exactly letter.bytes)) →
     new ≡ at_port (port_at script place) received old →
-    ReceivesFirst script place (port_at script place) (letters_at (old.ports (port_at script place)))
+    ReceivesFirst script place (port_at script place)
+    (letters_at (old.ports (port_at script place)))
     (Some asks) old new
 receives_some script s place asks letter old new minds within going has asked is =
     let port = port_at script place in

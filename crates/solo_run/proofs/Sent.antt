@@ -77,14 +77,16 @@ unsent_goes script s old new minds port bytes (Some (m, n)) used none is sends g
 -- a message was sent, and the inspector counts it
 pub sent_goes : (script : ScriptValue) (s : Setting) (old new : World)
     (minds after : List Inspector) (place : ℕ) (front : Option (NetlinkMessage × ℕ)) (used : ℕ) →
-    0 < used → place < length script.ports → is_open_port (old.ports (port_at script place)) ≡ true →
+    0 < used → place < length script.ports →
+    is_open_port (old.ports (port_at script place)) ≡ true →
     SendsFirst s (port_at script place) front old new used →
     new.lost ≡ [] → IsSound s [] new →
     length after ≡ length minds →
     ((k : ℕ) (d : Inspector) → k ≢ place → slice_index_or after k d ≡ slice_index_or minds k d) →
     ((d : Inspector) → slice_index_or after place d ≡ one_call (slice_index_or minds place d)) →
     IsGoing script s old minds → IsGoing script s new after
-sent_goes script s old new minds after place None used some within open_ sends whole sound many others
+sent_goes script s old new minds after place None used some within open_
+    sends whole sound many others
     this going =
     absurd (omega (arith, some, sends.0))
 sent_goes script s old new minds after place (Some (m, n)) used some within open_ sends whole sound

@@ -118,7 +118,8 @@ fed_cards s old card new f is =
     ∙ (carry_leaves (suc is.memory) s (entered old card) card (next s.tables s.key card 1)).fed
 
 fed_minds : (s : Setting) (old : World) (card : Card) (new : World) (f : Fed) →
-    IsFed s old card new f → (place p : ℕ) → mind_of place (new.ports p) ≡ mind_of place (old.ports p)
+    IsFed s old card new f → (place p : ℕ) →
+    mind_of place (new.ports p) ≡ mind_of place (old.ports p)
 fed_minds s old card new f is place p =
     ap (λ (c : Carried). mind_of place (c.world.ports p)) (sym is.moved)
     ∙ (carry_leaves (suc is.memory) s (entered old card) card (next s.tables s.key card 1)).minds

@@ -1,2 +1,3 @@
+pub mod Downs
 pub mod Numbers
 pub mod Running

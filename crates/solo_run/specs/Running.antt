@@ -11,7 +11,7 @@ use Rattle.solo_plane.specs.declared.setting.Setting.{Setting}
 use Rattle.solo_plane.specs.World.{World, Port, at_port, received}
 use Rattle.solo_plane.specs.Messages.{call_at}
 use Rattle.solo_plane.specs.Soundness.{IsSound}
-use Rattle.solo_plane.specs.Shown as plane
+use Rattle.solo_plane.specs.PlaneView as plane
 use Rattle.script_runs.specs.Sending.{sent}
 use Rattle.script_runs.specs.Schedule.{asks_for, received_in, is_open_port}
 use Rattle.script_runs.specs.NoticeTexts.{told_exactly}

@@ -1,6 +1,7 @@
 //! The inspectors behind the ports of a run.
 
-ghost use Rattle.std.specs.Prelude.{◌≡◌, ◌≢◌, ◌<◌, ℕ, length, slice_index_or, All, IfOk, OnOk, Some};
+ghost use Rattle.std.specs.Prelude.{◌≡◌, ◌≢◌, ◌<◌, ℕ, length};
+ghost use Rattle.std.specs.Prelude.{slice_index_or, All, IfOk, OnOk, Some};
 ghost use Rattle.std.specs.Prelude.{false, option_map};
 ghost use Rattle.nfqa_msgs.specs.Read.{notice_of};
 ghost use Rattle.script_lines.specs.Limits.{IsAsk};

@@ -2,10 +2,12 @@
 //!
 //! [`solo`] opens the script's ports, feeds the frames to a plane one after the other, lets the
 //! inspectors behind the ports answer their notices, and closes the ports: step by step as the
-//! schedule of one thread says.
+//! schedule of one thread says. [`list_before_ends`] goes so far as to where the ports end, and
+//! lists the queues.
 #![tactic(auto)]
 
 mod between;
+mod downs;
 mod inspector;
 mod one_thread;
 mod packet;
@@ -14,7 +16,7 @@ mod rounds;
 mod run;
 mod sending;
 
-pub use one_thread::solo;
+pub use one_thread::{list_before_ends, solo};
 
 #[cfg(test)]
 mod tests;

@@ -1,16 +1,18 @@
 //! The run on one thread.
 
-ghost use Rattle.std.specs.Prelude.{◌≡◌, ◌≤◌, length, All, IfOk, OnOk};
+ghost use Rattle.std.specs.Prelude.{◌≡◌, ◌≤◌, ◌++◌, length, All, IfOk, OnErr, OnOk};
 ghost use Rattle.packet_entry.specs.Numbers.{longest_packet};
 ghost use Rattle.place_history.specs.History.{AreLegal};
 ghost use Rattle.place_history.specs.Journeys.{AreSound};
+ghost use Rattle.place_history.specs.Listing.{listing};
 ghost use Rattle.solo_plane.specs.Planes.{beginning};
 ghost use Rattle.script_runs.specs.Entering.{cards};
-ghost use Rattle.script_runs.specs.Schedule.{IsSolo, until_end, until_ends};
+ghost use Rattle.script_runs.specs.Schedule.{IsSolo, before_ends, until_end, until_ends};
 ghost use Rattle.script_runs.specs.Schedule as schedule;
 ghost use Rattle.solo_run.specs.Numbers.{most_frames};
 ghost use Rattle.solo_run.specs.Running.{AreOpen, Goes, IsWith, setting_of, world_of};
 
+use crate::downs::downs_by_frame;
 use crate::parts::{end_all, open_all, pass_all, rounds_for, take_down};
 use crate::rounds::empty;
 use crate::run::Run;
@@ -44,6 +46,29 @@ pub fn solo(
     histories
 }
 
+/// Appends the listing of the queues as they stand before the ports end: all frames of the capture,
+/// at most 200,000, have passed, and the mailboxes are empty. A line for each bound queue, by
+/// ascending number. `NoMemory`, which is as that of [`solo`], leaves `out` as it was.
+pub fn list_before_ends(
+    alloc: Global,
+    script: &Script,
+    tables: Tables,
+    capture: &Capture,
+    out: &mut Vec<u8>,
+) -> Result<(), NoMemory>
+    requires frames { length capture.now.frames ≤ most_frames }
+    requires bytes { All (λ f. length f.bytes ≤ longest_packet) capture.now.frames }
+    ensures listed { OnOk result (out.new.items
+        ≡ out.old.items ++ listing (before_ends script.now tables capture.now).entries) }
+    ensures err { OnErr result (out.new.items ≡ out.old.items) }
+{
+    let mut run = Run::new(alloc, script, tables)?;
+    let outcome = go_and_list(&mut run, alloc, script, capture, out);
+    // The listing stands: no memory is needed for the histories, which nobody reads.
+    let _histories = run.close(alloc);
+    outcome
+}
+
 /// Up to where the ports end.
 fn go_to_ends(
     run: &mut Run,
@@ -62,9 +87,10 @@ fn go_to_ends(
     ensures fed { OnOk result ((world_of run.new).fed ≡ cards capture.now) }
     ensures open { OnOk result (AreOpen script.now (world_of run.new) 0) }
 {
+    let downs = downs_by_frame(alloc, script)?;
     open_all(run, alloc, script)?;
-    take_down(run, script, 0)?;
-    pass_all(run, alloc, script, capture)?;
+    take_down(run, script, &downs, 0)?;
+    pass_all(run, alloc, script, capture, &downs)?;
     empty(run, alloc, script, rounds_for(capture))
 }
 
@@ -82,4 +108,24 @@ fn go(run: &mut Run, alloc: Global, script: &Script, capture: &Capture) -> Resul
 {
     go_to_ends(run, alloc, script, capture)?;
     end_all(run, alloc, script, rounds_for(capture))
+}
+
+/// Up to where the ports end, and then the listing.
+fn go_and_list(
+    run: &mut Run,
+    alloc: Global,
+    script: &Script,
+    capture: &Capture,
+    out: &mut Vec<u8>,
+) -> Result<(), NoMemory>
+    requires going { Goes script.now run.old }
+    requires frames { length capture.now.frames ≤ most_frames }
+    requires bytes { All (λ f. length f.bytes ≤ longest_packet) capture.now.frames }
+    requires world { world_of run.old ≡ beginning script.now.ports }
+    ensures listed { OnOk result (out.new.items ≡ out.old.items
+        ++ listing (until_ends (setting_of run.old) script.now capture.now).entries) }
+    ensures err { OnErr result (out.new.items ≡ out.old.items) }
+{
+    go_to_ends(run, alloc, script, capture)?;
+    run.plane.listing(alloc, out)
 }

@@ -1,24 +1,25 @@
 //! The parts of a run: its ports open, its frames pass, and its ports end.
 
-ghost use Rattle.std.specs.Prelude.{◌≡◌, ◌≤◌, ◌<◌, ◌∷◌, ◌++◌, [], filter, length, option_to_list, All, OnOk};
+ghost use Rattle.std.specs.Prelude.{◌≡◌, ◌≤◌, ◌<◌, ◌++◌, [], length, option_to_list, All, OnOk};
 ghost use Rattle.packet_entry.specs.Numbers.{longest_packet};
 ghost use Rattle.script_runs.specs.Entering.{card_of, cards};
 ghost use Rattle.script_runs.specs.Schedule.{all_down, downs_after, ended_all, fed, frame_passed};
-ghost use Rattle.script_runs.specs.Schedule.{is_after, paused};
-ghost use Rattle.script_runs.specs.Schedule.{frames_passed, is_pause, opened_all, rounds_for};
+ghost use Rattle.script_runs.specs.Schedule.{frames_passed, is_pause, opened_all, paused};
+ghost use Rattle.script_runs.specs.Schedule.{rounds_for};
+ghost use Rattle.solo_run.specs.Downs.{AreDownsOf};
 ghost use Rattle.solo_run.specs.Numbers.{most_frames};
 ghost use Rattle.solo_run.specs.Running.{AreOpen, Goes, IsWith, Keeps, SameOpen};
 ghost use Rattle.solo_run.specs.Running.{setting_of, world_of};
 
 use crate::between::Nothing;
+use crate::downs::DownsByFrame;
 use crate::packet::packet_of;
 use crate::rounds::{Emptied, empty};
 use crate::run::Run;
 use crate::sending::do_all;
-use inspector_script::Script;
+use inspector_script::{Downs, Script};
 use packet_entry::NoMemory;
 use pcap_io::{Capture, Frame};
-use script_lines::Down;
 use std::alloc::Global;
 
 /// The ports open, in the script's order: each sends its opening messages.
@@ -64,39 +65,38 @@ pub(crate) fn end_all(
 }
 
 /// The devices go down that do so after the frame with this number.
-pub(crate) fn take_down(run: &mut Run, script: &Script, number: u32) -> Result<(), NoMemory>
+pub(crate) fn take_down(
+    run: &mut Run,
+    script: &Script,
+    downs: &DownsByFrame,
+    number: u32,
+) -> Result<(), NoMemory>
     requires going { Goes script.now run.old }
+    requires downs { AreDownsOf script.now downs.now }
     ensures going { OnOk result (Goes script.now run.new) }
     ensures made_with { OnOk result (IsWith run.old run.new) }
     ensures down { OnOk result (world_of run.new
         ≡ all_down (downs_after script.now number) (world_of run.old)) }
     ensures keeps { OnOk result (Keeps (world_of run.old) (world_of run.new)) }
 {
-    for down in script.downs() {
-        take_down_if_due(run, script, number, down)?;
+    match downs.get(&number) {
+        Some(due) => all_down(run, script, due),
+        None => Ok(()),
     }
-    Ok(())
 }
 
-/// The device of this line goes down, where it does so after the frame with this number.
-fn take_down_if_due(
-    run: &mut Run,
-    script: &Script,
-    number: u32,
-    down: &Down,
-) -> Result<(), NoMemory>
+/// The devices of these lines go down, in their order.
+fn all_down(run: &mut Run, script: &Script, downs: &Downs) -> Result<(), NoMemory>
     requires going { Goes script.now run.old }
     ensures going { OnOk result (Goes script.now run.new) }
     ensures made_with { OnOk result (IsWith run.old run.new) }
-    ensures down { OnOk result (world_of run.new
-        ≡ all_down (filter (is_after number) (down.now ∷ [])) (world_of run.old)) }
+    ensures down { OnOk result (world_of run.new ≡ all_down downs.now (world_of run.old)) }
     ensures keeps { OnOk result (Keeps (world_of run.old) (world_of run.new)) }
 {
-    if down.after == number {
-        run.device_down(script, down.device)
-    } else {
-        Ok(())
+    for down in downs {
+        run.device_down(script, down.device)?;
     }
+    Ok(())
 }
 
 /// The packet of a frame is fed, where it is IP.
@@ -132,11 +132,13 @@ fn pass(
     alloc: Global,
     script: &Script,
     capture: &Capture,
+    downs: &DownsByFrame,
     number: u32,
     frame: &Frame,
 ) -> Result<(), NoMemory>
     requires going { Goes script.now run.old }
     requires frames { length capture.now.frames ≤ most_frames }
+    requires downs { AreDownsOf script.now downs.now }
     requires number { 1 ≤ number }
     requires bytes { length frame.now.bytes ≤ longest_packet }
     requires few { length (world_of run.old).fed < most_frames }
@@ -149,7 +151,7 @@ fn pass(
     ensures open { OnOk result (SameOpen (world_of run.old) (world_of run.new)) }
 {
     feed_frame(run, alloc, script, capture, number, frame)?;
-    take_down(run, script, number)?;
+    take_down(run, script, downs, number)?;
     pause(run, alloc, script, rounds_for(capture), number)
 }
 
@@ -199,8 +201,10 @@ pub(crate) fn pass_all(
     alloc: Global,
     script: &Script,
     capture: &Capture,
+    downs: &DownsByFrame,
 ) -> Result<(), NoMemory>
     requires going { Goes script.now run.old }
+    requires downs { AreDownsOf script.now downs.now }
     requires frames { length capture.now.frames ≤ most_frames }
     requires bytes { All (λ f. length f.bytes ≤ longest_packet) capture.now.frames }
     requires none { (world_of run.old).fed ≡ [] }
@@ -213,7 +217,7 @@ pub(crate) fn pass_all(
 {
     let mut number = 1;
     for frame in &capture.frames {
-        pass(run, alloc, script, capture, number, frame)?;
+        pass(run, alloc, script, capture, downs, number, frame)?;
         number += 1;
     }
     Ok(())

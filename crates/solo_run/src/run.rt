@@ -1,6 +1,7 @@
 //! A run: the plane, and an inspector for each port.
 
-ghost use Rattle.std.specs.Prelude.{◌≡◌, ◌<◌, ◌^◌, ◌∷◌, ◌++◌, [], ℕ, length, All, IfOk, OnOk, IfSome, Some, true};
+ghost use Rattle.std.specs.Prelude.{◌≡◌, ◌<◌, ◌^◌, ◌∷◌, ◌++◌, [], ℕ};
+ghost use Rattle.std.specs.Prelude.{length, All, IfOk, OnOk, IfSome, Some, true};
 ghost use Rattle.script_lines.specs.Limits.{IsAsk};
 ghost use Rattle.inspector_script.specs.Scripts.{opening, closing};
 ghost use Rattle.solo_run.specs.Numbers.{most_frames};
@@ -27,6 +28,8 @@ pub(crate) struct Run {
     pub(crate) inspectors: Vec<Inspector>,
     /// The acknowledgements of one message. The plane's logs have what they say.
     pub(crate) replies: Vec<u8>,
+    /// The text of one request. While it is being sent, the buffer isn't here.
+    pub(crate) text: Vec<u8>,
 }
 
 impl Run {
@@ -49,6 +52,7 @@ impl Run {
             plane,
             inspectors,
             replies: Vec::new(alloc),
+            text: Vec::new(alloc),
         })
     }
 
@@ -151,7 +155,8 @@ impl Run {
         ensures made_with { OnOk result (IsWith self.old self.new) }
         ensures world { OnOk result (world_of self.new
             ≡ schedule.fed (setting_of self.old) (Some packet) (world_of self.old)) }
-        ensures fed { OnOk result ((world_of self.new).fed ≡ (world_of self.old).fed ++ packet ∷ []) }
+        ensures fed { OnOk result ((world_of self.new).fed
+            ≡ (world_of self.old).fed ++ packet ∷ []) }
         ensures open { OnOk result ((p : ℕ) → is_open_port ((world_of self.new).ports p)
             ≡ is_open_port ((world_of self.old).ports p)) }
     {
@@ -257,6 +262,7 @@ impl Run {
             plane,
             inspectors: _inspectors,
             replies: _replies,
+            text: _text,
         } = self;
         plane.close(alloc)
     }

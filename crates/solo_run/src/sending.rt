@@ -1,10 +1,11 @@
 //! What ports send.
 
-ghost use Rattle.std.specs.Prelude.{◌≡◌, ◌<◌, ◌≤◌, ◌^◌, drop, length, All, IfOk, OnOk, true};
-ghost use Rattle.nfqa_msgs.specs.RequestReading.{PayloadFits};
+ghost use Rattle.std.specs.Prelude.{◌≡◌, ◌<◌, ◌≤◌, ◌^◌, drop, length, All, OnOk, true};
 ghost use Rattle.nfqa_msgs.specs.RequestWriting.{spelling};
-ghost use Rattle.script_lines.specs.Limits.{IsAsk, IsWords};
-ghost use Rattle.script_runs.specs.Sending.{all_done, all_sent, bytes_of, done, messages_in};
+ghost use Rattle.script_lines.specs.Limits.{IsAsk, IsRequest, IsWords};
+ghost use Rattle.script_lines.specs.declared.ask.Ask.TheVariants.{Words};
+ghost use Rattle.solo_plane.specs.Messages.{call_at};
+ghost use Rattle.script_runs.specs.Sending.{all_done, all_sent, done, messages_in};
 ghost use Rattle.solo_run.specs.Running.{AreWords, ClosesLast, Goes, IsWith, Keeps, KeepsBut};
 ghost use Rattle.solo_run.specs.Running.{LeavesBy};
 ghost use Rattle.solo_run.specs.Running.{is_open_at, port_at, setting_of, world_of};
@@ -12,12 +13,13 @@ ghost use Rattle.solo_run.specs.Running.{is_open_at, port_at, setting_of, world_
 use crate::between::Between;
 use crate::run::Run;
 use inspector_script::Script;
-use netlink_codec::{written_attributes_are_walked, written_message_is_in_front};
 use nfqa_msgs::{Request, encode_request};
-use packet_entry::{Bytes, NoMemory};
+use packet_entry::NoMemory;
 use place_history::AskWords;
 use script_lines::{Ask, Asks};
+use script_runs::datagrams_are_short;
 use std::alloc::Global;
+use std::mem;
 
 /// A port sends the messages of some bytes, one after the other.
 pub(crate) fn send_all<B: Between>(
@@ -61,29 +63,77 @@ fn behind(bytes: &[u8], used: usize) -> &[u8]
     &bytes[used..]
 }
 
-/// The bytes of an ask, as the port's message with this number.
-fn bytes_of(alloc: Global, port: u32, call: u32, words: AskWords) -> Result<Bytes, NoMemory>
-    requires { IsWords words }
-    ensures bytes { IfOk result (λ bytes. bytes ≡ bytes_of port call words) }
-    ensures short { IfOk result (λ bytes. length bytes < 2 ^ 31) }
+/// A request's text, in place of what the buffer held.
+fn put_text(text: &mut Vec<u8>, port: u32, call: u32, request: &Request) -> Result<(), NoMemory>
+    requires { IsRequest request.now }
+    ensures text { OnOk result (text.new.items ≡ spelling port call request.now) }
+    ensures short { OnOk result (length text.new.items < 2 ^ 31) }
 {
-    match words {
-        AskWords::Plain { request } => text_of(alloc, port, call, &request),
-        AskWords::Raw { bytes } => Ok(bytes),
-    }
+    datagrams_are_short();
+    text.clear();
+    encode_request(port, call, request, text)
 }
 
-/// A request's text.
-fn text_of(alloc: Global, port: u32, call: u32, request: &Request) -> Result<Bytes, NoMemory>
-    requires { PayloadFits request.now }
-    ensures text { IfOk result (λ text. text ≡ spelling port call request.now) }
-    ensures short { IfOk result (λ text. length text < 2 ^ 31) }
+/// A port sends a request, as its message with the next number.
+fn send_request<B: Between>(
+    run: &mut Run,
+    alloc: Global,
+    script: &Script,
+    place: u32,
+    request: &Request,
+    between: &B,
+) -> Result<(), NoMemory>
+    requires going { Goes script.now run.old }
+    requires place { place < length script.now.ports }
+    requires open { is_open_at script.now (world_of run.old) place ≡ true }
+    requires fits { IsRequest request.now }
+    ensures going { OnOk result (Goes script.now run.new) }
+    ensures made_with { OnOk result (IsWith run.old run.new) }
+    ensures sent { OnOk result (world_of run.new
+        ≡ all_sent (B.then between.now (setting_of run.old) script.now) (setting_of run.old)
+        (port_at script.now place) (messages_in (spelling (port_at script.now place)
+        (call_at ((world_of run.old).ports (port_at script.now place))) request.now))
+        (world_of run.old)) }
+    ensures keeps { OnOk result (Keeps (world_of run.old) (world_of run.new)) }
 {
-    written_message_is_in_front();
-    written_attributes_are_walked();
-    let mut text = Vec::new(alloc);
-    encode_request(port, call, request, &mut text)?;
-    Ok(Bytes::from_vec(text)?)
+    let port = script.ports()[place as usize];
+    let call = run.inspectors[place as usize].call;
+    let mut text = mem::replace(&mut run.text, Vec::new(alloc));
+    put_text(&mut text, port, call, request)?;
+    send_all(run, alloc, script, place, text.as_slice(), between)?;
+    // What was sent between the messages took a buffer of its own.
+    run.text = text;
+    Ok(())
+}
+
+/// A port sends the bytes of an ask.
+fn send_words<B: Between>(
+    run: &mut Run,
+    alloc: Global,
+    script: &Script,
+    place: u32,
+    words: AskWords,
+    between: &B,
+) -> Result<(), NoMemory>
+    requires going { Goes script.now run.old }
+    requires place { place < length script.now.ports }
+    requires open { is_open_at script.now (world_of run.old) place ≡ true }
+    requires fit { IsWords words }
+    ensures going { OnOk result (Goes script.now run.new) }
+    ensures made_with { OnOk result (IsWith run.old run.new) }
+    ensures done { OnOk result (world_of run.new
+        ≡ done (B.then between.now (setting_of run.old) script.now) (setting_of run.old)
+        (port_at script.now place) (Words words) (world_of run.old)) }
+    ensures keeps { OnOk result (Keeps (world_of run.old) (world_of run.new)) }
+{
+    match words {
+        AskWords::Plain { request } => {
+            send_request(run, alloc, script, place, &request, between)
+        }
+        AskWords::Raw { bytes } => {
+            send_all(run, alloc, script, place, bytes.as_slice(), between)
+        }
+    }
 }
 
 /// What an ask asks for is done.
@@ -108,12 +158,7 @@ fn do_one<B: Between>(
         (LeavesBy ask (port_at script.now place) (world_of run.old) (world_of run.new)) }
 {
     match ask {
-        Ask::Words { words } => {
-            let port = script.ports()[place as usize];
-            let call = run.inspectors[place as usize].call;
-            let bytes = bytes_of(alloc, port, call, words)?;
-            send_all(run, alloc, script, place, bytes.as_slice(), between)
-        }
+        Ask::Words { words } => send_words(run, alloc, script, place, words, between),
         Ask::Close => {
             run.close_port(script, place);
             Ok(())

@@ -5,7 +5,7 @@ ghost use Rattle.std.specs.Prelude.{◌≡◌, ◌≤◌, All, IsTrue, length};
 ghost use Rattle.packet_entry.specs.Numbers.{longest_packet};
 ghost use Rattle.solo_run.specs.Numbers.{most_frames};
 
-use crate::solo;
+use crate::{list_before_ends, solo};
 use hook_chain::{Tables, read_tables};
 use inspector_script::{Script, read_script};
 use packet_entry::{Bytes, MAX_FRAME, NoMemory};
@@ -36,7 +36,14 @@ on any do verdict this repeat this\n";
 
 /// A second port asks of the first one's queue; at the end the first one unbinds it, and closes.
 const CLOSED: &[u8] = b"port 7\nopen config 0 bind params packet 0\nend config 0 unbind\nend close
-port 8\nopen raw 1c0000000203050001000000080000000000000008000100010000001c00\nend batch 0 accept 3\n";
+port 8\nopen raw 1c0000000203050001000000080000000000000008000100010000001c00
+end batch 0 accept 3\n";
+
+/// Nothing is answered before all frames have passed: then packet 2 is dropped. Queue 0 holds four
+/// packets, and no packet comes to queue 5.
+const LISTED: &[u8] = b"pace 0\nport 7\nopen config 0 bind params packet 0 maxlen 4
+on id 2 do verdict this drop this\nend config 0 unbind
+port 8\nopen config 5 bind params meta 9\nend close\n";
 
 /// The packet with this number: 20 bytes, from 10.0.0.1 to 10.0.0.2.
 fn frame(alloc: Global, number: u8) -> Result<Frame, NoMemory> {
@@ -107,6 +114,18 @@ fn histories(alloc: Global, text: &[u8], count: u8) -> Result<Histories, Fail> {
     Ok(solo(alloc, &script, tables(alloc)?, &capture)?)
 }
 
+/// The listing of this script's queues over so many packets, before the ports end.
+fn listing(alloc: Global, text: &[u8], count: u8) -> Result<Vec<u8>, Fail> {
+    let capture = capture(alloc, count)?;
+    if capture.frames.len() > 1000 || !are_short(&capture.frames) {
+        return Err(Fail::new("frames"));
+    }
+    let script = script(alloc, text)?;
+    let mut out = Vec::new(alloc);
+    list_before_ends(alloc, &script, tables(alloc)?, &capture, &mut out)?;
+    Ok(out)
+}
+
 /// How many entries the histories of this script over so many packets have, and how many things
 /// each port did.
 fn counts(alloc: Global, text: &[u8], count: u8) -> Result<Vec<usize>, Fail> {
@@ -155,6 +174,18 @@ fn ports_end(rt: HostRuntime) -> Result<(), Fail> {
     assert_eq!(rt;
         counts(rt.alloc(), CLOSED, 1)?.as_slice(),
         [5, 4, 2].as_slice()
+    );
+    Ok(())
+}
+
+#[test]
+fn queues_are_listed(rt: HostRuntime) -> Result<(), Fail> {
+    // Packet 2 left, and packet 5 came when four were waiting.
+    let lines = b"    0      7     3 2 65531     1     0        4  1
+    5      8     0 1     0     0     0        0  1\n";
+    assert_eq!(rt;
+        listing(rt.alloc(), LISTED, 5)?.as_slice(),
+        lines.as_slice()
     );
     Ok(())
 }

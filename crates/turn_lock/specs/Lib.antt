@@ -4,6 +4,6 @@ pub mod Turns
 pub mod Views
 pub mod Rule
 pub mod Steps
-pub mod Carried
+pub mod Slots
 pub mod Passes
-pub mod Lent
+pub mod LentState

@@ -13,7 +13,7 @@ pub struct Held<S: Storied> {
 impl<S: Storied> Held<S> {
     ghost use Rattle.std.specs.Prelude.{◌≡◌};
     ghost use Rattle.std.specs.Borrow.{sem};
-    ghost use Rattle.turn_lock.specs.Lent.{lends_state};
+    ghost use Rattle.turn_lock.specs.LentState.{lends_state};
     ghost use Rattle.turn_lock.specs.Passes.{state_of};
 
     /// Lends the state.

@@ -2,7 +2,7 @@
 ghost use Rattle.std.specs.Prelude.{◌≡◌, true, false};
 ghost use Rattle.turn_lock.specs.Parts.{void, is_normal};
 ghost use Rattle.turn_lock.specs.Views.{HasSeenOwn, HasSeenOwn-prop};
-ghost use Rattle.turn_lock.specs.Carried.{Carries, Carries-prop};
+ghost use Rattle.turn_lock.specs.Slots.{Carries, Carries-prop};
 
 use crate::storied::Storied;
 use crate::view::View;

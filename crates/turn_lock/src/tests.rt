@@ -41,8 +41,8 @@ fn none_yet(alloc: Global, name: u64) -> Numbers
     }
 }
 
-/// Appends a number in a turn, and says whether there was memory for it. Then the pass has one place
-/// more, and the number stands there in what the pass has seen.
+/// Appends a number in a turn, and says whether there was memory for it. Then the pass has one
+/// place more, and the number stands there in what the pass has seen.
 fn append<R: Wait>(rt: &R, lock: &TurnLock<Numbers>, pass: &mut Pass<Numbers>, number: u64) -> bool
     requires { IsOf lock.now pass.old × ((view_of pass.old).turn ≡ Outside) }
     ensures number { result ≡ true → (k : ℕ) ×
@@ -77,8 +77,8 @@ fn append_all<R: Wait>(
     Some(pass)
 }
 
-/// Lets a pass see all that another has seen. Neither has other places of its own after it, and both
-/// together have the part that they had.
+/// Lets a pass see all that another has seen. Neither has other places of its own after it, and
+/// both together have the part that they had.
 fn tell(
     lock: &TurnLock<Numbers>,
     from: &mut Pass<Numbers>,

@@ -1,7 +1,7 @@
 //! Arguments and inputs that are refused, and what is printed of them; and faults of the host.
 
 use super::{HEADER, RULES, SCRIPT, capture, holds, host, no_output, played, words};
-use crate::play::play;
+use crate::command::play;
 use std::test::Fail;
 
 const USAGE: &str = "usage: play RULES SCRIPT IN OUT LEDGER JOURNAL | live RULES SCRIPT IN OUT \
@@ -129,12 +129,34 @@ fn faults_of_the_host_are_told_apart(rt: HostRuntime) -> Result<(), Fail> {
 fn words_that_are_no_command_print_all_commands(rt: HostRuntime) -> Result<(), Fail> {
     let alloc = rt.alloc();
     let mut host = host(alloc, RULES, SCRIPT, &HEADER)?;
-    let commands: [&[&str]; 6] = [
+    let commands: [&[&str]; 28] = [
         &["play", "r", "s", "c", "o", "o", "j"],
         &["play", "r", "s", "c", "o", "l"],
         &["play", "r", "s", "c", "o", "l", "-"],
         &["play", "", "s", "c", "o", "l", "j"],
         &["list", "r", "s", "c", "o", "l", "j"],
+        &["list", "r", "s", "c"],
+        &["list", "r", "s", "c", "-"],
+        &["list", "r", "", "c", "o"],
+        &["play", "r", "s", "c", "o"],
+        &["gen", "7", "1", "r", "s", "s"],
+        &["gen", "7", "1", "r", "s", "-"],
+        &["gen", "7", "1", "r", "s"],
+        &["gen", "7", "0", "r", "s", "c"],
+        &["gen", "x", "1", "r", "s", "c"],
+        &["trial", "7", "0"],
+        &["trial", "7", "200001"],
+        &["trial", "7", "4294967297"],
+        &["trial", "7", "01"],
+        &["trial", "7", " 1"],
+        &["trial", "07", "1"],
+        &["trial", "+7", "1"],
+        &["trial", "-7", "1"],
+        &["trial", "", "1"],
+        &["trial", "18446744073709551616", "1"],
+        &["trial", "7", "1", "1"],
+        &["trial", "7"],
+        &["live", "7", "1"],
         &[],
     ];
     for command in commands {

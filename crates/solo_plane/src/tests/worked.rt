@@ -114,28 +114,31 @@ fn came(queue: u16, number: u32, mark: u32, outcome: Outcome) -> Line {
 const TWO_TABLES: &[u8] = b"*filter\n-A FORWARD -j NFQUEUE --queue-num 0\nCOMMIT\n\
     *security\n-A FORWARD -j NFQUEUE --queue-num 1\nCOMMIT\n";
 
+/// Queue 0 has room for one packet and fails open; queue 1 stands in the second table. Three
+/// packets are fed, and each is accepted where it waits.
+const FAILS_OPEN: [Step; 17] = [
+    Step::Ask(0, Ask::Bind),
+    Step::Ask(0, Ask::Whole),
+    Step::Ask(0, Ask::Maxlen(1)),
+    Step::Ask(0, Ask::Flags(1)),
+    Step::Ask(1, Ask::Bind),
+    Step::Ask(1, Ask::Whole),
+    Step::Feed(1),
+    Step::Feed(2),
+    Step::Feed(3),
+    Step::Receive,
+    Step::Ask(0, Ask::Verdict(1, 1)),
+    Step::Receive,
+    Step::Ask(1, Ask::Verdict(1, 1)),
+    Step::Receive,
+    Step::Ask(1, Ask::Verdict(1, 2)),
+    Step::Receive,
+    Step::Ask(1, Ask::Verdict(1, 3)),
+];
+
 #[test]
 fn a_full_queue_that_fails_open(rt: HostRuntime) -> Result<(), Fail> {
-    let steps = [
-        Step::Ask(0, Ask::Bind),
-        Step::Ask(0, Ask::Whole),
-        Step::Ask(0, Ask::Maxlen(1)),
-        Step::Ask(0, Ask::Flags(1)),
-        Step::Ask(1, Ask::Bind),
-        Step::Ask(1, Ask::Whole),
-        Step::Feed(1),
-        Step::Feed(2),
-        Step::Feed(3),
-        Step::Receive,
-        Step::Ask(0, Ask::Verdict(1, 1)),
-        Step::Receive,
-        Step::Ask(1, Ask::Verdict(1, 1)),
-        Step::Receive,
-        Step::Ask(1, Ask::Verdict(1, 2)),
-        Step::Receive,
-        Step::Ask(1, Ask::Verdict(1, 3)),
-    ];
-    let (fed, lines) = played(rt.alloc(), TWO_TABLES, 1024, &steps)?;
+    let (fed, lines) = played(rt.alloc(), TWO_TABLES, 1024, &FAILS_OPEN)?;
     assert_eq!(rt;
         fed.as_slice(),
         &[Fed::Waiting, Fed::Waiting, Fed::Waiting][..]

@@ -1,4 +1,4 @@
-use Rattle.std.proofs.Common.{arith, ap, ℕ, List}
+use Rattle.std.proofs.Common.{arith, ap, List}
 use Rattle.std.specs.Prelude.{count_by, ◌==◌}
 use Rattle.place_history.specs.declared.histories.Lost.{Lost}
 use Rattle.script_runs.specs.Entering.{cards}

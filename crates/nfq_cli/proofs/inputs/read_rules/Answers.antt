@@ -1,7 +1,4 @@
-use Rattle.std.proofs.Common.{List, ℕ, Option, Some, Result, subst, sym}
-use Rattle.std.specs.Prelude.{IsSomeAnd}
-use Rattle.hook_chain.specs.declared.rule.Rule.{Rule}
-use Rattle.nfq_cli.specs.declared.refusal.Refusal.{Refusal}
+use Rattle.std.proofs.Common.{List, ℕ, Option, subst, sym}
 use Rattle.nfq_cli.specs.Inputs.{RulesSay, Said}
 use Rattle.nfq_cli.proofs.Saying.{rules_taken, rules_refused}
 use Rattle.nfq_cli.proofs.inputs.read_rules.Goals as goal

@@ -1,6 +1,4 @@
-use Rattle.std.proofs.Common.{List, ℕ, Option, Some, Result, subst, sym}
-use Rattle.std.specs.Prelude.{IsSomeAnd}
-use Rattle.nfq_cli.specs.declared.refusal.Refusal.{Refusal}
+use Rattle.std.proofs.Common.{List, ℕ, Option, subst, sym}
 use Rattle.nfq_cli.specs.Inputs.{ScriptSays, Said}
 use Rattle.nfq_cli.proofs.Saying.{script_taken, script_refused}
 use Rattle.nfq_cli.proofs.inputs.read_script_file.Goals as goal

@@ -1,4 +1,5 @@
-use Rattle.script_runs.proofs.Written.{only_closing, not_empty, nothing_behind, no_request, no_second}
+use Rattle.script_runs.proofs.Written.{only_closing, not_empty, nothing_behind}
+use Rattle.script_runs.proofs.Written.{no_request, no_second}
 use Rattle.script_runs.proofs.Written.{run_made, silence_not_made}
 use Rattle.script_runs.proofs.laws.runs_of_one_port.Goals as goal
 

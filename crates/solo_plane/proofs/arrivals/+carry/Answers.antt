@@ -1,4 +1,4 @@
-use Rattle.solo_plane.specs.Ported.{world_of}
+use Rattle.solo_plane.specs.PortView.{world_of}
 use Rattle.solo_plane.proofs.Stepping.{carried_on}
 use Rattle.solo_plane.proofs.arrivals.+carry.Goals as goal
 

@@ -5,7 +5,7 @@ use Rattle.std.specs.Ordering.{nat_cmp}
 use Rattle.queue_core.specs.State.{Bound}
 use Rattle.place_history.specs.Journeys.{Arrival}
 use Rattle.place_history.specs.Kept.{state_of}
-use Rattle.solo_plane.specs.Ported.{world_of, OnPort}
+use Rattle.solo_plane.specs.PortView.{world_of, OnPort}
 use Rattle.solo_plane.proofs.Settling.{came_back, room_early, room_is, world_posted, world_back}
 use Rattle.solo_plane.proofs.Settling.{came_as_waiting, on_ok, taken_had_room, port_is_there}
 use Rattle.solo_plane.proofs.arrivals.arrive.Goals as goal
@@ -25,7 +25,8 @@ returns-in-Waiting-clause-world c =
     let a : Arrival =
     record { queue = c.args.queue; card = c.args.packet; bypass = c.args.bypass } in
     let w = world_of c.args.held.now in
-    let offered = rw (c.in-Offered.is, c.make_room.ensures.place) at c.in_ok-outcome.ensures.begun in
+    let offered = rw (c.in-Offered.is, c.make_room.ensures.place)
+    at c.in_ok-outcome.ensures.begun in
     let begun = rw (c.in-Offered.is, c.make_room.ensures.place) at c.in_ok-outcome.ensures.state in
     let taken = rw begun at c.in-Waiting.ensures.settled in
     let after = rw begun at c.in-Waiting.ensures.state in
@@ -37,14 +38,16 @@ returns-in-Waiting-clause-world c =
       c.make_room.ensures.ports,
       c.make_room.ensures.fed,
       c.make_room.ensures.lost,
-    ) (world_posted c.args.setting.now w a c.in-Offered.port c.in-Offered.letter _ _ offered taken room)
+    ) (world_posted c.args.setting.now w a c.in-Offered.port c.in-Offered.letter _ _
+    offered taken room)
 
 pub returns-in-Waiting-clause-came : goal.returns-in-Waiting-clause-came
 returns-in-Waiting-clause-came c v =
     let a : Arrival =
     record { queue = c.args.queue; card = c.args.packet; bypass = c.args.bypass } in
     let w = world_of c.args.held.now in
-    let offered = rw (c.in-Offered.is, c.make_room.ensures.place) at c.in_ok-outcome.ensures.begun in
+    let offered = rw (c.in-Offered.is, c.make_room.ensures.place)
+    at c.in_ok-outcome.ensures.begun in
     let begun = rw (c.in-Offered.is, c.make_room.ensures.place) at c.in_ok-outcome.ensures.state in
     let taken = rw begun at c.in-Waiting.ensures.settled in
     let room = room_is c.args.setting.now w a _ _ _ _ offered c.make_room.ensures.ports
@@ -56,7 +59,8 @@ deliver-requires c =
     let a : Arrival =
     record { queue = c.args.queue; card = c.args.packet; bypass = c.args.bypass } in
     let w = world_of c.args.held.now in
-    let offered = rw (c.in-Offered.is, c.make_room.ensures.place) at c.in_ok-outcome.ensures.begun in
+    let offered = rw (c.in-Offered.is, c.make_room.ensures.place)
+    at c.in_ok-outcome.ensures.begun in
     let begun = rw (c.in-Offered.is, c.make_room.ensures.place) at c.in_ok-outcome.ensures.state in
     let taken = rw begun at c.in-Waiting.ensures.settled in
     let had = taken_had_room (state_of w.entries a.queue) a.card a.bypass c.takes_one-room.result
@@ -75,7 +79,8 @@ returns-in-Back-settle-clause-world c =
     let a : Arrival =
     record { queue = c.args.queue; card = c.args.packet; bypass = c.args.bypass } in
     let w = world_of c.args.held.now in
-    let offered = rw (c.in-Offered.is, c.make_room.ensures.place) at c.in_ok-outcome.ensures.begun in
+    let offered = rw (c.in-Offered.is, c.make_room.ensures.place)
+    at c.in_ok-outcome.ensures.begun in
     let begun = rw (c.in-Offered.is, c.make_room.ensures.place) at c.in_ok-outcome.ensures.state in
     let back = rw begun at c.in-Back-settle.ensures.settled in
     let after = rw begun at c.in-Back-settle.ensures.state in
@@ -93,7 +98,8 @@ returns-in-Back-settle-clause-came c v =
     let a : Arrival =
     record { queue = c.args.queue; card = c.args.packet; bypass = c.args.bypass } in
     let w = world_of c.args.held.now in
-    let offered = rw (c.in-Offered.is, c.make_room.ensures.place) at c.in_ok-outcome.ensures.begun in
+    let offered = rw (c.in-Offered.is, c.make_room.ensures.place)
+    at c.in_ok-outcome.ensures.begun in
     let begun = rw (c.in-Offered.is, c.make_room.ensures.place) at c.in_ok-outcome.ensures.state in
     let back = rw begun at c.in-Back-settle.ensures.settled in
     let room = room_is c.args.setting.now w a _ _ _ _ offered c.make_room.ensures.ports

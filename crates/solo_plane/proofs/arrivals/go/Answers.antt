@@ -1,7 +1,7 @@
 use Rattle.std.proofs.Common.{ap}
 use Rattle.packet_entry.specs.declared.packet.Card.{Card}
 use Rattle.packet_entry.specs.Stocked.{Stocked}
-use Rattle.solo_plane.specs.Ported.{world_of}
+use Rattle.solo_plane.specs.PortView.{world_of}
 use Rattle.solo_plane.proofs.Stepping.{moved_from}
 use Rattle.solo_plane.proofs.arrivals.go.Goals as goal
 

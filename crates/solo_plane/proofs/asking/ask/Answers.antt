@@ -26,4 +26,5 @@ hand_on-requires-clause-in_time c =
     let handed = rw c.new-handed.ensures at c.in-Ok.ensures.handed in
     rw handed
     (handed_in_time q c.args.port c.args.call c.args.request
-    (c.each_packet_stays_or_leaves.ensures q (Ask c.args.port c.args.call c.args.request)) (c.requires.in_time (queue_of c.args.request)))
+    (c.each_packet_stays_or_leaves.ensures q (Ask c.args.port c.args.call c.args.request))
+    (c.requires.in_time (queue_of c.args.request)))

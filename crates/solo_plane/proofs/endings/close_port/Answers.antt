@@ -1,4 +1,4 @@
-use Rattle.solo_plane.specs.Ported.{world_of}
+use Rattle.solo_plane.specs.PortView.{world_of}
 use Rattle.solo_plane.proofs.endings.close_port.Goals as goal
 
 pub returns-clause-sound : goal.returns-clause-sound

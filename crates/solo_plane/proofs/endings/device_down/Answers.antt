@@ -1,4 +1,4 @@
-use Rattle.solo_plane.specs.Ported.{world_of}
+use Rattle.solo_plane.specs.PortView.{world_of}
 use Rattle.solo_plane.proofs.endings.device_down.Goals as goal
 
 pub returns-clause-sound : goal.returns-clause-sound

@@ -1,5 +1,5 @@
 use Rattle.std.proofs.Common.{get_or, refl}
-use Rattle.solo_plane.specs.Ported.{ports_of}
+use Rattle.solo_plane.specs.PortView.{ports_of}
 use Rattle.solo_plane.proofs.Opened.{one_more_opened}
 use Rattle.solo_plane.proofs.opening.open_ports.Goals as goal
 

@@ -1,5 +1,5 @@
 use Rattle.std.proofs.Common.{◌≡◌, take}
-use Rattle.solo_plane.specs.Ported.{ports_of}
+use Rattle.solo_plane.specs.PortView.{ports_of}
 use Rattle.solo_plane.specs.Planes.{opened_ports}
 use Rattle.solo_plane.proofs.opening.open_ports.Given as goal
 

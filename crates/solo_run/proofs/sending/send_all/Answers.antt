@@ -14,7 +14,8 @@ returns-then-used-eq0-clause-sent g c =
     let sent = subst Sends c.loop-look.invariant.made_with.setting c.in_ok-used.ensures.sent in
     sent_all (g.B.Between.then c.args.between.now (setting_of c.args.run.now) c.args.script.now)
     (setting_of c.args.run.now) _ (length c.args.datagram.now) c.loop-look._look
-    c.loop-look.rest.now (world_of c.loop-look.run) (world_of c.send_first.new.self) c.in_ok-used.used
+    c.loop-look.rest.now (world_of c.loop-look.run) (world_of c.send_first.new.self)
+    c.in_ok-used.used
     c.loop-look-test.true (omega (arith, c.if-used-eq0.true)) sent
     ∙ c.loop-look.invariant.sent
 
@@ -29,7 +30,8 @@ loop-look-preserved g c =
     λ s. SendsFirst s (port_at c.args.script.now c.args.place) (first_message c.loop-look.rest.now)
     (world_of c.loop-look.run) (world_of c.send_first.new.self) c.in_ok-used.used in
     let sent = subst Sends c.loop-look.invariant.made_with.setting c.in_ok-used.ensures.sent in
-    let setting = c.in_ok-used.ensures.made_with.setting ∙ c.loop-look.invariant.made_with.setting in
+    let setting = c.in_ok-used.ensures.made_with.setting
+    ∙ c.loop-look.invariant.made_with.setting in
     record {
       going = c.in_ok-go.ensures.going;
       made_with = with_both c.args.run.now c.send_first.new.self c.go.new.run
@@ -50,7 +52,8 @@ loop-look-preserved g c =
           (setting_of c.args.run.now) _ (length c.args.datagram.now) c.loop-look._look
           c.loop-look.rest.now c.behind-rest.result.now (world_of c.loop-look.run)
           (world_of c.send_first.new.self) (world_of c.go.new.run) c.in_ok-used.used
-          c.loop-look-test.true (omega (arith, c.if-used-eq0.false)) sent c.behind-rest.ensures.value
+          c.loop-look-test.true (omega (arith, c.if-used-eq0.false))
+          sent c.behind-rest.ensures.value
           (c.in_ok-go.ensures.world
           ∙ ap (λ (s : Setting). g.B.Between.then c.args.between.now s c.args.script.now
           (world_of c.send_first.new.self)) setting)

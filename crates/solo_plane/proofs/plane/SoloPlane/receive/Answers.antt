@@ -1,7 +1,7 @@
 use Rattle.std.proofs.Common.{◌≡◌, ◌∙◌, ℕ, Option, subst}
 use Rattle.std.specs.Prelude.{IsSomeAnd}
 use Rattle.solo_plane.specs.World.{Port, first_of, received}
-use Rattle.solo_plane.specs.Ported.{ports_of}
+use Rattle.solo_plane.specs.PortView.{ports_of}
 use Rattle.solo_plane.proofs.Logging.{open_same, open_changed, received_keeps}
 use Rattle.solo_plane.proofs.plane.SoloPlane.receive.Goals as goal
 

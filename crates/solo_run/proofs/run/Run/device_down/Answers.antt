@@ -1,5 +1,5 @@
 use Rattle.std.proofs.Common.{refl}
-use Rattle.solo_plane.specs.Shown.{setting_of, world_in}
+use Rattle.solo_plane.specs.PlaneView.{setting_of, world_in}
 use Rattle.solo_run.specs.Running.{world_of}
 use Rattle.solo_run.specs.Running as run
 use Rattle.solo_run.proofs.Going.{goes_as}

@@ -1,5 +1,5 @@
 use Rattle.std.proofs.Common.{refl, ap}
-use Rattle.solo_plane.specs.Shown.{world_in}
+use Rattle.solo_plane.specs.PlaneView.{world_in}
 use Rattle.solo_run.specs.Running.{world_of}
 use Rattle.solo_run.specs.Running as run
 use Rattle.solo_run.specs.declared.inspector.Inspector.{Inspector}

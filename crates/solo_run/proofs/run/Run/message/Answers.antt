@@ -1,4 +1,4 @@
-use Rattle.solo_plane.specs.Shown.{world_in}
+use Rattle.solo_plane.specs.PlaneView.{world_in}
 use Rattle.solo_run.specs.Running.{setting_of, world_of}
 use Rattle.solo_run.proofs.Enough.{sends_enough}
 use Rattle.solo_run.proofs.Sent.{none_lost}

@@ -4,7 +4,8 @@ use Rattle.solo_run.proofs.run.Run.new.Goals as goal
 
 pub new-requires-clause-apart : goal.new-requires-clause-apart
 new-requires-clause-apart c =
-    rw c.ports-ports.ensures.value (apart_ports c.args.script.now.ports c.ports-ports.ensures.facts.ports_differ)
+    rw c.ports-ports.ensures.value
+    (apart_ports c.args.script.now.ports c.ports-ports.ensures.facts.ports_differ)
 
 pub returns-clause-going : goal.returns-clause-going
 returns-clause-going c =

@@ -1,7 +1,7 @@
 use Rattle.std.proofs.Common.{◌≡◌, Option, Some, None, subst, refl}
 use Rattle.std.specs.Prelude.{IsSomeAnd}
 use Rattle.packet_entry.specs.declared.letter.Letter.{Letter}
-use Rattle.solo_plane.specs.Shown.{setting_of, world_in}
+use Rattle.solo_plane.specs.PlaneView.{setting_of, world_in}
 use Rattle.solo_plane.specs.World.{first_of}
 use Rattle.solo_run.specs.Running.{port_at, world_of}
 use Rattle.solo_run.specs.Running as run

@@ -2,7 +2,7 @@ use Rattle.std.proofs.Common.{◌≡◌, true, false, sym, ap, ◌∙◌, subst,
 use Rattle.turn_lock.specs.Parts.{void, is_normal}
 use Rattle.turn_lock.specs.Places.{IsPlaced}
 use Rattle.turn_lock.specs.Turns.{Met}
-use Rattle.turn_lock.specs.Carried.{carried}
+use Rattle.turn_lock.specs.Slots.{carried}
 use Rattle.turn_lock.proofs.Trees.{normal_union, live_union}
 use Rattle.turn_lock.proofs.Ends.{placed_joined}
 use Rattle.turn_lock.proofs.Steps.{joins, tells}

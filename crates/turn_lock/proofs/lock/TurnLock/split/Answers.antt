@@ -1,7 +1,7 @@
 use Rattle.std.proofs.Common.{◌≡◌, true, false, refl, sym, subst, rules}
 use Rattle.turn_lock.specs.Parts.{void, is_normal}
 use Rattle.turn_lock.specs.Places.{IsPlaced}
-use Rattle.turn_lock.specs.Carried.{carried}
+use Rattle.turn_lock.specs.Slots.{carried}
 use Rattle.turn_lock.proofs.Trees.{normal_kept, normal_cut, live_kept, live_cut}
 use Rattle.turn_lock.proofs.Steps.{splits}
 use Rattle.turn_lock.proofs.lock.TurnLock.split.Goals as goal

@@ -1,0 +1,217 @@
+//! The commands: the arguments say which, it is done, and its status is answered.
+
+ghost use Rattle.std.specs.Prelude.{◌≡◌, ◌⊎◌, ◌≤◌, ◌≢◌, ◌↔◌, None, Some};
+ghost use Rattle.std.specs.Prelude.{IsTrue, IfSome, IsSomeAnd, OnOk, OnErr, IsErrOf};
+ghost use Rattle.host_io.specs.Host.{IsLater, SameFiles, ChangesOnly};
+ghost use Rattle.nfq_cli.specs.declared.refusal.Refusal.{Refusal as ARefusal};
+ghost use Rattle.nfq_cli.specs.Arguments.{Call, call_of, call_of_words, Generates, GenFiles};
+ghost use Rattle.nfq_cli.specs.Arguments.{InputFiles, inputs, IsAllowed, Lists, ListFiles, outputs};
+ghost use Rattle.nfq_cli.specs.Arguments.{PlayFiles, Plays, Sample, standard_output, Tries};
+ghost use Rattle.nfq_cli.specs.Causes.{AreTaken, IsAnswered, IsRefused, IsTurnedDown, IsUnread};
+ghost use Rattle.nfq_cli.specs.Files.{IsPrinted, IsStopped, OthersStay};
+ghost use Rattle.nfq_cli.specs.Files.{ReadFaultRose, WriteFaultRose};
+ghost use Rattle.nfq_cli.specs.Headline.{IsCut, IsDone, IsGenerated, IsListed, IsPlayed, IsTried};
+ghost use Rattle.nfq_cli.specs.Printed.{line_of, usage_line};
+ghost use Rattle.nfq_cli.specs.Statuses.{IfRefused, StopsFor};
+
+use crate::arguments::{Command, command_of};
+use crate::generation::generate;
+use crate::list::list_files;
+use crate::play::play_files;
+use crate::printing::{print, print_usage};
+use crate::stop::Stop;
+use crate::trial::try_out;
+use host_io::Host;
+use std::alloc::Global;
+
+/// All inputs were read to their end, and all outputs written.
+pub const DONE: u8 = 0;
+
+/// The arguments aren't a command.
+pub const USAGE: u8 = 1;
+
+/// Does the command that the arguments are, without the program's name, and answers its status.
+pub fn play<H: Host>(alloc: Global, words: &[String], host: &mut H) -> u8
+    ensures statuses { result ≤ 8 }
+
+    // 1 comes exactly where the arguments aren't a command, and then all commands are printed.
+    ensures usage { (result ≡ 1) ↔ (call_of_words words.now ≡ None) }
+    ensures usage_printed { result ≡ 1 → IsTrue (H.tells host.old) → IsPrinted usage_line
+        (H.write_faults host.old) (H.write_faults host.new) (H.content host.new) }
+
+    // 2 and 3 come only where the count of faults of an input or an output of the command rose in
+    // this call.
+    ensures read_fault { result ≡ 2 → (c : Call) → call_of_words words.now ≡ Some c →
+        IsSomeAnd (inputs c) (λ i.
+        ReadFaultRose i (H.read_faults host.old) (H.read_faults host.new)) }
+    ensures write_fault { result ≡ 3 → (c : Call) → call_of_words words.now ≡ Some c →
+        WriteFaultRose (outputs c) (H.write_faults host.old) (H.write_faults host.new) }
+    // At 2 the inputs before the one that failed are within their limits and in their grammars.
+    ensures unread { result ≡ 2 → (c : Call) → call_of_words words.now ≡ Some c →
+        IsTrue (H.tells host.old) → IsSomeAnd (inputs c) (λ i.
+        IsUnread i (H.read_faults host.old) (H.read_faults host.new) (H.content host.old)) }
+    // At 3 the outputs after the one that failed hold what they held ..
+    ensures stopped { result ≡ 3 → (c : Call) → call_of_words words.now ≡ Some c →
+        IsStopped (outputs c) (H.write_faults host.old) (H.write_faults host.new)
+        (H.content host.old) (H.content host.new) }
+    // .. and those before it their whole texts.
+    ensures cut_short { result ≡ 3 → (c : Call) → call_of_words words.now ≡ Some c →
+        IsTrue (H.tells host.old) →
+        IsCut c (H.write_faults host.old) (H.write_faults host.new) (H.content host.old)
+        (H.content host.new) }
+
+    // 4, 5, 6 and 7 come only where the order reaches an input that is refused, and the line that
+    // says why is printed ..
+    ensures refused { 4 ≤ result → result ≤ 7 → (c : Call) → call_of_words words.now ≡ Some c →
+        IsTrue (H.tells host.old) → IsSomeAnd (inputs c) (λ i.
+        IsTurnedDown i result (H.write_faults host.old) (H.write_faults host.new)
+        (H.content host.old) (H.content host.new)) }
+    // .. and there they do come, unless memory ran out, or a read of that file or of one before it
+    // failed.
+    ensures exact { (c : Call) (i : InputFiles) (why : ARefusal) →
+        call_of_words words.now ≡ Some c → inputs c ≡ Some i →
+        IsTrue (H.tells host.old) → IsRefused i (H.content host.old) why →
+        IsAnswered why result (H.write_faults host.old) (H.write_faults host.new)
+        (H.content host.new) ⊎ (result ≡ 8) ⊎ ((result ≡ 2) × IsUnread i
+        (H.read_faults host.old) (H.read_faults host.new) (H.content host.old)) }
+
+    // The headline: at 0 the outputs of `play` are the texts of the schedule's run on the inputs.
+    ensures played { result ≡ 0 → (f : PlayFiles) → call_of_words words.now ≡ Some (Plays f) →
+        IsTrue (H.tells host.old) →
+        IsPlayed f (H.content host.old) (H.content host.new) }
+    // That of `list` is the listing of its queues before the ports end.
+    ensures listed { result ≡ 0 → (f : ListFiles) → call_of_words words.now ≡ Some (Lists f) →
+        IsTrue (H.tells host.old) →
+        IsListed f (H.content host.old) (H.content host.new) }
+    // The files of `gen` are the generated ones.
+    ensures generated { result ≡ 0 → (g : GenFiles) →
+        call_of_words words.now ≡ Some (Generates g) →
+        IsTrue (H.tells host.old) → IsGenerated g (H.content host.new) }
+    // `trial` prints the counts of the run on these.
+    ensures tried { result ≡ 0 → (s : Sample) → call_of_words words.now ≡ Some (Tries s) →
+        IsTrue (H.tells host.old) → IsTried s (H.content host.new) }
+    // A command, and inputs in their grammars and limits, give 0, unless memory ran out or the
+    // host had a fault.
+    ensures complete { (c : Call) → call_of_words words.now ≡ Some c →
+        IsTrue (H.tells host.old) →
+        IfSome (inputs c) (λ i. AreTaken i (H.content host.old)) →
+        (result ≡ 0) ⊎ (result ≡ 8)
+        ⊎ IsSomeAnd (inputs c) (λ i.
+        ReadFaultRose i (H.read_faults host.old) (H.read_faults host.new))
+        ⊎ WriteFaultRose (outputs c) (H.write_faults host.old) (H.write_faults host.new) }
+
+    // Nothing but a line is written before the run is done, a line only where an input or the
+    // arguments are refused, and no other name ever.
+    ensures untouched { result ≢ 0 → result ≢ 3 →
+        ChangesOnly standard_output (H.content host.old) (H.content host.new) }
+    ensures quiet { (result ≡ 2) ⊎ (result ≡ 8) →
+        SameFiles (H.content host.old) (H.content host.new) }
+    ensures others { (result ≡ 0) ⊎ (result ≡ 3) → (c : Call) →
+        call_of_words words.now ≡ Some c →
+        OthersStay (outputs c) (H.content host.old) (H.content host.new) }
+    ensures later { IsLater H.tells H.read_faults H.write_faults host.old host.new }
+{
+    let Some(command) = command_of(words) else {
+        print_usage(host);
+        return USAGE;
+    };
+    match carry_out(alloc, &command, host) {
+        Ok(()) => DONE,
+        Err(stop) => stop.status(),
+    }
+}
+
+/// Does the command, and prints why an input is refused.
+fn carry_out<H: Host>(alloc: Global, command: &Command<'_>, host: &mut H) -> Result<(), Stop>
+    requires allowed { IsAllowed (call_of command.now) }
+    ensures done { OnOk result (IsTrue (H.tells host.old) →
+        IsDone (call_of command.now) (H.content host.old) (H.content host.new)) }
+    ensures refused { IfRefused result (λ why. IsTrue (H.tells host.old) →
+        IsSomeAnd (inputs (call_of command.now)) (λ i. IsRefused i (H.content host.old) why)) }
+    ensures exact { (i : InputFiles) (why : ARefusal) → inputs (call_of command.now) ≡ Some i →
+        IsTrue (H.tells host.old) → IsRefused i (H.content host.old) why → StopsFor why result }
+    ensures only { IsTrue (H.tells host.old) →
+        IfSome (inputs (call_of command.now)) (λ i. AreTaken i (H.content host.old)) →
+        IfRefused result (λ _. ⊥) }
+    ensures printed { IfRefused result (λ why. IsTrue (H.tells host.old) → IsPrinted (line_of why)
+        (H.write_faults host.old) (H.write_faults host.new) (H.content host.new)) }
+    ensures read_fault { IsErrOf result Stop.ReadFault →
+        IsSomeAnd (inputs (call_of command.now)) (λ i.
+        ReadFaultRose i (H.read_faults host.old) (H.read_faults host.new)) }
+    ensures unread { IsErrOf result Stop.ReadFault → IsTrue (H.tells host.old) →
+        IsSomeAnd (inputs (call_of command.now)) (λ i.
+        IsUnread i (H.read_faults host.old) (H.read_faults host.new) (H.content host.old)) }
+    ensures write_fault { IsErrOf result Stop.WriteFault →
+        WriteFaultRose (outputs (call_of command.now))
+        (H.write_faults host.old) (H.write_faults host.new) }
+    ensures stopped { IsErrOf result Stop.WriteFault → IsStopped (outputs (call_of command.now))
+        (H.write_faults host.old) (H.write_faults host.new) (H.content host.old)
+        (H.content host.new) }
+    ensures cut_short { IsErrOf result Stop.WriteFault → IsTrue (H.tells host.old) →
+        IsCut (call_of command.now)
+        (H.write_faults host.old) (H.write_faults host.new) (H.content host.old)
+        (H.content host.new) }
+    ensures untouched { OnErr result (¬ IsErrOf result Stop.WriteFault →
+        ChangesOnly standard_output (H.content host.old) (H.content host.new)) }
+    ensures quiet { IsErrOf result Stop.ReadFault ⊎ IsErrOf result Stop.NoMemory →
+        SameFiles (H.content host.old) (H.content host.new) }
+    ensures others { OnOk result
+        (OthersStay (outputs (call_of command.now)) (H.content host.old) (H.content host.new)) }
+    ensures others_stopped { IsErrOf result Stop.WriteFault →
+        OthersStay (outputs (call_of command.now)) (H.content host.old) (H.content host.new) }
+    ensures later { IsLater H.tells H.read_faults H.write_faults host.old host.new }
+{
+    match dispatch(alloc, command, host) {
+        Err(Stop::Refused { why }) => {
+            let line = why.line(alloc)?;
+            print(host, &line);
+            Err(Stop::Refused { why })
+        }
+        Err(Stop::ReadFault) => Err(Stop::ReadFault),
+        Err(Stop::WriteFault) => Err(Stop::WriteFault),
+        Err(Stop::NoMemory) => Err(Stop::NoMemory),
+        Ok(()) => Ok(()),
+    }
+}
+
+/// Hands the command to the function that does it.
+fn dispatch<H: Host>(alloc: Global, command: &Command<'_>, host: &mut H) -> Result<(), Stop>
+    requires allowed { IsAllowed (call_of command.now) }
+    ensures done { OnOk result (IsTrue (H.tells host.old) →
+        IsDone (call_of command.now) (H.content host.old) (H.content host.new)) }
+    ensures refused { IfRefused result (λ why. IsTrue (H.tells host.old) →
+        IsSomeAnd (inputs (call_of command.now)) (λ i. IsRefused i (H.content host.old) why)) }
+    ensures exact { (i : InputFiles) (why : ARefusal) → inputs (call_of command.now) ≡ Some i →
+        IsTrue (H.tells host.old) → IsRefused i (H.content host.old) why → StopsFor why result }
+    ensures only { IsTrue (H.tells host.old) →
+        IfSome (inputs (call_of command.now)) (λ i. AreTaken i (H.content host.old)) →
+        IfRefused result (λ _. ⊥) }
+    ensures read_fault { IsErrOf result Stop.ReadFault →
+        IsSomeAnd (inputs (call_of command.now)) (λ i.
+        ReadFaultRose i (H.read_faults host.old) (H.read_faults host.new)) }
+    ensures unread { IsErrOf result Stop.ReadFault → IsTrue (H.tells host.old) →
+        IsSomeAnd (inputs (call_of command.now)) (λ i.
+        IsUnread i (H.read_faults host.old) (H.read_faults host.new) (H.content host.old)) }
+    ensures write_fault { IsErrOf result Stop.WriteFault →
+        WriteFaultRose (outputs (call_of command.now))
+        (H.write_faults host.old) (H.write_faults host.new) }
+    ensures stopped { IsErrOf result Stop.WriteFault → IsStopped (outputs (call_of command.now))
+        (H.write_faults host.old) (H.write_faults host.new) (H.content host.old)
+        (H.content host.new) }
+    ensures cut_short { IsErrOf result Stop.WriteFault → IsTrue (H.tells host.old) →
+        IsCut (call_of command.now)
+        (H.write_faults host.old) (H.write_faults host.new) (H.content host.old)
+        (H.content host.new) }
+    ensures untouched { OnErr result (¬ IsErrOf result Stop.WriteFault →
+        SameFiles (H.content host.old) (H.content host.new)) }
+    ensures others { OthersStay (outputs (call_of command.now))
+        (H.content host.old) (H.content host.new) }
+    ensures later { IsLater H.tells H.read_faults H.write_faults host.old host.new }
+{
+    match command {
+        Command::Play { files } => play_files(alloc, files, host),
+        Command::List { files } => list_files(alloc, files, host),
+        Command::Gen { files } => generate(alloc, files, host),
+        Command::Trial { sample } => try_out(alloc, *sample, host),
+    }
+}

@@ -1,0 +1,86 @@
+//! The command `gen`: generated inputs are written, in the order rules, script, capture.
+
+ghost use Rattle.std.specs.Prelude.{◌≡◌, IsTrue, IfOk, OnOk, OnErr, IsErrOf, true};
+ghost use Rattle.host_io.specs.Host.{IsLater, SameFiles};
+ghost use Rattle.pcap_io.specs.Text.{capture_text};
+ghost use Rattle.generated.specs.Captures.{generated_capture};
+ghost use Rattle.nfq_cli.specs.Arguments.{are_inputs_apart, gen_files_of, gen_outputs};
+ghost use Rattle.nfq_cli.specs.Arguments.{input_names, inputs_of, IsGenAllowed, IsSample};
+ghost use Rattle.nfq_cli.specs.Arguments.{sample_of};
+ghost use Rattle.nfq_cli.specs.Files.{AreWritten, IsStopped, IsStoppedAfter, OthersStay};
+ghost use Rattle.nfq_cli.specs.Files.{WriteFaultRose};
+ghost use Rattle.nfq_cli.specs.Headline.{gen_texts, input_texts, IsGenerated};
+ghost use Rattle.nfq_cli.specs.Statuses.{IfRefused};
+
+use crate::arguments::{Generation, Inputs, Sample};
+use crate::stop::Stop;
+use generated::{rules_text, script_text};
+use host_io::{Host, write_whole};
+use packet_entry::NoMemory;
+use pcap_io::write_capture;
+use std::alloc::Global;
+
+/// Makes the inputs and writes them.
+pub fn generate<H: Host>(alloc: Global, files: &Generation<'_>, host: &mut H) -> Result<(), Stop>
+    requires allowed { IsGenAllowed (gen_files_of files.now) }
+    ensures generated { OnOk result (IsTrue (H.tells host.old) →
+        IsGenerated (gen_files_of files.now) (H.content host.new)) }
+    ensures no_refusal { IfRefused result (λ _. ⊥) }
+    ensures no_read { IsErrOf result Stop.ReadFault → ⊥ }
+    ensures write_fault { IsErrOf result Stop.WriteFault →
+        WriteFaultRose (gen_outputs (gen_files_of files.now))
+        (H.write_faults host.old) (H.write_faults host.new) }
+    ensures stopped { IsErrOf result Stop.WriteFault →
+        IsStopped (gen_outputs (gen_files_of files.now))
+        (H.write_faults host.old) (H.write_faults host.new) (H.content host.old)
+        (H.content host.new) }
+    ensures cut_short { IsErrOf result Stop.WriteFault → IsTrue (H.tells host.old) →
+        IsStoppedAfter (gen_texts (gen_files_of files.now))
+        (H.write_faults host.old) (H.write_faults host.new) (H.content host.old)
+        (H.content host.new) }
+    ensures untouched { OnErr result (¬ IsErrOf result Stop.WriteFault →
+        SameFiles (H.content host.old) (H.content host.new)) }
+    ensures others { OthersStay (gen_outputs (gen_files_of files.now))
+        (H.content host.old) (H.content host.new) }
+    ensures later { IsLater H.tells H.read_faults H.write_faults host.old host.new }
+{
+    let capture = capture_file(alloc, files.sample)?;
+    write_inputs(&files.files, &capture, host)
+}
+
+/// The generated capture, as a file.
+fn capture_file(alloc: Global, sample: Sample) -> Result<Vec<u8>, NoMemory>
+    requires sample { IsSample (sample_of sample) }
+    ensures { IfOk result (λ file. file.items
+        ≡ capture_text (generated_capture sample.number sample.count)) }
+{
+    let capture = generated::capture(alloc, sample.number, sample.count)?;
+    let mut file = Vec::new(alloc);
+    write_capture(&capture, &mut file)?;
+    Ok(file)
+}
+
+/// Writes the inputs, one after the other, each whole.
+fn write_inputs<H: Host>(names: &Inputs<'_>, capture: &[u8], host: &mut H) -> Result<(), Stop>
+    requires apart { are_inputs_apart (inputs_of names.now) ≡ true }
+    ensures written { OnOk result (IsTrue (H.tells host.old) →
+        AreWritten (input_texts (inputs_of names.now) capture.now) (H.content host.new)) }
+    ensures only { OnErr result (IsErrOf result Stop.WriteFault) }
+    ensures write_fault { OnErr result (WriteFaultRose (input_names (inputs_of names.now))
+        (H.write_faults host.old) (H.write_faults host.new)) }
+    ensures stopped { OnErr result (IsStopped (input_names (inputs_of names.now))
+        (H.write_faults host.old) (H.write_faults host.new) (H.content host.old)
+        (H.content host.new)) }
+    ensures cut_short { OnErr result (IsTrue (H.tells host.old) →
+        IsStoppedAfter (input_texts (inputs_of names.now) capture.now)
+        (H.write_faults host.old) (H.write_faults host.new) (H.content host.old)
+        (H.content host.new)) }
+    ensures others { OthersStay (input_names (inputs_of names.now))
+        (H.content host.old) (H.content host.new) }
+    ensures later { IsLater H.tells H.read_faults H.write_faults host.old host.new }
+{
+    write_whole(host, names.rules, rules_text())?;
+    write_whole(host, names.script, script_text())?;
+    write_whole(host, names.capture, capture)?;
+    Ok(())
+}
