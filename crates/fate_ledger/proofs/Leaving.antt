@@ -1,6 +1,6 @@
 -- What leaves, one packet after the other.
-use Rattle.std.proofs.Common.{◌≡◌, ℕ, zero, suc, List, [], ◌∷◌, Option, None}
-use Rattle.std.proofs.Common.{drop, refl, sym, ap, ◌∙◌}
+use Rattle.std.proofs.Common.{◌≡◌, ℕ, suc, List, ◌∷◌, Option, None}
+use Rattle.std.proofs.Common.{drop, sym, ap, ◌∙◌}
 use Rattle.packet_entry.specs.declared.packet.Card.{Card}
 use Rattle.packet_entry.specs.Card.{edited}
 use Rattle.fate_ledger.specs.declared.happening.Happening.{Happening}
@@ -26,12 +26,3 @@ pub note_on : (n m : ℕ) (ws rest : Waiting) (w : ℕ × Card) (how : How) (mar
 note_on n m ws rest w how mark h old new count front is grown =
     ap (λ hs. noted_all hs old) (one_left n m ws rest w how mark count front).1
     ∙ ap (noted_all (first_leave how mark m rest)) (sym (grown ∙ ap (λ g. noted g old) is))
-
--- where nothing waits any more, nothing more leaves
-pub none_left : (n : ℕ) (ws : Waiting) (how : How) (mark : Option ℕ) → ws ≡ [] →
-    (drop n ws ≡ ws) × (first_leave how mark n ws ≡ [])
-none_left zero ws how mark none = (refl, refl)
-none_left (suc n) ws how mark none = (
-  ap (drop (suc n)) none ∙ sym none,
-  ap (first_leave how mark (suc n)) none,
-)

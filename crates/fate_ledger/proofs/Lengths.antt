@@ -147,12 +147,6 @@ each_from P number (f ∷ fs) each = (
       subst (λ n. P n g) moved (each (suc place) g there)),
 )
 
-each_of : (P Q : ℕ → Frame → Type 0) → ((number : ℕ) (f : Frame) → P number f → Q number f) →
-    (number : ℕ) (fs : List Frame) → EachFrom P number fs → EachFrom Q number fs
-each_of P Q turns number [] each = tt
-each_of P Q turns number (f ∷ fs) each =
-    (turns number f each.0, each_of P Q turns (number + 1) fs each.1)
-
 -- ---- lengths
 
 take_short : (n : ℕ) (xs : List ℕ) → length (take n xs) ≤ n

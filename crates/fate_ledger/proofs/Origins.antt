@@ -33,12 +33,6 @@ use Rattle.fate_ledger.proofs.Waiting.{once}
 
 -- ---- sums of nothing
 
-none_in_all : {X : Type 0} (f : X → ℕ) (xs : List X) → AllByRecursion (λ (x : X). f x ≡ 0) xs →
-    sum_by f xs ≡ 0
-none_in_all f [] none = refl
-none_in_all f (x ∷ xs) none =
-    omega (arith, sum_by-cons f x xs, none.0, none_in_all f xs none.1)
-
 -- the requests of these entries have short payloads
 abbrev pub AskShort : Event → Type 0
 AskShort (Arrive card bypass room) = Unit {0}

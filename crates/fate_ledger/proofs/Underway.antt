@@ -202,25 +202,3 @@ underway_on entries rest after e old new kept more count few legal front follows
       length-append u.before (e ∷ after),
       no_longer e.queue u.before,
     )
-
-pub at_the_start : (entries : List Entry) (queues : FollowedQueues)
-    (kept : List (Option Happening)) (count : ℕ) →
-    ((q : ℕ) → get nat_cmp queues q ≡ None) → kept ≡ lasts [] 1 count →
-    IsUnderway entries entries queues kept count
-at_the_start entries queues kept count empty none = record {
-  before = [];
-  split = refl;
-  followed = λ q. record {
-    at = ap at_in (empty q);
-    waiting = ap waiting_in (empty q);
-  };
-  noted = none;
-}
-
-pub at_the_end : (entries rest : List Entry) (queues : FollowedQueues)
-    (kept : List (Option Happening)) (count : ℕ) → rest ≡ [] →
-    IsUnderway entries rest queues kept count → kept ≡ lasts (happenings entries) 1 count
-at_the_end entries rest queues kept count none u =
-    u.noted ∙ ap (λ (es : List Entry). lasts (happenings es) 1 count)
-    (sym (append-nil u.before) ∙ ap (λ (es : List Entry). u.before ++ es) (sym none)
-    ∙ sym u.split)

@@ -5,6 +5,7 @@ ghost use Rattle.std.specs.Prelude.{◌≡◌, ◌≤◌, All, IsTrue, IfOk, IfS
 ghost use Rattle.packet_entry.specs.Numbers.{longest_packet, longest_payload};
 ghost use Rattle.place_history.specs.Examples.{IsOnly};
 ghost use Rattle.place_history.specs.Happenings.{payload_of};
+ghost use Rattle.place_history.specs.History.{AreLegal};
 
 use crate::{Fate, FateLine, FateLines, counts_text, fates, ledger_text, released_capture};
 use nfqa_msgs::{BIND, Head, PACKET, Params, Request, UNBIND};
@@ -23,10 +24,13 @@ const SNAP: u32 = 262_144;
 const BYTES: [u8; 20] = [
     0x45, 0, 0, 20, 0, 1, 0, 0, 0x40, 6, 0, 0, 10, 0, 0, 1, 10, 0, 0, 2,
 ];
-/// Its replacement, which is longer.
-const OTHER_BYTES: [u8; 24] = [
-    0x45, 0, 0, 24, 0, 1, 0, 0, 0x40, 6, 0, 0, 10, 0, 0, 1, 10, 0, 0, 2, 1, 2, 3, 4,
-];
+/// What it is replaced by begins with this byte.
+const OTHER_BYTES: [u8; 84] = [0x46; 84];
+/// The copy mode of whole packets.
+const WHOLE: Params = Params {
+    range: 0,
+    mode: PACKET,
+};
 
 /// How a packet arrives: whether its rule has the bypass, and whether the mailbox has room.
 #[derive(Clone, Copy)]
@@ -58,8 +62,10 @@ enum Happens {
     Arrives(u16, u32, u32),
     /// And there is none.
     FindsNoRoom(u16, u32),
-    /// By a rule with the bypass.
-    Passes(u16, u32),
+    /// By a rule with the bypass, or a verdict with it.
+    Passes(u16, u32, u32),
+    /// So long a packet.
+    ArrivesLong(u16, u32, usize),
     Asks(u16, Words),
     Closes,
     /// The first device goes down.
@@ -70,16 +76,22 @@ enum Happens {
 #[derive(Clone, Copy)]
 enum Words {
     Bind,
+    /// Whole packets.
+    Whole,
+    /// So many packets may wait.
+    Maximum(u32),
     /// Whole packets, of which so many may wait.
     Packets(u32),
+    /// To bind, and whole packets, by one request.
+    BindWhole,
     FailOpen,
     Unbind,
     /// A verdict, for this id.
     Verdict(u32, u32),
     /// With a new mark.
     Marked(u32, u32, u32),
-    /// Accepts this id with the other bytes.
-    Replaces(u32),
+    /// Accepts this id with so many other bytes.
+    Replaces(u32, usize),
     /// A batch, up to this id.
     Batch(u32, u32),
 }
@@ -91,21 +103,15 @@ fn request(alloc: Global, queue: u16, words: Words) -> Result<Request, NoMemory>
 {
     Ok(match words {
         Words::Bind => config(queue, Some(BIND), None, None, None),
-        Words::Packets(maximum) => {
-            let mode = PACKET;
-            config(
-                queue,
-                None,
-                Some(Params { range: 0, mode }),
-                Some(maximum),
-                None,
-            )
-        }
+        Words::Whole => config(queue, None, Some(WHOLE), None, None),
+        Words::Maximum(maximum) => config(queue, None, None, Some(maximum), None),
+        Words::Packets(maximum) => config(queue, None, Some(WHOLE), Some(maximum), None),
+        Words::BindWhole => config(queue, Some(BIND), Some(WHOLE), None, None),
         Words::FailOpen => config(queue, None, None, None, Some(1)),
         Words::Unbind => config(queue, Some(UNBIND), None, None, None),
         Words::Verdict(verdict, id) => plain(queue, Head { verdict, id }, None),
         Words::Marked(verdict, id, mark) => plain(queue, Head { verdict, id }, Some(mark)),
-        Words::Replaces(id) => replaces(alloc, queue, id)?,
+        Words::Replaces(id, count) => replaces(alloc, queue, id, count)?,
         Words::Batch(verdict, id) => Request::Batch {
             queue,
             head: Some(Head { verdict, id }),
@@ -144,11 +150,11 @@ fn plain(queue: u16, head: Head, mark: Option<u32>) -> Request
     }
 }
 
-fn replaces(alloc: Global, queue: u16, id: u32) -> Result<Request, NoMemory>
+fn replaces(alloc: Global, queue: u16, id: u32, count: usize) -> Result<Request, NoMemory>
     ensures { IfOk result
         (λ asked. IfSome (payload_of asked) (λ bytes. length bytes ≤ longest_payload)) }
 {
-    let bytes = Bytes::copy(alloc, &OTHER_BYTES)?;
+    let bytes = Bytes::copy(alloc, &OTHER_BYTES[..count.min(OTHER_BYTES.len())])?;
     Ok(Request::Verdict {
         queue,
         head: Some(Head { verdict: 1, id }),
@@ -164,15 +170,20 @@ fn happen(place: &mut Place, alloc: Global, happens: Happens) -> Result<(), NoMe
 {
     match happens {
         Happens::Arrives(queue, number, visit) => {
-            let packet = visiting(alloc, number, visit)?;
+            let packet = visiting(alloc, number, visit, &BYTES)?;
+            arrive(place, alloc, queue, packet, TAKEN)
+        }
+        Happens::ArrivesLong(queue, number, length) => {
+            let bytes = &OTHER_BYTES[..length.min(OTHER_BYTES.len())];
+            let packet = visiting(alloc, number, 1, bytes)?;
             arrive(place, alloc, queue, packet, TAKEN)
         }
         Happens::FindsNoRoom(queue, number) => {
-            let packet = visiting(alloc, number, 1)?;
+            let packet = visiting(alloc, number, 1, &BYTES)?;
             arrive(place, alloc, queue, packet, NO_ROOM)
         }
-        Happens::Passes(queue, number) => {
-            let packet = visiting(alloc, number, 1)?;
+        Happens::Passes(queue, number, visit) => {
+            let packet = visiting(alloc, number, visit, &BYTES)?;
             arrive(place, alloc, queue, packet, BYPASS)
         }
         Happens::Asks(queue, words) => ask(place, alloc, request(alloc, queue, words)?),
@@ -188,10 +199,11 @@ fn happen(place: &mut Place, alloc: Global, happens: Happens) -> Result<(), NoMe
 }
 
 /// A packet at one of its visits.
-fn visiting(alloc: Global, number: u32, visit: u32) -> Result<Packet, NoMemory>
+fn visiting(alloc: Global, number: u32, visit: u32, bytes: &[u8]) -> Result<Packet, NoMemory>
+    requires { length bytes.now ≤ longest_packet }
     ensures { IfOk result (λ packet. 1 ≤ packet.visit) }
 {
-    let mut packet = Packet::new(alloc, number.max(1), 1, 0, IPV4, &[], &BYTES)?;
+    let mut packet = Packet::new(alloc, number.max(1), 1, 0, IPV4, &[], bytes)?;
     packet.queued(1);
     for _ in 1..visit {
         if packet.visit() < 33 {
@@ -307,14 +319,10 @@ fn are_short(lines: &FateLines) -> bool
     true
 }
 
-/// The ledger's lines, the counts, and the bytes of the released frames, where all these happen at
-/// a place and this was lost.
-fn told_of(
-    alloc: Global,
-    count: u8,
-    all: &[Happens],
-    lost: Option<Lost>,
-) -> Result<(Vec<u8>, Vec<u8>, Vec<u8>), NoMemory> {
+/// The histories of a place at which all these happen, where this was lost.
+fn histories_of(alloc: Global, all: &[Happens], lost: Option<Lost>) -> Result<Histories, NoMemory>
+    ensures { IfOk result (λ histories. AreLegal histories.entries) }
+{
     let mut place = only(alloc);
     let done = happen_all(&mut place, alloc, all);
     place.leave_waiting();
@@ -324,11 +332,22 @@ fn told_of(
     if let Some(one) = lost {
         losts.push(one).map_err(|_| NoMemory)?;
     }
-    let histories = Histories {
+    Ok(Histories {
         entries,
         logs: Sequence::new(alloc),
         lost: losts,
-    };
+    })
+}
+
+/// The ledger's lines, the counts, and the bytes of the released frames, where all these happen at
+/// a place and this was lost.
+fn told_of(
+    alloc: Global,
+    count: u8,
+    all: &[Happens],
+    lost: Option<Lost>,
+) -> Result<(Vec<u8>, Vec<u8>, Vec<u8>), NoMemory> {
+    let histories = histories_of(alloc, all, lost)?;
     let capture = capture_of(alloc, count)?;
     let lines = fates(alloc, &capture, &histories)?;
     let (mut ledger, mut counts, mut bytes) = (Vec::new(alloc), Vec::new(alloc), Vec::new(alloc));
@@ -342,6 +361,24 @@ fn told_of(
         }
     }
     Ok((ledger, counts, bytes))
+}
+
+/// Whether the ledger has these lines behind its heading, where all these happen to the frames of
+/// this capture.
+fn has_lines(
+    alloc: Global,
+    capture: &Capture,
+    all: &[Happens],
+    lines: &[u8],
+) -> Result<bool, NoMemory> {
+    if capture.frames.len() > 200_000 {
+        return Ok(false);
+    }
+    let histories = histories_of(alloc, all, None)?;
+    let mut ledger = Vec::new(alloc);
+    ledger_text(alloc, &fates(alloc, capture, &histories)?, &mut ledger)?;
+    let rest = ledger.strip_prefix(b"record fate queue at mark bytes\n");
+    Ok(rest == Some(lines))
 }
 
 /// What one row says: how many frames there are, what happens, and the lines of the ledger and of
@@ -461,10 +498,10 @@ fn queues_that_fail_open(rt: HostRuntime) -> Result<(), Fail> {
 fn absent_queues_and_no_copies(rt: HostRuntime) -> Result<(), Fail> {
     use Happens::{Arrives, Asks, Passes};
     let all = [
-        Passes(5, 1),
+        Passes(5, 1, 1),
         Arrives(5, 2, 1),
         Asks(0, Words::Bind),
-        Passes(0, 3),
+        Passes(0, 3, 1),
         Arrives(0, 4, 33),
     ];
     let ledger = b"record fate queue at mark bytes\n1 bypass 5 1 0 20\n2 noqueue 5 2 0 20\n\
@@ -488,7 +525,7 @@ fn marks_and_replaced_bytes(rt: HostRuntime) -> Result<(), Fail> {
         Arrives(0, 1, 1),
         Asks(0, Words::Marked(4, 1, 1)),
         Arrives(0, 2, 1),
-        Asks(0, Words::Replaces(2)),
+        Asks(0, Words::Replaces(2, 24)),
         Arrives(0, 3, 1),
         Asks(0, Words::Verdict(5, 3)),
     ];
@@ -548,6 +585,257 @@ fn a_packet_that_was_lost(rt: HostRuntime) -> Result<(), Fail> {
     assert!(rt; ledger.as_slice() == line.as_slice());
     assert!(rt; counts.as_slice() == b"nomemory 1\n".as_slice());
     assert!(rt; bytes.is_empty());
+    Ok(())
+}
+
+#[test]
+fn an_empty_capture_has_the_heading_alone(rt: HostRuntime) -> Result<(), Fail> {
+    use Happens::Asks;
+    let all = [Asks(0, Words::Bind), Asks(0, Words::Whole)];
+    assert!(rt; has_lines(rt.alloc(), &capture_of(rt.alloc(), 0)?, &all, b"")?);
+    Ok(())
+}
+
+#[test]
+fn each_overflow_is_named_by_its_arrival(rt: HostRuntime) -> Result<(), Fail> {
+    use Happens::{Arrives, Asks};
+    let three = capture_of(rt.alloc(), 3)?;
+    for (maximum, lines) in [
+        (
+            1,
+            b"1 accept 0 7 0 20\n2 overflow 0 5 0 20\n3 overflow 0 6 0 20\n".as_slice(),
+        ),
+        (
+            0,
+            b"1 overflow 0 4 0 20\n2 overflow 0 5 0 20\n3 overflow 0 6 0 20\n",
+        ),
+    ] {
+        let all = [
+            Asks(0, Words::Bind),
+            Asks(0, Words::Whole),
+            Asks(0, Words::Maximum(maximum)),
+            Arrives(0, 1, 1),
+            Arrives(0, 2, 1),
+            Arrives(0, 3, 1),
+            Asks(0, Words::Verdict(1, 1)),
+        ];
+        assert!(rt;
+            has_lines(rt.alloc(), &three, &all, lines)?,
+            "maximum {maximum}"
+        );
+    }
+    Ok(())
+}
+
+#[test]
+fn what_fails_open_leaves_at_the_next_queue(rt: HostRuntime) -> Result<(), Fail> {
+    use Happens::{Arrives, Asks};
+    let all = [
+        Asks(0, Words::Bind),
+        Asks(0, Words::Whole),
+        Asks(0, Words::Maximum(1)),
+        Asks(0, Words::FailOpen),
+        Asks(1, Words::Bind),
+        Asks(1, Words::Whole),
+        Arrives(0, 1, 1),
+        Arrives(0, 2, 1),
+        Arrives(1, 2, 2),
+        Arrives(0, 3, 1),
+        Arrives(1, 3, 2),
+        Asks(0, Words::Verdict(1, 1)),
+        Arrives(1, 1, 2),
+        Asks(1, Words::Verdict(1, 1)),
+        Asks(1, Words::Verdict(1, 2)),
+        Asks(1, Words::Verdict(1, 3)),
+    ];
+    let lines = b"1 accept 1 8 0 20\n2 accept 1 6 0 20\n3 accept 1 7 0 20\n";
+    assert!(rt; has_lines(rt.alloc(), &capture_of(rt.alloc(), 3)?, &all, lines)?);
+    Ok(())
+}
+
+#[test]
+fn a_full_mailbox_is_named_by_the_arrival(rt: HostRuntime) -> Result<(), Fail> {
+    use Happens::{Arrives, Asks, FindsNoRoom};
+    let all = [
+        Asks(0, Words::Bind),
+        Asks(0, Words::Whole),
+        Arrives(0, 1, 1),
+        FindsNoRoom(0, 2),
+        FindsNoRoom(0, 3),
+        Asks(0, Words::Verdict(1, 1)),
+        Asks(0, Words::Verdict(1, 2)),
+    ];
+    let lines = b"1 accept 0 6 0 20\n2 userfull 0 4 0 20\n3 userfull 0 5 0 20\n";
+    assert!(rt; has_lines(rt.alloc(), &capture_of(rt.alloc(), 3)?, &all, lines)?);
+    Ok(())
+}
+
+#[test]
+fn queues_without_a_copy_or_a_port(rt: HostRuntime) -> Result<(), Fail> {
+    use Happens::{Arrives, Asks, Passes};
+    let three = capture_of(rt.alloc(), 3)?;
+    let bound = [
+        Asks(0, Words::Bind),
+        Passes(0, 1, 1),
+        Passes(0, 2, 1),
+        Passes(0, 3, 1),
+    ];
+    let lines = b"1 copynone 0 2 0 20\n2 copynone 0 3 0 20\n3 copynone 0 4 0 20\n";
+    assert!(rt; has_lines(rt.alloc(), &three, &bound, lines)?);
+
+    let passed = [Passes(5, 1, 1), Passes(5, 2, 1), Passes(5, 3, 1)];
+    let lines = b"1 bypass 5 1 0 20\n2 bypass 5 2 0 20\n3 bypass 5 3 0 20\n";
+    assert!(rt; has_lines(rt.alloc(), &three, &passed, lines)?);
+
+    let stopped = [Arrives(5, 1, 1), Arrives(5, 2, 1), Arrives(5, 3, 1)];
+    let lines = b"1 noqueue 5 1 0 20\n2 noqueue 5 2 0 20\n3 noqueue 5 3 0 20\n";
+    assert!(rt; has_lines(rt.alloc(), &three, &stopped, lines)?);
+    Ok(())
+}
+
+#[test]
+fn a_shorter_payload_is_the_ledgers_length(rt: HostRuntime) -> Result<(), Fail> {
+    use Happens::{ArrivesLong, Asks};
+    let all = [
+        Asks(0, Words::BindWhole),
+        ArrivesLong(0, 1, 84),
+        Asks(0, Words::Replaces(1, 40)),
+    ];
+    let one = capture_of(rt.alloc(), 1)?;
+    assert!(rt; has_lines(rt.alloc(), &one, &all, b"1 accept 0 3 0 40\n")?);
+    Ok(())
+}
+
+/// An Ethernet capture of frames of these lengths.
+fn ethernet(alloc: Global, lengths: &[usize]) -> Result<Capture, NoMemory> {
+    let mut frames = Frames::new(alloc);
+    for length in lengths {
+        let bytes = Bytes::copy(alloc, &OTHER_BYTES[..(*length).min(OTHER_BYTES.len())])?;
+        let original = bytes.len() as u32;
+        frames
+            .push(Frame {
+                seconds: 0,
+                fraction: 0,
+                original,
+                bytes,
+            })
+            .map_err(|_| NoMemory)?;
+    }
+    Ok(Capture {
+        big: false,
+        nanos: false,
+        zone: 0,
+        sigfigs: 0,
+        snap: SNAP,
+        link: 1,
+        frames,
+    })
+}
+
+#[test]
+fn a_frame_that_no_rule_sees_has_its_whole_length(rt: HostRuntime) -> Result<(), Fail> {
+    use Happens::{Arrives, ArrivesLong, Asks};
+    let all = [
+        Asks(0, Words::Bind),
+        Asks(0, Words::Whole),
+        Arrives(0, 2, 1),
+        Asks(0, Words::Verdict(1, 1)),
+        ArrivesLong(0, 3, 40),
+        Asks(0, Words::Verdict(1, 2)),
+    ];
+    let capture = ethernet(rt.alloc(), &[42, 38, 54])?;
+    let lines = b"1 unhooked - - 0 42\n2 accept 0 4 0 20\n3 accept 0 6 0 40\n";
+    assert!(rt; has_lines(rt.alloc(), &capture, &all, lines)?);
+    Ok(())
+}
+
+#[test]
+fn a_packet_that_is_repeated(rt: HostRuntime) -> Result<(), Fail> {
+    use Happens::{Arrives, Asks};
+    let one = capture_of(rt.alloc(), 1)?;
+    let once = [
+        Asks(0, Words::Bind),
+        Asks(0, Words::Whole),
+        Arrives(0, 1, 1),
+        Asks(0, Words::Marked(4, 1, 1)),
+    ];
+    assert!(rt; has_lines(rt.alloc(), &one, &once, b"1 repeat 0 4 1 20\n")?);
+
+    let mut ever = Vec::new(rt.alloc());
+    ever.push(Asks(0, Words::Bind))?;
+    ever.push(Asks(0, Words::Whole))?;
+    for visit in 1..33 {
+        ever.push(Arrives(0, 1, visit))?;
+        ever.push(Asks(0, Words::Verdict(4, visit)))?;
+    }
+    ever.push(Arrives(0, 1, 33))?;
+    assert!(rt; has_lines(rt.alloc(), &one, &ever, b"1 loop 0 67 0 20\n")?);
+    Ok(())
+}
+
+#[test]
+fn a_packet_that_is_sent_to_an_absent_queue(rt: HostRuntime) -> Result<(), Fail> {
+    use Happens::{Arrives, Asks, Passes};
+    let one = capture_of(rt.alloc(), 1)?;
+    for (verdict, onward, line) in [
+        (622_595, Passes(9, 1, 2), b"1 bypass 9 1 0 20\n".as_slice()),
+        (589_827, Arrives(9, 1, 2), b"1 noqueue 9 1 0 20\n"),
+    ] {
+        let all = [
+            Asks(0, Words::Bind),
+            Asks(0, Words::Whole),
+            Arrives(0, 1, 1),
+            Asks(0, Words::Verdict(verdict, 1)),
+            onward,
+        ];
+        assert!(rt;
+            has_lines(rt.alloc(), &one, &all, line)?,
+            "verdict {verdict}"
+        );
+    }
+    Ok(())
+}
+
+#[test]
+fn an_unbound_queue_names_its_request(rt: HostRuntime) -> Result<(), Fail> {
+    use Happens::{Arrives, Asks};
+    let all = [
+        Asks(0, Words::Bind),
+        Asks(0, Words::Whole),
+        Arrives(0, 1, 1),
+        Arrives(0, 2, 1),
+        Arrives(0, 3, 1),
+        Asks(0, Words::Unbind),
+        Asks(0, Words::Batch(1, 3)),
+    ];
+    let lines = b"1 unbind 0 6 0 20\n2 unbind 0 6 0 20\n3 unbind 0 6 0 20\n";
+    assert!(rt; has_lines(rt.alloc(), &capture_of(rt.alloc(), 3)?, &all, lines)?);
+    Ok(())
+}
+
+#[test]
+fn a_port_that_closes_and_a_device_that_goes_down(rt: HostRuntime) -> Result<(), Fail> {
+    use Happens::{Arrives, Asks, Closes, GoesDown};
+    let closed = [
+        Asks(0, Words::BindWhole),
+        Asks(1, Words::BindWhole),
+        Arrives(0, 1, 1),
+        Arrives(1, 2, 1),
+        Closes,
+    ];
+    let lines = b"1 portclosed 0 3 0 20\n2 portclosed 1 3 0 20\n";
+    assert!(rt; has_lines(rt.alloc(), &capture_of(rt.alloc(), 2)?, &closed, lines)?);
+
+    let down = [
+        Asks(0, Words::Bind),
+        Asks(0, Words::Whole),
+        Arrives(0, 1, 1),
+        Arrives(0, 2, 1),
+        GoesDown,
+        Arrives(0, 3, 1),
+    ];
+    let lines = b"1 devicedown 0 5 0 20\n2 devicedown 0 5 0 20\n3 waiting 0 6 0 20\n";
+    assert!(rt; has_lines(rt.alloc(), &capture_of(rt.alloc(), 3)?, &down, lines)?);
     Ok(())
 }
 

@@ -267,12 +267,6 @@ closed_by laws (Err (Bad line)) p bytes behind n sound front t count e =
     (behind_end laws p bytes behind n sound front t count e.0 (cut_at 10 behind) refl)
 closed_by laws (Err fault.NoMemory) p bytes behind n sound front t count e = tt
 
--- without the heading
-journal_cut : (h : Histories) (rest : List ℕ) →
-    cut_at 10 (text.journal h ++ rest)
-    ≡ Some (codes "nfq-journal 1", (text.histories h ++ codes "end\n") ++ rest)
-journal_cut h rest = refl
-
 pub no_heading : (bytes line later : List ℕ) → cut_at 10 bytes ≡ Some (line, later) →
     bytes_eq line (codes "nfq-journal 1") ≡ false → IsFirstRefused bytes 1
 no_heading bytes line later cut other =

@@ -14,7 +14,6 @@ use Rattle.queue_core.specs.declared.event.Event.{Event}
 use Rattle.queue_core.specs.declared.event.Event.TheVariants.{Arrive, Ask, PortClosed, DeviceDown}
 use Rattle.queue_core.specs.declared.event.Reply.{Reply}
 use Rattle.queue_core.specs.declared.event.Reply.TheVariants.{Arrived, Answer, Flushed}
-use Rattle.place_history.specs.declared.entry.Entry.{Entry}
 use Rattle.place_history.specs.declared.log.Did.{Did}
 use Rattle.place_history.specs.declared.log.Did.TheVariants.{Received, Sent, Closed}
 use Rattle.place_history.specs.declared.log.AskWords.{AskWords}
@@ -59,13 +58,6 @@ arrival_word laws =
     ++ card_text p.1) text.outcome (λ (p : ℕ × Told). IsHalf p.0 × FitsTold p.1) FitsOutcome Any
     (both_is (field half) card_in number_text card_text IsHalf FitsTold Any Any (half_field laws)
     (card_field laws) (λ y rest f a. tt)) (outcome_word laws) (λ y f. tt)
-
-arrival_entry : Arrival → Entry
-arrival_entry x = record {
-  queue = (x.0).0;
-  event = Arrive ((x.0).1).0 (((x.0).1).1).0 (((x.0).1).1).1;
-  reply = Arrived x.1;
-}
 
 -- ---- requests
 
@@ -228,9 +220,6 @@ message_told c a (Some n) =
     ∙ sym (append_assoc (number_text c) (asked_text a) (codes "= " ++ decimal n)))
 
 -- ---- and as they are read
-
-entry_of : ℕ → Event → Reply → Entry
-entry_of queue event reply = record { queue = queue; event = event; reply = reply }
 
 ask_again : Laws → (q p c : ℕ) (r : Request) (errno count : ℕ) →
     FitsAsking (((q, (p, c)), r), (errno, count)) → queue_of r ≡ q →

@@ -16,9 +16,6 @@ use Rattle.place_history.specs.declared.log.Did.{Did}
 use Rattle.place_history.specs.declared.log.PortLog.{PortLog}
 use Rattle.journals.specs.JournalFile.{is_port, put}
 
-new_log : ℕ → PortLog
-new_log port = record { port = port; dids = [] }
-
 equal : (o : Ordering) → is_eq o ≡ true → o ≡ Equal
 equal Less h = absurd (cc)
 equal Equal h = refl
@@ -42,21 +39,21 @@ or_cond false true = refl
 or_cond false false = refl
 
 -- the ports with a new one, as a set with it has them
-pub one_port_more : (port q : ℕ) (logs : List PortLog) (known new : Bool) →
+pub added : (port q : ℕ) (logs : List PortLog) (known new : Bool) →
     known ≡ list_any (is_port q) logs → new ≡ cond (is_at (nat_cmp port) q) true known →
     new ≡ list_any (is_port q) (logs ++ record { port = port; dids = [] } ∷ [])
-one_port_more port q logs known new e f =
+added port q logs known new e f =
     f ∙ ap (λ b. cond b true known) (at_is port q)
     ∙ sym (or_cond known (eqb port q)) ∙ ap (λ b. b || (eqb port q || false)) e
     ∙ sym (list_any-append (is_port q) logs (record { port = port; dids = [] } ∷ []))
 
 -- what a port did changes no port
-pub same_ports : (q : ℕ) (logs : List PortLog) (old new : Option PortLog) (d : Did) →
+pub same : (q : ℕ) (logs : List PortLog) (old new : Option PortLog) (d : Did) →
     put old d ≡ Some new →
     list_any (is_port q) (logs ++ option_to_list new)
     ≡ list_any (is_port q) (logs ++ option_to_list old)
-same_ports q logs None new d e = absurd (none-some new e)
-same_ports q logs (Some l) new d e =
+same q logs None new d e = absurd (none-some new e)
+same q logs (Some l) new d e =
     subst (λ (o : Option PortLog). list_any (is_port q) (logs ++ option_to_list o)
     ≡ list_any (is_port q) (logs ++ l ∷ [])) (same_Some _ new e)
     (list_any-append (is_port q) logs (record { port = l.port; dids = l.dids ++ d ∷ [] } ∷ [])

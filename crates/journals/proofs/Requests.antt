@@ -334,9 +334,6 @@ batch_field laws =
 
 -- ---- requests
 
-abbrev config_parts : ℕ → Option ℕ → Option Params → Option ℕ → Option ℕ → Option ℕ → (ℕ × Command)
-config_parts q c p l f m = (q, (c, (p, (l, (f, m)))))
-
 -- a request's words, each with the blank behind it
 abbrev pub request_text : Request → List ℕ
 request_text (Config q c p l f m) = codes "config " ++ config_text (q, (c, (p, (l, (f, m)))))

@@ -111,7 +111,7 @@ impl Reader {
     }
 
     /// Begins the log of this port. Refused where it has one.
-    #[tactic(auto, using(crate::proofs::Ports::one_port_more), unfolding(crate::specs::JournalFile::after))]
+    #[tactic(auto, using(crate::proofs::Ports::added), unfolding(crate::specs::JournalFile::after))]
     fn port(&mut self, alloc: Global, port: u32) -> Result<(), Stop>
         requires { KnowsPorts self.old }
         ensures after { Moves result (after (place_of self.old) (line.PortLine port))
@@ -143,7 +143,7 @@ impl Reader {
     }
 
     /// Adds what the last port did. Refused before the first log, and where that port has closed.
-    #[tactic(auto, using(crate::proofs::Ports::same_ports), unfolding(crate::specs::JournalFile::after))]
+    #[tactic(auto, using(crate::proofs::Ports::same), unfolding(crate::specs::JournalFile::after))]
     fn did(&mut self, did: Did) -> Result<(), Stop>
         requires { KnowsPorts self.old }
         ensures after { Moves result (after (place_of self.old) (line.DidLine did))

@@ -9,11 +9,6 @@ use lib.ListN.{get_elem?}
 use Rattle.atomic_table.proofs.Lists.{at_set}
 use Rattle.mailbox.specs.Roles.{Each, total}
 
-pub chosen : {A : Type 0} (P : A → Type 0) (b : Bool) (x y : A) → (b ≡ true → P x)
-    → (b ≡ false → P y) → P (if b then x else y)
-chosen P true x y t f = t refl
-chosen P false x y t f = f refl
-
 pub not_true : (b : Bool) → (b ≡ true → ⊥) → b ≡ false
 not_true true h = absurd (h refl)
 not_true false h = refl

@@ -62,43 +62,6 @@ too_large Says what most file stop.ReadFault is large only said says = tt
 too_large Says what most file stop.WriteFault is large only said says = tt
 too_large Says what most file stop.NoMemory is large only said says = tt
 
-pub large_rules : (text : List ℕ) → text_limit < length text →
-    (said : Result (List (List Rule)) Refusal) → RulesSay text said →
-    said ≡ Err (refusal.TooLarge limit.Rules)
-large_rules text large (Ok t) says = absurd (omega (arith, large, says.0))
-large_rules text large (Err (refusal.Rules n)) says = absurd (omega (arith, large, says.0))
-large_rules text large (Err (refusal.TooLarge limit.Rules)) says = refl
-large_rules text large (Err (refusal.TooLarge limit.Script)) says = absurd says
-large_rules text large (Err (refusal.TooLarge limit.Capture)) says = absurd says
-large_rules text large (Err (refusal.TooLarge limit.Records)) says = absurd says
-large_rules text large (Err (refusal.Script n)) says = absurd says
-large_rules text large (Err (refusal.Capture f)) says = absurd says
-
-pub large_script : (text : List ℕ) → text_limit < length text →
-    (said : Result ScriptValue Refusal) → ScriptSays text said →
-    said ≡ Err (refusal.TooLarge limit.Script)
-large_script text large (Ok t) says = absurd (omega (arith, large, says.0))
-large_script text large (Err (refusal.Script n)) says = absurd (omega (arith, large, says.0))
-large_script text large (Err (refusal.TooLarge limit.Script)) says = refl
-large_script text large (Err (refusal.TooLarge limit.Rules)) says = absurd says
-large_script text large (Err (refusal.TooLarge limit.Capture)) says = absurd says
-large_script text large (Err (refusal.TooLarge limit.Records)) says = absurd says
-large_script text large (Err (refusal.Rules n)) says = absurd says
-large_script text large (Err (refusal.Capture f)) says = absurd says
-
-pub large_capture : (text : List ℕ) → capture_limit < length text →
-    (said : Result Capture Refusal) → CaptureSays text said →
-    said ≡ Err (refusal.TooLarge limit.Capture)
-large_capture text large (Ok c) says = absurd (omega (arith, large, says.0))
-large_capture text large (Err (refusal.Capture f)) says = absurd (omega (arith, large, says.0))
-large_capture text large (Err (refusal.TooLarge limit.Capture)) says = refl
-large_capture text large (Err (refusal.TooLarge limit.Records)) says =
-    absurd (omega (arith, large, says.0))
-large_capture text large (Err (refusal.TooLarge limit.Rules)) says = absurd says
-large_capture text large (Err (refusal.TooLarge limit.Script)) says = absurd says
-large_capture text large (Err (refusal.Rules n)) says = absurd says
-large_capture text large (Err (refusal.Script n)) says = absurd says
-
 -- ---- rules
 
 pub rules_taken : (text : List ℕ) (taken : List (List Rule)) → length text ≤ text_limit →

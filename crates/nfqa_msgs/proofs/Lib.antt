@@ -2,4 +2,5 @@ pub mod LastContent
 pub mod Lengths
 pub mod RequestsBack
 pub mod NoticesBack
+mod NoticeSpelling
 pub mod PacketNotices

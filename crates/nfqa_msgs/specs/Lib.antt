@@ -6,4 +6,4 @@ pub mod RequestWriting
 pub mod NoticeWriting
 pub mod Telling
 pub mod NoticeReading
-pub mod Read
+pub mod NoticeMeaning

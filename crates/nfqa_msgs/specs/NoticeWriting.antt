@@ -47,9 +47,9 @@ abbrev pub payload_content : List ℕ → Option (List ℕ)
 payload_content [] = None
 payload_content (x ∷ xs) = Some (x ∷ xs)
 
--- the attributes of a notice, in order
-abbrev pub notice_parts : Told → List Attribute
-notice_parts told =
+-- the attributes of a notice before the packet's bytes, in order
+abbrev pub front_parts : Told → List Attribute
+front_parts told =
     part packet_header_kind (Some (packet_head_content told.id told.protocol))
     ++ part input_device_kind (Some (value_content input_device))
     ++ part output_device_kind (Some (value_content output_device))
@@ -57,7 +57,19 @@ notice_parts told =
     ++ part hardware_address_kind (option_map address_content told.source)
     ++ part timestamp_kind (Some (stamp_content told.seconds told.micros))
     ++ value_part full_length_kind told.cut_from
-    ++ part payload_kind (payload_content told.payload)
+
+-- the attribute of the packet's bytes
+abbrev pub payload_part : List ℕ → List Attribute
+payload_part payload = part payload_kind (payload_content payload)
+
+-- the attributes of a notice, in order
+abbrev pub notice_parts : Told → List Attribute
+notice_parts told = front_parts told ++ payload_part told.payload
+
+-- the body of a notice before the packet's bytes
+abbrev pub notice_front : Told → List ℕ
+notice_front told =
+    queue_header (family_of told.protocol) told.queue ++ attributes_text (front_parts told)
 
 abbrev pub notice_body : Told → List ℕ
 notice_body told =

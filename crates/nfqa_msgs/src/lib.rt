@@ -14,6 +14,7 @@ mod kinds;
 mod laws;
 mod notice;
 mod notice_reading;
+mod notice_spelling;
 mod notice_writing;
 mod numbers;
 mod queue_flags;
@@ -26,7 +27,7 @@ pub use laws::{
     spelling_decodes_to_its_request,
 };
 pub use notice::Notice;
-pub use notice_reading::decode_notice;
+pub use notice_reading::{decode_notice, decode_shared_notice};
 pub use notice_writing::encode_notice;
 pub use numbers::{
     BIND, EINVAL, EOPNOTSUPP, ERANGE, MAX_RANGE, META, NONE, PACKET, PF_BIND, PF_UNBIND, UNBIND,

@@ -10,7 +10,7 @@ ghost use Rattle.nfqa_msgs.specs.Headers.{field};
 ghost use Rattle.nfqa_msgs.specs.NoticeWriting.{Told, FitsTold, notice_text};
 ghost use Rattle.nfqa_msgs.specs.Telling.{telling};
 ghost use Rattle.nfqa_msgs.specs.NoticeReading as read;
-ghost use Rattle.nfqa_msgs.specs.Read.{notice_of, IsNoNotice};
+ghost use Rattle.nfqa_msgs.specs.NoticeMeaning.{notice_of, IsNoNotice};
 
 use crate::attribute_reading::last_of;
 use crate::headers::packet_address::{ADDRESS_AT, ADDRESS_LENGTH, PACKET_ADDRESS_LENGTH};
@@ -22,7 +22,7 @@ use crate::kinds::{
 };
 use crate::laws::notices_are_told_apart;
 use crate::notice::{Notice, Telling};
-use crate::notice_writing::put_notice;
+use crate::notice_spelling::{is_notice_of, padding_of};
 use byteorder::{BigEndian, ByteOrder};
 use netlink_codec::next_message;
 use packet_entry::{Bytes, IPV4, IPV6, NoMemory};
@@ -42,16 +42,51 @@ pub fn decode_notice(alloc: Global, bytes: &[u8]) -> Result<Option<Notice>, NoMe
 {
     match told_exactly(alloc, bytes)? {
         None => Ok(None),
-        Some(told) => Ok(Some(owned(alloc, &told)?)),
+        Some(told) => {
+            let payload = Bytes::copy(alloc, told.payload)?;
+            Ok(Some(notice_with(&told, payload)))
+        }
     }
 }
 
-/// What is told, with a copy of the payload.
-fn owned(alloc: Global, told: &Telling<'_>) -> Result<Notice, NoMemory>
-    requires { FitsTold (telling told.now) }
-    ensures { IfOk result (λ notice. notice ≡ notice_of (telling told.now)) }
+/// As [`decode_notice`], of shared bytes: the notice's payload is a part of their buffer, and none
+/// of its bytes is copied.
+pub fn decode_shared_notice(alloc: Global, bytes: &Bytes) -> Result<Option<Notice>, NoMemory>
+    ensures found { IfOk result (λ answer. IfSome answer (λ notice.
+        (told : Told) × FitsTold told × (bytes.now ≡ notice_text told)
+        × (notice ≡ notice_of told))) }
+    ensures only { (told : Told) → FitsTold told → bytes.now ≡ notice_text told →
+        IfOk result (λ answer. answer ≡ Some (notice_of told)) }
+    ensures none { IfOk result (λ answer. IsNone answer ↔ IsNoNotice bytes.now) }
+    ensures no_memory { read.told_by bytes.now ≡ None → IsOk result }
 {
-    Ok(Notice {
+    match told_exactly(alloc, bytes.as_slice())? {
+        None => Ok(None),
+        Some(told) => {
+            let payload = payload_in(bytes, &told)?;
+            Ok(Some(notice_with(&told, payload)))
+        }
+    }
+}
+
+/// The payload, cut out of the notice that tells this.
+fn payload_in(bytes: &Bytes, told: &Telling<'_>) -> Result<Bytes, NoMemory>
+    requires fits { FitsTold (telling told.now) }
+    requires text { bytes.now ≡ notice_text (telling told.now) }
+    ensures { IfOk result (λ payload. payload ≡ told.now.payload.now) }
+{
+    let length = told.payload.len();
+    let end = bytes.len() - padding_of(length);
+    bytes.cut(end - length, end)
+}
+
+/// What is told, with this payload.
+fn notice_with(told: &Telling<'_>, payload: Bytes) -> Notice
+    requires fits { FitsTold (telling told.now) }
+    requires payload { payload ≡ told.now.payload.now }
+    ensures { result ≡ notice_of (telling told.now) }
+{
+    Notice {
         queue: told.queue,
         id: told.id,
         protocol: told.protocol,
@@ -60,12 +95,11 @@ fn owned(alloc: Global, told: &Telling<'_>) -> Result<Notice, NoMemory>
             None => told.payload.len() as u32,
             Some(length) => length,
         },
-        payload: Bytes::copy(alloc, told.payload)?,
-    })
+        payload,
+    }
 }
 
-/// What the bytes tell, where they are the text of that: what is read is written again, and
-/// compared.
+/// What the bytes tell, where they are the text of that.
 fn told_exactly(alloc: Global, bytes: &[u8]) -> Result<Option<Telling<'_>>, NoMemory>
     ensures found { IfOk result (λ answer. IfSome answer (λ told.
         FitsTold (telling told) × (bytes.now ≡ notice_text (telling told)))) }
@@ -78,9 +112,7 @@ fn told_exactly(alloc: Global, bytes: &[u8]) -> Result<Option<Telling<'_>>, NoMe
     match told_by(bytes) {
         None => Ok(None),
         Some(told) => {
-            let mut text = Vec::new(alloc);
-            put_notice(&mut text, &told)?;
-            if text.as_slice() == bytes {
+            if is_notice_of(alloc, bytes, &told)? {
                 Ok(Some(told))
             } else {
                 Ok(None)

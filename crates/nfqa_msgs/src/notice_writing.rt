@@ -1,16 +1,16 @@
 //! Notices, written as messages.
 
-ghost use Rattle.std.specs.Prelude.{◌≡◌, ◌≤◌, ◌++◌, ◌||◌, ◌==◌, length, option_map, OnOk, OnErr};
-ghost use Rattle.std.specs.Prelude.{IfSome, IfOk, IsTrue};
+ghost use Rattle.std.specs.Prelude.{◌≡◌, ◌≤◌, ◌<◌, ◌^◌, ◌++◌, ◌||◌, ◌==◌, length, option_map, OnOk};
+ghost use Rattle.std.specs.Prelude.{OnErr, IfSome, IfOk, IsTrue};
 ghost use Rattle.packet_entry.specs.Numbers.{longest_packet, longest_payload};
 ghost use Rattle.packet_entry.specs.Fields.{IsLinkLength};
 ghost use Rattle.netlink_codec.specs.Attributes.{attributes_text};
 ghost use Rattle.nfqa_msgs.specs.Numbers.{copy_meta, copy_packet, longest_range, mark_kind};
-ghost use Rattle.nfqa_msgs.specs.Numbers.{payload_kind, hardware_address_length};
+ghost use Rattle.nfqa_msgs.specs.Numbers.{hardware_address_length};
 ghost use Rattle.nfqa_msgs.specs.RequestWriting.{part};
 ghost use Rattle.nfqa_msgs.specs.NoticeWriting.{FitsTold, notice, notice_text, notice_body};
-ghost use Rattle.nfqa_msgs.specs.NoticeWriting.{told_of, source_in, cut_of, told_bytes, family_of};
-ghost use Rattle.nfqa_msgs.specs.NoticeWriting.{mark_content, payload_content};
+ghost use Rattle.nfqa_msgs.specs.NoticeWriting.{notice_front, told_of, source_in, cut_of};
+ghost use Rattle.nfqa_msgs.specs.NoticeWriting.{told_bytes, family_of, mark_content, payload_part};
 ghost use Rattle.nfqa_msgs.specs.Telling.{telling};
 
 use crate::PACKET;
@@ -31,6 +31,11 @@ use std::alloc::{AllocError, Global};
 const INPUT: u32 = 1;
 /// The index of the device by which every packet goes out.
 const OUTPUT: u32 = 2;
+
+/// Bytes that hold the attributes before the packet's bytes.
+const FRONT_ROOM: usize = 80;
+/// Bytes that hold the header and the padding of the attribute of the packet's bytes.
+const PAYLOAD_ROOM: usize = 8;
 
 /// Where the source address begins in an Ethernet header, after the destination's 6 bytes.
 const LINK_SOURCE_AT: usize = 6;
@@ -134,7 +139,22 @@ fn body_of(alloc: Global, told: &Telling<'_>) -> Result<Vec<u8>, AllocError>
     requires { FitsTold (telling told.now) }
     ensures { IfOk result (λ body. body.items ≡ notice_body (telling told.now)) }
 {
-    let mut body = begin_body(alloc, family(told.protocol), told.queue)?;
+    let mut body = front_of(alloc, told, PAYLOAD_ROOM + told.payload.len())?;
+    put_payload(&mut body, told.payload)?;
+    Ok(body)
+}
+
+/// The same before the packet's bytes, with room for so many bytes behind it.
+pub(crate) fn front_of(
+    alloc: Global,
+    told: &Telling<'_>,
+    room: usize,
+) -> Result<Vec<u8>, AllocError>
+    requires fits { FitsTold (telling told.now) }
+    requires room { room < 2 ^ 31 }
+    ensures { IfOk result (λ front. front.items ≡ notice_front (telling told.now)) }
+{
+    let mut body = begin_body(alloc, family(told.protocol), told.queue, FRONT_ROOM + room)?;
     put_packet_header(&mut body, told.id, told.protocol)?;
     put_value(&mut body, INPUT_DEVICE, Some(INPUT))?;
     put_value(&mut body, OUTPUT_DEVICE, Some(OUTPUT))?;
@@ -142,7 +162,6 @@ fn body_of(alloc: Global, told: &Telling<'_>) -> Result<Vec<u8>, AllocError>
     put_address(&mut body, told.source)?;
     put_stamp(&mut body, told.seconds, told.micros)?;
     put_value(&mut body, FULL_LENGTH, told.cut_from)?;
-    put_payload(&mut body, told.payload)?;
     Ok(body)
 }
 
@@ -171,7 +190,7 @@ fn put_mark(body: &mut Vec<u8>, mark: u32) -> Result<(), AllocError>
 fn put_payload(body: &mut Vec<u8>, payload: &[u8]) -> Result<(), AllocError>
     requires { length payload.now ≤ longest_payload }
     ensures { OnOk result (body.new.items ≡ body.old.items
-        ++ attributes_text (part payload_kind (payload_content payload.now))) }
+        ++ attributes_text (payload_part payload.now)) }
 {
     if payload.is_empty() {
         return Ok(());

@@ -23,6 +23,9 @@ use netlink_codec::{put_message, written_attributes_are_walked};
 use packet_entry::{Bytes, NoMemory};
 use std::alloc::{AllocError, Global};
 
+/// Bytes that hold the attributes of a request without a payload.
+const ROOM: usize = 48;
+
 /// Appends a request as its one spelling: `port` is the sender's port, `call` the number of this
 /// message, which is its sequence. A config request asks for an acknowledgement, a verdict doesn't.
 ///
@@ -104,7 +107,7 @@ fn config_body(
     ensures { IfOk result (λ body.
         body.items ≡ request_body (Config queue command params maxlen flags mask)) }
 {
-    let mut body = begin_body(alloc, ANY_FAMILY, queue)?;
+    let mut body = begin_body(alloc, ANY_FAMILY, queue, ROOM)?;
     put_command(&mut body, command)?;
     put_params(&mut body, params)?;
     put_value(&mut body, MAXLEN, maxlen)?;
@@ -139,7 +142,7 @@ fn batch_body(
 ) -> Result<Vec<u8>, AllocError>
     ensures { IfOk result (λ body. body.items ≡ request_body (Batch queue head mark)) }
 {
-    let mut body = begin_body(alloc, ANY_FAMILY, queue)?;
+    let mut body = begin_body(alloc, ANY_FAMILY, queue, ROOM)?;
     put_head(&mut body, head)?;
     put_value(&mut body, MARK, mark)?;
     Ok(body)

@@ -378,6 +378,27 @@ fn the_longest_payload_is_told(rt: HostRuntime) -> Result<(), Fail> {
 }
 
 #[test]
+fn a_shared_notice_is_read_as_any_other(rt: HostRuntime) -> Result<(), Fail> {
+    for (text, length, payload) in [
+        (META_V4, 0, b"".as_slice()),
+        (NOTICE, 20, V4),
+        (RANGE_0, 20, b"".as_slice()),
+        (RANGE_5, 20, &V4[..5]),
+        (ALL_V6, 40, &V6[..8]),
+    ] {
+        let bytes = Bytes::copy(rt.alloc(), text)?;
+        let notice = decode_shared_notice(rt.alloc(), &bytes)?.ok_or("no notice")?;
+        assert_eq!(rt; (notice.queue, notice.id, notice.length), (0, 1, length));
+        assert_eq!(rt; notice.payload.as_slice(), payload);
+    }
+    for text in [&NOTICE[..91], ACCEPT] {
+        let bytes = Bytes::copy(rt.alloc(), text)?;
+        assert!(rt; decode_shared_notice(rt.alloc(), &bytes)?.is_none());
+    }
+    Ok(())
+}
+
+#[test]
 fn what_is_no_notice_is_none(rt: HostRuntime) -> Result<(), Fail> {
     assert!(rt; decode_notice(rt.alloc(), &NOTICE[..91])?.is_none());
     assert!(rt; decode_notice(rt.alloc(), ACCEPT)?.is_none());

@@ -1,6 +1,6 @@
 pub mod Numbers
 pub mod Fields
 pub mod Card
-pub mod Shared
+pub mod SharedBytes
 pub mod SequenceLends
-pub mod Stocked
+pub mod ListWithRoom

@@ -23,7 +23,7 @@ pub struct Bytes {
 
 impl Model for Bytes {
     ghost use Rattle.std.specs.Prelude.{List, ℕ};
-    ghost use Rattle.packet_entry.specs.Shared.{bytes_of, IsWithin};
+    ghost use Rattle.packet_entry.specs.SharedBytes.{bytes_of, IsWithin};
 
     ghost Value = { List ℕ };
 

@@ -2,7 +2,7 @@
 
 ghost use Rattle.std.specs.Prelude.{◌≡◌, ◌<◌, ◌≤◌, ◌↔◌, ◌+◌, ◌∷◌, ◌++◌, [], length, OnOk, OnErr};
 ghost use Rattle.std.specs.Prelude.{IsOk, IsTrue};
-ghost use Rattle.packet_entry.specs.Stocked.{Stocked};
+ghost use Rattle.packet_entry.specs.ListWithRoom.{ListWithRoom};
 
 use crate::{NoMemory, Sequence};
 use std::alloc::Global;
@@ -17,9 +17,9 @@ pub struct Stock<T> {
 
 impl<T> Model for Stock<T> {
     ghost use Rattle.std.specs.Prelude.{◌-◌, vec_capacity, vec_len};
-    ghost use Rattle.packet_entry.specs.Stocked.{Stocked};
+    ghost use Rattle.packet_entry.specs.ListWithRoom.{ListWithRoom};
 
-    ghost Value = { Stocked T };
+    ghost Value = { ListWithRoom T };
 
     ghost view = { λ s.
         record { items = s.items.items; room = vec_capacity s.items - vec_len s.items } };

@@ -19,9 +19,9 @@ use Rattle.place_history.specs.declared.place.held.Held.{Held}
 use Rattle.place_history.specs.declared.place.held.Offer.{Offer}
 use Rattle.place_history.specs.Numbers.{queue_count}
 use Rattle.place_history.specs.Changes.{Queues, queue_at, Changes}
-use Rattle.place_history.specs.Kept.{state_of, entry_of}
+use Rattle.place_history.specs.PlaceState.{state_of, entry_of}
 use Rattle.place_history.specs.Happenings.{IsTurnedAway}
-use Rattle.place_history.specs.Replayed.{IsReplayed, IsOffer, as_arrival, held_as}
+use Rattle.place_history.specs.PlaceInvariant.{IsReplayed, IsOffer, as_arrival, held_as}
 use Rattle.place_history.proofs.Stepping.{Makes, state_before}
 
 abbrev pub arrival_entry : Offer → Bool → Outcome → Entry

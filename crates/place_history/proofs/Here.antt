@@ -16,9 +16,9 @@ use Rattle.queue_core.specs.declared.event.Event.TheVariants.{PortClosed, Device
 use Rattle.place_history.specs.declared.entry.Entry.{Entry}
 use Rattle.place_history.specs.declared.place.held.Held.{Held}
 use Rattle.place_history.specs.declared.place.held.Offer.{Offer}
-use Rattle.place_history.specs.Replayed.{IsBegun}
+use Rattle.place_history.specs.PlaceInvariant.{IsBegun}
 use Rattle.place_history.specs.History.{is_of}
-use Rattle.place_history.specs.Kept.{state_of, entry_in, every_number}
+use Rattle.place_history.specs.PlaceState.{state_of, entry_in, every_number}
 use Rattle.place_history.specs.Happenings.{closing_of, down_of, closings, downs}
 use Rattle.place_history.proofs.Sweeping.{asked_at}
 

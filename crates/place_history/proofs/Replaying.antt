@@ -27,9 +27,9 @@ use Rattle.place_history.specs.declared.entry.Entry.{Entry}
 use Rattle.place_history.specs.declared.place.held.Held.{Held}
 use Rattle.queue_core.specs.State.{Bound}
 use Rattle.place_history.specs.History.{replay, history}
-use Rattle.place_history.specs.Kept.{state_of, step_of, waiting_at, one_if_bound, every_number}
-use Rattle.place_history.specs.Kept.{waiting_in_all, taken_by}
-use Rattle.place_history.specs.Replayed.{IsReplayed, IsAhead, held_as, waiting_after}
+use Rattle.place_history.specs.PlaceState.{state_of, step_of, waiting_at, one_if_bound}
+use Rattle.place_history.specs.PlaceState.{every_number, waiting_in_all, taken_by}
+use Rattle.place_history.specs.PlaceInvariant.{IsReplayed, IsAhead, held_as, waiting_after}
 use Rattle.place_history.specs.Changes.{queue_at}
 use Rattle.place_history.proofs.Journeying.{once}
 use Rattle.place_history.proofs.Legal.{own_on, others_on, state_on, all_on}

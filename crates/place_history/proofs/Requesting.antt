@@ -19,10 +19,10 @@ use Rattle.queue_core.specs.WithOffer.{WithOffer}
 use Rattle.place_history.specs.declared.entry.Entry.{Entry}
 use Rattle.place_history.specs.declared.place.held.Held.{Held}
 use Rattle.place_history.specs.declared.place.requests.Asker.{Asker}
-use Rattle.place_history.specs.Kept.{step_of, state_of}
+use Rattle.place_history.specs.PlaceState.{step_of, state_of}
 use Rattle.place_history.specs.Changes.{queue_at}
 use Rattle.place_history.specs.Happenings.{all_handed}
-use Rattle.place_history.specs.Replayed.{IsReplayed, Enters}
+use Rattle.place_history.specs.PlaceInvariant.{IsReplayed, Enters}
 use Rattle.place_history.proofs.Stepping.{Makes, state_before}
 
 -- an answer that the step gives has its entry

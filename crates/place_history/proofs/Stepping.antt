@@ -12,8 +12,8 @@ use Rattle.place_history.specs.declared.entry.Entry.{Entry}
 use Rattle.place_history.specs.declared.place.held.Held.{Held}
 use Rattle.place_history.specs.declared.place.held.Offer.{Offer}
 use Rattle.place_history.specs.History.{IsAllowed}
-use Rattle.place_history.specs.Kept.{state_of}
-use Rattle.place_history.specs.Replayed.{IsReplayed, IsAhead, held_as}
+use Rattle.place_history.specs.PlaceState.{state_of}
+use Rattle.place_history.specs.PlaceInvariant.{IsReplayed, IsAhead, held_as}
 use Rattle.place_history.specs.Changes.{Queues, queue_at, Changes}
 use Rattle.place_history.proofs.Replaying.{not_of}
 

@@ -14,8 +14,8 @@ use Rattle.place_history.specs.declared.entry.Entry.{Entry}
 use Rattle.place_history.specs.History.{replay, history, is_of}
 use Rattle.queue_core.specs.declared.event.Event.{Event}
 use Rattle.queue_core.specs.declared.event.Event.TheVariants.{PortClosed, DeviceDown}
-use Rattle.place_history.specs.Kept.{state_of, every_number, told, taken_in, taken_by, entry_in}
-use Rattle.place_history.specs.Kept.{one_if_bound, bound_in_all}
+use Rattle.place_history.specs.PlaceState.{state_of, every_number, told, taken_in, taken_by}
+use Rattle.place_history.specs.PlaceState.{entry_in, one_if_bound, bound_in_all}
 use Rattle.place_history.specs.Happenings.{closing_of, down_of}
 
 -- ---- numbers from one on
@@ -74,14 +74,6 @@ pub record Sweeps (at : ℕ → List Entry) (before es : List Entry) (from taken
   pub swept : es ≡ before ++ flat_map at (range_with_len 0 from)
   pub rest : (q : ℕ) → from ≤ q → history q es ≡ history q before
   pub count : taken ≡ told (taken_in (flat_map at (range_with_len 0 from)))
-
-pub sweeps_none : (at : ℕ → List Entry) (es : List Entry) → Sweeps at es es 0 0
-sweeps_none at es = record {
-  within = omega arith;
-  swept = sym (append-nil es);
-  rest = λ q from. refl;
-  count = refl;
-}
 
 -- the next queue's entries are appended
 pub sweeps_on : (at : ℕ → List Entry) (before es new : List Entry) (from n taken more : ℕ) →

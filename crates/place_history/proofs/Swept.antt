@@ -13,7 +13,7 @@ use Rattle.queue_core.specs.State.{Bound}
 use Rattle.place_history.specs.Numbers.{queue_count}
 use Rattle.place_history.specs.declared.entry.Entry.{Entry}
 use Rattle.place_history.specs.History.{replay, history, is_of}
-use Rattle.place_history.specs.Kept.{state_of, every_number, entry_in, waiting_at}
+use Rattle.place_history.specs.PlaceState.{state_of, every_number, entry_in, waiting_at}
 use Rattle.place_history.specs.Happenings.{closing_of, closings, down_of, downs}
 use Rattle.place_history.proofs.Legal.{state_on}
 use Rattle.place_history.proofs.Sweeping.{OnlyAt, asked_at, range_on, flat_next}

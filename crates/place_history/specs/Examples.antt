@@ -10,7 +10,7 @@ use Rattle.queue_core.specs.declared.event.Event.TheVariants.{Arrive, Ask, PortC
 use Rattle.queue_core.specs.declared.event.Reply.{Reply}
 use Rattle.queue_core.specs.declared.event.Reply.TheVariants.{Arrived, Answer, Flushed}
 use Rattle.place_history.specs.declared.entry.Entry.{Entry}
-use Rattle.place_history.specs.Kept.{Kept, IsAt}
+use Rattle.place_history.specs.PlaceState.{PlaceState, IsAt}
 
 -- the packet with this number, as the first table queues it
 abbrev pub packet : ℕ → Card
@@ -80,7 +80,7 @@ four_packets = three_packets ++ entering_packet 4 ∷ []
 -- ---- a place that is the only one
 
 -- every queue is at it; nothing was begun there, and it goes on
-pub record IsOnly (place : Kept) : Type 0 where
+pub record IsOnly (place : PlaceState) : Type 0 where
   pub at : (queue : ℕ) → IsAt place queue
   pub no_offer : place.offer ≡ None
   pub standing : place.is_left ≡ false

@@ -21,7 +21,8 @@ use Rattle.queue_core.specs.Step.{Way, Gone, Open, Decided, is_decided_early, ne
 use Rattle.queue_core.specs.WithOffer.{letter_of}
 use Rattle.place_history.specs.declared.entry.Entry.{Entry}
 use Rattle.place_history.specs.Journeys.{Arrival}
-use Rattle.place_history.specs.Kept.{Kept, state_of, step_of, entry_in, after_event, every_number}
+use Rattle.place_history.specs.PlaceState.{PlaceState, state_of, step_of, entry_in}
+use Rattle.place_history.specs.PlaceState.{after_event, every_number}
 
 -- ---- arrivals
 
@@ -58,7 +59,7 @@ BeginsAs (begun.Back outcome back) a es =
     (is_decided_early (state_of es a.queue) a.card ≡ true) × IsTurnedAway a true outcome back es
 
 -- the place then: the arrival is held beside the entries, or has happened
-abbrev pub after_begin : Begun → Arrival → Kept → Kept
+abbrev pub after_begin : Begun → Arrival → PlaceState → PlaceState
 after_begin (begun.Offered port letter) a place = record place { offer = Some a }
 after_begin (begun.Back outcome back) a place = after_event place a.queue (arrive a true)
 
@@ -112,5 +113,5 @@ abbrev pub downs : ℕ → List Entry → List Entry
 downs device es = flat_map (λ q. down_of device q (state_of es q)) every_number
 
 -- the place once all these happened
-abbrev pub with_all : Kept → List Entry → Kept
+abbrev pub with_all : PlaceState → List Entry → PlaceState
 with_all place happened = record place { entries = place.entries ++ happened }

@@ -5,9 +5,9 @@ pub mod Moves
 pub mod Journeys
 pub mod Endings
 pub mod Examples
-pub mod Kept
+pub mod PlaceState
 pub mod Happenings
 pub mod Changes
-pub mod Replayed
+pub mod PlaceInvariant
 pub mod Lines
 pub mod Listing

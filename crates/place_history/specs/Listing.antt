@@ -4,7 +4,7 @@ use Rattle.std.specs.Prelude.{ℕ, ◌-◌, ◌++◌, List, [], length, replicat
 use Rattle.std.specs.Prelude.{codes, decimal, flat_map}
 use Rattle.queue_core.specs.State.{Bound}
 use Rattle.place_history.specs.declared.entry.Entry.{Entry}
-use Rattle.place_history.specs.Kept.{state_of, every_number}
+use Rattle.place_history.specs.PlaceState.{state_of, every_number}
 
 -- a blank, as a byte
 abbrev pub blank : ℕ

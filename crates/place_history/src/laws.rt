@@ -10,7 +10,7 @@ ghost use Rattle.place_history.specs.declared.entry.Entry.{Entry};
 ghost use Rattle.place_history.specs.History.{replay, history, IsLegal, IsStep, AreLegal};
 ghost use Rattle.place_history.specs.Stays.{arrivals, departures};
 ghost use Rattle.place_history.specs.Numbers.{queue_count};
-ghost use Rattle.place_history.specs.Kept.{state_of, waiting_at};
+ghost use Rattle.place_history.specs.PlaceState.{state_of, waiting_at};
 ghost use Rattle.place_history.specs.Happenings.{closing_of, closings, down_of, downs};
 
 use queue_core::each_packet_stays_or_leaves;

@@ -8,8 +8,8 @@ ghost use Rattle.queue_core.specs.declared.event.Reply.TheVariants.{Answer};
 ghost use Rattle.queue_core.specs.State.{Bound};
 ghost use Rattle.place_history.specs.Numbers.{most_places};
 ghost use Rattle.place_history.specs.History.{AreLegal};
-ghost use Rattle.place_history.specs.Kept.{IsAt, AreHere, step_of, after_event, told, taken_in};
-ghost use Rattle.place_history.specs.Kept.{waiting_in_all, state_of, waiting_at};
+ghost use Rattle.place_history.specs.PlaceState.{IsAt, AreHere, step_of, after_event, told};
+ghost use Rattle.place_history.specs.PlaceState.{taken_in, waiting_in_all, state_of, waiting_at};
 ghost use Rattle.place_history.specs.Happenings.{BeginsAs, after_begin, SettlesAs, arrive};
 ghost use Rattle.place_history.specs.Happenings.{queue_of, payload_of, all_handed, closings, downs};
 ghost use Rattle.place_history.specs.Happenings.{with_all};
@@ -48,10 +48,10 @@ pub struct Place {
 
 impl Model for Place {
     ghost use Rattle.std.specs.Prelude.{option_map};
-    ghost use Rattle.place_history.specs.Kept.{Kept};
-    ghost use Rattle.place_history.specs.Replayed.{as_arrival, IsPlace};
+    ghost use Rattle.place_history.specs.PlaceState.{PlaceState};
+    ghost use Rattle.place_history.specs.PlaceInvariant.{as_arrival, IsPlace};
 
-    ghost Value = { Kept };
+    ghost Value = { PlaceState };
 
     ghost view = { λ p. record {
       number = p.number;

@@ -6,7 +6,7 @@ ghost use Rattle.place_history.specs.History.{replay, IsLegal};
 ghost use Rattle.place_history.specs.Stays.{departures};
 ghost use Rattle.place_history.specs.Examples.{legal_history, altered_history, one_rule};
 ghost use Rattle.place_history.specs.Examples.{three_packets, four_packets, IsOnly};
-ghost use Rattle.place_history.specs.Kept.{IsAt};
+ghost use Rattle.place_history.specs.PlaceState.{IsAt};
 ghost use Rattle.place_history.specs.Happenings.{payload_of, queue_of};
 ghost use Rattle.place_history.specs.Journeys.{AreSound};
 
@@ -275,11 +275,10 @@ fn flushed(taken: u32) -> Reply {
     Reply::Flushed { taken }
 }
 
-#[test]
-fn what_happens_at_three_queues_is_entered(rt: HostRuntime) -> Result<(), Fail> {
+/// What happens at queues 0, 1 and 5 of ports 7 and 8.
+fn at_three_queues() -> [Happens; 22] {
     use Happens::{Arrives, Asks, GoesDown};
-    let alloc = rt.alloc();
-    let all = [
+    [
         Arrives(0, 1, true, true),
         Arrives(0, 2, false, true),
         Asks(7, 0, Words::Bind),
@@ -302,8 +301,13 @@ fn what_happens_at_three_queues_is_entered(rt: HostRuntime) -> Result<(), Fail> 
         Asks(7, 0, Words::Verdict(1, 1)),
         GoesDown(3),
         Asks(7, 5, Words::Batch(0, 2)),
-    ];
-    let entries = [
+    ]
+}
+
+/// The queue and the reply of each entry that this makes: a device that goes down makes one at each
+/// of the three, everything else makes one.
+fn entered_at_three_queues() -> [(u16, Reply); 24] {
+    [
         (0, arrived(Outcome::Bypassed)),
         (0, arrived(Outcome::NoQueue)),
         (0, answer(0, 0)),
@@ -328,12 +332,16 @@ fn what_happens_at_three_queues_is_entered(rt: HostRuntime) -> Result<(), Fail> 
         (1, flushed(0)),
         (5, flushed(0)),
         (5, answer(0, 1)),
-    ];
+    ]
+}
+
+#[test]
+fn what_happens_at_three_queues_is_entered(rt: HostRuntime) -> Result<(), Fail> {
     let lines = "    0      7     1 2 65531     0     1        3  1\n\
                  \x20   1      8     1 2 65531     1     0        1  1\n\
                  \x20   5      7     0 1     0     0     0        2  1\n";
-    let (replies, listed) = told_of(alloc, &all)?;
-    assert_eq!(rt; &replies[..], &entries[..]);
+    let (replies, listed) = told_of(rt.alloc(), &at_three_queues())?;
+    assert_eq!(rt; &replies[..], &entered_at_three_queues()[..]);
     assert_eq!(rt; &listed[..], lines.as_bytes());
     Ok(())
 }

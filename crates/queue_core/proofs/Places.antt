@@ -1,6 +1,6 @@
 -- Where what waits stands, and what the list of it keeps.
 use Rattle.std.proofs.Common.{◌≡◌, ◌≤◌, ◌<◌, ℕ, zero, suc, ◌+◌, List, [], ◌∷◌, ◌++◌, length, get_or}
-use Rattle.std.proofs.Common.{take, drop, length-drop, Some, None, true, false, cond, refl, sym}
+use Rattle.std.proofs.Common.{take, drop, length-drop, Some, None, true, false, cond, sym}
 use Rattle.std.proofs.Common.{subst, ap, ◌∙◌}
 use Rattle.std.proofs.Common.{arith, inl, inr}
 use Rattle.std.proofs.Math.Seq.{drop-cons}
@@ -18,7 +18,7 @@ use Rattle.queue_core.specs.Numbers.{id_count}
 use Rattle.queue_core.specs.Ids.{is_id, is_among}
 use Rattle.queue_core.specs.Place.{IsPlace}
 use Rattle.queue_core.specs.State.{Bound}
-use Rattle.queue_core.specs.Step.{taken, without, without_oldest, next_id, turns_away}
+use Rattle.queue_core.specs.Step.{taken, without, without_oldest}
 use Rattle.queue_core.specs.WithOffer.{WithOffer, IsQueue, IsMode}
 use Rattle.nfqa_msgs.specs.Numbers.{longest_range}
 use Rattle.queue_core.proofs.FreeIds.{fresh_is_free}
@@ -84,19 +84,6 @@ held_without h id is none = record {
   next = tt;
   undecided = tt;
   few = omega (arith, fewer id h.state.waiting, is.few);
-}
-
--- when an arrival begins
-pub held_begun : (q : Bound) (card : Card) → IsQueue (record { state = q; offer = None }) →
-    turns_away q ≡ false → length q.waiting + 1 < id_count →
-    IsQueue (record { state = q; offer = Some (next_id q, card) })
-held_begun q card is undecided few = record {
-  mode = is.mode;
-  range = is.range;
-  apart = is.apart;
-  next = refl;
-  undecided = undecided;
-  few = few;
 }
 
 -- and when it is settled

@@ -19,10 +19,10 @@ impl Model for Handed {
     ghost use Rattle.std.specs.Prelude.{◌-◌};
     ghost use Rattle.std.specs.VecDeque.{deque_len, deque_capacity};
     ghost use Rattle.packet_entry.specs.declared.packet.Card.{Card};
-    ghost use Rattle.packet_entry.specs.Stocked.{Stocked};
+    ghost use Rattle.packet_entry.specs.ListWithRoom.{ListWithRoom};
     ghost use Rattle.hook_chain.specs.declared.chain.Decision.{Decision};
 
-    ghost Value = { Stocked (Card × Decision) };
+    ghost Value = { ListWithRoom (Card × Decision) };
 
     ghost view = { λ h. record {
       items = h.packets.items;

@@ -12,7 +12,7 @@ use Rattle.place_history.specs.declared.entry.Entry.{Entry}
 use Rattle.place_history.specs.declared.log.AskWords.{AskWords}
 use Rattle.place_history.specs.declared.log.Did.TheVariants.{Sent}
 use Rattle.place_history.specs.Journeys.{Arrival}
-use Rattle.place_history.specs.Kept.{state_of}
+use Rattle.place_history.specs.PlaceState.{state_of}
 use Rattle.place_history.specs.Happenings.{all_handed}
 use Rattle.script_lines.specs.declared.ask.Ask.TheVariants.{Words, Close}
 use Rattle.script_lines.specs.declared.line.Down.{Down}

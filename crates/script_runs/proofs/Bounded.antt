@@ -22,7 +22,7 @@ use Rattle.nfqa_msgs.specs.declared.request.Decoded.{Decoded}
 use Rattle.nfqa_msgs.specs.declared.request.Decoded.TheVariants.{Nothing, Refused, Asked}
 use Rattle.nfqa_msgs.specs.declared.notice.Notice.{Notice}
 use Rattle.nfqa_msgs.specs.NoticeWriting.{Told}
-use Rattle.nfqa_msgs.specs.Read.{notice_of}
+use Rattle.nfqa_msgs.specs.NoticeMeaning.{notice_of}
 use Rattle.nfqa_msgs.specs.RequestReading.{AskedFits, decoded}
 use Rattle.queue_core.specs.State.{Bound}
 use Rattle.queue_core.specs.Step.{Way, Gone, Open, Decided}
@@ -30,7 +30,7 @@ use Rattle.queue_core.specs.declared.event.Event.TheVariants.{Ask}
 use Rattle.place_history.specs.declared.entry.Entry.{Entry}
 use Rattle.place_history.specs.declared.log.AskWords.{AskWords}
 use Rattle.place_history.specs.Journeys.{Arrival}
-use Rattle.place_history.specs.Kept.{state_of, every_number}
+use Rattle.place_history.specs.PlaceState.{state_of, every_number}
 use Rattle.place_history.specs.Happenings.{all_handed, closing_of, closings, down_of}
 use Rattle.place_history.specs.Happenings.{downs, queue_of}
 use Rattle.place_history.specs.Happenings.{arrive}

@@ -12,7 +12,7 @@ use Rattle.std.proofs.Math.Path.{fun_ext}
 use Rattle.packet_entry.specs.declared.packet.Card.{Card}
 use Rattle.packet_entry.specs.declared.letter.Letter.{Letter}
 use Rattle.netlink_codec.specs.Messages.{NetlinkMessage}
-use Rattle.nfqa_msgs.specs.Read.{notice_of}
+use Rattle.nfqa_msgs.specs.NoticeMeaning.{notice_of}
 use Rattle.nfqa_msgs.specs.NoticeWriting.{Told}
 use Rattle.hook_chain.specs.declared.rule.Rule.{Rule}
 use Rattle.hook_chain.specs.Route.{next}

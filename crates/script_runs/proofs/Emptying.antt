@@ -30,7 +30,7 @@ use Rattle.place_history.specs.declared.log.Did.TheVariants.{Sent}
 use Rattle.place_history.specs.Numbers.{queue_count}
 use Rattle.place_history.specs.History.{history, is_of, replay}
 use Rattle.place_history.specs.Journeys.{Arrival}
-use Rattle.place_history.specs.Kept.{state_of, entry_of, every_number}
+use Rattle.place_history.specs.PlaceState.{state_of, entry_of, every_number}
 use Rattle.place_history.specs.Happenings as happening
 use Rattle.solo_plane.specs.declared.setting.Setting.{Setting}
 use Rattle.solo_plane.specs.World.{World, Port, at_port, changed_at, delivered, having_done, closed}

@@ -9,7 +9,7 @@ use Rattle.nfqa_msgs.specs.declared.request.Decoded.TheVariants.{Nothing, Refuse
 use Rattle.nfqa_msgs.specs.RequestReading.{decoded}
 use Rattle.queue_core.specs.declared.event.Event.TheVariants.{Ask}
 use Rattle.place_history.specs.declared.entry.Entry.{Entry}
-use Rattle.place_history.specs.Kept.{entry_of}
+use Rattle.place_history.specs.PlaceState.{entry_of}
 use Rattle.place_history.specs.Journeys.{Arrival}
 use Rattle.place_history.specs.Happenings as happening
 use Rattle.inspector_script.specs.Scripts.{ScriptValue}

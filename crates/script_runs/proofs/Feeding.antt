@@ -10,7 +10,7 @@ use Rattle.queue_core.specs.declared.event.Event.TheVariants.{PortClosed, Device
 use Rattle.place_history.specs.declared.entry.Entry.{Entry}
 use Rattle.place_history.specs.Numbers.{queue_count}
 use Rattle.place_history.specs.History.{history, is_of, replay, replay_from}
-use Rattle.place_history.specs.Kept.{entry_in, state_of}
+use Rattle.place_history.specs.PlaceState.{entry_in, state_of}
 use Rattle.place_history.specs.Happenings as happening
 use Rattle.script_lines.specs.declared.line.Down.{Down}
 use Rattle.script_runs.specs.Feeder.{Item, Was, Fell, Passed}

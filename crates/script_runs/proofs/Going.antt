@@ -9,7 +9,7 @@ use Rattle.nfqa_msgs.specs.declared.request.Request.{Request}
 use Rattle.nfqa_msgs.specs.declared.request.Decoded.TheVariants.{Asked}
 use Rattle.place_history.specs.declared.entry.Entry.{Entry}
 use Rattle.queue_core.specs.Laws.{times}
-use Rattle.place_history.specs.Kept.{entry_of, state_of, every_number}
+use Rattle.place_history.specs.PlaceState.{entry_of, state_of, every_number}
 use Rattle.place_history.specs.Journeys.{Arrival}
 use Rattle.place_history.specs.Happenings as happening
 use Rattle.inspector_script.specs.Scripts.{ScriptValue}

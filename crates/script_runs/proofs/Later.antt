@@ -21,7 +21,7 @@ use Rattle.solo_plane.specs.World.{World}
 use Rattle.solo_plane.specs.HandedOn.{LeavesAlone}
 use Rattle.solo_plane.specs.Moving.{arrival_to, arrived, turned_away, settled, carry, carry_on}
 use Rattle.solo_plane.specs.Moving.{goes_on, route_after, Carried, left_at_once, room_for}
-use Rattle.place_history.specs.Kept.{state_of}
+use Rattle.place_history.specs.PlaceState.{state_of}
 use Rattle.script_runs.specs.Numbers.{enough_arrivals}
 use Rattle.script_runs.specs.Entering.{card_of, card_at}
 use Rattle.script_runs.specs.Sending.{all_moved}

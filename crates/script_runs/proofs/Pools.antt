@@ -14,7 +14,7 @@ use Rattle.queue_core.specs.Step.{Way, Gone, Open, Decided, step}
 use Rattle.queue_core.specs.Laws.{times, waiting_in, arriving, leaving_in}
 use Rattle.place_history.specs.declared.entry.Entry.{Entry}
 use Rattle.place_history.specs.History.{history, is_of, replay, replay_from}
-use Rattle.place_history.specs.Kept.{state_of}
+use Rattle.place_history.specs.PlaceState.{state_of}
 use Rattle.place_history.specs.Happenings as happening
 use Rattle.script_runs.proofs.Closings.{replay_on}
 use Rattle.script_runs.proofs.Later.{MayGo}

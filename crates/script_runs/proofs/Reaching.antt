@@ -99,14 +99,6 @@ put port t T p = if p == port then t else T p
 pub put_same : (port : ℕ) (t : Stand) (T : ℕ → Stand) → put port t T port ≡ t
 put_same port t T = rw (eq-eqb port port refl) refl
 
-pub put_put : (port : ℕ) (t u : Stand) (T : ℕ → Stand) (p : ℕ) →
-    put port t (put port u T) p ≡ put port t T p
-put_put port t u T p = by (p == port)
-  where
-    by : (c : Bool) → (if c then t else (if c then u else T p)) ≡ (if c then t else T p)
-    by true = refl
-    by false = refl
-
 module _ (script : ScriptValue) (f : ℕ → ℕ) where
   abbrev pub is_in : ℕ → Bool
   is_in p = list_any (nat_eq p) script.ports

@@ -13,7 +13,7 @@ use Rattle.hook_chain.specs.Route.{next}
 use Rattle.nfqa_msgs.specs.declared.notice.Notice.{Notice}
 use Rattle.nfqa_msgs.specs.NoticeWriting.{Told}
 use Rattle.script_runs.specs.NoticeTexts.{told_exactly}
-use Rattle.nfqa_msgs.specs.Read.{notice_of}
+use Rattle.nfqa_msgs.specs.NoticeMeaning.{notice_of}
 use Rattle.place_history.specs.declared.log.AskWords.{AskWords}
 use Rattle.script_lines.specs.declared.ask.Ask.{Ask}
 use Rattle.script_lines.specs.declared.ask.Ask.TheVariants.{Words, Close}
@@ -30,7 +30,7 @@ use Rattle.solo_plane.specs.declared.setting.Setting.{Setting}
 use Rattle.solo_plane.specs.World.{World, Port, at_port, received, received_from}
 use Rattle.solo_plane.specs.Planes.{entered, without_device}
 use Rattle.solo_plane.specs.Moving.{arrival_to, arrived, left_at_once, room_for}
-use Rattle.place_history.specs.Kept.{state_of}
+use Rattle.place_history.specs.PlaceState.{state_of}
 use Rattle.script_runs.specs.Numbers.{enough_arrivals}
 use Rattle.script_runs.specs.Entering.{card_of}
 use Rattle.script_runs.specs.Sending.{all_done, done}
@@ -125,10 +125,6 @@ put_own port t T is p = by (cases_Bool (p == port))
     by : ((p == port) ≡ true) ⊎ ((p == port) ≡ false) → put port t T p ≡ T p
     by (inl h) = rw h (sym is ∙ ap T (sym (eqb-true p port h)))
     by (inr h) = rw h refl
-
-pub put_away : (port : ℕ) (t : Stand) (T : ℕ → Stand) (p : ℕ) → (p == port) ≡ false →
-    put port t T p ≡ T p
-put_away port t T p h = rw h refl
 
 -- ---- looks
 

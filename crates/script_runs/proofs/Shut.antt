@@ -16,7 +16,7 @@ use Rattle.place_history.specs.declared.log.Did.TheVariants.{Sent}
 use Rattle.place_history.specs.Numbers.{queue_count}
 use Rattle.place_history.specs.History.{history}
 use Rattle.place_history.specs.Journeys.{Arrival}
-use Rattle.place_history.specs.Kept.{entry_of, state_of, every_number}
+use Rattle.place_history.specs.PlaceState.{entry_of, state_of, every_number}
 use Rattle.place_history.specs.Happenings as happening
 use Rattle.solo_plane.specs.declared.setting.Setting.{Setting}
 use Rattle.solo_plane.specs.World.{World, Port, received, received_from, having_done, closed}

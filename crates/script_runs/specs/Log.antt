@@ -10,7 +10,7 @@ use Rattle.nfqa_msgs.specs.declared.request.Decoded.TheVariants.{Nothing, Refuse
 use Rattle.nfqa_msgs.specs.RequestReading.{decoded}
 use Rattle.nfqa_msgs.specs.NoticeWriting.{Told}
 use Rattle.script_runs.specs.NoticeTexts.{told_exactly}
-use Rattle.nfqa_msgs.specs.Read.{notice_of}
+use Rattle.nfqa_msgs.specs.NoticeMeaning.{notice_of}
 use Rattle.queue_core.specs.Numbers.{largest_count}
 use Rattle.place_history.specs.declared.log.Did.{Did}
 use Rattle.place_history.specs.declared.log.Did.TheVariants.{Received, Sent, Closed}

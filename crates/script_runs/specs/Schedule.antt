@@ -9,7 +9,7 @@ use Rattle.pcap_io.specs.declared.capture.Capture.{Capture}
 use Rattle.pcap_io.specs.declared.capture.Frame.{Frame}
 use Rattle.hook_chain.specs.declared.rule.Rule.{Rule}
 use Rattle.hook_chain.specs.Route.{next}
-use Rattle.nfqa_msgs.specs.Read.{notice_of}
+use Rattle.nfqa_msgs.specs.NoticeMeaning.{notice_of}
 use Rattle.nfqa_msgs.specs.NoticeWriting.{Told}
 use Rattle.queue_core.specs.Numbers.{largest_count}
 use Rattle.place_history.specs.declared.log.Did.{Did}

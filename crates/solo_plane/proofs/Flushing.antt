@@ -13,7 +13,7 @@ use Rattle.place_history.specs.declared.entry.Entry.{Entry}
 use Rattle.place_history.specs.History.{AreLegal}
 use Rattle.place_history.specs.Moves.{moves, move_after}
 use Rattle.place_history.specs.Journeys.{Arrival, IsSoundBut, asks, came, arrival_of, going_on}
-use Rattle.place_history.specs.Kept.{state_of, entry_in, every_number}
+use Rattle.place_history.specs.PlaceState.{state_of, entry_in, every_number}
 use Rattle.place_history.specs.Happenings.{closing_of, closings, down_of, downs}
 use Rattle.solo_plane.specs.declared.setting.Setting.{Setting}
 use Rattle.solo_plane.specs.World.{World}

@@ -8,9 +8,8 @@ use Rattle.std.proofs.lemmas.Bool.Decides.{nat_tests}
 use Rattle.queue_core.specs.declared.event.Event.TheVariants.{DeviceDown}
 use Rattle.queue_core.specs.declared.event.Reply.TheVariants.{Flushed}
 use Rattle.place_history.specs.declared.entry.Entry.{Entry}
-use Rattle.place_history.specs.History.{IsLegal, AreLegal}
 use Rattle.std.specs.List.{IsDistinct}
-use Rattle.std.proofs.Common.{subst, get_or}
+use Rattle.std.proofs.Common.{get_or}
 use Rattle.std.proofs.lemmas.Bool.{eq-eqb}
 use Rattle.std.proofs.lemmas.Map.Keys.{apart_from_distinct}
 use Rattle.solo_plane.specs.Closing.{IsGrouped, AreApart}
@@ -35,11 +34,6 @@ grouped_so es gs sorted stable =
           ∙ stable (entry_at queue)
           ∙ ap (λ (t : Entry → Bool). filter t es) (fun_ext (λ e. same_number queue e.queue));
     }
-
--- grouped histories are legal where the others were
-pub grouped_legal : (es gs : List Entry) → IsGrouped es gs → AreLegal es → AreLegal gs
-grouped_legal es gs is legal queue =
-    subst (λ (h : List Entry). IsLegal h) (sym (is.same queue)) (legal queue)
 
 -- ports that differ by a test
 pub apart_so : (order : List ℕ) → IsDistinct nat_eq order → AreApart order

@@ -1,9 +1,8 @@
 -- Arrivals: what leaves the queue at once, and the world then.
-use Rattle.std.proofs.Common.{◌≡◌, ◌≢◌, ℕ, List, [], ◌∷◌, ◌++◌, Option, Some, None, Bool}
+use Rattle.std.proofs.Common.{◌≡◌, ℕ, List, [], ◌∷◌, ◌++◌, Option, Some, None, Bool}
 use Rattle.std.proofs.Common.{true, false, refl, sym, ap, ◌∙◌, rules}
 use Rattle.std.specs.Prelude.{◌==◌, ◌&&◌, not, if◌then◌else◌, option_map, IsSome}
 use Rattle.std.specs.Prelude.{Result, Ok, Err, OnOk, is_err}
-use Rattle.std.proofs.lemmas.Bool.{eq-eqb}
 use Rattle.std.specs.BTreeMap.{BTreeMap, get}
 use Rattle.std.specs.Ordering.{nat_cmp}
 use Rattle.packet_entry.specs.declared.packet.Card.{Card}
@@ -15,10 +14,10 @@ use Rattle.queue_core.specs.declared.event.Reply.{Reply}
 use Rattle.queue_core.specs.declared.event.Reply.TheVariants.{Arrived}
 use Rattle.queue_core.specs.declared.offers.Outcome.{Outcome}
 use Rattle.queue_core.specs.State.{Bound, fails_open}
-use Rattle.queue_core.specs.Step.{Stepped, Way, Gone, Open, arrive, arrive_in_time, arrive_bound}
+use Rattle.queue_core.specs.Step.{Stepped, Way, arrive, arrive_in_time, arrive_bound}
 use Rattle.queue_core.specs.Step.{is_decided_early, is_full}
 use Rattle.place_history.specs.Journeys.{Arrival}
-use Rattle.place_history.specs.Kept.{state_of, entry_of}
+use Rattle.place_history.specs.PlaceState.{state_of, entry_of}
 use Rattle.place_history.specs.Happenings as happening
 use Rattle.place_history.specs.Happenings.{IsTurnedAway, IsTaken, IsOffered}
 use Rattle.solo_plane.specs.declared.fed.Fed.TheVariants.{Waiting}
@@ -75,18 +74,6 @@ tells_way q card bypass room =
     in_time None false = leaves_by card _ _ _ refl
     in_time None true = leaves_by card _ _ _ refl
     in_time (Some b) bypass = bound b
-
--- nothing goes on whose visit is the last
-pub goes_on_in_time : (q : Option Bound) (card : Card) (bypass room : Bool) →
-    (arrive q card bypass room).left ≡ (card, Open) ∷ [] → card.visit ≢ last_visit
-goes_on_in_time q card bypass room left last =
-    absurd (apart (rw (eq-eqb card.visit last_visit last) at left))
-  where
-    one : Way → List (Card × Way)
-    one way = (card, way) ∷ []
-
-    apart : one Gone ≡ one Open → ⊥
-    apart is = let wrong : Gone ≡ Open = ap (way_in Gone) is in cc
 
 -- ---- the world then
 

@@ -17,7 +17,7 @@ use Rattle.place_history.specs.History.{AreLegal}
 use Rattle.place_history.specs.Moves.{moves, move_after}
 use Rattle.place_history.specs.Journeys.{Arrival, IsSoundBut, asked_by, asked_by_some, going_on}
 use Rattle.place_history.specs.Journeys.{asks, came}
-use Rattle.place_history.specs.Kept.{entry_of, state_of}
+use Rattle.place_history.specs.PlaceState.{entry_of, state_of}
 use Rattle.place_history.specs.Happenings as happening
 use Rattle.solo_plane.specs.declared.setting.Setting.{Setting}
 use Rattle.solo_plane.specs.World.{World}

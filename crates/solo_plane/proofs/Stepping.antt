@@ -1,10 +1,9 @@
 -- One step of a packet on its way, and all of them.
-use Rattle.std.proofs.Common.{◌≡◌, ◌≤◌, ◌<◌, ◌+◌, ◌-◌, ℕ, suc, Option, Some, sym, ap, ◌∙◌}
-use Rattle.std.proofs.Common.{arith, List, ◌++◌, ◌∷◌, []}
+use Rattle.std.proofs.Common.{◌≡◌, ◌<◌, ◌+◌, ◌-◌, ℕ, suc, Option, Some, sym, ap, ◌∙◌}
+use Rattle.std.proofs.Common.{arith, List}
 use Rattle.packet_entry.specs.declared.packet.Card.{Card}
 use Rattle.packet_entry.specs.Numbers.{last_visit}
 use Rattle.hook_chain.specs.declared.chain.Next.{Next}
-use Rattle.hook_chain.specs.declared.chain.Next.TheVariants.{Released, To}
 use Rattle.solo_plane.specs.declared.fed.Fed.{Fed}
 use Rattle.solo_plane.specs.declared.fed.Fed.TheVariants as fed
 use Rattle.solo_plane.specs.declared.setting.Setting.{Setting}
@@ -12,9 +11,8 @@ use Rattle.solo_plane.specs.declared.arrivals.Came.{Came}
 use Rattle.solo_plane.specs.declared.arrivals.Came.TheVariants.{Ended, GoesOn}
 use Rattle.solo_plane.specs.World.{World}
 use Rattle.solo_plane.specs.Moving.{carry}
-use Rattle.solo_plane.specs.Moving.{ending}
-use Rattle.solo_plane.specs.OnTheWay.{StepsTo, IsCarried, HasVisit, arrivals_left, KeepsRoom}
-use Rattle.solo_plane.specs.OnTheWay.{NeedsRoom, SpendsRoom, WasToArrive, came_to}
+use Rattle.solo_plane.specs.OnTheWay.{StepsTo, IsCarried, HasVisit, arrivals_left}
+use Rattle.solo_plane.specs.OnTheWay.{came_to}
 
 pub nearer : (visit : ℕ) (came : Came) → visit < last_visit → HasVisit (visit + 1) came →
     arrivals_left came < suc (last_visit - visit)
@@ -35,34 +33,9 @@ moved_from memory s old new card route came same moved =
           (sym same);
     }
 
--- a packet that finds no memory is lost
-pub lost_at : (memory : ℕ) (s : Setting) (old new : World) (card : Card) (route : Next)
-    (back : Card) → WasToArrive card route back →
-    new ≡ record old {
-      lost = old.lost
-          ++ record { number = back.number; visit = back.visit } ∷ [];
-    } →
-    StepsTo memory s old new card (Some route) (Ended fed.Lost)
-lost_at memory s old new card Released back was is = absurd was
-lost_at memory s old new card (To queue bypass table) back was is =
-    record {
-      from = 0;
-      steps = ap (λ w. ending w fed.Lost) (rw was at (sym is));
-    }
-
 pub carried_on : (s : Setting) (old mid new : World)
     (card : Card) (route : Option Next) (came : Came)
     (fed : Fed) → ((memory : ℕ) → StepsTo memory s old mid card route came) →
     IsCarried s mid came new fed → IsCarried s old (GoesOn card route) new fed
 carried_on s old mid new card route came fed steps is =
     let one = steps is.memory in record { memory = one.from; moved = one.steps ∙ is.moved }
-
-pub room_after : (came : Came) (old new : ℕ) → 0 < old → KeepsRoom old new came → NeedsRoom came new
-room_after (Ended fed) old new some keeps = tt
-room_after (GoesOn card route) old new some keeps = omega (arith, keeps)
-
-pub room_spent : (came : Came) (old mid new : ℕ) →
-    KeepsRoom old mid came → SpendsRoom came mid new →
-    old ≤ new + 1
-room_spent (Ended fed) old mid new keeps spends = omega (arith, keeps, spends)
-room_spent (GoesOn card route) old mid new keeps spends = omega (arith, keeps, spends)

@@ -6,7 +6,7 @@ use Rattle.hook_chain.specs.declared.chain.Decision.{Decision}
 use Rattle.queue_core.specs.Laws.{times, waiting_in}
 use Rattle.queue_core.specs.Step.{Stepped, Way, Gone, Open}
 use Rattle.place_history.specs.declared.entry.Entry.{Entry}
-use Rattle.place_history.specs.Kept.{state_of}
+use Rattle.place_history.specs.PlaceState.{state_of}
 
 -- a visit that no packet has that waits: it isn't one of the first 32
 abbrev pub is_out_of_time : ℕ → Bool

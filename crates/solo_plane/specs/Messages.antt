@@ -15,7 +15,7 @@ use Rattle.queue_core.specs.Step.{Stepped}
 use Rattle.place_history.specs.declared.log.AskWords.{AskWords}
 use Rattle.place_history.specs.declared.log.AskWords.TheVariants.{Plain, Raw}
 use Rattle.place_history.specs.declared.log.Did.TheVariants.{Sent}
-use Rattle.place_history.specs.Kept.{step_of, entry_of}
+use Rattle.place_history.specs.PlaceState.{step_of, entry_of}
 use Rattle.place_history.specs.Happenings.{queue_of, all_handed}
 use Rattle.solo_plane.specs.declared.setting.Setting.{Setting}
 use Rattle.solo_plane.specs.Calls.{next_call}

@@ -11,7 +11,7 @@ use Rattle.queue_core.specs.State.{Bound}
 use Rattle.queue_core.specs.Step.{Way, Gone, Open, Decided, is_decided_early, next_id}
 use Rattle.queue_core.specs.WithOffer.{letter_of}
 use Rattle.place_history.specs.Journeys.{Arrival}
-use Rattle.place_history.specs.Kept.{state_of, step_of, entry_of}
+use Rattle.place_history.specs.PlaceState.{state_of, step_of, entry_of}
 use Rattle.place_history.specs.Happenings.{arrive}
 use Rattle.solo_plane.specs.declared.fed.Fed.{Fed}
 use Rattle.solo_plane.specs.declared.fed.Fed.TheVariants as fed

@@ -2,9 +2,9 @@
 use Rattle.std.specs.Prelude.{◌≡◌, ℕ, [], Option, None, Bool, option_map, IsSomeAnd, false}
 use Rattle.std.specs.BTreeMap.{BTreeMap, get}
 use Rattle.std.specs.Ordering.{nat_cmp}
-use Rattle.packet_entry.specs.Stocked.{Stocked}
+use Rattle.packet_entry.specs.ListWithRoom.{ListWithRoom}
 use Rattle.place_history.specs.declared.log.Did.{Did}
-use Rattle.place_history.specs.Kept.{Kept}
+use Rattle.place_history.specs.PlaceState.{PlaceState}
 use Rattle.place_history.specs.Moves.{moves}
 use Rattle.place_history.specs.Journeys.{IsSoundBut}
 use Rattle.solo_plane.specs.declared.port.PortState.{PortState}
@@ -25,7 +25,7 @@ ports_of ports p = option_map port_of (get nat_cmp ports p)
 
 -- what a port did, with the room for more, and whether it is closed
 pub record Log : Type 0 where
-  pub dids : Stocked Did
+  pub dids : ListWithRoom Did
   pub is_closed : Bool
 
 abbrev pub log_in : PortState → Log
@@ -48,7 +48,7 @@ world_of h = record {
 }
 
 -- the one place, of all queues, between two steps
-pub record IsReady (place : Kept) : Type 0 where
+pub record IsReady (place : PlaceState) : Type 0 where
   pub only : place.places ≡ 1
   pub first : place.number ≡ 0
   pub no_offer : place.offer ≡ None

@@ -8,7 +8,7 @@ ghost use Rattle.packet_entry.specs.declared.packet.Card.{Card};
 ghost use Rattle.packet_entry.specs.Numbers.{last_visit};
 ghost use Rattle.hook_chain.specs.declared.chain.Next.{Next};
 ghost use Rattle.queue_core.specs.Step.{Open};
-ghost use Rattle.place_history.specs.Kept.{state_of};
+ghost use Rattle.place_history.specs.PlaceState.{state_of};
 ghost use Rattle.solo_plane.specs.World.{World};
 ghost use Rattle.solo_plane.specs.Moving.{Carried, arrived, turned_away, goes_on, route_after};
 ghost use Rattle.solo_plane.specs.Moving.{carry};

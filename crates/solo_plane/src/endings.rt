@@ -2,7 +2,7 @@
 
 ghost use Rattle.std.specs.Prelude.{◌≡◌, IfOk, OnOk, OnErr, false};
 ghost use Rattle.place_history.specs.History.{AreLegal};
-ghost use Rattle.place_history.specs.Kept.{told, taken_in};
+ghost use Rattle.place_history.specs.PlaceState.{told, taken_in};
 ghost use Rattle.place_history.specs.Happenings.{downs};
 ghost use Rattle.solo_plane.specs.declared.setting.Setting.{Setting};
 ghost use Rattle.solo_plane.specs.PortView.{world_of, OnPort, IsReady, HasSound};

@@ -18,9 +18,9 @@ impl Model for Mailbox {
     ghost use Rattle.std.specs.Prelude.{◌-◌};
     ghost use Rattle.std.specs.VecDeque.{deque_len, deque_capacity};
     ghost use Rattle.packet_entry.specs.declared.letter.Letter.{Letter};
-    ghost use Rattle.packet_entry.specs.Stocked.{Stocked};
+    ghost use Rattle.packet_entry.specs.ListWithRoom.{ListWithRoom};
 
-    ghost Value = { Stocked Letter };
+    ghost Value = { ListWithRoom Letter };
 
     ghost view = { λ m. record {
       items = m.letters.items;

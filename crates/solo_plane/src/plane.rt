@@ -7,7 +7,7 @@ ghost use Rattle.netlink_codec.specs.Messages.{first_message};
 ghost use Rattle.hook_chain.specs.Route.{next};
 ghost use Rattle.place_history.specs.History.{AreLegal};
 ghost use Rattle.place_history.specs.Journeys.{AreSound};
-ghost use Rattle.place_history.specs.Kept.{told, taken_in};
+ghost use Rattle.place_history.specs.PlaceState.{told, taken_in};
 ghost use Rattle.place_history.specs.Happenings.{downs};
 ghost use Rattle.place_history.specs.Listing as text;
 ghost use Rattle.solo_plane.specs.Numbers.{most_fed, most_mail, most_ports};

@@ -1,11 +1,11 @@
 -- Messages that are cut from bytes and sent, one after the other.
-use Rattle.std.proofs.Common.{◌≡◌, ◌<◌, ◌≤◌, ◌+◌, ◌-◌, ◌∙◌, ℕ, suc, List, [], length, drop}
+use Rattle.std.proofs.Common.{◌≡◌, ◌<◌, ◌≤◌, ◌+◌, ◌-◌, ◌∙◌, ℕ, suc, List, length, drop}
 use Rattle.std.proofs.Common.{Option, Some, None, refl, sym, ap, arith}
 use Rattle.netlink_codec.specs.Messages.{NetlinkMessage, first_message}
 use Rattle.solo_plane.specs.declared.setting.Setting.{Setting}
 use Rattle.solo_plane.specs.World.{World}
 use Rattle.script_runs.specs.Sending.{all_sent, cut_in, with_those_behind}
-use Rattle.solo_run.specs.Running.{SendsFirst}
+use Rattle.solo_run.specs.RunState.{SendsFirst}
 use Rattle.solo_run.proofs.Sent.{first_uses}
 
 cut_more : (n look : ℕ) (rest : List ℕ) → look < n →
@@ -14,11 +14,6 @@ cut_more : (n look : ℕ) (rest : List ℕ) → look < n →
 cut_more n look rest more =
     let one : n - look ≡ suc (n - (look + 1)) = omega (arith, more) in
     ap (λ (k : ℕ). cut_in k rest) one
-
-cut_none : (n look : ℕ) (rest : List ℕ) → n ≤ look → cut_in (n - look) rest ≡ []
-cut_none n look rest done =
-    let none : n - look ≡ 0 = omega (arith, done) in
-    ap (λ (k : ℕ). cut_in k rest) none
 
 one_sent : (then : World → World) (s : Setting) (port : ℕ) (cut : List ℕ → List NetlinkMessage)
     (rest : List ℕ) (w mid : World) (used : ℕ) (front : Option (NetlinkMessage × ℕ)) → 0 < used →
@@ -63,12 +58,6 @@ sent_all then s port n look rest w mid used more none is =
     none refl is)
     ∙ sym (ap (λ (ms : List NetlinkMessage). all_sent then s port ms w)
     (cut_more n look rest more))
-
--- all looks were made
-pub sent_out : (then : World → World) (s : Setting) (port n look : ℕ) (rest : List ℕ)
-    (w : World) → n ≤ look → w ≡ all_sent then s port (cut_in (n - look) rest) w
-sent_out then s port n look rest w done =
-    sym (ap (λ (ms : List NetlinkMessage). all_sent then s port ms w) (cut_none n look rest done))
 
 within_rest : (rest : List ℕ) (s : Setting) (port : ℕ) (w mid : World) (used : ℕ)
     (front : Option (NetlinkMessage × ℕ)) → first_message rest ≡ front →

@@ -1,12 +1,12 @@
 -- What is asked for is done, one after the other.
-use Rattle.std.proofs.Common.{◌≡◌, ◌∙◌, ℕ, List, [], ◌∷◌, true, refl, sym, ap, subst}
+use Rattle.std.proofs.Common.{◌≡◌, ◌∙◌, ℕ, List, [], ◌∷◌, true, sym, ap, subst}
 use Rattle.script_lines.specs.declared.ask.Ask.{Ask}
 use Rattle.script_lines.specs.declared.ask.Ask.TheVariants.{Words, Close}
 use Rattle.solo_plane.specs.declared.setting.Setting.{Setting}
 use Rattle.solo_plane.specs.World.{World}
 use Rattle.script_runs.specs.Schedule.{is_open_port}
 use Rattle.script_runs.specs.Sending.{all_done, done}
-use Rattle.solo_run.specs.Running.{AreWords, ClosesLast, Keeps, KeepsBut, LeavesBy}
+use Rattle.solo_run.specs.RunState.{AreWords, ClosesLast, Keeps, KeepsBut, LeavesBy}
 use Rattle.solo_run.proofs.Keeping.{keeps_both}
 
 -- the port is open, where there is something left
@@ -22,20 +22,6 @@ pub record IsDoing (then : World → World) (s : Setting) (port : ℕ) (asks : L
   pub others : KeepsBut port old now
   pub words : AreWords asks → AreWords left × Keeps old now
   pub on : all_done then s port left now ≡ all_done then s port asks old
-
-pub does_first : (then : World → World) (s : Setting) (port : ℕ) (asks : List Ask) (w : World) →
-    ClosesLast asks → is_open_port (w.ports port) ≡ true → IsDoing then s port asks w asks w
-does_first then s port asks w last open_ = record {
-  last = last;
-  opened = for_all asks;
-  others = record { fed = refl; open_ports = λ p other. refl };
-  words = λ words. (words, record { fed = refl; open_ports = λ p. refl });
-  on = refl;
-}
-  where
-    for_all : (left : List Ask) → IsOpenFor left port w
-    for_all [] = tt
-    for_all (a ∷ left) = open_
 
 but_both : (port : ℕ) (u v w : World) → KeepsBut port u v → KeepsBut port v w → KeepsBut port u w
 but_both port u v w first later = record {

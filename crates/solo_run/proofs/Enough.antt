@@ -21,7 +21,7 @@ use Rattle.queue_core.specs.Step.{Way, Gone, Open, step}
 use Rattle.queue_core.specs.Laws.{times, waiting_in}
 use Rattle.place_history.specs.declared.histories.Lost.{Lost}
 use Rattle.place_history.specs.declared.log.Did.TheVariants.{Sent}
-use Rattle.place_history.specs.Kept.{state_of}
+use Rattle.place_history.specs.PlaceState.{state_of}
 use Rattle.place_history.specs.Happenings.{all_handed, queue_of}
 use Rattle.solo_plane.specs.declared.setting.Setting.{Setting}
 use Rattle.solo_plane.specs.World.{World, at_port, having_done}
@@ -32,7 +32,7 @@ use Rattle.solo_plane.specs.Messages.{asking, with_ask}
 use Rattle.solo_plane.specs.HandedOn.{is_out_of_time, AreInTime, LeavesAlone, WaitInTime}
 use Rattle.script_runs.specs.Numbers.{enough_arrivals}
 use Rattle.script_runs.specs.Sending.{all_moved, carried_out, errno_of, errno_in, sent}
-use Rattle.solo_run.specs.Running.{SendsFirst}
+use Rattle.solo_run.specs.RunState.{SendsFirst}
 
 -- ---- what is lost stays lost
 

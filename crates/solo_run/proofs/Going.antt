@@ -16,7 +16,7 @@ use Rattle.inspector_script.specs.Scripts.{ScriptValue}
 use Rattle.solo_plane.specs.declared.setting.Setting.{Setting}
 use Rattle.solo_plane.specs.World.{World}
 use Rattle.solo_plane.specs.Soundness.{IsSound}
-use Rattle.solo_run.specs.Running.{AreOpen, IsGoing, mind_of, mind_at, port_at}
+use Rattle.solo_run.specs.RunState.{AreOpen, IsGoing, mind_of, mind_at, port_at}
 use Rattle.script_runs.specs.Schedule.{is_open_port}
 use Rattle.solo_run.specs.declared.inspector.Inspector.{Inspector}
 use Rattle.solo_run.proofs.Minds.{SameMinds}

@@ -1,6 +1,6 @@
 -- Looks, rounds and emptied mailboxes.
 use Rattle.std.proofs.Common.{◌≡◌, ◌<◌, ◌+◌, ◌-◌, ◌∙◌, ℕ, suc, List, [], ◌∷◌, length, drop}
-use Rattle.std.proofs.Common.{Option, Some, None, Bool, true, false, sym, ap, arith}
+use Rattle.std.proofs.Common.{Option, Some, Bool, true, false, sym, ap, arith}
 use Rattle.std.specs.Prelude.{◌||◌}
 use Rattle.std.proofs.lemmas.List.{drop_more}
 use Rattle.packet_entry.specs.declared.letter.Letter.{Letter}
@@ -12,7 +12,7 @@ use Rattle.script_runs.specs.NoticeTexts.{told_exactly}
 use Rattle.script_runs.specs.Schedule.{asks_for, looked, looked_at, letters_at, is_open_port}
 use Rattle.script_runs.specs.Schedule.{received_in, round, emptied_in, go_on_while}
 use Rattle.script_runs.specs.Sending.{all_done}
-use Rattle.solo_run.specs.Running.{ReceivesFirst, port_at}
+use Rattle.solo_run.specs.RunState.{ReceivesFirst, port_at}
 
 abbrev some : List Ask → Option (List Ask)
 some asks = Some asks
@@ -48,22 +48,6 @@ pub looked_one : (s : Setting) (script : ScriptValue) (place port : ℕ) (asks :
 looked_one s script place port asks old mid new before open_ is did =
     rw open_ (at_one s script place port (letters_at (old.ports port))
     asks old mid new before is did)
-
-at_none : (s : Setting) (script : ScriptValue) (place port : ℕ) (letters : List Letter)
-    (old new : World) (before : Bool) → ReceivesFirst script place port letters None old new →
-    looked_at s script place port letters (record { world = old; found = before })
-    ≡ record { world = new; found = before }
-at_none s script place port [] old new before is =
-    ap (λ (w : World). record { world = w; found = before }) (sym is.1)
-at_none s script place port (l ∷ ls) old new before is = let wrong = is.0 in absurd (cc)
-
-pub looked_none : (s : Setting) (script : ScriptValue) (place port : ℕ) (old new : World)
-    (before : Bool) → is_open_port (old.ports port) ≡ true →
-    ReceivesFirst script place port (letters_at (old.ports port)) None old new →
-    looked s script place port (record { world = old; found = before })
-    ≡ record { world = new; found = before }
-looked_none s script place port old new before open_ is =
-    rw open_ (at_none s script place port (letters_at (old.ports port)) old new before is)
 
 -- ---- rounds
 

@@ -23,7 +23,7 @@ use Rattle.place_history.specs.declared.log.Did.{Did}
 use Rattle.place_history.specs.declared.log.Did.TheVariants.{Sent}
 use Rattle.place_history.specs.declared.log.AskWords.{AskWords}
 use Rattle.place_history.specs.Journeys.{Arrival}
-use Rattle.place_history.specs.Kept.{state_of}
+use Rattle.place_history.specs.PlaceState.{state_of}
 use Rattle.place_history.specs.Happenings.{all_handed}
 use Rattle.solo_plane.specs.declared.setting.Setting.{Setting}
 use Rattle.solo_plane.specs.World.{World, Port, delivered, having_done}
@@ -35,7 +35,7 @@ use Rattle.solo_plane.specs.Messages.{asking, with_ask, call_at}
 use Rattle.script_runs.specs.Numbers.{enough_arrivals}
 use Rattle.script_runs.specs.Schedule.{is_received, is_open_port}
 use Rattle.script_runs.specs.Sending.{all_moved, carried_out, sent}
-use Rattle.solo_run.specs.Running.{mind_of}
+use Rattle.solo_run.specs.RunState.{mind_of}
 use Rattle.solo_run.specs.declared.inspector.Inspector.{Inspector}
 
 -- each port is as far as it was

@@ -1,22 +1,20 @@
 -- The parts of a run, port by port, line by line and frame by frame.
 use Rattle.std.proofs.Common.{◌≡◌, ◌≢◌, ◌<◌, ◌≤◌, ◌+◌, ◌∙◌, ℕ}
-use Rattle.std.proofs.Common.{List, [], ◌∷◌, ◌++◌, length, drop, Option}
-use Rattle.std.proofs.Common.{Some, None, sym, ap, arith, inl, inr, append_assoc}
-use Rattle.std.specs.Prelude.{AllPairs, filter, option_to_list}
-use Rattle.std.proofs.lemmas.Bool.{cases_Bool}
+use Rattle.std.proofs.Common.{List, ◌∷◌, ◌++◌, length, drop, Option}
+use Rattle.std.proofs.Common.{Some, None, sym, ap, arith, append_assoc}
+use Rattle.std.specs.Prelude.{AllPairs, option_to_list}
 use Rattle.std.proofs.lemmas.List.{drop_more, length-append}
 use Rattle.packet_entry.specs.declared.packet.Card.{Card}
 use Rattle.pcap_io.specs.declared.capture.Capture.{Capture}
 use Rattle.pcap_io.specs.declared.capture.Frame.{Frame}
 use Rattle.script_lines.specs.declared.ask.Ask.{Ask}
-use Rattle.script_lines.specs.declared.line.Down.{Down}
 use Rattle.inspector_script.specs.Scripts.{ScriptValue, opening, closing}
 use Rattle.solo_plane.specs.declared.setting.Setting.{Setting}
 use Rattle.solo_plane.specs.World.{World}
 use Rattle.script_runs.specs.Entering.{card_of, cards_from}
-use Rattle.script_runs.specs.Schedule.{all_down, is_after, opened_all, ended_all, emptied_in}
+use Rattle.script_runs.specs.Schedule.{opened_all, ended_all, emptied_in}
 use Rattle.script_runs.specs.Sending.{all_done}
-use Rattle.solo_run.specs.Running.{AreOpen, KeepsBut, port_at}
+use Rattle.solo_run.specs.RunState.{AreOpen, KeepsBut, port_at}
 use Rattle.solo_run.proofs.Going.{ports_apart}
 
 pub opened_on : (s : Setting) (script : ScriptValue) (place : ℕ) (asks : List Ask)
@@ -50,16 +48,6 @@ later_open script place old new apart within are keeps k later k_in =
     keeps.open_ports (port_at script k)
     (ports_apart script apart k place k_in within (λ same. omega (arith, later, same)))
     ∙ are k (omega (arith, later)) k_in
-
-pub down_on : (number : ℕ) (d : Down) (ds : List Down) (w mid : World) →
-    mid ≡ all_down (filter (is_after number) (d ∷ [])) w →
-    all_down (filter (is_after number) ds) mid
-    ≡ all_down (filter (is_after number) (d ∷ ds)) w
-down_on number d ds w mid is =
-    elim (cases_Bool (is_after number d)) [
-      | inl due ↦ rw due (ap (all_down (filter (is_after number) ds)) (rw due at is))
-      | inr other ↦ rw other (ap (all_down (filter (is_after number) ds)) (rw other at is))
-    ]
 
 -- ---- frames
 

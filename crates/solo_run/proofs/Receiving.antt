@@ -19,8 +19,8 @@ use Rattle.solo_plane.specs.Calls.{is_sent, next_call}
 use Rattle.solo_plane.specs.Soundness.{IsSound}
 use Rattle.script_runs.specs.NoticeTexts.{told_exactly}
 use Rattle.script_runs.specs.Schedule.{is_received, letters_at, received_in, asks_for}
-use Rattle.solo_run.specs.Running.{IsGoing, Keeps, ReceivesFirst, mind_of}
-use Rattle.solo_run.specs.Running.{mind_at, port_at, one_notice}
+use Rattle.solo_run.specs.RunState.{IsGoing, Keeps, ReceivesFirst, mind_of}
+use Rattle.solo_run.specs.RunState.{mind_at, port_at, one_notice}
 use Rattle.solo_run.specs.declared.inspector.Inspector.{Inspector}
 use Rattle.solo_run.proofs.Going.{goes_at}
 

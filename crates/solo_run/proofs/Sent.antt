@@ -12,7 +12,7 @@ use Rattle.solo_plane.specs.declared.setting.Setting.{Setting}
 use Rattle.solo_plane.specs.World.{World}
 use Rattle.solo_plane.specs.Soundness.{IsSound}
 use Rattle.script_runs.specs.Schedule.{is_open_port}
-use Rattle.solo_run.specs.Running.{IsGoing, Keeps, SendsFirst, mind_of, mind_at, port_at}
+use Rattle.solo_run.specs.RunState.{IsGoing, Keeps, SendsFirst, mind_of, mind_at, port_at}
 use Rattle.solo_run.specs.declared.inspector.Inspector.{Inspector}
 use Rattle.solo_run.proofs.Minds.{one_call, sent_fed, sent_others, sent_this}
 use Rattle.solo_run.proofs.Going.{goes_at}

@@ -19,7 +19,7 @@ use Rattle.solo_plane.specs.Planes.{IsFed, entered, with_closed, without_device}
 use Rattle.solo_plane.specs.Soundness.{IsSound}
 use Rattle.script_runs.specs.Numbers.{enough_arrivals}
 use Rattle.script_runs.specs.Schedule.{is_received, fed}
-use Rattle.solo_run.specs.Running.{IsGoing, Keeps, KeepsBut, mind_of, mind_at, port_at}
+use Rattle.solo_run.specs.RunState.{IsGoing, Keeps, KeepsBut, mind_of, mind_at, port_at}
 use Rattle.solo_run.specs.declared.inspector.Inspector.{Inspector}
 use Rattle.solo_run.proofs.Enough.{GoesOnInTime, carry_enough}
 use Rattle.solo_run.proofs.Minds.{carry_leaves}

@@ -6,7 +6,7 @@ use Rattle.std.specs.Option.{option_map_or}
 use Rattle.packet_entry.specs.declared.letter.Letter.{Letter}
 use Rattle.nfqa_msgs.specs.declared.notice.Notice.{Notice}
 use Rattle.nfqa_msgs.specs.NoticeWriting.{Told}
-use Rattle.nfqa_msgs.specs.Read.{notice_of}
+use Rattle.nfqa_msgs.specs.NoticeMeaning.{notice_of}
 use Rattle.place_history.specs.declared.log.AskWords.{AskWords}
 use Rattle.script_lines.specs.declared.ask.Ask.{Ask}
 use Rattle.script_lines.specs.declared.ask.Ask.TheVariants.{Words, Close}
@@ -21,7 +21,7 @@ use Rattle.inspector_script.specs.declared.block.Block.{Block}
 use Rattle.solo_plane.specs.World.{World}
 use Rattle.script_runs.specs.Schedule.{asks_for, received_in}
 use Rattle.script_runs.specs.NoticeTexts.{told_exactly}
-use Rattle.solo_run.specs.Running.{AreWords, ClosesLast, ReceivesFirst}
+use Rattle.solo_run.specs.RunState.{AreWords, ClosesLast, ReceivesFirst}
 
 pub last_of_words : (asks : List Ask) → AreWords asks → ClosesLast asks
 last_of_words [] words = tt

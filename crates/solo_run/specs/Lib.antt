@@ -1,3 +1,3 @@
 pub mod Downs
 pub mod Numbers
-pub mod Running
+pub mod RunState

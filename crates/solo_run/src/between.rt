@@ -12,7 +12,7 @@ use std::alloc::Global;
 
 /// What happens after each message that a port sends.
 pub(crate) trait Between {
-    ghost use Rattle.solo_run.specs.Running.{Goes, IsWith, Keeps, setting_of, world_of};
+    ghost use Rattle.solo_run.specs.RunState.{Goes, IsWith, Keeps, setting_of, world_of};
 
     /// What it makes of a world.
     ghost then: { Self → Setting → ScriptValue → World → World };

@@ -3,19 +3,19 @@
 ghost use Rattle.std.specs.Prelude.{◌≡◌, ◌≢◌, ◌<◌, ℕ, length};
 ghost use Rattle.std.specs.Prelude.{slice_index_or, All, IfOk, OnOk, Some};
 ghost use Rattle.std.specs.Prelude.{false, option_map};
-ghost use Rattle.nfqa_msgs.specs.Read.{notice_of};
+ghost use Rattle.nfqa_msgs.specs.NoticeMeaning.{notice_of};
 ghost use Rattle.script_lines.specs.Limits.{IsAsk};
 ghost use Rattle.inspector_script.specs.Scripts.{next_count};
 ghost use Rattle.script_runs.specs.NoticeTexts.{told_exactly};
 ghost use Rattle.script_runs.specs.Schedule.{asks_for};
 ghost use Rattle.solo_plane.specs.World.{opened};
 ghost use Rattle.solo_plane.specs.Calls.{after_this};
-ghost use Rattle.solo_run.specs.Running.{mind_of, one_notice};
+ghost use Rattle.solo_run.specs.RunState.{mind_of, one_notice};
 ghost use Rattle.solo_run.specs.declared.inspector.Inspector.{Inspector};
 
 use inspector_script::{Asks, PortMachine, Script};
-use nfqa_msgs::{Notice, decode_notice, notices_are_told_apart};
-use packet_entry::{Letter, NoMemory, Sequence};
+use nfqa_msgs::{Notice, decode_shared_notice, notices_are_told_apart};
+use packet_entry::{Bytes, Letter, NoMemory, Sequence};
 use std::alloc::Global;
 
 /// The inspector behind one port.
@@ -112,7 +112,7 @@ fn answered(
     ensures counted { OnOk result
         (machine.new ≡ record machine.old { received = next_count machine.old.received }) }
 {
-    match notice_in(alloc, letter.bytes.as_slice())? {
+    match notice_in(alloc, &letter.bytes)? {
         Some(notice) => machine.answer(alloc, script, &notice),
         None => {
             machine.pass_over();
@@ -121,11 +121,11 @@ fn answered(
     }
 }
 
-/// The notice whose text these bytes are.
-fn notice_in(alloc: Global, bytes: &[u8]) -> Result<Option<Notice>, NoMemory>
+/// The notice whose text these bytes are. Its payload is a part of them: nothing is copied.
+fn notice_in(alloc: Global, bytes: &Bytes) -> Result<Option<Notice>, NoMemory>
     ensures { IfOk result
         (λ notice. notice ≡ option_map notice_of (told_exactly bytes.now)) }
 {
     notices_are_told_apart();
-    decode_notice(alloc, bytes)
+    decode_shared_notice(alloc, bytes)
 }

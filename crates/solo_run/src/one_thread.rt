@@ -10,7 +10,7 @@ ghost use Rattle.script_runs.specs.Entering.{cards};
 ghost use Rattle.script_runs.specs.Schedule.{IsSolo, before_ends, until_end, until_ends};
 ghost use Rattle.script_runs.specs.Schedule as schedule;
 ghost use Rattle.solo_run.specs.Numbers.{most_frames};
-ghost use Rattle.solo_run.specs.Running.{AreOpen, Goes, IsWith, setting_of, world_of};
+ghost use Rattle.solo_run.specs.RunState.{AreOpen, Goes, IsWith, setting_of, world_of};
 
 use crate::downs::downs_by_frame;
 use crate::parts::{end_all, open_all, pass_all, rounds_for, take_down};

@@ -8,8 +8,8 @@ ghost use Rattle.script_runs.specs.Schedule.{frames_passed, is_pause, opened_all
 ghost use Rattle.script_runs.specs.Schedule.{rounds_for};
 ghost use Rattle.solo_run.specs.Downs.{AreDownsOf};
 ghost use Rattle.solo_run.specs.Numbers.{most_frames};
-ghost use Rattle.solo_run.specs.Running.{AreOpen, Goes, IsWith, Keeps, SameOpen};
-ghost use Rattle.solo_run.specs.Running.{setting_of, world_of};
+ghost use Rattle.solo_run.specs.RunState.{AreOpen, Goes, IsWith, Keeps, SameOpen};
+ghost use Rattle.solo_run.specs.RunState.{setting_of, world_of};
 
 use crate::between::Nothing;
 use crate::downs::DownsByFrame;

@@ -33,9 +33,9 @@ pub(crate) struct Run {
 }
 
 impl Run {
-    ghost use Rattle.solo_run.specs.Running.{Goes, IsWith, Keeps, KeepsBut, SendsFirst};
-    ghost use Rattle.solo_run.specs.Running.{ReceivesFirst, is_open_at};
-    ghost use Rattle.solo_run.specs.Running.{port_at, setting_of, order_of, world_of};
+    ghost use Rattle.solo_run.specs.RunState.{Goes, IsWith, Keeps, KeepsBut, SendsFirst};
+    ghost use Rattle.solo_run.specs.RunState.{ReceivesFirst, is_open_at};
+    ghost use Rattle.solo_run.specs.RunState.{port_at, setting_of, order_of, world_of};
 
     /// Nothing has happened yet.
     pub(crate) fn new(alloc: Global, script: &Script, tables: Tables) -> Result<Run, NoMemory>

@@ -6,9 +6,9 @@ ghost use Rattle.script_lines.specs.Limits.{IsAsk, IsRequest, IsWords};
 ghost use Rattle.script_lines.specs.declared.ask.Ask.TheVariants.{Words};
 ghost use Rattle.solo_plane.specs.Messages.{call_at};
 ghost use Rattle.script_runs.specs.Sending.{all_done, all_sent, done, messages_in};
-ghost use Rattle.solo_run.specs.Running.{AreWords, ClosesLast, Goes, IsWith, Keeps, KeepsBut};
-ghost use Rattle.solo_run.specs.Running.{LeavesBy};
-ghost use Rattle.solo_run.specs.Running.{is_open_at, port_at, setting_of, world_of};
+ghost use Rattle.solo_run.specs.RunState.{AreWords, ClosesLast, Goes, IsWith, Keeps, KeepsBut};
+ghost use Rattle.solo_run.specs.RunState.{LeavesBy};
+ghost use Rattle.solo_run.specs.RunState.{is_open_at, port_at, setting_of, world_of};
 
 use crate::between::Between;
 use crate::run::Run;

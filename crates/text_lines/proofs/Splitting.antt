@@ -27,9 +27,6 @@ slice_split-first p (suc n) (x ∷ xs) before at le =
     ∙ ap (onto_first x) (slice_split-first p n xs (λ k h. before (suc k) (omega arith))
     (λ h. at (omega arith)) (omega arith))
 
-nonempty : List ℕ → Bool
-nonempty w = not (eqb (length w) 0)
-
 -- leading blanks make no word
 pub words_of-blanks : (n : ℕ) (xs : List ℕ) → ((k : ℕ) → k < n → is_blank (get_or xs k 0) ≡ true) →
     n ≤ length xs → words_of xs ≡ words_of (drop n xs)

@@ -20,10 +20,6 @@ or_true : (x y : Bool) → (x || y) ≡ true → (x ≡ true) ⊎ (y ≡ true)
 or_true true y h = inl refl
 or_true false y h = inr h
 
-true_or : (x y : Bool) → x ≡ true → (x || y) ≡ true
-true_or true y h = refl
-true_or false y h = absurd cc
-
 or_true_right : (x : Bool) → (x || true) ≡ true
 or_true_right true = refl
 or_true_right false = refl

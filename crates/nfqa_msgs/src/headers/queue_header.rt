@@ -6,7 +6,7 @@
 //! | 1 | 1 | version, 0; ignored |
 //! | 2 | 2 | number of the queue |
 
-ghost use Rattle.std.specs.Prelude.{◌≡◌, ◌≤◌, length, IfOk};
+ghost use Rattle.std.specs.Prelude.{◌≡◌, ◌≤◌, ◌<◌, ◌^◌, length, IfOk};
 ghost use Rattle.nfqa_msgs.specs.Headers.{queue_header, queue_in, queue_header_length};
 
 use byteorder::{BigEndian, ByteOrder};
@@ -34,12 +34,20 @@ pub(crate) fn read_queue(body: &[u8]) -> u16
     BigEndian::read_u16(&body[QUEUE_AT..])
 }
 
-/// A body that has its header alone.
-pub(crate) fn begin_body(alloc: Global, family: u8, queue: u16) -> Result<Vec<u8>, AllocError>
+/// A body that has its header alone, and room for so many bytes more.
+pub(crate) fn begin_body(
+    alloc: Global,
+    family: u8,
+    queue: u16,
+    room: usize,
+) -> Result<Vec<u8>, AllocError>
+    requires { room < 2 ^ 32 }
     ensures { IfOk result (λ body. body.items ≡ queue_header family queue) }
 {
     let mut header = [0; QUEUE_HEADER_LENGTH];
     header[FAMILY_AT] = family;
     BigEndian::write_u16(&mut header[QUEUE_AT..], queue);
-    Vec::from_slice(alloc, &header)
+    let mut body = Vec::with_capacity(alloc, QUEUE_HEADER_LENGTH + room)?;
+    body.extend_from_slice(&header)?;
+    Ok(body)
 }

@@ -4,9 +4,9 @@ ghost use Rattle.std.specs.Prelude.{◌≡◌, ◌≤◌, ◌<◌, ◌+◌, ◌+
 ghost use Rattle.std.specs.BTreeMap.{btree_map_len};
 ghost use Rattle.queue_core.specs.declared.event.Reply.TheVariants as reply;
 ghost use Rattle.place_history.specs.Numbers.{queue_count};
-ghost use Rattle.place_history.specs.Kept.{state_of, told, taken_in};
+ghost use Rattle.place_history.specs.PlaceState.{state_of, told, taken_in};
 ghost use Rattle.place_history.specs.Happenings.{closing_of, down_of, closings, downs};
-ghost use Rattle.place_history.specs.Replayed.{IsReplayed, HasRoom};
+ghost use Rattle.place_history.specs.PlaceInvariant.{IsReplayed, HasRoom};
 
 use super::bound;
 use super::held::{Held, append, port_of};

@@ -3,11 +3,11 @@
 ghost use Rattle.std.specs.Prelude.{◌≡◌, ◌<◌, ◌≤◌, ◌+◌, ◌^◌, ◌++◌, ◌∷◌, [], None, OnOk};
 ghost use Rattle.std.specs.Prelude.{option_map};
 ghost use Rattle.queue_core.specs.State.{Bound};
-ghost use Rattle.place_history.specs.Kept.{state_of, step_of, taken_by, waiting_at};
+ghost use Rattle.place_history.specs.PlaceState.{state_of, step_of, taken_by, waiting_at};
 ghost use Rattle.place_history.specs.History.{IsStep};
 ghost use Rattle.place_history.specs.Numbers.{queue_count};
-ghost use Rattle.place_history.specs.Replayed as replayed;
-ghost use Rattle.place_history.specs.Replayed.{IsReplayed, IsAhead, HasRoom};
+ghost use Rattle.place_history.specs.PlaceInvariant as replayed;
+ghost use Rattle.place_history.specs.PlaceInvariant.{IsReplayed, IsAhead, HasRoom};
 
 use super::bound::Queues;
 use crate::{Entry, Reply};

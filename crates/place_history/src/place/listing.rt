@@ -2,7 +2,7 @@
 
 ghost use Rattle.std.specs.Prelude.{◌≡◌, ◌++◌, IfOk, OnOk, OnErr, string_bytes, option_map};
 ghost use Rattle.place_history.specs.Listing as text;
-ghost use Rattle.place_history.specs.Replayed.{IsReplayed};
+ghost use Rattle.place_history.specs.PlaceInvariant.{IsReplayed};
 ghost use Rattle.place_history.specs.Changes.{queue_at};
 
 use super::bound::Queues;

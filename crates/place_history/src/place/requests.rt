@@ -10,12 +10,12 @@ ghost use Rattle.queue_core.specs.declared.event.Reply.TheVariants.{Answer};
 ghost use Rattle.queue_core.specs.Calls.{batch_handed, ways_of, hands_out};
 ghost use Rattle.queue_core.specs.Decision.{IsVerdict};
 ghost use Rattle.queue_core.specs.Step.{step, way_of};
-ghost use Rattle.place_history.specs.Kept.{state_of};
+ghost use Rattle.place_history.specs.PlaceState.{state_of};
 ghost use Rattle.place_history.specs.Changes.{queue_at, Changes, AreSame};
 ghost use Rattle.place_history.specs.Happenings.{handed_of, all_handed};
 ghost use Rattle.place_history.specs.declared.place.lines.ConfigLine.TheVariants as line;
 ghost use Rattle.place_history.specs.Lines.{IsConfigLine, IsAllowed, asked, config_event};
-ghost use Rattle.place_history.specs.Replayed.{IsReplayed, HasRoom, Enters, HandsOut};
+ghost use Rattle.place_history.specs.PlaceInvariant.{IsReplayed, HasRoom, Enters, HandsOut};
 
 use super::bound;
 use super::bound::Queues;

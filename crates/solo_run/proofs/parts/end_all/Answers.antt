@@ -2,7 +2,7 @@ use Rattle.std.proofs.Common.{◌≡◌, ◌∙◌, subst}
 use Rattle.solo_plane.specs.declared.setting.Setting.{Setting}
 use Rattle.script_runs.specs.Schedule.{emptied_in}
 use Rattle.script_runs.specs.Sending.{all_done}
-use Rattle.solo_run.specs.Running.{port_at, setting_of, world_of}
+use Rattle.solo_run.specs.RunState.{port_at, setting_of, world_of}
 use Rattle.solo_run.proofs.Keeping.{with_both}
 use Rattle.solo_run.proofs.Passing.{ended_on, later_open}
 use Rattle.solo_run.proofs.Words.{closes_last}

@@ -1,4 +1,4 @@
-use Rattle.solo_run.specs.Running.{Keeps, SameOpen, world_of}
+use Rattle.solo_run.specs.RunState.{Keeps, SameOpen, world_of}
 use Rattle.solo_run.proofs.Keeping.{on_ok, same_both}
 use Rattle.solo_run.proofs.parts.pass.Goals as goal
 

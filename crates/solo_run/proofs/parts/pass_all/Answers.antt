@@ -6,7 +6,7 @@ use Rattle.solo_plane.specs.declared.setting.Setting.{Setting}
 use Rattle.solo_plane.specs.World.{World}
 use Rattle.script_runs.specs.Entering.{cards, cards_from}
 use Rattle.script_runs.specs.Schedule.{frame_passed, frames_passed, rounds_for}
-use Rattle.solo_run.specs.Running.{setting_of, world_of}
+use Rattle.solo_run.specs.RunState.{setting_of, world_of}
 use Rattle.solo_run.proofs.Keeping.{same_both, with_both}
 use Rattle.solo_run.proofs.Passing.{fed_more, few_more}
 use Rattle.solo_run.proofs.parts.pass_all.Goals as goal

@@ -1,7 +1,7 @@
 use Rattle.std.proofs.Common.{◌≡◌, ◌∙◌, subst, false}
 use Rattle.solo_plane.specs.declared.setting.Setting.{Setting}
 use Rattle.script_runs.specs.Schedule.{round}
-use Rattle.solo_run.specs.Running.{setting_of, world_of}
+use Rattle.solo_run.specs.RunState.{setting_of, world_of}
 use Rattle.solo_run.proofs.Keeping.{keeps_both, with_both}
 use Rattle.solo_run.proofs.Looking.{emptied_on, emptied_all}
 use Rattle.solo_run.proofs.rounds.empty.Goals as goal

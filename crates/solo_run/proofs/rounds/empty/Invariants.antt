@@ -1,6 +1,6 @@
 use Rattle.std.proofs.Common.{◌≡◌, ◌-◌}
 use Rattle.script_runs.specs.Schedule.{emptied_in}
-use Rattle.solo_run.specs.Running.{Goes, IsWith, Keeps, setting_of, world_of}
+use Rattle.solo_run.specs.RunState.{Goes, IsWith, Keeps, setting_of, world_of}
 use Rattle.solo_run.proofs.rounds.empty.Given as goal
 
 abbrev pub invariant-loop-round : goal.invariant-loop-round

@@ -1,7 +1,7 @@
 use Rattle.std.proofs.Common.{◌≡◌, subst}
 use Rattle.solo_plane.specs.declared.setting.Setting.{Setting}
 use Rattle.script_runs.specs.Sending.{all_done}
-use Rattle.solo_run.specs.Running.{port_at, setting_of, world_of}
+use Rattle.solo_run.specs.RunState.{port_at, setting_of, world_of}
 use Rattle.solo_run.proofs.Keeping.{keeps_both}
 use Rattle.solo_run.proofs.Words.{last_of_words, received_words}
 use Rattle.solo_run.proofs.Looking.{looked_one}

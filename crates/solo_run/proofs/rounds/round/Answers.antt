@@ -2,7 +2,7 @@ use Rattle.std.proofs.Common.{◌≡◌, ◌∙◌, subst}
 use Rattle.std.specs.Prelude.{◌||◌}
 use Rattle.solo_plane.specs.declared.setting.Setting.{Setting}
 use Rattle.script_runs.specs.Schedule.{looked}
-use Rattle.solo_run.specs.Running.{port_at, setting_of, world_of}
+use Rattle.solo_run.specs.RunState.{port_at, setting_of, world_of}
 use Rattle.solo_run.proofs.Keeping.{keeps_both, with_both}
 use Rattle.solo_run.proofs.Looking.{round_on}
 use Rattle.solo_run.proofs.rounds.round.Goals as goal

@@ -4,7 +4,7 @@ use Rattle.script_lines.specs.declared.ask.Ask.{Ask}
 use Rattle.script_lines.specs.Limits.{IsAsk}
 use Rattle.solo_plane.specs.declared.setting.Setting.{Setting}
 use Rattle.script_runs.specs.Sending.{done}
-use Rattle.solo_run.specs.Running.{port_at, setting_of, world_of}
+use Rattle.solo_run.specs.RunState.{port_at, setting_of, world_of}
 use Rattle.solo_run.proofs.Doing.{IsDoing, does_next}
 use Rattle.solo_run.proofs.Keeping.{with_both}
 use Rattle.solo_run.proofs.sending.do_all.Goals as goal

@@ -1,6 +1,6 @@
 use Rattle.std.proofs.Common.{◌∙◌, rules}
 use Rattle.glance.proofs.Stepping.{opens}
-use Rattle.glance.proofs.Making.{zeros_at, zeros_length}
+use Rattle.glance.proofs.Zeros.{zeros_at, zeros_length}
 use Rattle.glance.proofs.board.Board.new.Goals as goal
 
 pub of_words-requires : goal.of_words-requires

@@ -4,7 +4,7 @@ use Rattle.std.specs.Prelude.{slice_range}
 use Rattle.std.specs.Arc.{arc_value}
 use Rattle.std.proofs.lemmas.List.{length-take}
 use Rattle.std.specs.Prelude.{length}
-use Rattle.packet_entry.specs.Shared.{bytes_of}
+use Rattle.packet_entry.specs.SharedBytes.{bytes_of}
 use Rattle.packet_entry.proofs.Cuts.{cut_of_cut}
 use Rattle.packet_entry.proofs.bytes.Bytes.cut.Goals as goal
 

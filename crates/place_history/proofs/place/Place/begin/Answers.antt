@@ -1,12 +1,12 @@
 use Rattle.std.proofs.Common.{◌≡◌, ◌%◌, false, true, ap, sym, ◌∙◌}
-use Rattle.place_history.specs.Kept.{Kept, AreHere}
+use Rattle.place_history.specs.PlaceState.{PlaceState, AreHere}
 use Rattle.place_history.proofs.Here.{begun_here}
 use Rattle.place_history.proofs.place.Place.begin.Goals as goal
 
 pub invariant_of-self-2 : goal.invariant_of-self-2
 invariant_of-self-2 c =
     let stands : c.self.inside.is_left ≡ false =
-    ap (λ (k : Kept). k.is_left) c.self.view_is ∙ c.requires.standing in
+    ap (λ (k : PlaceState). k.is_left) c.self.view_is ∙ c.requires.standing in
     let before : AreHere c.self.inside.places c.self.inside.number
     c.make_room.new.held.entries.items =
     rw c.make_room.ensures.entries c.self.invariant.here in

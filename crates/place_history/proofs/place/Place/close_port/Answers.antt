@@ -1,12 +1,12 @@
 use Rattle.std.proofs.Common.{◌≡◌, ◌%◌, false, true, ap, sym, ◌∙◌}
-use Rattle.place_history.specs.Kept.{Kept}
+use Rattle.place_history.specs.PlaceState.{PlaceState}
 use Rattle.place_history.proofs.Here.{at_closings}
 use Rattle.place_history.proofs.place.Place.close_port.Goals as goal
 
 pub invariant_of-self : goal.invariant_of-self
 invariant_of-self c =
     let stands : c.self.inside.is_left ≡ false =
-    ap (λ (k : Kept). k.is_left) c.self.view_is ∙ c.requires.standing in
+    ap (λ (k : PlaceState). k.is_left) c.self.view_is ∙ c.requires.standing in
     record {
       among = c.self.invariant.among;
       few_places = c.self.invariant.few_places;

@@ -1,12 +1,12 @@
 use Rattle.std.proofs.Common.{◌≡◌, ◌%◌, false, true, ap, sym, ◌∙◌}
-use Rattle.place_history.specs.Kept.{Kept}
+use Rattle.place_history.specs.PlaceState.{PlaceState}
 use Rattle.place_history.proofs.Here.{at_downs}
 use Rattle.place_history.proofs.place.Place.device_down.Goals as goal
 
 pub invariant_of-self-2 : goal.invariant_of-self-2
 invariant_of-self-2 c =
     let stands : c.self.inside.is_left ≡ false =
-    ap (λ (k : Kept). k.is_left) c.self.view_is ∙ c.requires.standing in
+    ap (λ (k : PlaceState). k.is_left) c.self.view_is ∙ c.requires.standing in
     record {
       among = c.self.invariant.among;
       few_places = c.self.invariant.few_places;

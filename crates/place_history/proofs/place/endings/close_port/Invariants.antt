@@ -1,8 +1,8 @@
 use Rattle.std.proofs.Common.{◌≡◌, None, ◌-◌}
 use Rattle.place_history.specs.Numbers.{queue_count}
-use Rattle.place_history.specs.Kept.{state_of}
+use Rattle.place_history.specs.PlaceState.{state_of}
 use Rattle.place_history.specs.Happenings.{closing_of}
-use Rattle.place_history.specs.Replayed.{IsReplayed, HasRoom}
+use Rattle.place_history.specs.PlaceInvariant.{IsReplayed, HasRoom}
 use Rattle.place_history.proofs.Sweeping.{Sweeps}
 use Rattle.place_history.proofs.place.endings.close_port.Given as goal
 

@@ -1,7 +1,7 @@
 use Rattle.std.proofs.Common.{◌<◌, ap, ◌∙◌, arith, length, length-append}
 use Rattle.std.specs.BTreeMap.{btree_map_len}
 use Rattle.place_history.specs.Numbers.{queue_count}
-use Rattle.place_history.specs.Kept.{state_of}
+use Rattle.place_history.specs.PlaceState.{state_of}
 use Rattle.place_history.specs.Happenings.{down_of}
 use Rattle.place_history.proofs.Sweeping.{next_swept, all_swept, down_asks, down_length}
 use Rattle.place_history.proofs.Sweeping.{room_to_go, room_at_end}

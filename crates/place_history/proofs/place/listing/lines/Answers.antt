@@ -1,7 +1,7 @@
 use Rattle.std.proofs.Common.{◌≡◌, ◌<◌, ◌++◌, ℕ, List, sym, ap, ◌∙◌, arith, flat_map}
 use Rattle.std.specs.List.{range_with_len}
 use Rattle.place_history.specs.Numbers.{queue_count}
-use Rattle.place_history.specs.Kept.{state_of}
+use Rattle.place_history.specs.PlaceState.{state_of}
 use Rattle.place_history.specs.Listing.{line_of}
 use Rattle.place_history.proofs.Stepping.{states_alike}
 use Rattle.place_history.proofs.Sweeping.{flat_to, flat_next, all_over}

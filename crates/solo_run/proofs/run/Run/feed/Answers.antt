@@ -1,7 +1,7 @@
 use Rattle.std.proofs.Common.{refl, ap}
 use Rattle.solo_plane.specs.PlaneView.{world_in}
-use Rattle.solo_run.specs.Running.{world_of}
-use Rattle.solo_run.specs.Running as run
+use Rattle.solo_run.specs.RunState.{world_of}
+use Rattle.solo_run.specs.RunState as run
 use Rattle.solo_run.specs.declared.inspector.Inspector.{Inspector}
 use Rattle.solo_run.proofs.Enough.{GoesOnInTime}
 use Rattle.solo_run.proofs.Going.{goes_as}

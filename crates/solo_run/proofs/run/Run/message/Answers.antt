@@ -1,5 +1,5 @@
 use Rattle.solo_plane.specs.PlaneView.{world_in}
-use Rattle.solo_run.specs.Running.{setting_of, world_of}
+use Rattle.solo_run.specs.RunState.{setting_of, world_of}
 use Rattle.solo_run.proofs.Enough.{sends_enough}
 use Rattle.solo_run.proofs.Sent.{none_lost}
 use Rattle.solo_run.proofs.run.Run.message.Goals as goal

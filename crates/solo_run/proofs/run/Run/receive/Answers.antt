@@ -3,8 +3,8 @@ use Rattle.std.specs.Prelude.{IsSomeAnd}
 use Rattle.packet_entry.specs.declared.letter.Letter.{Letter}
 use Rattle.solo_plane.specs.PlaneView.{setting_of, world_in}
 use Rattle.solo_plane.specs.World.{first_of}
-use Rattle.solo_run.specs.Running.{port_at, world_of}
-use Rattle.solo_run.specs.Running as run
+use Rattle.solo_run.specs.RunState.{port_at, world_of}
+use Rattle.solo_run.specs.RunState as run
 use Rattle.solo_run.proofs.Going.{goes_as}
 use Rattle.solo_run.proofs.Receiving.{nothing_received, goes_unchanged, keeps_unchanged}
 use Rattle.solo_run.proofs.Receiving.{receives_none, received_keeps, received_goes, receives_some}

@@ -1,5 +1,5 @@
 use Rattle.std.proofs.Common.{refl}
-use Rattle.solo_run.specs.Running.{setting_of, world_of}
+use Rattle.solo_run.specs.RunState.{setting_of, world_of}
 use Rattle.solo_run.proofs.Sent.{sends_keep, sent_goes, unsent_goes}
 use Rattle.solo_run.proofs.Going.{goes_as}
 use Rattle.solo_run.proofs.run.Run.send_first.Goals as goal

@@ -13,7 +13,7 @@ use Rattle.place_history.specs.declared.entry.Entry.{Entry}
 use Rattle.place_history.specs.History.{replay, history}
 use Rattle.place_history.specs.Journeys.{Arrival}
 
-pub record Kept : Type 0 where
+pub record PlaceState : Type 0 where
   -- which of how many places it is
   pub number : ℕ
   pub places : ℕ
@@ -24,7 +24,7 @@ pub record Kept : Type 0 where
   pub is_left : Bool
 
 -- whether a queue is one of this place's
-abbrev pub IsAt : Kept → ℕ → Type 0
+abbrev pub IsAt : PlaceState → ℕ → Type 0
 IsAt place queue = queue % place.places ≡ place.number
 
 -- of so many places, entries of the one with this number
@@ -49,7 +49,7 @@ abbrev pub entry_of : List Entry → ℕ → Event → Entry
 entry_of es queue event = entry_in queue (state_of es queue) event
 
 -- the place once it happened
-abbrev pub after_event : Kept → ℕ → Event → Kept
+abbrev pub after_event : PlaceState → ℕ → Event → PlaceState
 after_event place queue event =
     record place {
       entries = place.entries ++ entry_of place.entries queue event ∷ [];

@@ -23,8 +23,8 @@ use Rattle.place_history.specs.declared.place.held.Held.{Held}
 use Rattle.place_history.specs.declared.place.held.Offer.{Offer}
 use Rattle.place_history.specs.History.{IsStep, AreLegal}
 use Rattle.place_history.specs.Journeys.{Arrival}
-use Rattle.place_history.specs.Kept.{state_of, step_of, waiting_in_all, one_if_bound}
-use Rattle.place_history.specs.Kept.{bound_in_all, entry_of, AreHere}
+use Rattle.place_history.specs.PlaceState.{state_of, step_of, waiting_in_all, one_if_bound}
+use Rattle.place_history.specs.PlaceState.{bound_in_all, entry_of, AreHere}
 use Rattle.place_history.specs.Changes.{queue_at}
 use Rattle.place_history.specs.Happenings.{all_handed}
 

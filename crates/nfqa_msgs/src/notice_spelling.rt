@@ -1,0 +1,138 @@
+//! Whether bytes are the notice of what was read from them.
+
+ghost use Rattle.std.specs.Prelude.{ℕ, List, ◌≡◌, ◌≢◌, ◌≤◌, ◌<◌, ◌^◌, ◌+◌, ◌↔◌, ◌++◌, length};
+ghost use Rattle.std.specs.Prelude.{option_map, Some, IfSome, IfOk, IsTrue};
+ghost use Rattle.std.specs.Prelude.{MatchOption};
+ghost use Rattle.packet_entry.specs.Numbers.{longest_payload};
+ghost use Rattle.netlink_codec.specs.Messages.{FitsHeader, message_text, message_with};
+ghost use Rattle.netlink_codec.specs.Attributes.{attributes_text, attribute_header_text};
+ghost use Rattle.netlink_codec.specs.Attributes.{zero_padding};
+ghost use Rattle.netlink_codec.specs.Numbers.{attribute_header_length};
+ghost use Rattle.nfqa_msgs.specs.Numbers.{notice_number, payload_kind};
+ghost use Rattle.nfqa_msgs.specs.Kinds.{queue_kind};
+ghost use Rattle.nfqa_msgs.specs.NoticeWriting.{FitsTold, notice_body, notice_text, payload_part};
+ghost use Rattle.nfqa_msgs.specs.Telling.{telling};
+
+use crate::kinds::{NOTICE, NUMBERS, PAYLOAD, QUEUE_SUBSYSTEM};
+use crate::notice::Telling;
+use crate::notice_writing::front_of;
+use byteorder::{ByteOrder, LittleEndian};
+use netlink_codec::{Message, next_message, written_attributes_are_walked};
+use packet_entry::NoMemory;
+use std::alloc::Global;
+
+/// The bytes of an attribute's header. (`NLA_HDRLEN`)
+const HEADER_LENGTH: usize = 4;
+/// Where the kind begins in it, after the length.
+const KIND_AT: usize = 2;
+/// Attributes begin at multiples of this many bytes. (`NLA_ALIGNTO`)
+const ALIGNMENT: usize = 4;
+
+/// Whether the bytes are the notice that tells this. The payload is compared where it lies: none of
+/// its bytes is copied.
+pub(crate) fn is_notice_of(
+    alloc: Global,
+    bytes: &[u8],
+    told: &Telling<'_>,
+) -> Result<bool, NoMemory>
+    requires { FitsTold (telling told.now) }
+    ensures { IfOk result
+        (λ same. IsTrue same ↔ (bytes.now ≡ notice_text (telling told.now))) }
+{
+    // By the codec's law the body is short enough for a message.
+    written_attributes_are_walked();
+    match notice_body_in(bytes) {
+        None => Ok(false),
+        Some(body) => Ok(is_body_of(alloc, body, told)?),
+    }
+}
+
+/// The bytes after the header, where all the bytes are one message whose header is a notice's.
+fn notice_body_in(bytes: &[u8]) -> Option<&[u8]>
+    ensures found { IfSome result (λ body.
+        bytes.now ≡ message_text (queue_kind notice_number) 0 0 0 body.now) }
+    ensures only { (body : List ℕ) →
+        FitsHeader (message_with (queue_kind notice_number) 0 0 0 body) →
+        bytes.now ≡ message_text (queue_kind notice_number) 0 0 0 body →
+        option_map (λ found. found.now) result ≡ Some body }
+{
+    let (message, _) = next_message(bytes)?;
+    if !has_notice_header(&message) {
+        return None;
+    }
+    if message.whole.len() != bytes.len() {
+        return None;
+    }
+    Some(message.body)
+}
+
+/// Whether the fields of the header are a notice's.
+fn has_notice_header(message: &Message<'_>) -> bool
+    ensures { IsTrue result ↔ ((message.now.kind ≡ queue_kind notice_number)
+        × (message.now.flags ≡ 0) × (message.now.sequence ≡ 0) × (message.now.port ≡ 0)) }
+{
+    message.kind == QUEUE_SUBSYSTEM * NUMBERS + NOTICE
+        && message.flags == 0
+        && message.sequence == 0
+        && message.port == 0
+}
+
+/// Whether the bytes after the header tell this.
+fn is_body_of(alloc: Global, body: &[u8], told: &Telling<'_>) -> Result<bool, NoMemory>
+    requires { FitsTold (telling told.now) }
+    ensures { IfOk result
+        (λ same. IsTrue same ↔ (body.now ≡ notice_body (telling told.now))) }
+{
+    let front = front_of(alloc, told, 0)?;
+    match behind(body, &front) {
+        None => Ok(false),
+        Some(rest) => Ok(is_payload(rest, told.payload)),
+    }
+}
+
+/// What follows the front, where the bytes begin with it.
+fn behind<'a>(bytes: &'a [u8], front: &[u8]) -> Option<&'a [u8]>
+    ensures { MatchOption result ((rest : List ℕ) → bytes.now ≢ front.now ++ rest)
+        (λ rest. bytes.now ≡ front.now ++ rest.now) }
+{
+    bytes.strip_prefix(front)
+}
+
+/// Whether these bytes are the attribute of the payload, or nothing where it is empty.
+fn is_payload(bytes: &[u8], payload: &[u8]) -> bool
+    requires { length payload.now ≤ longest_payload }
+    ensures { IsTrue result ↔ (bytes.now ≡ attributes_text (payload_part payload.now)) }
+{
+    if payload.is_empty() {
+        return bytes.is_empty();
+    }
+    match behind(bytes, &payload_header(payload)) {
+        None => false,
+        Some(content) => match behind(content, payload) {
+            None => false,
+            Some(padding) => padding == &[0; ALIGNMENT][..padding_of(payload.len())],
+        },
+    }
+}
+
+/// The header of the payload's attribute.
+fn payload_header(payload: &[u8]) -> [u8; HEADER_LENGTH]
+    requires { length payload.now ≤ longest_payload }
+    ensures { result ≡ attribute_header_text payload_kind
+        (attribute_header_length + length payload.now) }
+{
+    let mut bytes = [0; HEADER_LENGTH];
+    LittleEndian::write_u16(&mut bytes, (HEADER_LENGTH + payload.len()) as u16);
+    LittleEndian::write_u16(&mut bytes[KIND_AT..], PAYLOAD);
+    bytes
+}
+
+/// How many zeros follow a content of this length.
+pub(crate) fn padding_of(content: usize) -> usize
+    requires { content < 2 ^ 32 }
+    ensures below { result < 4 }
+    ensures value { result ≡ length (zero_padding (attribute_header_length + content)) }
+{
+    let length = HEADER_LENGTH + content;
+    (length + ALIGNMENT - 1) / ALIGNMENT * ALIGNMENT - length
+}
