@@ -8,7 +8,7 @@ ghost use Rattle.fate_ledger.specs.Fates as fates;
 ghost use Rattle.fate_ledger.specs.Following as following;
 
 use crate::Fate;
-use crate::happening::{Happening, How, Lasts, note, share_card};
+use crate::happening::{Happening, How, Lasts, note};
 use crate::waiting_list::WaitingList;
 use nfqa_msgs::{Head, Request};
 use packet_entry::{Bytes, Card, NoMemory};
@@ -90,9 +90,9 @@ fn arrive(
         (following.how_at queue at (fates.fate_at_arrival outcome)) card.now) lasts.old.items) }
 {
     let fate = fate_at_arrival(outcome);
-    note(How { queue, at, fate }.happening(share_card(card)?), lasts);
+    note(How { queue, at, fate }.happening(card.share()?), lasts);
     if let Outcome::Taken { id } = outcome {
-        waiting.push(id, share_card(card)?)?;
+        waiting.push(id, card.share()?)?;
     }
     Ok(())
 }

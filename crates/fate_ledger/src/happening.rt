@@ -1,11 +1,11 @@
 //! Events of packets, and the last one of each.
 
-ghost use Rattle.std.specs.Prelude.{◌≡◌, IfOk};
+ghost use Rattle.std.specs.Prelude.{◌≡◌};
 ghost use Rattle.fate_ledger.specs.Fates as fates;
 ghost use Rattle.fate_ledger.specs.Following as following;
 
 use crate::Fate;
-use packet_entry::{Card, NoMemory};
+use packet_entry::Card;
 
 /// An event of a packet.
 #[derive(Debug, Drop)]
@@ -66,21 +66,4 @@ fn is_later(kept: &Option<Happening>, happening: &Happening) -> bool
         Some(kept) => kept.card.visit <= happening.card.visit,
         None => true,
     }
-}
-
-/// The packet once more; its bytes are shared.
-pub(crate) fn share_card(card: &Card) -> Result<Card, NoMemory>
-    ensures { IfOk result (λ shared. shared ≡ card.now) }
-{
-    Ok(Card {
-        number: card.number,
-        visit: card.visit,
-        table: card.table,
-        mark: card.mark,
-        seconds: card.seconds,
-        micros: card.micros,
-        protocol: card.protocol,
-        link: card.link.share()?,
-        bytes: card.bytes.share()?,
-    })
 }

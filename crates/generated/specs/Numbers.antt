@@ -1,11 +1,12 @@
 -- The numbers of generated inputs, each once. They are this project's own. Lengths count bytes.
 use Rattle.std.specs.Prelude.{ℕ}
+use Rattle.packet_entry.specs.Numbers as shared
 
 -- ---- captures
 
 -- the most records
 abbrev pub most_records : ℕ
-most_records = 200000
+most_records = shared.most_frames
 
 -- how many lengths a packet's payload has: 0 and on
 abbrev pub payload_lengths : ℕ

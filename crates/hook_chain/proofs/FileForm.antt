@@ -22,7 +22,8 @@ use Rattle.hook_chain.specs.Rules.{IsTable}
 use Rattle.hook_chain.specs.Reading.{IsSound}
 use Rattle.hook_chain.specs.RulesFile.{Answers, Place, start, may_open, after, tables_from}
 use Rattle.hook_chain.specs.RulesFile.{tables_of}
-use Rattle.hook_chain.specs.Grammar.{IsLine, Block, AreFileLines, BeginFile, IsBadLine, EndsEarly}
+use Rattle.text_lines.specs.Refusals.{BeginFile, IsBadLine, EndsEarly}
+use Rattle.hook_chain.specs.Grammar.{IsLine, Block, AreFileLines}
 use Rattle.hook_chain.specs.Grammar.{IsRulesFile, IsFirstRefused}
 use Rattle.hook_chain.proofs.RuleForm.{word_is}
 use Rattle.hook_chain.proofs.OptionForm.{no_value}
@@ -146,7 +147,7 @@ file_read text tables h =
     answer_of 1 start (place led.0 tables None) (lines text) led.1 refl
 
 -- lines that begin a rules file lead somewhere
-begin_leads : (ls : List (List ℕ)) → BeginFile ls → (p : Place) × Leads start ls p
+begin_leads : (ls : List (List ℕ)) → BeginFile AreFileLines ls → (p : Place) × Leads start ls p
 begin_leads ls h =
     let all = leads_of_file (ls ++ h.0) h.1 h.2 in
     let front = leads_split start (place all.0 h.1 None) ls h.0 all.1 in
@@ -162,9 +163,9 @@ unfolding after
 commits p rules e = rw e refl
 
 -- and lines that lead somewhere begin one: the line `COMMIT` completes them inside of a table
-leads_begin : (ls : List (List ℕ)) (p : Place) → Leads start ls p → BeginFile ls
+leads_begin : (ls : List (List ℕ)) (p : Place) → Leads start ls p → BeginFile AreFileLines ls
 leads_begin ls p h =
-    elim p.inside as (λ o. p.inside ≡ o → BeginFile ls) [
+    elim p.inside as (λ o. p.inside ≡ o → BeginFile AreFileLines ls) [
       | None ↦ λ out. (
         [],
         p.closed,
@@ -184,13 +185,13 @@ leads_begin ls p h =
 
 one_more_leads : (p next : Place) (front : List (List ℕ)) (line : List ℕ) (said : Says) →
     Leads start front p → IsLine line said → after p said ≡ Some next →
-    BeginFile (front ++ line ∷ [])
+    BeginFile AreFileLines (front ++ line ∷ [])
 one_more_leads p next front line said h is e =
     leads_begin (front ++ line ∷ []) next
     (leads_append start p next front (line ∷ []) h (said, next, is, e, refl))
 
 not_begun : (p : Place) (front : List (List ℕ)) (line : List ℕ) → Leads start front p →
-    IsRefused p line → BeginFile (front ++ line ∷ []) → ⊥
+    IsRefused p line → BeginFile AreFileLines (front ++ line ∷ []) → ⊥
 not_begun p front line h refused begin =
     let all = begin_leads (front ++ line ∷ []) begin in
     let parts = leads_split start all.0 front (line ∷ []) all.1 in
@@ -205,7 +206,7 @@ refused_where text line_number front [] p answer e count h stuck =
     let whole : lines text ≡ front = e ∙ append-nil front in
     inr (record {
       count = omega (arith, ap length whole, count);
-      begin = subst BeginFile (sym whole) (leads_begin front p h);
+      begin = subst (BeginFile AreFileLines) (sym whole) (leads_begin front p h);
       unfinished =
           λ tables file. two_answers tables line_number (sym (file_read text tables file) ∙ answer);
     })
@@ -229,7 +230,7 @@ file_refused text line e =
     refused_where text line stop.0 stop.1 stop.2 e stop.3 (omega (arith, found.1, stop.4)) stop.5
     stop.6
 
-bad_line : (text : List ℕ) (line_number : ℕ) → IsBadLine text line_number →
+bad_line : (text : List ℕ) (line_number : ℕ) → IsBadLine AreFileLines text line_number →
     tables_of text ≡ Err line_number
 unfolding tables_of
 bad_line text line_number h =
@@ -240,15 +241,15 @@ bad_line text line_number h =
     rw h.lines_are (fault_of_front 1 start led.0 h.front (h.line ∷ h.rest) led.1 stuck
     ∙ ap (λ n. Err n) same)
 
-stuck_inside : (text : List ℕ) (line_number : ℕ) (p : Place) → EndsEarly text line_number →
-    Leads start (lines text) p → IsStuck p []
+stuck_inside : (text : List ℕ) (line_number : ℕ) (p : Place) →
+    EndsEarly AreFileLines text line_number → Leads start (lines text) p → IsStuck p []
 stuck_inside text line_number p h led =
     elim p.inside as (λ o. p.inside ≡ o → is_some o ≡ true) [
       | None ↦ λ out. absurd (h.unfinished p.closed (file_of_leads (lines text) p led out))
       | Some rules ↦ λ in_one. refl
     ] refl
 
-ends_early : (text : List ℕ) (line_number : ℕ) → EndsEarly text line_number →
+ends_early : (text : List ℕ) (line_number : ℕ) → EndsEarly AreFileLines text line_number →
     tables_of text ≡ Err line_number
 unfolding tables_of
 ends_early text line_number h =

@@ -1,7 +1,7 @@
 -- The grammar of a rules file: what is written, production by production, as iptables-save(8)
 -- writes it and iptables-extensions(8) names its parts. The square brackets of these comments say
 -- that a part may be missing. Nothing here reads: a production says which words stand for a value.
-use Rattle.std.specs.Prelude.{ℕ, ◌≡◌, ◌≢◌, ◌+◌, ◌≤◌, ◌⊎◌, Bool, true, false, IsTrue, List, [], ◌∷◌}
+use Rattle.std.specs.Prelude.{ℕ, ◌≡◌, ◌≢◌, ◌≤◌, ◌⊎◌, Bool, true, false, IsTrue, List, [], ◌∷◌}
 use Rattle.std.specs.Prelude.{◌++◌, length, map, flat_map, All, AllPairs, Option, Some, None, codes}
 use Rattle.std.specs.List.{list_all}
 use Rattle.std.specs.Str.Lines.{lines}
@@ -10,6 +10,7 @@ use Rattle.hook_chain.specs.declared.rule.MarkTest.{MarkTest}
 use Rattle.hook_chain.specs.declared.rule.Pick.{Pick}
 use Rattle.hook_chain.specs.declared.rule.Pick.TheVariants.{Number}
 use Rattle.hook_chain.specs.Numbers.{most_tables, most_rules}
+use Rattle.text_lines.specs.Refusals as refusals
 use Rattle.text_lines.specs.Words.{IsPassedOver, is_printable, words_of}
 use Rattle.hook_chain.specs.RuleLine.{protocol_of, value_and_mask, pick_of}
 use Rattle.hook_chain.specs.Line.{Says, Nothing, Opens, Policy, Adds, Closes, is_table_name}
@@ -133,29 +134,8 @@ pub record AreFileLines (text_lines : List (List ℕ)) (tables : List (List Rule
 abbrev pub IsRulesFile : List ℕ → List (List Rule) → Type 0
 IsRulesFile text tables = AreFileLines (lines text) tables
 
--- some lines after these make a rules file of them
-abbrev pub BeginFile : List (List ℕ) → Type 0
-BeginFile front =
-    (rest : List (List ℕ)) × (tables : List (List Rule)) × AreFileLines (front ++ rest) tables
-
--- a line that may not stand in its place: the lines before it begin a rules file, and with it they
--- don't
-pub record IsBadLine (text : List ℕ) (line_number : ℕ) : Type 0 where
-  pub front : List (List ℕ)
-  pub line : List ℕ
-  pub rest : List (List ℕ)
-  pub lines_are : lines text ≡ front ++ line ∷ rest
-  pub count : length front + 1 ≡ line_number
-  pub begin : BeginFile front
-  pub refused : BeginFile (front ++ line ∷ []) → ⊥
-
--- a text that ends too early, inside of a table: its lines begin a rules file, and it is none
--- itself
-pub record EndsEarly (text : List ℕ) (line_number : ℕ) : Type 0 where
-  pub count : length (lines text) + 1 ≡ line_number
-  pub begin : BeginFile (lines text)
-  pub unfinished : (tables : List (List Rule)) → IsRulesFile text tables → ⊥
-
--- the number of the first line that is refused, or of the one that is missing after the last
+-- The number of the first line that is refused: the lines before it begin a rules file, and with it
+-- they don't. Or the number of the one that is missing after the last, where the text ends inside
+-- of a table.
 abbrev pub IsFirstRefused : List ℕ → ℕ → Type 0
-IsFirstRefused text line_number = IsBadLine text line_number ⊎ EndsEarly text line_number
+IsFirstRefused text line_number = refusals.IsFirstRefused AreFileLines text line_number

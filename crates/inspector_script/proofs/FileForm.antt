@@ -21,7 +21,8 @@ use Rattle.inspector_script.specs.Numbers.{default_key, default_mail, default_pa
 use Rattle.inspector_script.specs.Scripts.{ScriptValue, held}
 use Rattle.inspector_script.specs.ScriptFile.{Answers, Place, after, script_at, script_from}
 use Rattle.inspector_script.specs.ScriptFile.{script_of, start, without_lines}
-use Rattle.inspector_script.specs.Grammar.{AreScriptLines, BeginScript, EndsEarly, IsBadLine}
+use Rattle.text_lines.specs.Refusals.{BeginFile, EndsEarly, IsBadLine}
+use Rattle.inspector_script.specs.Grammar.{AreScriptLines}
 use Rattle.inspector_script.specs.Grammar.{IsFirstRefused, IsPart, IsScriptFile, Part, SayScript}
 use Rattle.inspector_script.specs.Grammar.{block_of, blocks_of, lines_of, owns, ports_of}
 use Rattle.inspector_script.proofs.Built.{goes_script}
@@ -105,7 +106,7 @@ file_read law text s h =
 
 -- ---- the first line that is refused
 
-begin_leads : (ls : List (List ℕ)) → BeginScript ls → (p : Place) × Leads start ls p
+begin_leads : (ls : List (List ℕ)) → BeginFile AreScriptLines ls → (p : Place) × Leads start ls p
 begin_leads ls h =
     let all = leads_of_file (ls ++ h.0) h.1 h.2 in
     let front = leads_split start all.0 ls h.0 all.1 in
@@ -126,7 +127,7 @@ some_port m p k d ports blocks none = rw none refl
 -- no port
 leads_begin_by : Spelling → (ls : List (List ℕ)) (m p k : Option ℕ) (d : List down.Down)
     (ports : List ℕ) (blocks : List Block) (last : Option Block) →
-    Leads start ls (place m p k d ports blocks last) → BeginScript ls
+    Leads start ls (place m p k d ports blocks last) → BeginFile AreScriptLines ls
 leads_begin_by law ls m p k d ports blocks (Some b) h =
     let q : Place = place m p k d ports blocks (Some b) in (
       [],
@@ -152,19 +153,20 @@ leads_begin_by law ls m p k d ports blocks None h =
           (leads_append start q end ls (codes "port 1" ∷ []) h last) (without_lines, refl, refl),
     )
 
-leads_begin : Spelling → (ls : List (List ℕ)) (p : Place) → Leads start ls p → BeginScript ls
+leads_begin : Spelling → (ls : List (List ℕ)) (p : Place) → Leads start ls p →
+    BeginFile AreScriptLines ls
 leads_begin law ls p h =
     leads_begin_by law ls p.mail p.pace p.key p.downs p.ports p.blocks p.last h
 
 one_more_leads : Spelling → (p next : Place) (front : List (List ℕ)) (line : List ℕ)
     (said : Line) → Leads start front p → Says line said → after p said ≡ Some next →
-    BeginScript (front ++ line ∷ [])
+    BeginFile AreScriptLines (front ++ line ∷ [])
 one_more_leads law p next front line said h is e =
     leads_begin law (front ++ line ∷ []) next
     (leads_append start p next front (line ∷ []) h (said, next, is, e, refl))
 
 not_begun : Spelling → (p : Place) (front : List (List ℕ)) (line : List ℕ) →
-    Leads start front p → IsRefused p line → BeginScript (front ++ line ∷ []) → ⊥
+    Leads start front p → IsRefused p line → BeginFile AreScriptLines (front ++ line ∷ []) → ⊥
 not_begun law p front line h refused begin =
     let all = begin_leads (front ++ line ∷ []) begin in
     let parts = leads_split start all.0 front (line ∷ []) all.1 in
@@ -180,7 +182,7 @@ refused_where law text line_number front [] p answer e count h stuck =
     let whole : lines text ≡ front = e ∙ append-nil front in
     inr (record {
       count = omega (arith, ap length whole, count);
-      begin = subst BeginScript (sym whole) (leads_begin law front p h);
+      begin = subst (BeginFile AreScriptLines) (sym whole) (leads_begin law front p h);
       unfinished =
           λ s file. two_answers s line_number (sym (file_read law text s file) ∙ answer);
     })
@@ -205,8 +207,8 @@ file_refused law text line e =
     refused_where law text line stop.0 stop.1 stop.2 e stop.3 (omega (arith, found.1, stop.4))
     stop.5 stop.6
 
-bad_line : Spelling → (text : List ℕ) (line_number : ℕ) → IsBadLine text line_number →
-    script_of text ≡ Err line_number
+bad_line : Spelling → (text : List ℕ) (line_number : ℕ) →
+    IsBadLine AreScriptLines text line_number → script_of text ≡ Err line_number
 unfolding script_of
 bad_line law text line_number h =
     let led = begin_leads h.front h.begin in
@@ -217,8 +219,8 @@ bad_line law text line_number h =
     rw h.lines_are (fault_of_front law 1 start led.0 h.front (h.line ∷ h.rest) led.1 stuck
     ∙ ap (λ n. Err n) same)
 
-stuck_outside : (text : List ℕ) (line_number : ℕ) (p : Place) → EndsEarly text line_number →
-    Leads start (lines text) p → p.last ≡ None
+stuck_outside : (text : List ℕ) (line_number : ℕ) (p : Place) →
+    EndsEarly AreScriptLines text line_number → Leads start (lines text) p → p.last ≡ None
 stuck_outside text line_number p h led =
     elim p.last as (λ o. p.last ≡ o → o ≡ None) [
       | None ↦ λ out. refl
@@ -226,8 +228,8 @@ stuck_outside text line_number p h led =
           (file_of_leads (lines text) p (script_at p b) led (b, within, refl)))
     ] refl
 
-ends_early : Spelling → (text : List ℕ) (line_number : ℕ) → EndsEarly text line_number →
-    script_of text ≡ Err line_number
+ends_early : Spelling → (text : List ℕ) (line_number : ℕ) →
+    EndsEarly AreScriptLines text line_number → script_of text ≡ Err line_number
 unfolding script_of
 ends_early law text line_number h =
     let led = begin_leads (lines text) h.begin in

@@ -6,6 +6,7 @@ use Rattle.std.specs.Prelude.{length, map, flat_map, filter_map, All, AllPairs, 
 use Rattle.std.specs.Prelude.{unwrap_or, option_to_list}
 use Rattle.std.specs.List.{AllZip, list_any}
 use Rattle.std.specs.Str.Lines.{lines}
+use Rattle.text_lines.specs.Refusals as refusals
 use Rattle.place_history.specs.declared.log.AskWords.{AskWords}
 use Rattle.script_lines.specs.declared.answering.OnLine.{OnLine}
 use Rattle.script_lines.specs.declared.line.Line.{Line}
@@ -163,29 +164,8 @@ IsScriptFile text s = AreScriptLines (lines text) s
 
 -- ---- files that aren't
 
--- some lines after these make a script's file of them
-abbrev pub BeginScript : List (List ℕ) → Type 0
-BeginScript front =
-    (rest : List (List ℕ)) × (s : ScriptValue) × AreScriptLines (front ++ rest) s
-
--- a line that may not stand in its place: the lines before it begin a script's file, and with it
--- they don't
-pub record IsBadLine (text : List ℕ) (line_number : ℕ) : Type 0 where
-  pub front : List (List ℕ)
-  pub line : List ℕ
-  pub rest : List (List ℕ)
-  pub lines_are : lines text ≡ front ++ line ∷ rest
-  pub count : length front + 1 ≡ line_number
-  pub begin : BeginScript front
-  pub refused : BeginScript (front ++ line ∷ []) → ⊥
-
--- a text that ends too early, without a port: its lines begin a script's file, and it is none
--- itself
-pub record EndsEarly (text : List ℕ) (line_number : ℕ) : Type 0 where
-  pub count : length (lines text) + 1 ≡ line_number
-  pub begin : BeginScript (lines text)
-  pub unfinished : (s : ScriptValue) → IsScriptFile text s → ⊥
-
--- the number of the first line that is refused, or of the one that is missing after the last
+-- The number of the first line that is refused: the lines before it begin a script's file, and with
+-- it they don't. Or the number of the one that is missing after the last, where the text ends
+-- without a port.
 abbrev pub IsFirstRefused : List ℕ → ℕ → Type 0
-IsFirstRefused text line_number = IsBadLine text line_number ⊎ EndsEarly text line_number
+IsFirstRefused text line_number = refusals.IsFirstRefused AreScriptLines text line_number

@@ -1,6 +1,7 @@
 -- The numbers of whole scripts, each once. They are this project's own limits; those of single
 -- lines are script_lines', and the last value of a count is queue_core's.
 use Rattle.std.specs.Prelude.{ℕ}
+use Rattle.packet_entry.specs.Numbers as shared
 
 -- the most `down` lines
 abbrev pub most_downs : ℕ
@@ -8,7 +9,7 @@ most_downs = 1000
 
 -- the most ports
 abbrev pub most_ports : ℕ
-most_ports = 32
+most_ports = shared.most_ports
 
 -- the most lines of a port's block, without its `port` line
 abbrev pub most_lines : ℕ

@@ -1,12 +1,13 @@
 -- The numbers of mailboxes, each once. They are this project's own.
 use Rattle.std.specs.Prelude.{ℕ}
+use Rattle.packet_entry.specs.Numbers as shared
 
 -- how many letters a mailbox holds, at least and at most
 abbrev pub least_capacity : ℕ
 least_capacity = 1
 
 abbrev pub most_capacity : ℕ
-most_capacity = 65536
+most_capacity = shared.most_mail
 
 -- the most senders that a mailbox has
 abbrev pub most_senders : ℕ

@@ -1,14 +1,16 @@
 //! Attributes, one after the other in the body of a message: each a header, [`AttributeHeader`],
 //! and its content, padded with zeros.
 
-ghost use Rattle.std.specs.Prelude.{List, ◌≡◌, ◌+◌, ◌<◌, ◌≤◌, ◌++◌, length, true, false, OnOk};
+ghost use Rattle.std.specs.Prelude.{List, ◌≡◌, ◌+◌, ◌^◌, ◌<◌, ◌≤◌, ◌++◌, length, true, false, OnOk};
 ghost use Rattle.std.specs.Prelude.{OnErr, IfNone, IfSome, IsOk};
 ghost use Rattle.std.specs.Vec.{vec_len, vec_capacity};
-ghost use Rattle.netlink_codec.specs.Numbers.{attribute_header_length, kind_limit, longest_content};
+ghost use Rattle.netlink_codec.specs.Numbers.{alignment, attribute_header_length, kind_limit};
+ghost use Rattle.netlink_codec.specs.Numbers.{longest_content};
 ghost use Rattle.netlink_codec.specs.Messages.{pad};
 ghost use Rattle.netlink_codec.specs.Attributes.{Attribute, Holds, attribute_of, attribute_text};
 ghost use Rattle.netlink_codec.specs.Attributes.{attributes, has_attribute, first_attribute};
-ghost use Rattle.netlink_codec.specs.Attributes.{after_attribute};
+ghost use Rattle.netlink_codec.specs.Attributes.{after_attribute, attribute_header_text};
+ghost use Rattle.netlink_codec.specs.Attributes.{zero_padding};
 
 use crate::attribute_header::{
     ATTRIBUTE_HEADER_LENGTH, AttributeHeader, put_attribute_header, read_attribute_header,
@@ -58,13 +60,36 @@ pub fn put_attr(out: &mut Vec<u8>, kind: u16, body: &[u8]) -> Result<(), AllocEr
         ≤ vec_capacity out.old → IsOk result }
     ensures capacity { vec_capacity out.old ≤ vec_capacity out.new }
 {
-    let length = ATTRIBUTE_HEADER_LENGTH + body.len();
-    let header = put_attribute_header(AttributeHeader {
-        length: length as u16,
+    let header = attr_header(kind, body.len());
+    append_parts(
+        out,
+        &header,
+        body,
+        &[0; ALIGNMENT][..attr_padding(body.len())],
+    )
+}
+
+/// The header of an attribute of this kind, whose content has `content` bytes: the length of header
+/// and content in 2 bytes, and the kind in 2, each with its lowest byte first.
+pub fn attr_header(kind: u16, content: usize) -> [u8; ATTRIBUTE_HEADER_LENGTH]
+    requires { content ≤ longest_content }
+    ensures { result ≡ attribute_header_text kind (attribute_header_length + content) }
+{
+    put_attribute_header(AttributeHeader {
+        length: (ATTRIBUTE_HEADER_LENGTH + content) as u16,
         kind,
-    });
-    let padding = [0; ALIGNMENT];
-    append_parts(out, &header, body, &padding[..padded(length) - length])
+    })
+}
+
+/// How many zeros follow a content of `content` bytes, so that the next attribute begins at a
+/// multiple of 4.
+pub fn attr_padding(content: usize) -> usize
+    requires { content < 2 ^ 32 }
+    ensures below { result < alignment }
+    ensures value { result ≡ length (zero_padding (attribute_header_length + content)) }
+{
+    let length = ATTRIBUTE_HEADER_LENGTH + content;
+    padded(length) - length
 }
 
 /// The attributes of a body, seen as the list of those that are still to come.

@@ -14,7 +14,7 @@ mod messages;
 pub use acknowledgements::ack;
 // The walk has another name in its module: names that differ only in case, as `attrs` and `Attrs`,
 // are refused in one module.
-pub use attributes::{Attr, Attrs, put_attr, walk_attrs as attrs};
+pub use attributes::{Attr, Attrs, attr_header, attr_padding, put_attr, walk_attrs as attrs};
 pub use laws::{
     one_message_in_front, one_row_is_held, walk_goes_on_or_ends, written_attributes_are_walked,
     written_message_is_in_front,

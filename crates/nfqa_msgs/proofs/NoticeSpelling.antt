@@ -57,17 +57,17 @@ abbrev pub payload_header : List ℕ → List ℕ
 payload_header payload =
     attribute_header_text payload_kind (attribute_header_length + length payload)
 
-abbrev four_zeros : List ℕ
-four_zeros = 0 ∷ 0 ∷ 0 ∷ 0 ∷ []
+abbrev three_zeros : List ℕ
+three_zeros = 0 ∷ 0 ∷ 0 ∷ []
 
--- fewer than four zeros
+-- at most three zeros
 pub zeros_of : (n total : ℕ) → n < 4 → n ≡ length (zero_padding total) →
-    take n four_zeros ≡ zero_padding total
+    take n three_zeros ≡ zero_padding total
 zeros_of n total below is =
     let many : n ≡ pad total - total = is ∙ length-replicate (pad total - total) 0 in
     few n below ∙ ap (λ k. replicate k 0) many
   where
-    few : (k : ℕ) → k < 4 → take k four_zeros ≡ replicate k 0
+    few : (k : ℕ) → k < 4 → take k three_zeros ≡ replicate k 0
     few zero h = refl
     few (suc zero) h = refl
     few (suc (suc zero)) h = refl

@@ -1,6 +1,6 @@
 -- What a message asks: uapi linux/netfilter/nfnetlink_queue.h, and the kernel's
 -- `nfnetlink_rcv_msg`, `nfqnl_recv_config`, `nfqnl_recv_verdict` and `nfqnl_recv_verdict_batch`.
--- That a short attribute is ERANGE is this project's.
+-- That an attribute which is too short is ERANGE says `validate_nla` of lib/nlattr.c.
 use Rattle.std.specs.Prelude.{◌≤◌, ℕ, Bool, true, false, not, ◌||◌, ◌==◌, nat_lt, if◌then◌else◌}
 use Rattle.std.specs.Prelude.{List, [], ◌∷◌, length, drop, Option, Some, None, IfSome, option_map}
 use Rattle.std.specs.Prelude.{bit_and}

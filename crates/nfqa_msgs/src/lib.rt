@@ -33,7 +33,7 @@ pub use numbers::{
     BIND, EINVAL, EOPNOTSUPP, ERANGE, MAX_RANGE, META, NONE, PACKET, PF_BIND, PF_UNBIND, UNBIND,
 };
 pub use queue_flags::QueueFlags;
-pub use request::{Decoded, Head, Params, Request};
+pub use request::{Decoded, Head, Params, Request, share_payload};
 pub use request_reading::decode_request;
 pub use request_writing::encode_request;
 

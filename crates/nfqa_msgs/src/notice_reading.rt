@@ -22,9 +22,9 @@ use crate::kinds::{
 };
 use crate::laws::notices_are_told_apart;
 use crate::notice::{Notice, Telling};
-use crate::notice_spelling::{is_notice_of, padding_of};
+use crate::notice_spelling::is_notice_of;
 use byteorder::{BigEndian, ByteOrder};
-use netlink_codec::next_message;
+use netlink_codec::{attr_padding, next_message};
 use packet_entry::{Bytes, IPV4, IPV6, NoMemory};
 use std::alloc::Global;
 
@@ -76,7 +76,7 @@ fn payload_in(bytes: &Bytes, told: &Telling<'_>) -> Result<Bytes, NoMemory>
     ensures { IfOk result (λ payload. payload ≡ told.now.payload.now) }
 {
     let length = told.payload.len();
-    let end = bytes.len() - padding_of(length);
+    let end = bytes.len() - attr_padding(length);
     bytes.cut(end - length, end)
 }
 

@@ -16,17 +16,14 @@ ghost use Rattle.nfqa_msgs.specs.Telling.{telling};
 use crate::kinds::{NOTICE, NUMBERS, PAYLOAD, QUEUE_SUBSYSTEM};
 use crate::notice::Telling;
 use crate::notice_writing::front_of;
-use byteorder::{ByteOrder, LittleEndian};
-use netlink_codec::{Message, next_message, written_attributes_are_walked};
+use netlink_codec::{
+    Message, attr_header, attr_padding, next_message, written_attributes_are_walked,
+};
 use packet_entry::NoMemory;
 use std::alloc::Global;
 
-/// The bytes of an attribute's header. (`NLA_HDRLEN`)
-const HEADER_LENGTH: usize = 4;
-/// Where the kind begins in it, after the length.
-const KIND_AT: usize = 2;
-/// Attributes begin at multiples of this many bytes. (`NLA_ALIGNTO`)
-const ALIGNMENT: usize = 4;
+/// At most so many zeros follow an attribute's content, which ends at a multiple of 4.
+const MOST_PADDING: usize = 3;
 
 /// Whether the bytes are the notice that tells this. The payload is compared where it lies: none of
 /// its bytes is copied.
@@ -106,33 +103,11 @@ fn is_payload(bytes: &[u8], payload: &[u8]) -> bool
     if payload.is_empty() {
         return bytes.is_empty();
     }
-    match behind(bytes, &payload_header(payload)) {
+    match behind(bytes, &attr_header(PAYLOAD, payload.len())) {
         None => false,
         Some(content) => match behind(content, payload) {
             None => false,
-            Some(padding) => padding == &[0; ALIGNMENT][..padding_of(payload.len())],
+            Some(padding) => padding == &[0; MOST_PADDING][..attr_padding(payload.len())],
         },
     }
-}
-
-/// The header of the payload's attribute.
-fn payload_header(payload: &[u8]) -> [u8; HEADER_LENGTH]
-    requires { length payload.now ≤ longest_payload }
-    ensures { result ≡ attribute_header_text payload_kind
-        (attribute_header_length + length payload.now) }
-{
-    let mut bytes = [0; HEADER_LENGTH];
-    LittleEndian::write_u16(&mut bytes, (HEADER_LENGTH + payload.len()) as u16);
-    LittleEndian::write_u16(&mut bytes[KIND_AT..], PAYLOAD);
-    bytes
-}
-
-/// How many zeros follow a content of this length.
-pub(crate) fn padding_of(content: usize) -> usize
-    requires { content < 2 ^ 32 }
-    ensures below { result < 4 }
-    ensures value { result ≡ length (zero_padding (attribute_header_length + content)) }
-{
-    let length = HEADER_LENGTH + content;
-    (length + ALIGNMENT - 1) / ALIGNMENT * ALIGNMENT - length
 }

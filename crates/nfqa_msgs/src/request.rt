@@ -1,6 +1,8 @@
 //! Requests, and what a message is decoded to.
 
-use packet_entry::Bytes;
+ghost use Rattle.std.specs.Prelude.{◌≡◌, IfOk};
+
+use packet_entry::{Bytes, NoMemory};
 
 /// The verdict and the id that a verdict message names.
 #[derive(Clone, Copy, Debug, PartialEq, Eq)]
@@ -58,6 +60,59 @@ pub enum Request {
         /// The new mark of each packet.
         mark: Option<u32>,
     },
+}
+
+impl Request {
+    /// The same once more. Its payload is shared: nothing is copied, and no memory is taken.
+    /// `NoMemory` comes only where 2^63 - 1 lists share the payload's buffer already.
+    pub fn share(&self) -> Result<Request, NoMemory>
+        ensures { IfOk result (λ same. same ≡ self.now) }
+    {
+        match self {
+            Request::Config {
+                queue,
+                command,
+                params,
+                maxlen,
+                flags,
+                mask,
+            } => Ok(Request::Config {
+                queue: *queue,
+                command: *command,
+                params: *params,
+                maxlen: *maxlen,
+                flags: *flags,
+                mask: *mask,
+            }),
+            Request::Verdict {
+                queue,
+                head,
+                mark,
+                payload,
+            } => Ok(Request::Verdict {
+                queue: *queue,
+                head: *head,
+                mark: *mark,
+                payload: share_payload(payload)?,
+            }),
+            Request::Batch { queue, head, mark } => Ok(Request::Batch {
+                queue: *queue,
+                head: *head,
+                mark: *mark,
+            }),
+        }
+    }
+}
+
+/// The payload of a request once more, where it has one. It is shared as [`Request::share`] shares
+/// it.
+pub fn share_payload(payload: &Option<Bytes>) -> Result<Option<Bytes>, NoMemory>
+    ensures { IfOk result (λ same. same ≡ payload.now) }
+{
+    match payload {
+        None => Ok(None),
+        Some(bytes) => Ok(Some(bytes.share()?)),
+    }
 }
 
 /// What a message is decoded to.

@@ -1,4 +1,4 @@
--- The numbers of packets that the house shares, each once.
+-- The numbers of packets, and the limits of a run, which several crates share: each once.
 use Rattle.std.specs.Prelude.{ℕ}
 
 -- the most bytes of a packet, and of a frame of a capture: libpcap's own limit on a record
@@ -28,3 +28,21 @@ ethernet_header_length = 14
 
 abbrev pub tagged_header_length : ℕ
 tagged_header_length = 18
+
+-- ---- limits of a run; they are this project's own
+
+-- the most frames of a capture
+abbrev pub most_frames : ℕ
+most_frames = 200000
+
+-- the most ports
+abbrev pub most_ports : ℕ
+most_ports = 32
+
+-- the most notices that a port's mailbox holds
+abbrev pub most_mail : ℕ
+most_mail = 65536
+
+-- the most places that queues are divided among
+abbrev pub most_places : ℕ
+most_places = 64

@@ -53,6 +53,26 @@ pub struct Card {
     pub bytes: Bytes,
 }
 
+impl Card {
+    /// The same once more. Its bytes are shared: nothing is copied, and no memory is taken.
+    /// `NoMemory` comes only where 2^63 - 1 lists share a buffer already.
+    pub fn share(&self) -> Result<Card, NoMemory>
+        ensures { IfOk result (λ card. card ≡ self.now) }
+    {
+        Ok(Card {
+            number: self.number,
+            visit: self.visit,
+            table: self.table,
+            mark: self.mark,
+            seconds: self.seconds,
+            micros: self.micros,
+            protocol: self.protocol,
+            link: self.link.share()?,
+            bytes: self.bytes.share()?,
+        })
+    }
+}
+
 /// A packet on its way. It is no `Clone` and no `Drop`: each is spent once, by `release` or
 /// `destroy`.
 pub struct Packet {
@@ -130,18 +150,7 @@ impl Packet {
         ensures same { IfOk result (λ card. card ≡ self.now) }
         ensures facts { IsCard self.now }
     {
-        let card = &self.card;
-        Ok(Card {
-            number: card.number,
-            visit: card.visit,
-            table: card.table,
-            mark: card.mark,
-            seconds: card.seconds,
-            micros: card.micros,
-            protocol: card.protocol,
-            link: card.link.share()?,
-            bytes: card.bytes.share()?,
-        })
+        self.card.share()
     }
 
     /// The packet's place in its input, counted from 1.

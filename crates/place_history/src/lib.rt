@@ -8,7 +8,6 @@ mod histories;
 mod journeys;
 mod laws;
 mod log;
-mod payload;
 mod place;
 
 pub use entry::{Entries, Entry};
@@ -21,7 +20,6 @@ pub use laws::{
     a_legal_history_goes_on, each_front_of_a_legal_history_is_legal, each_stay_ends_once,
 };
 pub use log::{AskWords, Did, Dids, PortLog};
-pub use payload::share_payload;
 pub use place::Place;
 pub use queue_core::{Event, Reply};
 

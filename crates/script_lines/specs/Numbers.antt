@@ -1,9 +1,10 @@
 -- The numbers of a script's lines, each once. They are this project's own limits.
 use Rattle.std.specs.Prelude.{ℕ}
+use Rattle.packet_entry.specs.Numbers as shared
 
 -- the most notices that a mailbox holds
 abbrev pub largest_mail : ℕ
-largest_mail = 65536
+largest_mail = shared.most_mail
 
 -- the most asks of an `on` line
 abbrev pub most_asks : ℕ

@@ -3,9 +3,8 @@
 ghost use Rattle.std.specs.Prelude.{◌≡◌, ◌++◌, map, IfOk, OnOk};
 ghost use Rattle.script_lines.specs.declared.ask.Ask.TheVariants.{Words};
 
-use nfqa_msgs::Request;
 use packet_entry::{NoMemory, Sequence};
-use place_history::{AskWords, share_payload};
+use place_history::AskWords;
 
 /// One thing that an inspector asks for.
 #[derive(Debug, Drop)]
@@ -39,49 +38,10 @@ fn share_words(words: &AskWords) -> Result<AskWords, NoMemory>
 {
     match words {
         AskWords::Plain { request } => Ok(AskWords::Plain {
-            request: share_request(request)?,
+            request: request.share()?,
         }),
         AskWords::Raw { bytes } => Ok(AskWords::Raw {
             bytes: bytes.share()?,
-        }),
-    }
-}
-
-/// The same once more. Its payload is shared, not copied.
-fn share_request(request: &Request) -> Result<Request, NoMemory>
-    ensures { IfOk result (λ same. same ≡ request.now) }
-{
-    match request {
-        Request::Config {
-            queue,
-            command,
-            params,
-            maxlen,
-            flags,
-            mask,
-        } => Ok(Request::Config {
-            queue: *queue,
-            command: *command,
-            params: *params,
-            maxlen: *maxlen,
-            flags: *flags,
-            mask: *mask,
-        }),
-        Request::Verdict {
-            queue,
-            head,
-            mark,
-            payload,
-        } => Ok(Request::Verdict {
-            queue: *queue,
-            head: *head,
-            mark: *mark,
-            payload: share_payload(payload)?,
-        }),
-        Request::Batch { queue, head, mark } => Ok(Request::Batch {
-            queue: *queue,
-            head: *head,
-            mark: *mark,
         }),
     }
 }

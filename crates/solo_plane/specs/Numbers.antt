@@ -1,13 +1,14 @@
 -- The numbers of a plane, each once. They are this project's own.
 use Rattle.std.specs.Prelude.{ℕ}
+use Rattle.packet_entry.specs.Numbers as shared
 
 -- the most ports of a plane
 abbrev pub most_ports : ℕ
-most_ports = 32
+most_ports = shared.most_ports
 
 -- the most notices that a mailbox holds
 abbrev pub most_mail : ℕ
-most_mail = 65536
+most_mail = shared.most_mail
 
 -- how many packets are fed at most
 abbrev pub most_fed : ℕ

@@ -2,4 +2,5 @@ pub mod Digits
 pub mod Hexadecimal
 pub mod Numbers
 pub mod Numerals
+pub mod Refusals
 pub mod Words

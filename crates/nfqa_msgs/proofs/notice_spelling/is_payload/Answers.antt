@@ -12,7 +12,7 @@ returns-in-None c = (
   λ no. absurd cc,
   λ is. absurd (c.in-None.ensures (padded_payload c.args.payload.now)
       (is ∙ payload_text c.args.payload.now (sym c.is_empty.ensures ∙ c.if-is_empty.false)
-      ∙ ap (λ xs. xs ++ padded_payload c.args.payload.now) (sym c.payload_header.ensures))),
+      ∙ ap (λ xs. xs ++ padded_payload c.args.payload.now) (sym c.attr_header.ensures))),
 )
 
 pub returns-in-None-behind : goal.returns-in-None-behind
@@ -20,11 +20,11 @@ returns-in-None-behind c = (
   λ no. absurd cc,
   λ is. absurd (c.in-None-behind.ensures
       (zero_padding (attribute_header_length + length c.args.payload.now))
-      (append_cancel_left c.payload_header.result c.in-Some.content.now
+      (append_cancel_left c.attr_header.result c.in-Some.content.now
       (padded_payload c.args.payload.now)
       (sym c.in-Some.ensures ∙ is
       ∙ payload_text c.args.payload.now (sym c.is_empty.ensures ∙ c.if-is_empty.false)
-      ∙ ap (λ xs. xs ++ padded_payload c.args.payload.now) (sym c.payload_header.ensures)))),
+      ∙ ap (λ xs. xs ++ padded_payload c.args.payload.now) (sym c.attr_header.ensures)))),
 )
 
 pub returns-in-Some-behind : goal.returns-in-Some-behind
@@ -33,17 +33,17 @@ returns-in-Some-behind c =
     let zeros : List ℕ = zero_padding (attribute_header_length + length payload) in
     let padding : List ℕ = c.in-Some-behind.padding.now in
     let decides = slice_eq-Decides Decides-eqb padding _ c.eq.result c.eq.ensures in
-    let same = zeros_of c.padding_of.result (attribute_header_length + length payload)
-    c.padding_of.ensures.below c.padding_of.ensures.value in
-    let bytes : c.args.bytes.now ≡ c.payload_header.result ++ (payload ++ padding) =
-    c.in-Some.ensures ∙ ap (λ xs. c.payload_header.result ++ xs) c.in-Some-behind.ensures in
+    let same = zeros_of c.attr_padding.result (attribute_header_length + length payload)
+    c.attr_padding.ensures.below c.attr_padding.ensures.value in
+    let bytes : c.args.bytes.now ≡ c.attr_header.result ++ (payload ++ padding) =
+    c.in-Some.ensures ∙ ap (λ xs. c.attr_header.result ++ xs) c.in-Some-behind.ensures in
     let text = payload_text payload (sym c.is_empty.ensures ∙ c.if-is_empty.false)
-    ∙ ap (λ xs. xs ++ padded_payload payload) (sym c.payload_header.ensures) in (
+    ∙ ap (λ xs. xs ++ padded_payload payload) (sym c.attr_header.ensures) in (
       λ yes. bytes
-          ∙ ap (λ xs. c.payload_header.result ++ (payload ++ xs)) (decides.0 yes ∙ same)
+          ∙ ap (λ xs. c.attr_header.result ++ (payload ++ xs)) (decides.0 yes ∙ same)
           ∙ sym text,
       λ is. decides.1
           (append_cancel_left payload padding zeros
-          (append_cancel_left c.payload_header.result (payload ++ padding) (payload ++ zeros)
+          (append_cancel_left c.attr_header.result (payload ++ padding) (payload ++ zeros)
           (sym bytes ∙ is ∙ text)) ∙ sym same),
     )

@@ -1,0 +1,32 @@
+-- At which line a file of lines is refused. What such a file is, its format says: by a relation
+-- between the lines of a text and the value that they are a file of.
+use Rattle.std.specs.Prelude.{ℕ, ◌≡◌, ◌+◌, ◌⊎◌, List, [], ◌∷◌, ◌++◌, length}
+use Rattle.std.specs.Str.Lines.{lines}
+
+-- some lines after these make a file of them
+abbrev pub BeginFile : {A : Type 0} → (List (List ℕ) → A → Type 0) → List (List ℕ) → Type 0
+BeginFile {A} AreLines front =
+    (rest : List (List ℕ)) × (value : A) × AreLines (front ++ rest) value
+
+-- a line that may not stand in its place: the lines before it begin a file, and with it they don't
+pub record IsBadLine {A : Type 0} (AreLines : List (List ℕ) → A → Type 0) (text : List ℕ)
+    (line_number : ℕ) : Type 0 where
+  pub front : List (List ℕ)
+  pub line : List ℕ
+  pub rest : List (List ℕ)
+  pub lines_are : lines text ≡ front ++ line ∷ rest
+  pub count : length front + 1 ≡ line_number
+  pub begin : BeginFile AreLines front
+  pub refused : BeginFile AreLines (front ++ line ∷ []) → ⊥
+
+-- a text that ends too early: its lines begin a file, and are none themselves
+pub record EndsEarly {A : Type 0} (AreLines : List (List ℕ) → A → Type 0) (text : List ℕ)
+    (line_number : ℕ) : Type 0 where
+  pub count : length (lines text) + 1 ≡ line_number
+  pub begin : BeginFile AreLines (lines text)
+  pub unfinished : (value : A) → AreLines (lines text) value → ⊥
+
+-- the number of the first line that is refused, or of the one that is missing after the last
+abbrev pub IsFirstRefused : {A : Type 0} → (List (List ℕ) → A → Type 0) → List ℕ → ℕ → Type 0
+IsFirstRefused AreLines text line_number =
+    IsBadLine AreLines text line_number ⊎ EndsEarly AreLines text line_number
