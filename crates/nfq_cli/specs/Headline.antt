@@ -21,9 +21,9 @@ use Rattle.nfq_cli.specs.Outputs.{output_text, ledger_text, journal_text, counts
 -- ---- play
 
 -- The outputs are the texts of one run on what the three inputs say: the journal is its histories,
--- at every moment each queue's state is the replay of its history, every packet that was read was
--- released or destroyed exactly once, by the event that its ledger line names, or still waits, and
--- the written capture is exactly the released packets, in input order, with their last payload.
+-- of which each queue's is legal; every packet that met a queue was released or destroyed exactly
+-- once, by the event that its ledger line names, or still waits; and the written capture is exactly
+-- the frames that were released, in input order, each as it was read or with its last payload.
 pub record IsPlayed (f : PlayFiles) (old new : Contents) : Type 0 where
   pub tables : List (List Rule)
   pub script : ScriptValue

@@ -22,7 +22,7 @@ use netlink_codec::{
 use packet_entry::NoMemory;
 use std::alloc::Global;
 
-/// At most so many zeros follow an attribute's content, which ends at a multiple of 4.
+/// At most so many zeros follow an attribute's content, up to the next multiple of 4.
 const MOST_PADDING: usize = 3;
 
 /// Whether the bytes are the notice that tells this. The payload is compared where it lies: none of

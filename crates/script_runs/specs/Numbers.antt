@@ -1,13 +1,14 @@
 -- The numbers of a run, each once. They are this project's own.
 use Rattle.std.specs.Prelude.{ℕ}
+use Rattle.packet_entry.specs.Numbers.{last_visit}
 
 -- how many nanoseconds a microsecond has
 abbrev pub nanos_in_a_micro : ℕ
 nanos_in_a_micro = 1000
 
--- the number of arrivals that no packet uses up: the last one is its 33rd visit, at which it ends
+-- the number of arrivals that no packet uses up: at its last visit it ends
 abbrev pub enough_arrivals : ℕ
-enough_arrivals = 33
+enough_arrivals = last_visit
 
 -- how many rounds of the mailboxes there are at most for each frame: one for each visit that waits
 abbrev pub rounds_per_frame : ℕ
