@@ -52,8 +52,8 @@ clear_view v = record v { readings = [] }
 
 -- ---- the rule
 -- Each place has one Writer's seat, `writer`, and what was `published` for it; `made` Writers were
--- made. Whatever a seat read of a place was published for it, or is the opening zero, and it read
--- nothing before what it had read of the place before.
+-- made. Whatever a seat read of a place was published for it, or is the opening zero, and no
+-- reading of a place is older than the seat's reading of it before.
 pub record Fits (published : ℕ → List Totals) (writer : ℕ → ℕ) (made id : ℕ) (v : View)
     : Type 0 where
   pub makes : v.makes ≡ true → (id ≡ 0) × (v.place ≡ made)

@@ -64,7 +64,7 @@ fn each_place_has_its_own_writer(rt: HostRuntime) -> Result<(), Fail> {
     Ok(())
 }
 
-/// Totals of so many events, and as many packets waiting below 1,024 as their number leaves.
+/// Totals of so many events; as many packets wait as dividing their number by 1,024 leaves over.
 fn of_events(events: u64) -> Totals
     ensures { (result.events ≡ events) × (result.waiting < 1024) }
 {

@@ -1,5 +1,5 @@
 -- The flow hash, and the queue that it picks: `jhash_3words` of include/linux/jhash.h, and
--- `reciprocal_scale` of include/linux/kernel.h. Which three words are hashed is this project's own
+-- `reciprocal_scale` of include/linux/math.h. Which three words are hashed is this project's own
 -- choice: the smaller address word, the greater one, and the protocol. All numbers are whole
 -- numbers, and a word is one below 2 ^ 32.
 use Rattle.std.specs.Prelude.{ℕ, ◌+◌, ◌-◌, ◌*◌, ◌/◌, ◌%◌, ◌^◌, ◌==◌, min, max, bit_xor, Option}

@@ -15,9 +15,10 @@ use packet_entry::Packet;
 /// Where a packet goes next.
 #[derive(Clone, Copy, Debug, PartialEq, Eq)]
 pub enum Next {
-    /// On its way: no table is left that queues it.
+    /// On its way: no table is left that queues it, or a verdict stopped its way through them.
     Released,
-    /// To this queue, which this table chose; with `bypass` it goes on where nobody is bound there.
+    /// To this queue. `table` is the one whose rule chose the queue; where a verdict chose it, the
+    /// one that queued the packet last. With `bypass` it goes on where nobody is bound there.
     To {
         queue: u16,
         bypass: bool,
@@ -51,7 +52,7 @@ struct Look {
 ///
 /// The tables count from 1, and 0 takes all of them as well. In each table the first rule that
 /// matches queues the packet; past the last table it is released. `key` is the flow hash's. No
-/// memory is taken, and each rule is looked at once.
+/// memory is taken, and no rule is looked at twice.
 pub fn route(tables: &Tables, key: u32, packet: &Packet, from: u16) -> Next
     ensures exact { result ≡ next tables.now key packet.now from }
 {

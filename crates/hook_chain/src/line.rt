@@ -24,7 +24,7 @@ pub(crate) enum Line<'a> {
     Nothing,
     /// `*NAME`: a table of this name begins.
     Opens { name: &'a [u8] },
-    /// `:NAME ACCEPT [N:N]`: a chain's policy, which is the only one there is.
+    /// `:NAME ACCEPT [N:N]`: a chain's policy. ACCEPT is the only one that is read.
     Policy,
     /// `-A FORWARD ..`: one more rule.
     Adds { rule: Rule },

@@ -29,7 +29,8 @@ abbrev pub ChangesOnly : List ℕ → (List ℕ → Option (List ℕ)) → (List
 ChangesOnly name old new = (other : List ℕ) → other ≢ name → new other ≡ old other
 
 -- A read of these bytes, from place `at` on, into a buffer gave n: so many of them now stand at the
--- buffer's start, before the rest of what it held. It is 0 at a buffer with room only at the end.
+-- buffer's start, before the rest of what it held. Where the buffer has room, n is 0 only where
+-- `at` is the end of the bytes or beyond it.
 pub record IsRead (bytes : List ℕ) (at n : ℕ) (old new : List ℕ) : Type 0 where
   pub there : n ≤ length bytes - at
   pub copied : new ≡ take n (drop at bytes) ++ drop n old

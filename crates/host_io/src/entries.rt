@@ -76,8 +76,8 @@ pub(crate) fn count_fault(entries: &mut [Entry], name: &str, others: &mut u64, c
     }
 }
 
-/// Stores the first `count` bytes of the piece at place `at` of the named file, if the name has
-/// room.
+/// Stores the first `count` bytes of the piece at place `at` of the named file, if the name has an
+/// entry. What stood from `at` on is cut off, even where `count` is 0.
 pub(crate) fn store_in(entries: &mut [Entry], name: &str, at: u64, piece: &[u8], count: usize)
     requires at { (at ≡ 0) ⊎ (at ≡ length (bytes_of (content_among entries.old name.now))) }
     requires count { count ≤ length piece.now }

@@ -9,7 +9,8 @@ ghost use Rattle.host_io.specs.Machine.{stored};
 use std::alloc::{AllocError, Global};
 use std::marker::Model;
 
-/// How many reads and writes have failed. A count stands still at its type's last value.
+/// How many reads failed, and how many writes failed or took nothing of a piece that isn't empty. A
+/// count stands still at its type's last value.
 #[derive(Clone, Copy)]
 pub(crate) struct Faults {
     pub(crate) read: u64,

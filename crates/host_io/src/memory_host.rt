@@ -17,7 +17,8 @@ use packet_entry::NoMemory;
 use std::alloc::Global;
 use std::marker::Model;
 
-/// A host in memory that tells its contents and goes wrong where it is told to, and nowhere else.
+/// A host in memory that tells its contents. It goes wrong where it is told to, and where a file or
+/// the room for one is missing, and nowhere else.
 ///
 /// Its calls of `read` and `write` count from 1, and take no memory. A read fails where `fail_call`
 /// names it or the file isn't there. A write fails where `fail_call` names it or its name was never

@@ -66,8 +66,8 @@ impl fmt::Display for WriteFault {
 impl Error for WriteFault {}
 
 /// Reads the named file from its start to its end, if it has at most `limit` bytes.
-/// Takes a buffer of 64 KiB, also for an empty file and for one that isn't there, and a vector that
-/// doubles as it fills, so the memory taken is a small multiple of the file's size.
+/// Takes a buffer of 64 KiB, also for an empty file and for one that isn't there, and besides it a
+/// vector that doubles as it fills: a small multiple of the bytes that are read.
 pub fn read_whole<H: Host>(
     alloc: Global,
     host: &mut H,
@@ -82,7 +82,8 @@ pub fn read_whole<H: Host>(
     ensures too_large { IsErrOf result ReadStop.TooLarge → IsTrue (H.tells host.old) →
         limit < length (bytes_of (H.content host.old name.now)) }
 
-    // Too large a file is never taken for another one, and an absent one is never read.
+    // A file above the limit is never answered as one within it, and one that isn't there never as
+    // one that was read.
     ensures larger { IsTrue (H.tells host.old) →
         limit < length (bytes_of (H.content host.old name.now)) →
         ¬ Rises (H.read_faults host.old name.now) (H.read_faults host.new name.now) →
@@ -116,8 +117,8 @@ pub fn write_whole<H: Host>(host: &mut H, name: &str, bytes: &[u8]) -> Result<()
     ensures files { ChangesOnly name.now (H.content host.old) (H.content host.new) }
     ensures later { IsLater H.tells H.read_faults H.write_faults host.old host.new }
     ensures reads { H.reads host.new ≡ H.reads host.old }
-    // Each write but the last takes at least one byte, so there are no more writes than bytes, and
-    // one at least.
+    // Each write but the last takes at least one byte, so there are no more writes than bytes, or
+    // one where there are no bytes.
     ensures writes { H.writes host.new ≤ H.writes host.old + max 1 (length bytes.now) }
 {
     let mut at = 0usize;

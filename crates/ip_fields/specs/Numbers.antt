@@ -28,7 +28,7 @@ ipv4_source_at = 12
 abbrev pub ipv4_destination_at : ℕ
 ipv4_destination_at = 16
 
--- of both addresses
+-- of each of the two addresses
 abbrev pub ipv4_address_length : ℕ
 ipv4_address_length = 4
 
@@ -51,7 +51,7 @@ ipv6_source_at = 8
 abbrev pub ipv6_destination_at : ℕ
 ipv6_destination_at = 24
 
--- of both addresses
+-- of each of the two addresses
 abbrev pub ipv6_address_length : ℕ
 ipv6_address_length = 16
 

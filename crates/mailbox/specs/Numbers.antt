@@ -2,7 +2,7 @@
 use Rattle.std.specs.Prelude.{ℕ}
 use Rattle.packet_entry.specs.Numbers as shared
 
--- how many letters a mailbox holds, at least and at most
+-- the least and the greatest capacity of a mailbox, in letters
 abbrev pub least_capacity : ℕ
 least_capacity = 1
 

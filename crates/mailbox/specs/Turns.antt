@@ -5,7 +5,8 @@ use Rattle.mailbox.specs.declared.mailbox.Turn.TheVariants.{Got, Empty, Again}
 use Rattle.mailbox.specs.Views.{ReceiverView, receiver_with, receiver_empty, HasAllSenders}
 use Rattle.mailbox.specs.Views.{ArePrefixes, AreWhole, letters_in}
 
--- what was received is a prefix of what was sent, and the same where it is as much
+-- of each sender that was joined, what was received is a prefix of what was sent; once all are
+-- joined, it is the same where as much was received as sent
 pub record IsFaithful (r : ReceiverView) : Type 0 where
   pub prefix : ArePrefixes r
   pub whole : HasAllSenders r → letters_in r.joined ≡ length r.received → AreWhole r

@@ -41,7 +41,7 @@ enum Turn {
     Got(Letter),
     /// The mailbox was found empty.
     Empty,
-    /// Room was claimed for a letter, but none is in the queue yet.
+    /// Room was claimed for a letter, but none can be taken yet.
     Again,
 }
 
@@ -131,9 +131,10 @@ impl Mailbox {
         Ok(())
     }
 
-    /// Receives the oldest letter. None comes exactly where a look of this call found that the
-    /// mailbox held nothing; the receiver counts these looks. What it promises holds once it
-    /// returns; that it returns, no clause says. It takes no memory.
+    /// Receives a letter; those of each sender come in the order in which it sent them. None comes
+    /// exactly where a look of this call found that the mailbox held nothing; the receiver counts
+    /// these looks. What it promises holds once it returns; that it returns, no clause says. It
+    /// takes no memory.
     pub fn receive<R: Wait>(&self, rt: &R, receiver: &mut Receiver) -> Option<Letter>
         requires mailbox { receiver.old.mailbox ≡ self.now }
         ensures received { MatchOption result (receiver.new ≡ receiver_empty receiver.old)

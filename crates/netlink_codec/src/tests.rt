@@ -56,7 +56,7 @@ const BIND: &[u8] = b"\x1c\0\0\0\x02\x03\x05\0\x01\0\0\0\x07\0\0\0\0\0\0\0\
 /// A verdict that is cut inside its attribute.
 const CUT: &[u8] = b"\x1c\0\0\0\x01\x03\x01\0\x03\0\0\0\x07\0\0\0\0\0\0\0\
     \x0c\0\x02\0\0\0\0\x01";
-/// A verdict with an attribute of 7 bytes and a byte of padding.
+/// A verdict with an attribute of 11 bytes, of which 7 are its content, and a byte of padding.
 const SHORT: &[u8] = b"\x20\0\0\0\x01\x03\x01\0\x03\0\0\0\x07\0\0\0\0\0\0\0\
     \x0b\0\x02\0\0\0\0\x01\0\0\0\0";
 /// A verdict that marks its packet twice.

@@ -30,7 +30,7 @@ pub record Told : Type 0 where
   pub source : Option (List ℕ)
   pub seconds : ℕ
   pub micros : ℕ
-  -- the packet's length, where it has more bytes than are told
+  -- the packet's length, where the range cut the packet
   pub cut_from : Option ℕ
   pub payload : List ℕ
 
@@ -88,7 +88,7 @@ abbrev pub source_in : List ℕ → Option (List ℕ)
 source_in [] = None
 source_in (x ∷ link) = Some (take hardware_address_length (drop source_address_at (x ∷ link)))
 
--- the packet's length, where it has more bytes than are told
+-- the packet's length, where the mode is PACKET and the range cuts the packet
 abbrev pub cut_of : ℕ → ℕ → List ℕ → Option ℕ
 cut_of mode range bytes =
     if tells_bytes mode && nat_lt range (length bytes) then Some (length bytes) else None

@@ -56,7 +56,7 @@ fn verdict_length(kind: u16) -> usize
     }
 }
 
-/// Whether a known attribute of a message of this number is shorter than its content. Each
+/// Whether a known attribute of a message of this number has fewer bytes than its kind needs. Each
 /// occurrence counts.
 pub(crate) fn has_short(number: u16, row: &[u8]) -> bool
     ensures { result ≡ list_any (is_short number) (attributes row.now) }

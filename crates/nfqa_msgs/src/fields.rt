@@ -1,5 +1,5 @@
-//! The types of a request's numbers are as wide as their fields. Nothing runs here: each function
-//! reads its argument, so that its type's range is known.
+//! The types of a request's numbers are as wide as their fields. The functions here have no effect:
+//! each only reads its argument, so that its type's range is known.
 
 ghost use Rattle.std.specs.Prelude.{◌<◌, ◌^◌, IfSome};
 ghost use Rattle.nfqa_msgs.specs.RequestReading.{PayloadFits};

@@ -1,5 +1,5 @@
 //! The headers of queue messages and of their attributes, one module a header: its table of fields,
-//! its reader and its writer. Numbers have their highest byte first.
+//! its writer, and the reader of those that requests have. Numbers have their highest byte first.
 
 pub(crate) mod command;
 pub(crate) mod packet_address;

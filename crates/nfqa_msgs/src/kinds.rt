@@ -48,7 +48,7 @@ pub(crate) const OUTPUT_DEVICE: u16 = 6;
 pub(crate) const HARDWARE_ADDRESS: u16 = 9;
 /// Attribute of verdicts and notices: a packet's bytes. (`NFQA_PAYLOAD`)
 pub(crate) const PAYLOAD: u16 = 10;
-/// Notice attribute: the packet's length, where it is above the range. (`NFQA_CAP_LEN`)
+/// Notice attribute: the packet's length, where the range cut the packet. (`NFQA_CAP_LEN`)
 pub(crate) const FULL_LENGTH: u16 = 13;
 
 /// The bytes of an attribute that is one number. (`__be32`)

@@ -1,4 +1,4 @@
-//! A notice as it is read, and what is told before it is written.
+//! A notice as it is read, and what a notice tells, with the packet's bytes borrowed.
 
 use packet_entry::Bytes;
 
@@ -32,7 +32,7 @@ pub(crate) struct Telling<'a> {
     pub source: Option<&'a [u8]>,
     pub seconds: u32,
     pub micros: u32,
-    /// The packet's length, where it has more bytes than are told.
+    /// The packet's length, where the range cut the packet.
     pub cut_from: Option<u32>,
     pub payload: &'a [u8],
 }

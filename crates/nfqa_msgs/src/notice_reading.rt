@@ -28,9 +28,10 @@ use netlink_codec::{attr_padding, next_message};
 use packet_entry::{Bytes, IPV4, IPV6, NoMemory};
 use std::alloc::Global;
 
-/// What a notice tells, where the bytes are one: exactly the text that a queue writes for some id,
-/// packet and copy mode, without a byte more or less. `None` for all other bytes; those that tell
-/// nothing need no memory.
+/// What a notice tells, where the bytes are one: exactly the text of something that a notice can
+/// tell (`FitsTold`), without a byte more or less. The notice that a queue writes of a packet is
+/// always such a text. `None` for all other bytes. Bytes that begin with no message, or with one of
+/// fewer than 4 bytes after its header, need no memory.
 pub fn decode_notice(alloc: Global, bytes: &[u8]) -> Result<Option<Notice>, NoMemory>
     ensures found { IfOk result (λ answer. IfSome answer (λ notice.
         (told : Told) × FitsTold told × (bytes.now ≡ notice_text told)
@@ -99,7 +100,7 @@ fn notice_with(told: &Telling<'_>, payload: Bytes) -> Notice
     }
 }
 
-/// What the bytes tell, where they are the text of that.
+/// What the bytes tell, where they are exactly the notice that tells it.
 fn told_exactly(alloc: Global, bytes: &[u8]) -> Result<Option<Telling<'_>>, NoMemory>
     ensures found { IfOk result (λ answer. IfSome answer (λ told.
         FitsTold (telling told) × (bytes.now ≡ notice_text (telling told)))) }

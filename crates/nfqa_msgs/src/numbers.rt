@@ -20,9 +20,10 @@ pub const PF_BIND: u8 = 3;
 /// Config command without effect. (`NFQNL_CFG_CMD_PF_UNBIND`)
 pub const PF_UNBIND: u8 = 4;
 
-/// A request of an unknown subsystem or number.
+/// An unknown subsystem or number, flags without a mask, no verdict header, or a verdict that is
+/// refused.
 pub const EINVAL: u16 = 22;
-/// A known attribute is shorter than its content.
+/// A known attribute has fewer bytes than its kind needs.
 pub const ERANGE: u16 = 34;
-/// A request of a number that is no request.
+/// The number of a notice, or a command or flags that aren't supported.
 pub const EOPNOTSUPP: u16 = 95;

@@ -2,7 +2,7 @@
 
 use bitflags::{Flag, Flags, bitflag_items};
 
-/// The flags of a queue (`enum nfqnl_attr_config`, `NFQA_CFG_F_*`).
+/// The flags of a queue. (`NFQA_CFG_F_*`, in the attribute `NFQA_CFG_FLAGS`)
 #[derive(Clone, Copy, PartialEq, Eq, Debug)]
 pub struct QueueFlags(u32);
 

@@ -228,7 +228,7 @@ impl Packet {
         self.card.bytes.share()
     }
 
-    /// Counts one more arrival, at a queue that this table chose.
+    /// Counts one more arrival at a queue, by a rule of this table or by a verdict in it.
     pub fn queued(&mut self, table: u16)
         requires { self.old.visit < last_visit }
         ensures { self.new ≡ record self.old { visit = self.old.visit + 1; table = table } }

@@ -78,7 +78,7 @@ one_if_bound (Some q) = 1
 abbrev pub bound_in_all : List Entry → ℕ
 bound_in_all es = sum_by (λ q. one_if_bound (state_of es q)) every_number
 
--- how many packets left, as a reply tells it
+-- how many of the packets that waited left, as a reply tells it
 abbrev pub taken_by : Reply → ℕ
 taken_by (Arrived outcome) = 0
 taken_by (Answer errno taken) = taken

@@ -3,7 +3,7 @@
 use crate::{Entries, PortLog};
 use packet_entry::Sequence;
 
-/// A packet that was lost between two queues, since memory ran out.
+/// A packet that was lost between two queues because memory ran out.
 #[derive(Clone, Copy, Debug, PartialEq, Eq)]
 pub struct Lost {
     /// The packet's number, counted from 1.

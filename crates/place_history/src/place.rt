@@ -33,9 +33,9 @@ use std::alloc::Global;
 use std::marker::Model;
 
 /// Queues by number, each the replay of its stored history: what the sequential queue makes of its
-/// entries. Of several places, a queue is at the one that is its number modulo theirs. A call at
-/// one queue costs the queue's own work, and besides no more than the logarithm of the number of
-/// bound queues: none goes over the history.
+/// entries. Of several places, a queue is at the one whose number is the queue's number modulo how
+/// many places there are. A call at one queue costs the queue's own work, and besides no more than
+/// the logarithm of the number of bound queues: none goes over the history.
 ///
 /// It is no `Drop`: it ends by `into_entries`.
 pub struct Place {

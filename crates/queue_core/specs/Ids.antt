@@ -5,7 +5,7 @@ use Rattle.std.specs.List.{list_any}
 use Rattle.queue_core.specs.Numbers.{id_count}
 
 -- Whether an id is after another: the way from the other to it, counted up, is shorter than half of
--- all ids, and isn't 0 (nfq_batch_cmp in nfnetlink_queue.c).
+-- all ids, and isn't 0 (nfq_id_after in nfnetlink_queue.c).
 abbrev pub after : ℕ → ℕ → Bool
 after id other =
     let way = (id + id_count - other) % id_count in nat_lt 0 way && nat_lt way (id_count / 2)

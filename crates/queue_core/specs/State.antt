@@ -21,7 +21,7 @@ pub record Bound : Type 0 where
   pub flags : ℕ
   -- the id that was used last
   pub last : ℕ
-  -- how many were destroyed since too many waited, and since the port's mailbox was full
+  -- how many were destroyed because too many waited, and because the port's mailbox was full
   pub dropped : ℕ
   pub user_dropped : ℕ
   -- what waits, oldest first, each under its id

@@ -69,7 +69,7 @@ with_last q id = record q { last = id }
 abbrev pub taken : Bound → ℕ → Card → Bound
 taken q id card = record q { last = id; waiting = q.waiting ++ (id, card) ∷ [] }
 
--- one packet more was destroyed since too many wait, or since the port's mailbox was full
+-- one packet more was destroyed because too many wait, or because the port's mailbox was full
 abbrev pub one_dropped : Bound → Bound
 one_dropped q = record q { dropped = one_more q.dropped }
 
@@ -232,7 +232,8 @@ pub data Ruling : Type 0 where
   Allowed : Bound → Head → Ruling
 
 -- The refusals of a verdict and of a batch, in their order: no such queue, bound to another port,
--- no header or a verdict that isn't known (nfqnl_recv_verdict, verdict_instance_lookup).
+-- no header, or a verdict that isn't known or is STOLEN (nfqnl_recv_verdict,
+-- verdict_instance_lookup).
 abbrev pub refusal : Option Bound → ℕ → Option Head → Ruling
 refusal None port head = Refused enodev
 refusal (Some q) port None = Refused (if q.port == port then einval else eperm)

@@ -58,7 +58,7 @@ pub(crate) fn place_of(waiting: &Waiting, id: u32) -> Option<usize>
     None
 }
 
-/// Whether an id is after another, with both counted modulo 2^32. (`nfq_batch_cmp`)
+/// Whether an id is after another, with both counted modulo 2^32. (`nfq_id_after`)
 fn is_after(id: u32, other: u32) -> bool
     ensures { result ≡ after id other }
 {

@@ -39,8 +39,8 @@ pub fn share_is_the_longest()
 
 /// Where the first id isn't after the maximum, and the ids ascend from it on by less than half of
 /// all ids, the share is exactly the packets whose ids aren't after the maximum. Elsewhere the two
-/// differ: of ids 1 and 2147483650 with the maximum 2147483650 the share is empty, since 1 is after
-/// the maximum, and the second isn't.
+/// can differ: of ids 1 and 2147483650 with the maximum 2147483650 the share is empty, since 1 is
+/// after the maximum, though the second isn't.
 pub fn share_of_ascending_ids()
     ensures { (first : ℕ × Card) (others : List (ℕ × Card)) (maximum : ℕ) → maximum < id_count →
         AreIds (first ∷ others) → after first.0 maximum ≡ false →
@@ -67,8 +67,8 @@ pub fn replies_tell_how_many_left()
         let s = step q e in Tells e s.reply (length s.left) }
 {}
 
-/// What waits is destroyed, and doesn't go on, where its queue is unbound, where its port is closed
-/// and where a device goes down.
+/// What leaves in the step of a config request, of a closed port or of a device that goes down is
+/// destroyed: none of it goes on.
 pub fn what_no_verdict_decided_is_destroyed()
     ensures config { (q : Option Bound) (port : ℕ) (ask : ConfigAsk) →
         AllAreGone (config q port ask) }
@@ -82,7 +82,8 @@ pub fn another_port_changes_nothing()
         IsUntouched (Some q) (step (Some q) (Ask port call request)) }
 {}
 
-/// No two packets wait under one id after a step, where none did before.
+/// Where no two packets wait under one id, none do after a step either, as long as ids are below
+/// 2^32 and fewer than 2^32 packets wait.
 pub fn ids_stay_apart()
     ensures { (q : Option Bound) (e : Event) → HasIds q → AreApart q → AreApart (step q e).state }
 {}

@@ -221,14 +221,14 @@ impl Queue {
         self.last
     }
 
-    /// How many packets were destroyed since too many waited; it stops at 4,294,967,295.
+    /// How many packets were destroyed because too many waited; it stops at 4,294,967,295.
     pub fn dropped(&self) -> u32
         ensures { result ≡ self.now.state.dropped }
     {
         self.dropped
     }
 
-    /// How many packets were destroyed since the port's mailbox was full; it stops at
+    /// How many packets were destroyed because the port's mailbox was full; it stops at
     /// 4,294,967,295.
     pub fn user_dropped(&self) -> u32
         ensures { result ≡ self.now.state.user_dropped }

@@ -34,7 +34,8 @@ abbrev pub decoded : Result (List ℕ) FromHexError → Option (List ℕ)
 decoded (Ok bytes) = Some bytes
 decoded (Err e) = None
 
--- the bytes that a word spells, at most so many; none where it spells none or more
+-- the bytes that a word spells, where `-` spells the empty list; None for a word of another form,
+-- and for one of more bytes than `most`
 unfoldable pub bytes_of : ℕ → List ℕ → Option (List ℕ)
 bytes_of most word =
     if bytes_eq word (codes "-") then Some []

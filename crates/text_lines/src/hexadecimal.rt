@@ -13,8 +13,8 @@ const NO_BYTES: &[u8] = b"-";
 /// The digits of a byte.
 const BYTE_DIGITS: usize = 2;
 
-/// The bytes that a word spells, in lower-case hexadecimal, two digits a byte, or `-` for none.
-/// `None` where it spells no bytes, or more than `most`.
+/// The bytes that a word spells, in lower-case hexadecimal, two digits a byte; `-` spells the empty
+/// list. `None` where the word has another form, or spells more than `most` bytes.
 ///
 /// `AllocError` is out of memory, which is taken only for one byte or more.
 #[tactic(auto, unfolding(crate::specs::Hexadecimal::bytes_of))]

@@ -74,8 +74,8 @@ pub fn decimal_8(word: &[u8]) -> Option<u8>
     u8::try_from(decimal(word)?).ok()
 }
 
-/// A number of 32 bits: decimal, or `0x` and hexadecimal digits in either case, with leading zeros
-/// as they come.
+/// A number of 32 bits: decimal without a leading zero, or `0x` and hexadecimal digits in either
+/// case, which may begin with zeros.
 #[tactic(auto, unfolding(crate::specs::Digits::wide))]
 pub fn wide(word: &[u8]) -> Option<u32>
     ensures { result ≡ wide word.now }

@@ -28,15 +28,15 @@ module _ {E : Type 0} where
   Fits history serving ticket (Served n list) = (n ≡ serving) × (n < ticket) × (list ≡ history)
   Fits history serving ticket (Joined a b c d) = Unit {0}
 
-  -- between the two steps of a join: the list is a continuation of both lists that were joined, and
-  -- the places that were joined had none in common
+  -- between the two steps of a join: the list continues both lists that were joined, and the two
+  -- passes had no place of their own in common
   abbrev pub Met : List E → Turn E → Type 0
   Met seen Outside = Unit {0}
   Met seen (Waits n) = Unit {0}
   Met seen (Served n list) = Unit {0}
   Met seen (Joined a b c d) = IsPrefix a seen × IsPrefix b seen × NoneInCommon c d
 
-  -- the ticket, where it waits
+  -- the ticket, where it waits or is served; else 0
   abbrev pub ticket_no : Turn E → ℕ
   ticket_no Outside = 0
   ticket_no (Waits n) = n

@@ -26,7 +26,7 @@ pub(super) fn next_bound(held: &Held, from: u32) -> Option<u16>
     bound::first_from(&held.queues, from)
 }
 
-/// The entry of what destroys all that waits.
+/// The entry of a port that closes or a device that goes down, with how many packets it destroyed.
 fn flushed(queue: u16, event: Event, taken: u32) -> Entry
     ensures { result ≡ record { queue = queue; event = event; reply = reply.Flushed taken } }
 {

@@ -30,7 +30,8 @@ pub(super) enum ConfigLine {
     SetsUp,
 }
 
-/// The first line of a config request's table that applies, where the queue is bound to this port.
+/// The first line of a config request's table that applies. `bound` is the port that the queue is
+/// bound to, `None` where the queue is absent; `port` is the one that asks.
 pub(super) fn config_line(
     bound: Option<u32>,
     port: u32,
@@ -103,8 +104,9 @@ fn refused_flags(flags: Option<u32>, mask: Option<u32>) -> Option<u16>
     None
 }
 
-/// Whether a verdict or a batch is carried out where the queue is bound to this port: with this
-/// header, or refused with this error.
+/// Whether a verdict or a batch is carried out: allowed with this header, or refused with this
+/// error. `bound` is the port that the queue is bound to, `None` where the queue is absent; `port`
+/// is the one that asks.
 pub(super) fn ruling(bound: Option<u32>, port: u32, head: Option<Head>) -> Result<Head, u16>
     ensures allowed { IfOk result (λ allowed. (q : Option Bound) →
         option_map (λ (b : Bound). b.port) q ≡ bound → IsAllowed q port head allowed) }
@@ -119,7 +121,7 @@ pub(super) fn ruling(bound: Option<u32>, port: u32, head: Option<Head>) -> Resul
     if bound != port {
         return Err(EPERM);
     }
-    // There is no header, or its verdict isn't known.
+    // There is no header, or its verdict isn't known or is `STOLEN`.
     match head {
         Some(head) if is_verdict(head.verdict) => Ok(head),
         _ => Err(EINVAL),

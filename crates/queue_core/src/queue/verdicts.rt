@@ -56,10 +56,10 @@ impl Queue {
         Some((packet, decision_of(head.verdict)))
     }
 
-    /// Carries out a batch that isn't refused: from the oldest on, what waits before the first id
-    /// after the one of `head` leaves with the mark that is given, and is appended to `out`, each
-    /// with the decision of `head`. Answers how many. `NoMemory` leaves the queue and `out` as they
-    /// were.
+    /// Carries out a batch that isn't refused: from the oldest on, packets leave, up to but without
+    /// the first whose id is after the id of `head`. Each gets the mark that is given, and is
+    /// appended to `out` with the decision of `head`. Answers how many. `NoMemory` leaves the queue
+    /// and `out` as they were.
     pub fn batch(
         &mut self,
         head: Head,
