@@ -1,5 +1,5 @@
--- Entries that are followed by their replies alone: of a legal history they tell what leaves, and
--- no table of a queue's rules has to be asked.
+-- Entries that are followed by their replies alone: the replies of a legal history tell what
+-- leaves, and the steps of the sequential queue needn't be computed again.
 use Rattle.std.specs.Prelude.{◌≡◌, ℕ, ◌+◌, ◌-◌, suc, zero, List, [], ◌∷◌, ◌++◌, map, length, take}
 use Rattle.std.specs.Prelude.{drop, Option, Some, None, ◌==◌, if◌then◌else◌, slice_get, slice_set}
 use Rattle.std.specs.Prelude.{◌%◌, ◌^◌, Bool, false}

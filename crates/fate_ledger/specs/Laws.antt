@@ -33,8 +33,9 @@ step_after before e = step (replay (history e.queue before)) e.event
 abbrev pub Leaves : Stepped → Card → Way → Type 0
 Leaves s card way = Contains s.left (card, way)
 
--- What an event says: an arrival tells of the packet that arrives, with the fate that its outcome
--- is; every other event of the packets that leave in its step, with the fate of their way.
+-- What an event says: an arrival tells of the packet that arrives, with the fate of its outcome.
+-- Every other event tells of the packets that leave in its step: at a verdict or a batch with the
+-- fate of their way, else with the one fate of what happened (unbound, port closed, device down).
 abbrev pub Tells : Event → Reply → Stepped → Card → Fate → Type 0
 Tells (Arrive arriving bypass room) reply s card f =
     (card ≡ arriving) × ((outcome : Outcome) × (reply ≡ Arrived outcome)

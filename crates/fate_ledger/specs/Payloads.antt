@@ -25,14 +25,14 @@ abbrev pub IsRead : ℕ → Frame → List ℕ → Type 0
 IsRead link f bytes =
     (cut : LinkCut) × (cut_of link f.bytes ≡ Some cut) × (bytes ≡ drop cut.length f.bytes)
 
--- each of these packets was read with the frame that has its number, counted from 1
+-- each of these packets whose number is a frame's, counted from 1, was read with that frame
 abbrev pub AreRead : ℕ → List Frame → List Card → Type 0
 AreRead link frames entered =
     All (λ (c : Card). (place : ℕ) (f : Frame) → slice_get frames place ≡ Some f →
     c.number ≡ place + 1 → IsRead link f c.bytes) entered
 
 -- A line's payload is the whole frame, which isn't released but as it was read; or the packet that
--- the frame was read with; or it came with a verdict.
+-- the frame was read with; or no longer than a verdict's payload may be.
 abbrev pub IsPayload : ℕ → Frame → FateLine → Type 0
 IsPayload link f l =
     ((l.payload ≡ f.bytes) × (is_release l.fate ≡ true → l.fate ≡ Unhooked))

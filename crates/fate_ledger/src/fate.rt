@@ -40,7 +40,7 @@ pub enum Fate {
     DeviceDown,
     /// It still waits.
     Waiting,
-    /// It was lost between two queues, since memory ran out.
+    /// It was lost between two queues because memory ran out.
     NoMemory,
 }
 

@@ -40,10 +40,10 @@ pub fn each_line_names_the_last_event()
     replies_tell_how_many_left();
 }
 
-/// The packet of a last event left in that event's step, and where the line says that it waits, it
-/// waits at the end of that queue's history, where no two arrivals are of one packet at one visit.
-/// Each stay ends once (`place_history::each_stay_ends_once`), so a packet that left didn't leave
-/// again.
+/// The packet of a last event left in that event's step, unless the event's fate is that it waits.
+/// Then it waits at the end of that queue's history, provided that no two arrivals are of one
+/// packet at one visit. Each stay ends once (`place_history::each_stay_ends_once`), so a packet
+/// that left didn't leave again at that visit.
 pub fn the_last_event_is_where_it_left_or_waits()
     ensures left { (es : List AnEntry) (number : ℕ) (h : AHappening) → AreLegal es →
         IsLastEvent es number h → h.fate ≢ Waiting → LeftThere es h }
@@ -65,7 +65,8 @@ pub fn no_visit_arrives_twice()
 }
 
 /// The released capture has just the frames whose fate is a release, in the order of the capture,
-/// and each is written with its last payload behind its link header.
+/// each as it was read, or, where its packet was replaced, with its last payload behind its link
+/// header.
 pub fn released_frames_are_those_let_go()
     ensures order { (link : ℕ) (frames : List AFrame) (lines : List ALine) →
         length frames ≡ length lines →
@@ -89,9 +90,9 @@ pub fn what_holds_of_packets_stays_so()
 {}
 
 /// Where the packets that entered were read with the capture's frames, the payload of each line in
-/// sound histories is the packet that its frame was read with, or came with a verdict, unless the
-/// packet has no event. So no payload is longer than a frame may be, nor is a released frame, which
-/// has it behind its link header: the released capture can be written.
+/// sound histories is the packet that its frame was read with, or no longer than a verdict's
+/// payload may be, unless the packet has no event. So no payload is longer than a frame may be, nor
+/// is a released frame, which has it behind its link header: the released capture can be written.
 pub fn payloads_were_read_or_given()
     ensures each { (tables : List (List ARule)) (key link : ℕ) (entered : List ACard)
         (h : AllHistories) (frames : List AFrame) → AreRead link frames entered →

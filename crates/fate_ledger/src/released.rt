@@ -10,9 +10,9 @@ use packet_entry::{Bytes, NoMemory};
 use pcap_io::{Capture, Frame, Frames};
 use std::alloc::Global;
 
-/// The frames that were released, in the order of the capture, each with its last payload behind
-/// its link header, under the capture's header. The bytes of frames that stay as they were read
-/// are shared and not copied.
+/// The frames that were released, in the order of the capture, under the capture's header: each as
+/// it was read, or, where its packet was replaced, with the last payload behind its link header.
+/// The bytes of frames that stay as they were read are shared and not copied.
 pub fn released_capture(
     alloc: Global,
     capture: &Capture,

@@ -23,7 +23,7 @@ const SNAP: u32 = 262_144;
 const BYTES: [u8; 20] = [
     0x45, 0, 0, 20, 0, 1, 0, 0, 0x40, 6, 0, 0, 10, 0, 0, 1, 10, 0, 0, 2,
 ];
-/// What it is replaced by begins with this byte.
+/// Other bytes, all alike: replaced payloads, long packets and Ethernet frames are cut from these.
 const OTHER_BYTES: [u8; 84] = [0x46; 84];
 
 /// A capture of so many packets.

@@ -35,8 +35,8 @@ pub fn words_are_outputs()
         ≡ first_words plus_plus count (of_seed (splitmix_seed seed_length number)) }
 {}
 
-/// The packet of every word is IPv4, from the frame's first byte on, with a header that says its
-/// length, its protocol and its addresses, and has 20 to 83 bytes.
+/// The packet of every word is IPv4, from the frame's first byte on, and has 20 to 83 bytes. Its
+/// header says its length, its protocol and its addresses.
 pub fn packets_are_ipv4()
     ensures start { (w : ℕ) → cut_of link_raw (packets.packet w) ≡ cut 0 ipv4_type }
     ensures fields { (w : ℕ) → fields_of (packets.packet w) ≡ Some (packets.fields w) }
@@ -58,8 +58,8 @@ pub fn records_are_of_words()
         take count (records number (count + more)) ≡ records number count }
 {}
 
-/// A capture can be written, its file is a capture file, and has a header and at most 99 bytes for
-/// each record.
+/// A capture can be written, and where it has at most 200,000 records its file is a capture file.
+/// The file has a header and at most 99 bytes for each record.
 pub fn captures_are_files()
     ensures held { (number count : ℕ) → IsHeld (generated_capture number count) }
     ensures file { (number count : ℕ) → count ≤ most_records →

@@ -38,7 +38,7 @@ enum Stop {
 ///
 /// `Bad` comes exactly where a line may not stand in its place or the file ends inside a table,
 /// with the first such line. `NoMemory` comes when out of memory, which is taken only from the
-/// first line on that begins a table. The bytes are gone over once, line by line.
+/// first line on that begins a table. The lines are read one after the other, each once.
 pub fn read_tables(alloc: Global, bytes: &[u8]) -> Result<Tables, LineFault>
     requires { length bytes.now < 2 ^ 32 - 1 }
 

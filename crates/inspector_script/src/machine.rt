@@ -56,7 +56,7 @@ impl PortMachine {
         script.block(self.place).closing(alloc)
     }
 
-    /// Counts a notice that can't be read, which nothing is asked for. The count stops at
+    /// Counts a notice that can't be read: nothing is asked for in answer. The count stops at
     /// 4,294,967,295.
     pub fn pass_over(&mut self)
         ensures { self.new ≡ record self.old { received = next_count self.old.received } }

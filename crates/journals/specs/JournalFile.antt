@@ -175,7 +175,7 @@ abbrev pub KnowsPorts : Reader → Type 0
 KnowsPorts r =
     (port : ℕ) → contains nat_cmp r.ports port ≡ list_any (is_port port) (logs_of (place_of r))
 
--- before the first log stand no logs
+-- where there is no last log, there is none before it either
 abbrev pub IsBare : List PortLog → Option PortLog → Type 0
 IsBare logs None = logs ≡ []
 IsBare logs (Some l) = ⊤

@@ -1,5 +1,5 @@
 -- How a journal's line is read: field by field from its front, each up to the next blank, and the
--- last one to the line's end. Each word here is what one function of the reader answers.
+-- last one to the line's end. Most definitions here are what one function of the reader answers.
 use Rattle.std.specs.Prelude.{ℕ, ◌^◌, ◌==◌, Bool, true, false, List, length, Option, Some}
 use Rattle.std.specs.Prelude.{None, option_map, bytes_eq, codes, if◌then◌else◌}
 use Rattle.std.specs.Option.{option_map_or}

@@ -21,9 +21,10 @@ const HEADING: &[u8] = b"nfq-journal 1";
 /// The histories whose journal a text is: they are well formed, and the text is exactly what
 /// [`journal_text`](crate::journal_text) writes of them.
 ///
-/// `Bad` comes exactly where there are none, with the first line at whose end the text no longer
-/// begins a journal; with the number of line ends plus 1 where the text ends too early. `NoMemory`
-/// comes when out of memory. The bytes are gone over once, line by line.
+/// `Bad` comes only where there are none, and there it comes unless memory runs out: with the first
+/// line at whose end the text no longer begins a journal, or with the number of line ends plus 1
+/// where the text ends too early. `NoMemory` comes when out of memory. The lines are read one after
+/// the other, each once.
 pub fn read_journal(alloc: Global, bytes: &[u8]) -> Result<Histories, JournalFault>
     requires { length bytes.now < 2 ^ 32 - 1 }
 

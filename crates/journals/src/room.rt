@@ -9,8 +9,8 @@ const LINE: usize = 96;
 /// The digits of a byte.
 const BYTE_DIGITS: usize = 2;
 
-/// About how many bytes the journal has: mostly a few more than it will have. Where it has more
-/// after all, it grows.
+/// More bytes than the journal mostly has: of small packets up to three times as many. Where it has
+/// more after all, it grows.
 pub fn room_for(histories: &Histories) -> usize {
     let mut room = LINE;
     for entry in &histories.entries {

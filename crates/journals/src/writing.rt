@@ -15,7 +15,7 @@ use std::alloc::{AllocError, Global};
 
 /// Appends the journal of these histories. Out of memory nothing has changed.
 ///
-/// The journal tells what was lost by nothing: it is one of histories where nothing was.
+/// A journal has no line for packets that were lost: it tells all only of histories without any.
 pub fn journal_text(alloc: Global, histories: &Histories, out: &mut Vec<u8>) -> Result<(), NoMemory>
     ensures ok { OnOk result (out.new.items ≡ out.old.items ++ text.journal histories.now) }
     ensures err { OnErr result (out.new.items ≡ out.old.items) }

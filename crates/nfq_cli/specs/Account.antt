@@ -22,9 +22,9 @@ use Rattle.fate_ledger.specs.Ledger.{is_release}
 use Rattle.fate_ledger.specs.Released as released
 use Rattle.nfq_cli.specs.Outputs.{fates_of}
 
--- Each frame's line is that of its packet's last event, which is an entry of these histories: the
--- packet left in that entry's step, or it came with it and still waits. A packet that left a queue
--- didn't leave it again.
+-- Each frame's line is that of its packet's last event in these histories, or that of a frame whose
+-- packet has none. Where the line doesn't say that the packet waits, it left in that event's step;
+-- where it does, the packet still waits at that event's queue.
 pub record AreLinesOf (c : Capture) (h : Histories) : Type 0 where
   pub named : (place : ℕ) (f : Frame) (l : FateLine) → slice_get c.frames place ≡ Some f →
       slice_get (fates_of c h) place ≡ Some l → IsLineOf h (place + 1) f l
@@ -54,7 +54,8 @@ pub record IsAccounted (tables : List (List Rule)) (script : ScriptValue) (c : C
     (h : Histories) : Type 0 where
   -- they are those of the schedule of one thread, in which nothing is lost
   pub schedule : IsSolo script tables c h
-  -- at every moment each queue's state is the replay of its history by the sequential queue
+  -- at each queue, each event may happen in the state that the sequential queue reaches by the
+  -- entries before it, and each reply is the one of its step
   pub legal : AreLegal h.entries
   -- packets enter, and move from queue to queue, as rules and verdicts say
   pub sound : AreSound tables script.key (cards c) h.entries h.lost

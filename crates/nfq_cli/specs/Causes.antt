@@ -32,7 +32,7 @@ IsRefused i old why =
     ⊎ (IsTaken RulesSay (old i.rules) × IsTaken ScriptSays (old i.script)
     × Said CaptureSays (old i.capture) (Err why))
 
--- The reading stopped at a file whose read count rose, and those before it are taken.
+-- The reading stopped at a file whose count of read faults rose, and those before it are taken.
 abbrev pub IsUnread : InputFiles → Counts → Counts → Contents → Type 0
 IsUnread i old_count new_count old =
     Rises (old_count i.rules) (new_count i.rules)

@@ -11,13 +11,13 @@ Contents = List ℕ → Option (List ℕ)
 abbrev pub Counts : Type 0
 Counts = List ℕ → ℕ
 
--- the read count of one of the inputs rose
+-- the count of read faults of one of the inputs rose
 abbrev pub ReadFaultRose : InputFiles → Counts → Counts → Type 0
 ReadFaultRose i old new =
     Rises (old i.rules) (new i.rules) ⊎ Rises (old i.script) (new i.script)
     ⊎ Rises (old i.capture) (new i.capture)
 
--- the write count of one of these names rose
+-- the count of write faults of one of these names rose
 abbrev pub WriteFaultRose : List (List ℕ) → Counts → Counts → Type 0
 WriteFaultRose [] old new = ⊥
 WriteFaultRose (name ∷ names) old new =
@@ -28,8 +28,8 @@ abbrev pub Stay : List (List ℕ) → Contents → Contents → Type 0
 Stay [] old new = ⊤
 Stay (name ∷ names) old new = (new name ≡ old name) × Stay names old new
 
--- The writing, in the order of these names, stopped at one whose write count rose, and those after
--- it hold what they held.
+-- The writing, in the order of these names, stopped at one whose count of write faults rose, and
+-- those after it hold what they held.
 abbrev pub IsStopped : List (List ℕ) → Counts → Counts → Contents → Contents → Type 0
 IsStopped [] old_count new_count old new = ⊥
 IsStopped (name ∷ names) old_count new_count old new =
@@ -62,7 +62,7 @@ IsNoneOf (other ∷ others) name = (name ≢ other) × IsNoneOf others name
 abbrev pub OthersStay : List (List ℕ) → Contents → Contents → Type 0
 OthersStay names old new = (name : List ℕ) → IsNoneOf names name → new name ≡ old name
 
--- a line was printed: standard output holds just that, unless its write count rose
+-- a line was printed: standard output holds just that, unless its count of write faults rose
 abbrev pub IsPrinted : List ℕ → Counts → Counts → Contents → Type 0
 IsPrinted line old_count new_count new =
     (new standard_output ≡ Some line)

@@ -17,7 +17,8 @@ use Rattle.nfq_cli.specs.declared.refusal.Refusal.TheVariants as refusal
 abbrev pub Saying : Type 0 → Type 1
 Saying V = List ℕ → Result V Refusal → Type 0
 
--- rules, of at most 1,048,576 bytes: their tables, or the first line that may not stand
+-- rules, of at most 1,048,576 bytes: their tables, or the first line that may not stand or that is
+-- missing at the end
 abbrev pub RulesSay : Saying (List (List Rule))
 RulesSay text (Ok tables) = (length text ≤ text_limit) × rules.IsRulesFile text tables
 RulesSay text (Err (refusal.Rules line)) =

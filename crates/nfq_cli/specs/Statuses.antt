@@ -48,7 +48,7 @@ status_of stop.NoMemory = 8
 
 -- ---- what a call tells
 
--- it refused an input, and of why this holds
+-- if it refused an input, this holds of why
 abbrev pub IfStopRefuses : Stop → (Refusal → Type 0) → Type 0
 IfStopRefuses (stop.Refused why) P = P why
 IfStopRefuses other P = Unit {0}
@@ -57,7 +57,7 @@ abbrev pub IfRefused : {T : Type 0} → Result T Stop → (Refusal → Type 0) �
 IfRefused (Ok x) P = Unit {0}
 IfRefused (Err s) P = IfStopRefuses s P
 
--- it answered this, unless a file couldn't be read or memory ran out
+-- it answered this, unless it stopped for another reason than a refusal
 abbrev pub Agrees : {T : Type 0} → Result T Stop → Result T Refusal → Type 0
 Agrees (Ok x) outcome = outcome ≡ Ok x
 Agrees (Err s) outcome = IfStopRefuses s (λ why. outcome ≡ Err why)

@@ -100,8 +100,8 @@ pub fn play<H: Host>(alloc: Global, words: &[String], host: &mut H) -> u8
         ReadFaultRose i (H.read_faults host.old) (H.read_faults host.new))
         ⊎ WriteFaultRose (outputs c) (H.write_faults host.old) (H.write_faults host.new) }
 
-    // Nothing but a line is written before the run is done, a line only where an input or the
-    // arguments are refused, and no other name ever.
+    // At every status but 0 and 3 nothing but standard output has changed, and at 2 and 8 not even
+    // that. At 0 and 3 no name but the command's outputs has.
     ensures untouched { result ≢ 0 → result ≢ 3 →
         ChangesOnly standard_output (H.content host.old) (H.content host.new) }
     ensures quiet { (result ≡ 2) ⊎ (result ≡ 8) →

@@ -26,9 +26,9 @@ pub enum Limit {
 pub enum Refusal {
     /// The first fault of the capture.
     Capture { fault: CaptureFault },
-    /// The first line of the rules that may not stand, counted from 1.
+    /// The first line of the rules that may not stand, or that is missing at their end, from 1.
     Rules { number: u32 },
-    /// The first line of the script that may not stand, counted from 1.
+    /// The first line of the script that may not stand, or that is missing at its end, from 1.
     Script { number: u32 },
     /// What is above its limit.
     TooLarge { limit: Limit },

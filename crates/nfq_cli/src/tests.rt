@@ -55,7 +55,7 @@ fn host(alloc: Global, rules: &str, script: &str, input: &[u8]) -> Result<Memory
     Ok(host)
 }
 
-/// The arguments of `play` with these files.
+/// These words as a command's arguments.
 fn words(alloc: Global, words: &[&str]) -> Result<Vec<String>, AllocError> {
     let mut all = Vec::new(alloc);
     for word in words {

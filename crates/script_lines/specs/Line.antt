@@ -26,7 +26,7 @@ without_notice ws = ask_of ws >>= words_alone
 
 -- ---- the parts of an `on` line
 
--- the words between these words
+-- the words, cut into parts wherever this word stands
 abbrev pub parts_at : List ℕ → List (List ℕ) → List (List (List ℕ))
 parts_at word ws = slice_split (λ w. bytes_eq w word) ws
 

@@ -20,7 +20,7 @@ pub enum OrThis<T> {
 }
 
 impl<T: Copy + Drop> OrThis<T> {
-    /// The number, where the notice's is `this`.
+    /// The number that is named; for `this` it is the notice's, which is given.
     fn of(self, this: T) -> T
         ensures { result ≡ number_for this self }
     {
@@ -30,7 +30,7 @@ impl<T: Copy + Drop> OrThis<T> {
         }
     }
 
-    /// The number where it is none of the notice's.
+    /// The number that is named; none for `this`.
     fn alone(self) -> Option<T>
         ensures { result ≡ alone_of self }
     {

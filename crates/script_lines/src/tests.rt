@@ -1,5 +1,5 @@
 //! Conditions, and the notices that they hold of, as the format of scripts says. What lines ask for
-//! is tried above, where whole scripts are read.
+//! is tested in `inspector_script`, where whole scripts are read.
 
 ghost use Rattle.std.specs.Prelude.{◌≤◌};
 

@@ -27,7 +27,7 @@ abbrev pub IsRead : ℕ → Frame → List ℕ → Type 0
 IsRead link f bytes =
     (cut : LinkCut) × (cut_of link f.bytes ≡ Some cut) × (bytes ≡ drop cut.length f.bytes)
 
--- each of these packets was read with the frame that has its number, counted from 1
+-- each of these packets whose number is a frame's, counted from 1, was read with that frame
 abbrev pub AreRead : ℕ → List Frame → List Card → Type 0
 AreRead link frames entered =
     All (λ (c : Card). (place : ℕ) (f : Frame) → slice_get frames place ≡ Some f →

@@ -52,7 +52,7 @@ abbrev pub IsClosing : ℕ → Bool → List Entry → Type 0
 IsClosing port true h = IsShutIn port h
 IsClosing port false h = list_any (is_closing_of port) h ≡ false
 
--- whether a log has its port's closing
+-- whether what a port did is its closing
 abbrev pub is_closed : Did → Bool
 is_closed (Received queue number visit) = false
 is_closed (Sent call ask answer) = false

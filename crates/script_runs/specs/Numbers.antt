@@ -6,7 +6,7 @@ use Rattle.packet_entry.specs.Numbers.{last_visit}
 abbrev pub nanos_in_a_micro : ℕ
 nanos_in_a_micro = 1000
 
--- the number of arrivals that no packet uses up: at its last visit it ends
+-- enough arrivals for every packet: at its last visit it ends
 abbrev pub enough_arrivals : ℕ
 enough_arrivals = last_visit
 

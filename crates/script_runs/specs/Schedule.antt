@@ -35,12 +35,13 @@ setting_of script tables =
 
 -- ---- a look into a mailbox
 
--- how many notices a port received, as its inspector counts them
+-- whether what a port did is that it received a notice
 abbrev pub is_received : Did → Bool
 is_received (Received queue number visit) = true
 is_received (Sent call ask answer) = false
 is_received Closed = false
 
+-- how many notices a port received, as its inspector counts them
 abbrev pub received_in : Option Port → ℕ
 received_in None = 0
 received_in (Some p) = min (count_by is_received p.dids) largest_count
@@ -155,8 +156,8 @@ ended_all rounds s script place (p ∷ ps) w =
 
 -- ---- the whole run
 
--- no run uses up so many rounds: each but the last receives a notice, and a packet waits 32 times
--- at most
+-- No emptying of the mailboxes needs more rounds: each but the last receives a notice, and a packet
+-- waits 32 times at most.
 abbrev pub rounds_for : Capture → ℕ
 rounds_for c = rounds_per_frame * length c.frames + 1
 

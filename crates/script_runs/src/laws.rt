@@ -44,17 +44,17 @@ pub fn each_port_has_its_log()
         map (λ (l : PortLog). l.port) h.logs ≡ script.ports }
 {}
 
-/// Each port did what the script says: its log is its opening messages, then blocks, and its
-/// closing where the script says it. The requests in each queue's history are those of the ports'
-/// messages, one entry for each, in their order, with its errno. And the notices that ports
-/// received are those of the arrivals that their queues took, in their order, but for the last
-/// ones, which are left in the mailboxes; no claim is made here of how many they are. Where a port
-/// closed, no queue is bound to it in the end, and none has a second closing or a later request of
-/// it. An arrival found no room only where the port was sent as many notices as its mailbox holds.
-/// In each queue's history frames arrive in their order, and each `down` line that takes effect
-/// stands between those of the frames up to its own and those of later ones. What ports ask as they
-/// open stands before all else, and what they ask as they end, with their closings, behind all that
-/// was fed, each in the order of the ports.
+/// Each port did what the script says: its log is its opening messages, then notices, each with the
+/// messages that answer it, then the messages of its end, and its closing where the script says it.
+/// The requests in each queue's history are those of the ports' messages, one entry for each, in
+/// their order, with its errno. And the notices that ports received are those of the arrivals that
+/// their queues took, in their order, but for the last ones, which are left in the mailboxes; no
+/// claim is made here of how many they are. Where a port closed, no queue is bound to it in the
+/// end, and none has a second closing or a later request of it. An arrival found no room only where
+/// the port was sent as many notices as its mailbox holds. In each queue's history frames arrive in
+/// their order, and each `down` line that takes effect stands between those of the frames up to its
+/// own and those of later ones. What ports ask as they open stands before all else, and what they
+/// ask as they end, with their closings, behind all that was fed, each in the order of the ports.
 pub fn ports_do_what_the_script_says()
     ensures { (script : ScriptValue) (tables : List (List Rule)) (c : Capture) (h : Histories) →
         IsScript script → IsSolo script tables c h →
@@ -69,8 +69,9 @@ pub fn ports_do_what_the_script_says()
 
 /// Examples of what a run has and hasn't. The log of a port that only closes is its closing, and
 /// not empty, and nothing stands behind the closing; no request stands in a history that no message
-/// asked for; and no port closes twice at one queue. Histories in which it closes are its run, and
-/// those in which it does nothing are none, whatever else it did and whatever is left.
+/// asked for; and no port closes twice at one queue. The histories whose log is its closing are its
+/// run. Those whose log is empty are none, whatever is noted of the ports and whatever is left in
+/// their mailboxes.
 pub fn runs_of_one_port()
     ensures log { IsLog closing_script 0 7 (Shut ∷ []) (Closed ∷ []) }
     ensures not_empty { (notes : List Note) → IsLog closing_script 0 7 notes [] → ⊥ }
@@ -126,8 +127,8 @@ pub fn datagrams_are_short()
     written_attributes_are_walked();
 }
 
-/// Each packet enters with its frame's bytes, from where the packet starts, and its number is the
-/// frame's, counted from 1.
+/// A packet that enters with the number of a frame, counted from 1, has that frame's bytes from
+/// where the packet starts.
 pub fn packets_are_read_with_their_frames()
     ensures { (c : Capture) → AreRead c.link c.frames (cards c) }
 {}

@@ -8,7 +8,7 @@ use Rattle.queue_core.specs.Step.{Stepped, Way, Gone, Open}
 use Rattle.place_history.specs.declared.entry.Entry.{Entry}
 use Rattle.place_history.specs.PlaceState.{state_of}
 
--- a visit that no packet has that waits: it isn't one of the first 32
+-- a visit that no waiting packet has: it isn't one of the first 32
 abbrev pub is_out_of_time : ℕ → Bool
 is_out_of_time visit = nat_le last_visit visit || (visit == 0)
 
@@ -21,7 +21,7 @@ WaitInTime es = (queue : ℕ) →
 abbrev pub AreInTime : List (Card × Decision) → Type 0
 AreInTime hs = count_by (λ h. is_out_of_time h.0.visit) hs ≡ 0
 
--- in an arrival's step nothing leaves but this packet, and before its last visit alone it may go on
+-- in an arrival's step nothing leaves but this packet, and at its last visit it doesn't go on
 abbrev pub LeavesAlone : Card → Stepped → Type 0
 LeavesAlone card s =
     (s.left ≡ [])

@@ -59,7 +59,8 @@ pub record IsAsked (s : Setting) (port call : ℕ) (request : Request) (old new 
   pub moved : CarriesAll s (all_handed (asking old port call request).left)
       (with_ask old port call request) new
 
--- a message is carried out, by what it is decoded to; one that asks nothing of a queue is a success
+-- a message is carried out, by what it is decoded to: one that asks for nothing is a success, and a
+-- refused one has its errno
 abbrev pub CarriesOut : Setting → ℕ → ℕ → Decoded → World → World → ℕ → Type 0
 CarriesOut s port call Nothing old new errno = (errno ≡ 0) × (new ≡ old)
 CarriesOut s port call (Refused refusal) old new errno = (errno ≡ refusal) × (new ≡ old)

@@ -31,12 +31,12 @@ abbrev pub HasVisit : ℕ → Came → Type 0
 HasVisit visit (Ended fed) = Unit {0}
 HasVisit visit (GoesOn card route) = card.visit ≡ visit
 
--- how many arrivals are left to it, and one for each that goes on
+-- how many arrivals are left to it, and one more while it goes on; 0 once it ended
 abbrev pub arrivals_left : Came → ℕ
 arrivals_left (Ended fed) = 0
 arrivals_left (GoesOn card route) = suc (last_visit - card.visit)
 
--- it stands so after an arrival that what leaves at once follows
+-- after an arrival it stands so, by what left the queue at once
 abbrev pub CameAs : Setting → World → List (Card × Way) → Came → Type 0
 CameAs s w left came =
     (on : World → Card → Next → Carried) → settled on s w left ≡ came_to on w came

@@ -156,7 +156,7 @@ pub(crate) fn attempt(
     ensures in_time { IfOk result IsInTime }
     ensures nearer { IfOk result (λ came.
         arrivals_left came < suc (last_visit - packet.visit)) }
-    // The same for any packets that were fed before: an arrival doesn't look at them.
+    // This holds whatever packets were fed before: an arrival doesn't look at them.
     ensures moved { IfOk result (λ came. (memory : ℕ) (fed : List Card) →
         carry (suc memory) setting.now (record (world_of held.old) { fed = fed }) packet route
         ≡ came_to (carry memory setting.now) (record (world_of held.new) { fed = fed }) came) }

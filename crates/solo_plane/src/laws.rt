@@ -27,8 +27,9 @@ use nfqa_msgs::spelling_decodes_to_its_request;
 use place_history::{a_legal_history_goes_on, an_entry_is_a_move, soundness_is_kept_move_by_move};
 use queue_core::{each_packet_stays_or_leaves, what_no_verdict_decided_is_destroyed};
 
-/// Whatever happens to a plane, its histories stay sound for the packets that were fed and those
-/// that were lost, and legal; and at legal histories no packet waits that has been queued more than
+/// The histories of a plane stay sound for the packets that were fed and those that were lost, and
+/// legal: through feeding and messages always, and where a port closes or a device goes down if the
+/// entries are legal with that. At legal histories no packet waits that has been queued more than
 /// 32 times.
 pub fn histories_stay_sound()
     ensures begins { (s : Setting) (order : List ℕ) → IsSound s [] (beginning order) }
@@ -78,8 +79,8 @@ pub fn words_are_the_one_spelling()
     one_message_in_front();
 }
 
-/// In an arrival's step nothing leaves but the packet that arrives, and it goes on only before its
-/// last visit. Where no packet waits that is out of time, a request lets none go on that is.
+/// In an arrival's step nothing leaves but the packet that arrives, and at its last visit it
+/// doesn't go on. Where no packet waits that is out of time, a request lets none go on that is.
 pub fn what_goes_on_is_in_time()
     ensures arrival { (q : Option Bound) (card : Card) (bypass room : Bool) →
         LeavesAlone card (step q (Arrive card bypass room)) }

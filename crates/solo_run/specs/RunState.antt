@@ -89,7 +89,7 @@ abbrev pub AreOpen : ScriptValue → World → ℕ → Type 0
 AreOpen script w from = (place : ℕ) → from ≤ place → place < length script.ports →
     is_open_at script w place ≡ true
 
--- the same, but that this port may close
+-- no packet is fed, and no port but this one closes
 pub record KeepsBut (port : ℕ) (old new : World) : Type 0 where
   pub fed : new.fed ≡ old.fed
   pub open_ports : (p : ℕ) → p ≢ port → is_open_port (new.ports p) ≡ is_open_port (old.ports p)

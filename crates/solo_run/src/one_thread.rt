@@ -64,7 +64,7 @@ pub fn list_before_ends(
 {
     let mut run = Run::new(alloc, script, tables)?;
     let outcome = go_and_list(&mut run, alloc, script, capture, out);
-    // The listing stands: no memory is needed for the histories, which nobody reads.
+    // The listing stands. Nobody reads the histories: if memory runs out for them, it does no harm.
     let _histories = run.close(alloc);
     outcome
 }

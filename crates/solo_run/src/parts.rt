@@ -187,7 +187,7 @@ fn is_pause(pace: u32, number: u32) -> bool
 /// How many rounds of the mailboxes there are at most for each frame.
 const ROUNDS_PER_FRAME: u32 = 32;
 
-/// How many rounds there are at most.
+/// How many rounds there are at most each time that the mailboxes are emptied.
 pub(crate) fn rounds_for(capture: &Capture) -> u32
     requires { length capture.now.frames ≤ most_frames }
     ensures { result ≡ rounds_for capture.now }

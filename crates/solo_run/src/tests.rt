@@ -1,5 +1,5 @@
-//! What no contract says: that a run succeeds where there is memory, with each kind of line that a
-//! script has, by how many things happen.
+//! What no contract says: that a run succeeds where there is memory, with most kinds of lines that
+//! a script has. What happened is compared by number, and once by the listing.
 
 ghost use Rattle.std.specs.Prelude.{◌≡◌, ◌≤◌, All, IsTrue, length};
 ghost use Rattle.packet_entry.specs.Numbers.{longest_packet};

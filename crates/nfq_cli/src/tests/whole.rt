@@ -25,7 +25,7 @@ S 5 verdict 0 1 3 = -
 end
 ";
 
-/// The script whose `on` line gives every packet another payload, of 40 bytes.
+/// The script whose `on` line gives each packet of more than 83 bytes a payload of 40 others.
 const REPLACING: &str = "port 7\nopen config 0 bind params packet 40\n\
     on longer 83 do verdict this accept this payload \
     00000000000000000000000000000000000000000000000000000000000000000000000000000000\n";

@@ -220,8 +220,8 @@ fn a_queue_that_copies_nothing_or_is_absent(rt: HostRuntime) -> Result<(), Fail>
     Ok(())
 }
 
-/// The entries of a plane with these rules in which queue 0 takes packet 1, after the two with
-/// which it is set up, where this is sent then.
+/// The entries of a plane with these rules: queue 0 is set up by two requests, packet 1 comes to
+/// wait in it, and then this last step happens.
 fn after(alloc: Global, rules: &[u8], last: Step) -> Result<Vec<Line>, Fail> {
     let steps = [
         Step::Ask(0, Ask::Bind),
