@@ -1,4 +1,5 @@
 pub mod LastContent
+pub mod LastContents
 pub mod Lengths
 pub mod RequestsBack
 pub mod NoticesBack

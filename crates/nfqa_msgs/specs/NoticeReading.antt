@@ -22,25 +22,27 @@ abbrev pub at_least : ℕ → Option (List ℕ) → Option (List ℕ)
 at_least n None = None
 at_least n (Some content) = if nat_lt (length content) n then None else Some content
 
-abbrev pub long_content : ℕ → ℕ → List Attribute → Option (List ℕ)
-long_content kind n row = at_least n (last_content kind row)
+-- the number in this field of a content that has at least n bytes; else 0
+abbrev pub value_of : ℕ → Field → Option (List ℕ) → ℕ
+value_of n f content = unwrap_or (option_map (value_in f) (at_least n content)) 0
 
--- the number in this field of the content of this kind, which has at least n bytes; else 0
+-- the same of the content of this kind
 abbrev pub value_at : ℕ → ℕ → Field → List Attribute → ℕ
-value_at kind n f row = unwrap_or (option_map (value_in f) (long_content kind n row)) 0
+value_at kind n f row = value_of n f (last_content kind row)
 
 -- one of the two protocols
 abbrev pub nearest_protocol : ℕ → ℕ
 nearest_protocol protocol = if protocol == ipv6_type then ipv6_type else ipv4_type
+
+abbrev pub source_of : Option (List ℕ) → Option (List ℕ)
+source_of content = option_map (bytes_in address_field) (at_least packet_address_length content)
 
 abbrev pub protocol_at : List Attribute → ℕ
 protocol_at row =
     nearest_protocol (value_at packet_header_kind packet_header_length packet_protocol_field row)
 
 abbrev pub source_at : List Attribute → Option (List ℕ)
-source_at row =
-    option_map (bytes_in address_field)
-    (long_content hardware_address_kind packet_address_length row)
+source_at row = source_of (last_content hardware_address_kind row)
 
 abbrev pub payload_at : List Attribute → List ℕ
 payload_at row = unwrap_or (last_content payload_kind row) []

@@ -3,8 +3,9 @@
 -- That an attribute which is too short is ERANGE says `validate_nla` of lib/nlattr.c.
 use Rattle.std.specs.Prelude.{◌≤◌, ℕ, Bool, true, false, not, ◌||◌, ◌==◌, nat_lt, if◌then◌else◌}
 use Rattle.std.specs.Prelude.{List, [], ◌∷◌, length, drop, Option, Some, None, IfSome, option_map}
-use Rattle.std.specs.Prelude.{bit_and}
+use Rattle.std.specs.Prelude.{bit_and, slice_get}
 use Rattle.std.specs.List.{list_any}
+use Rattle.std.specs.Option.{option_and_then}
 use Rattle.packet_entry.specs.Numbers.{longest_payload}
 use Rattle.netlink_codec.specs.Messages.{NetlinkMessage}
 use Rattle.netlink_codec.specs.Attributes.{Attribute, attributes}
@@ -60,6 +61,10 @@ abbrev pub last_content : ℕ → List Attribute → Option (List ℕ)
 last_content kind [] = None
 last_content kind (a ∷ row) =
     later (last_content kind row) (if a.kind == kind then Some a.content else None)
+
+-- of contents that stand at the places of their kinds, the one of this kind
+abbrev pub content_at : {A : Type 0} → List (Option A) → ℕ → Option A
+content_at contents kind = option_and_then (λ content. content) (slice_get contents kind)
 
 -- the number that an attribute of this kind says
 abbrev pub last_value : ℕ → List Attribute → Option ℕ

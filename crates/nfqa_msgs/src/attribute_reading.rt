@@ -1,6 +1,6 @@
 //! The known attributes of a message, checked for their length and found by their kind.
 
-ghost use Rattle.std.specs.Prelude.{◌≡◌, ◌≤◌, length, Option, option_map, IfSome, IfOk, IsOk};
+ghost use Rattle.std.specs.Prelude.{ℕ, ◌≡◌, ◌≤◌, length, Option, option_map, IfSome, IfOk, IsOk};
 ghost use Rattle.std.specs.Prelude.{IsNone, false};
 ghost use Rattle.std.specs.List.{list_any};
 ghost use Rattle.packet_entry.specs.Numbers.{longest_payload};
@@ -11,12 +11,15 @@ ghost use Rattle.nfqa_msgs.specs.Headers.{command_in, params_in, verdict_header_
 ghost use Rattle.nfqa_msgs.specs.Headers.{value_length};
 ghost use Rattle.nfqa_msgs.specs.RequestReading.{config_least, verdict_least, least_content};
 ghost use Rattle.nfqa_msgs.specs.RequestReading.{is_short, last_content, last_value, last_head};
+ghost use Rattle.nfqa_msgs.specs.RequestReading.{content_at};
+ghost use Rattle.nfqa_msgs.specs.Numbers.{full_length_kind};
 
 use crate::headers::command::{COMMAND_LENGTH, read_command};
 use crate::headers::params::{PARAMS_LENGTH, read_params};
 use crate::headers::verdict_header::{VERDICT_HEADER_LENGTH, read_head};
 use crate::kinds::{
-    COMMAND, CONFIG, FLAGS, MARK, MASK, MAXLEN, PARAMS, PAYLOAD, VALUE_LENGTH, VERDICT_HEADER,
+    COMMAND, CONFIG, FLAGS, KINDS, MARK, MASK, MAXLEN, PARAMS, PAYLOAD, VALUE_LENGTH,
+    VERDICT_HEADER,
 };
 use crate::{Head, Params};
 use byteorder::{BigEndian, ByteOrder};
@@ -82,6 +85,32 @@ pub(crate) fn last_of(row: &[u8], kind: u16) -> Option<&[u8]>
         }
     }
     last
+}
+
+/// The contents of a row by their kinds, as [`last_of`] finds each of them, in one walk.
+pub(crate) fn last_contents(row: &[u8]) -> [Option<&[u8]>; KINDS]
+    ensures value { (kind : ℕ) → kind ≤ full_length_kind →
+        option_map (λ content. content.now) (content_at result kind)
+        ≡ last_content kind (attributes row.now) }
+    ensures limit { (kind : ℕ) → kind ≤ full_length_kind →
+        IfSome (content_at result kind) (λ content. length content.now ≤ longest_payload) }
+{
+    let mut last = [None; KINDS];
+    for attr in attrs(row) {
+        let kind = attr.kind as usize;
+        if kind < KINDS {
+            last[kind] = Some(attr.body);
+        }
+    }
+    last
+}
+
+/// The content of this kind, of those that were found.
+pub(crate) fn content_of<'a>(contents: &[Option<&'a [u8]>; KINDS], kind: u16) -> Option<&'a [u8]>
+    requires { kind ≤ full_length_kind }
+    ensures { result ≡ content_at contents.now kind }
+{
+    contents[kind as usize]
 }
 
 /// The same in a message of this number without short attributes: the content has the bytes that

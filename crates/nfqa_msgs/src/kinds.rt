@@ -51,5 +51,8 @@ pub(crate) const PAYLOAD: u16 = 10;
 /// Notice attribute: the packet's length, where the range cut the packet. (`NFQA_CAP_LEN`)
 pub(crate) const FULL_LENGTH: u16 = 13;
 
+/// All kinds of attributes that are read are below this.
+pub(crate) const KINDS: usize = 14;
+
 /// The bytes of an attribute that is one number. (`__be32`)
 pub(crate) const VALUE_LENGTH: usize = 4;

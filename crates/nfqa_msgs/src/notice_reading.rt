@@ -1,18 +1,18 @@
 //! Notices, read from messages.
 
 ghost use Rattle.std.specs.Prelude.{◌≡◌, ◌≤◌, ◌+◌, ◌↔◌, length, option_map, IfSome, IfOk, IsOk};
-ghost use Rattle.std.specs.Prelude.{IsNone, None, Some, Ok};
+ghost use Rattle.std.specs.Prelude.{IsNone, None, Some, Ok, unwrap_or, []};
 ghost use Rattle.packet_entry.specs.Numbers.{longest_payload};
 ghost use Rattle.packet_entry.specs.Fields.{IsProtocol};
 ghost use Rattle.netlink_codec.specs.Attributes.{attributes};
 ghost use Rattle.nfqa_msgs.specs.Numbers.{hardware_address_length};
-ghost use Rattle.nfqa_msgs.specs.Headers.{field};
+ghost use Rattle.nfqa_msgs.specs.Headers.{field, packet_header_length, packet_protocol_field};
 ghost use Rattle.nfqa_msgs.specs.NoticeWriting.{Told, FitsTold, notice_text};
 ghost use Rattle.nfqa_msgs.specs.Telling.{telling};
 ghost use Rattle.nfqa_msgs.specs.NoticeReading as read;
 ghost use Rattle.nfqa_msgs.specs.NoticeMeaning.{notice_of, IsNoNotice};
 
-use crate::attribute_reading::last_of;
+use crate::attribute_reading::{content_of, last_contents};
 use crate::headers::packet_address::{ADDRESS_AT, ADDRESS_LENGTH, PACKET_ADDRESS_LENGTH};
 use crate::headers::packet_header::{ID_AT, PACKET_HEADER_LENGTH, PROTOCOL_AT};
 use crate::headers::queue_header::{QUEUE_HEADER_LENGTH, read_queue};
@@ -142,60 +142,52 @@ fn told_in(queue: u16, row: &[u8]) -> Telling<'_>
     ensures value { telling result ≡ read.told_in queue (attributes row.now) }
     ensures fits { FitsTold (telling result) }
 {
-    let payload = payload_at(row);
+    let contents = last_contents(row);
+    let header = content_of(&contents, PACKET_HEADER);
+    let timestamp = content_of(&contents, TIMESTAMP);
+    let full_length = content_of(&contents, FULL_LENGTH);
+    let payload = payload_of(content_of(&contents, PAYLOAD));
     Telling {
         queue,
-        id: value_at(row, PACKET_HEADER, PACKET_HEADER_LENGTH, ID_AT),
-        protocol: protocol_at(row),
-        mark: value_at(row, MARK, VALUE_LENGTH, 0),
-        source: source_at(row),
-        seconds: value_at(row, TIMESTAMP, TIMESTAMP_LENGTH, SECONDS_AT + LOW_HALF_AT),
-        micros: value_at(row, TIMESTAMP, TIMESTAMP_LENGTH, MICROS_AT + LOW_HALF_AT),
-        cut_from: above(payload.len(), value_at(row, FULL_LENGTH, VALUE_LENGTH, 0)),
+        id: value_of(header, PACKET_HEADER_LENGTH, ID_AT),
+        protocol: protocol_of(header),
+        mark: value_of(content_of(&contents, MARK), VALUE_LENGTH, 0),
+        source: source_of(content_of(&contents, HARDWARE_ADDRESS)),
+        seconds: value_of(timestamp, TIMESTAMP_LENGTH, SECONDS_AT + LOW_HALF_AT),
+        micros: value_of(timestamp, TIMESTAMP_LENGTH, MICROS_AT + LOW_HALF_AT),
+        cut_from: above(payload.len(), value_of(full_length, VALUE_LENGTH, 0)),
         payload,
     }
 }
 
-/// The content of this kind, where it has at least `least` bytes.
-fn long_of(row: &[u8], kind: u16, least: usize) -> Option<&[u8]>
+/// A content, where it has at least `least` bytes.
+fn at_least(content: Option<&[u8]>, least: usize) -> Option<&[u8]>
     ensures value { option_map (λ content. content.now) result
-        ≡ read.long_content kind least (attributes row.now) }
+        ≡ read.at_least least (option_map (λ content. content.now) content.entry) }
     ensures long { IfSome result (λ content. least ≤ length content.now) }
 {
-    match last_of(row, kind) {
-        None => None,
-        Some(content) => at_least(content, least),
-    }
+    content.filter(|content| least <= content.len())
 }
 
-fn at_least(content: &[u8], least: usize) -> Option<&[u8]>
-    ensures value { option_map (λ content. content.now) result
-        ≡ read.at_least least (Some content.now) }
-    ensures long { IfSome result (λ content. least ≤ length content.now) }
-{
-    if content.len() < least {
-        None
-    } else {
-        Some(content)
-    }
-}
-
-/// The number at this place of the content of this kind, which has at least `least` bytes; else 0.
-fn value_at(row: &[u8], kind: u16, least: usize, place: usize) -> u32
+/// The number at this place of a content, which has at least `least` bytes; else 0.
+fn value_of(content: Option<&[u8]>, least: usize, place: usize) -> u32
     requires { place + 4 ≤ least }
-    ensures { result ≡ read.value_at kind least (field place 4) (attributes row.now) }
+    ensures { result
+        ≡ read.value_of least (field place 4) (option_map (λ content. content.now) content.entry) }
 {
-    match long_of(row, kind, least) {
+    match at_least(content, least) {
         None => 0,
         Some(content) => BigEndian::read_u32(&content[place..]),
     }
 }
 
-fn protocol_at(row: &[u8]) -> u16
-    ensures value { result ≡ read.protocol_at (attributes row.now) }
+/// The Ethernet type in a packet header.
+fn protocol_of(header: Option<&[u8]>) -> u16
+    ensures value { result ≡ read.nearest_protocol (read.value_of packet_header_length
+        packet_protocol_field (option_map (λ content. content.now) header.entry)) }
     ensures one_of_two { IsProtocol result }
 {
-    match long_of(row, PACKET_HEADER, PACKET_HEADER_LENGTH) {
+    match at_least(header, PACKET_HEADER_LENGTH) {
         None => nearest_protocol(0),
         Some(content) => nearest_protocol(BigEndian::read_u16(&content[PROTOCOL_AT..])),
     }
@@ -209,21 +201,24 @@ fn nearest_protocol(protocol: u16) -> u16
     if protocol == IPV6 { IPV6 } else { IPV4 }
 }
 
-fn source_at(row: &[u8]) -> Option<&[u8]>
-    ensures value { option_map (λ source. source.now) result ≡ read.source_at (attributes row.now) }
+/// The address in a hardware address' attribute.
+fn source_of(content: Option<&[u8]>) -> Option<&[u8]>
+    ensures value { option_map (λ source. source.now) result
+        ≡ read.source_of (option_map (λ content. content.now) content.entry) }
     ensures length { IfSome result (λ source. length source.now ≡ hardware_address_length) }
 {
-    match long_of(row, HARDWARE_ADDRESS, PACKET_ADDRESS_LENGTH) {
+    match at_least(content, PACKET_ADDRESS_LENGTH) {
         None => None,
         Some(content) => Some(&content[ADDRESS_AT..ADDRESS_AT + ADDRESS_LENGTH]),
     }
 }
 
-fn payload_at(row: &[u8]) -> &[u8]
-    ensures value { result.now ≡ read.payload_at (attributes row.now) }
+fn payload_of(content: Option<&[u8]>) -> &[u8]
+    requires { IfSome content (λ content. length content.now ≤ longest_payload) }
+    ensures value { result.now ≡ unwrap_or (option_map (λ content. content.now) content.entry) [] }
     ensures limit { length result.now ≤ longest_payload }
 {
-    match last_of(row, PAYLOAD) {
+    match content {
         None => &[],
         Some(content) => content,
     }
