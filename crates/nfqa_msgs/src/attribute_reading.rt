@@ -1,16 +1,13 @@
-//! The known attributes of a message, checked for their length and found by their kind.
+//! The known attributes of a message, checked for their length and found by their kinds.
 
 ghost use Rattle.std.specs.Prelude.{ℕ, ◌≡◌, ◌≤◌, length, Option, option_map, IfSome, IfOk, IsOk};
 ghost use Rattle.std.specs.Prelude.{IsNone, false};
 ghost use Rattle.std.specs.List.{list_any};
 ghost use Rattle.packet_entry.specs.Numbers.{longest_payload};
 ghost use Rattle.netlink_codec.specs.Attributes.{attributes};
-ghost use Rattle.nfqa_msgs.specs.Numbers.{config_number, command_kind, params_kind, payload_kind};
-ghost use Rattle.nfqa_msgs.specs.Numbers.{verdict_header_kind};
-ghost use Rattle.nfqa_msgs.specs.Headers.{command_in, params_in, verdict_header_length};
-ghost use Rattle.nfqa_msgs.specs.Headers.{value_length};
+ghost use Rattle.nfqa_msgs.specs.Headers.{value_in, value_field, value_length};
 ghost use Rattle.nfqa_msgs.specs.RequestReading.{config_least, verdict_least, least_content};
-ghost use Rattle.nfqa_msgs.specs.RequestReading.{is_short, last_content, last_value, last_head};
+ghost use Rattle.nfqa_msgs.specs.RequestReading.{is_short, last_content};
 ghost use Rattle.nfqa_msgs.specs.RequestReading.{content_at};
 ghost use Rattle.nfqa_msgs.specs.Numbers.{full_length_kind};
 
@@ -72,28 +69,18 @@ pub(crate) fn has_short(number: u16, row: &[u8]) -> bool
     false
 }
 
-/// The content of this kind; the last one, where the kind repeats.
-pub(crate) fn last_of(row: &[u8], kind: u16) -> Option<&[u8]>
-    ensures value { option_map (λ content. content.now) result
-        ≡ last_content kind (attributes row.now) }
-    ensures limit { IfSome result (λ content. length content.now ≤ longest_payload) }
-{
-    let mut last = None;
-    for attr in attrs(row) {
-        if attr.kind == kind {
-            last = Some(attr.body);
-        }
-    }
-    last
-}
-
-/// The contents of a row by their kinds, as [`last_of`] finds each of them, in one walk.
+/// The contents of a row of attributes at the places of their kinds, found in one walk. Of a kind
+/// that repeats it is the last one.
 pub(crate) fn last_contents(row: &[u8]) -> [Option<&[u8]>; KINDS]
     ensures value { (kind : ℕ) → kind ≤ full_length_kind →
         option_map (λ content. content.now) (content_at result kind)
         ≡ last_content kind (attributes row.now) }
     ensures limit { (kind : ℕ) → kind ≤ full_length_kind →
         IfSome (content_at result kind) (λ content. length content.now ≤ longest_payload) }
+    // In a message without short attributes each content has the bytes that its kind needs.
+    ensures long { (number kind : ℕ) → list_any (is_short number) (attributes row.now) ≡ false →
+        kind ≤ full_length_kind → IfSome (content_at result kind) (λ content.
+        least_content number kind ≤ length content.now) }
 {
     let mut last = [None; KINDS];
     for attr in attrs(row) {
@@ -113,60 +100,25 @@ pub(crate) fn content_of<'a>(contents: &[Option<&'a [u8]>; KINDS], kind: u16) ->
     contents[kind as usize]
 }
 
-/// The same in a message of this number without short attributes: the content has the bytes that
-/// its kind needs.
-fn whole_last_of(number: u16, row: &[u8], kind: u16) -> Option<&[u8]>
-    requires { list_any (is_short number) (attributes row.now) ≡ false }
-    ensures value { option_map (λ content. content.now) result
-        ≡ last_content kind (attributes row.now) }
-    ensures long { IfSome result (λ content. least_content number kind ≤ length content.now) }
+/// The number that an attribute's content says.
+pub(crate) fn value_of(content: Option<&[u8]>) -> Option<u32>
+    requires { IfSome content (λ content. value_length ≤ length content.now) }
+    ensures { result
+        ≡ option_map (value_in value_field) (option_map (λ content. content.now) content.entry) }
 {
-    last_of(row, kind)
-}
-
-/// The number that an attribute of this kind says.
-pub(crate) fn read_value(number: u16, row: &[u8], kind: u16) -> Option<u32>
-    requires whole { list_any (is_short number) (attributes row.now) ≡ false }
-    requires long { value_length ≤ least_content number kind }
-    ensures { result ≡ last_value kind (attributes row.now) }
-{
-    whole_last_of(number, row, kind).map(BigEndian::read_u32)
-}
-
-/// The command of a config request.
-pub(crate) fn command_of(row: &[u8]) -> Option<u8>
-    requires { list_any (is_short config_number) (attributes row.now) ≡ false }
-    ensures { result ≡ option_map command_in (last_content command_kind (attributes row.now)) }
-{
-    whole_last_of(CONFIG, row, COMMAND).map(read_command)
-}
-
-/// Range and mode of a config request.
-pub(crate) fn params_of(row: &[u8]) -> Option<Params>
-    requires { list_any (is_short config_number) (attributes row.now) ≡ false }
-    ensures { result ≡ option_map params_in (last_content params_kind (attributes row.now)) }
-{
-    whole_last_of(CONFIG, row, PARAMS).map(read_params)
-}
-
-/// Verdict and id of a verdict or a batch.
-pub(crate) fn head_of(number: u16, row: &[u8]) -> Option<Head>
-    requires whole { list_any (is_short number) (attributes row.now) ≡ false }
-    requires long { verdict_header_length ≤ least_content number verdict_header_kind }
-    ensures { result ≡ last_head (attributes row.now) }
-{
-    whole_last_of(number, row, VERDICT_HEADER).map(read_head)
+    content.map(BigEndian::read_u32)
 }
 
 /// The bytes in the packet's place. Memory is taken where there is a payload, also an empty one.
-pub(crate) fn payload_of(alloc: Global, row: &[u8]) -> Result<Option<Bytes>, NoMemory>
+pub(crate) fn payload_of(alloc: Global, content: Option<&[u8]>) -> Result<Option<Bytes>, NoMemory>
+    requires { IfSome content (λ content. length content.now ≤ longest_payload) }
     ensures value { IfOk result (λ payload.
-        payload ≡ last_content payload_kind (attributes row.now)) }
+        payload ≡ option_map (λ content. content.now) content.entry) }
     ensures limit { IfOk result (λ payload.
         IfSome payload (λ bytes. length bytes ≤ longest_payload)) }
-    ensures no_memory { IsNone (last_content payload_kind (attributes row.now)) → IsOk result }
+    ensures no_memory { IsNone content.entry → IsOk result }
 {
-    match last_of(row, PAYLOAD) {
+    match content {
         None => Ok(None),
         Some(content) => Ok(Some(Bytes::copy(alloc, content)?)),
     }

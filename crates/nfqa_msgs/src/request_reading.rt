@@ -9,11 +9,14 @@ ghost use Rattle.nfqa_msgs.specs.RequestReading.{decoded, request_in, config_in,
 ghost use Rattle.nfqa_msgs.specs.RequestReading.{batch_in, is_short, AskedFits, PayloadFits};
 ghost use Rattle.nfqa_msgs.specs.RequestReading.{has_payload, asks_with_payload};
 
-use crate::attribute_reading::{command_of, has_short, head_of, params_of, payload_of, read_value};
+use crate::attribute_reading::{content_of, has_short, last_contents, payload_of, value_of};
+use crate::headers::command::read_command;
+use crate::headers::params::read_params;
 use crate::headers::queue_header::{QUEUE_HEADER_LENGTH, read_queue};
+use crate::headers::verdict_header::read_head;
 use crate::kinds::{
-    BATCH, CONFIG, FLAGS, LEAST_KIND, MARK, MASK, MAXLEN, NOTICE, NUMBERS, QUEUE_SUBSYSTEM,
-    REQUEST_FLAG, VERDICT,
+    BATCH, COMMAND, CONFIG, FLAGS, LEAST_KIND, MARK, MASK, MAXLEN, NOTICE, NUMBERS, PARAMS,
+    PAYLOAD, QUEUE_SUBSYSTEM, REQUEST_FLAG, VERDICT, VERDICT_HEADER,
 };
 use crate::{Decoded, EINVAL, EOPNOTSUPP, ERANGE, Request};
 use netlink_codec::Message;
@@ -84,13 +87,14 @@ fn config_of(queue: u16, row: &[u8]) -> Request
     ensures value { result ≡ config_in queue (attributes row.now) }
     ensures payload { PayloadFits result }
 {
+    let contents = last_contents(row);
     Request::Config {
         queue,
-        command: command_of(row),
-        params: params_of(row),
-        maxlen: read_value(CONFIG, row, MAXLEN),
-        flags: read_value(CONFIG, row, FLAGS),
-        mask: read_value(CONFIG, row, MASK),
+        command: content_of(&contents, COMMAND).map(read_command),
+        params: content_of(&contents, PARAMS).map(read_params),
+        maxlen: value_of(content_of(&contents, MAXLEN)),
+        flags: value_of(content_of(&contents, FLAGS)),
+        mask: value_of(content_of(&contents, MASK)),
     }
 }
 
@@ -100,11 +104,12 @@ fn verdict_of(alloc: Global, queue: u16, row: &[u8]) -> Result<Request, NoMemory
     ensures payload { IfOk result PayloadFits }
     ensures no_memory { has_payload (verdict_in queue (attributes row.now)) ≡ false → IsOk result }
 {
+    let contents = last_contents(row);
     Ok(Request::Verdict {
         queue,
-        head: head_of(VERDICT, row),
-        mark: read_value(VERDICT, row, MARK),
-        payload: payload_of(alloc, row)?,
+        head: content_of(&contents, VERDICT_HEADER).map(read_head),
+        mark: value_of(content_of(&contents, MARK)),
+        payload: payload_of(alloc, content_of(&contents, PAYLOAD))?,
     })
 }
 
@@ -113,9 +118,10 @@ fn batch_of(queue: u16, row: &[u8]) -> Request
     ensures value { result ≡ batch_in queue (attributes row.now) }
     ensures payload { PayloadFits result }
 {
+    let contents = last_contents(row);
     Request::Batch {
         queue,
-        head: head_of(BATCH, row),
-        mark: read_value(BATCH, row, MARK),
+        head: content_of(&contents, VERDICT_HEADER).map(read_head),
+        mark: value_of(content_of(&contents, MARK)),
     }
 }

@@ -4,9 +4,10 @@ use Rattle.std.specs.Prelude.{option_map}
 use Rattle.packet_entry.specs.Numbers.{longest_payload}
 use Rattle.netlink_codec.specs.Attributes.{Attribute, Holds, attribute_of, attributes}
 use Rattle.nfqa_msgs.specs.Numbers.{full_length_kind}
-use Rattle.nfqa_msgs.specs.RequestReading.{content_at, later, last_content}
+use Rattle.nfqa_msgs.specs.RequestReading.{content_at, least_content, later, last_content}
 use Rattle.nfqa_msgs.proofs.RequestsBack.{later-nothing}
-use Rattle.nfqa_msgs.proofs.LastContent.{IfSome-seen, last_content-fits, walked-other}
+use Rattle.nfqa_msgs.proofs.LastContent.{IfSome-seen, last_content-fits, last_content-long}
+use Rattle.nfqa_msgs.proofs.LastContent.{walked-other}
 use Rattle.nfqa_msgs.proofs.LastContents.{none-there, put-length, put-walked}
 use Rattle.nfqa_msgs.proofs.attribute_reading.last_contents.Goals as goal
 use Rattle.nfqa_msgs.proofs.attribute_reading.last_contents.Goals.{In-Some}
@@ -69,3 +70,10 @@ returns-clause-limit c kind known =
     IfSome-seen (λ x. x.now) P (content_at c.loop-attr.last kind)
     (last_content kind (attributes c.args.row.now)) (returns-clause-value c kind known)
     (last_content-fits kind (attributes c.args.row.now) c.args.row.now held)
+
+pub returns-clause-long : goal.returns-clause-long
+returns-clause-long c number kind whole known =
+    let P : List ℕ → Type 0 = λ content. least_content number kind ≤ length content in
+    IfSome-seen (λ x. x.now) P (content_at c.loop-attr.last kind)
+    (last_content kind (attributes c.args.row.now)) (returns-clause-value c kind known)
+    (last_content-long number kind (attributes c.args.row.now) whole)
