@@ -7,18 +7,15 @@ ghost use Rattle.packet_entry.specs.Numbers.{longest_payload};
 ghost use Rattle.netlink_codec.specs.Attributes.{attributes};
 ghost use Rattle.nfqa_msgs.specs.Headers.{value_in, value_field, value_length};
 ghost use Rattle.nfqa_msgs.specs.RequestReading.{config_least, verdict_least, least_content};
-ghost use Rattle.nfqa_msgs.specs.RequestReading.{is_short, last_content};
-ghost use Rattle.nfqa_msgs.specs.RequestReading.{content_at};
+ghost use Rattle.nfqa_msgs.specs.RequestReading.{is_short, content_at, last_content};
 ghost use Rattle.nfqa_msgs.specs.Numbers.{full_length_kind};
 
-use crate::headers::command::{COMMAND_LENGTH, read_command};
-use crate::headers::params::{PARAMS_LENGTH, read_params};
-use crate::headers::verdict_header::{VERDICT_HEADER_LENGTH, read_head};
+use crate::headers::command::COMMAND_LENGTH;
+use crate::headers::params::PARAMS_LENGTH;
+use crate::headers::verdict_header::VERDICT_HEADER_LENGTH;
 use crate::kinds::{
-    COMMAND, CONFIG, FLAGS, KINDS, MARK, MASK, MAXLEN, PARAMS, PAYLOAD, VALUE_LENGTH,
-    VERDICT_HEADER,
+    COMMAND, CONFIG, FLAGS, KINDS, MARK, MASK, MAXLEN, PARAMS, VALUE_LENGTH, VERDICT_HEADER,
 };
-use crate::{Head, Params};
 use byteorder::{BigEndian, ByteOrder};
 use netlink_codec::attrs;
 use packet_entry::{Bytes, NoMemory};
