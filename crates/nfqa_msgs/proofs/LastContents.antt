@@ -42,7 +42,8 @@ put-length (y ∷ xs) (suc place) x = ap suc (put-length xs place x)
 -- kind counts unless a later one stands in the rest.
 pub put-walked : {A : Type 0} (seen : A → List ℕ) (xs : List (Option A)) (a : Attribute) (x : A)
     (rest : List Attribute) (kind : ℕ) → seen x ≡ a.content → a.kind < length xs →
-    later (last_content kind rest) (option_map seen (content_at (slice_set xs a.kind (Some x)) kind))
+    later (last_content kind rest)
+    (option_map seen (content_at (slice_set xs a.kind (Some x)) kind))
     ≡ later (last_content kind (a ∷ rest)) (option_map seen (content_at xs kind))
 put-walked seen xs a x rest kind is within =
     let so_far : Option (List ℕ) = option_map seen (content_at xs kind) in

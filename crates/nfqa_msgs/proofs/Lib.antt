@@ -1,3 +1,4 @@
+mod Found
 pub mod LastContent
 pub mod LastContents
 pub mod Lengths

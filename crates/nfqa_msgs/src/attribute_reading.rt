@@ -98,7 +98,7 @@ pub(crate) fn content_of<'a>(contents: &[Option<&'a [u8]>; KINDS], kind: u16) ->
 }
 
 /// The number that an attribute's content says.
-pub(crate) fn value_of(content: Option<&[u8]>) -> Option<u32>
+pub(crate) fn value_in(content: Option<&[u8]>) -> Option<u32>
     requires { IfSome content (λ content. value_length ≤ length content.now) }
     ensures { result
         ≡ option_map (value_in value_field) (option_map (λ content. content.now) content.entry) }
@@ -107,7 +107,7 @@ pub(crate) fn value_of(content: Option<&[u8]>) -> Option<u32>
 }
 
 /// The bytes in the packet's place. Memory is taken where there is a payload, also an empty one.
-pub(crate) fn payload_of(alloc: Global, content: Option<&[u8]>) -> Result<Option<Bytes>, NoMemory>
+pub(crate) fn copy_payload(alloc: Global, content: Option<&[u8]>) -> Result<Option<Bytes>, NoMemory>
     requires { IfSome content (λ content. length content.now ≤ longest_payload) }
     ensures value { IfOk result (λ payload.
         payload ≡ option_map (λ content. content.now) content.entry) }

@@ -9,7 +9,7 @@ ghost use Rattle.nfqa_msgs.specs.RequestReading.{decoded, request_in, config_in,
 ghost use Rattle.nfqa_msgs.specs.RequestReading.{batch_in, is_short, AskedFits, PayloadFits};
 ghost use Rattle.nfqa_msgs.specs.RequestReading.{has_payload, asks_with_payload};
 
-use crate::attribute_reading::{content_of, has_short, last_contents, payload_of, value_of};
+use crate::attribute_reading::{content_of, copy_payload, has_short, last_contents, value_in};
 use crate::headers::command::read_command;
 use crate::headers::params::read_params;
 use crate::headers::queue_header::{QUEUE_HEADER_LENGTH, read_queue};
@@ -92,9 +92,9 @@ fn config_of(queue: u16, row: &[u8]) -> Request
         queue,
         command: content_of(&contents, COMMAND).map(read_command),
         params: content_of(&contents, PARAMS).map(read_params),
-        maxlen: value_of(content_of(&contents, MAXLEN)),
-        flags: value_of(content_of(&contents, FLAGS)),
-        mask: value_of(content_of(&contents, MASK)),
+        maxlen: value_in(content_of(&contents, MAXLEN)),
+        flags: value_in(content_of(&contents, FLAGS)),
+        mask: value_in(content_of(&contents, MASK)),
     }
 }
 
@@ -108,8 +108,8 @@ fn verdict_of(alloc: Global, queue: u16, row: &[u8]) -> Result<Request, NoMemory
     Ok(Request::Verdict {
         queue,
         head: content_of(&contents, VERDICT_HEADER).map(read_head),
-        mark: value_of(content_of(&contents, MARK)),
-        payload: payload_of(alloc, content_of(&contents, PAYLOAD))?,
+        mark: value_in(content_of(&contents, MARK)),
+        payload: copy_payload(alloc, content_of(&contents, PAYLOAD))?,
     })
 }
 
@@ -122,6 +122,6 @@ fn batch_of(queue: u16, row: &[u8]) -> Request
     Request::Batch {
         queue,
         head: content_of(&contents, VERDICT_HEADER).map(read_head),
-        mark: value_of(content_of(&contents, MARK)),
+        mark: value_in(content_of(&contents, MARK)),
     }
 }

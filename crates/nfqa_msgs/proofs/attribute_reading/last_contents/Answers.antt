@@ -20,7 +20,8 @@ said : (c : In-Some) (kind : ℕ) → kind ≤ full_length_kind →
 said c kind known =
     let so_far : Option (List ℕ) =
     option_map (λ content. content.now) (content_at c.loop-attr.last kind) in
-    ap (λ (row : List Attribute). later (last_content kind row) so_far) (sym c.in-Some.ensures.steps)
+    ap (λ (row : List Attribute). later (last_content kind row) so_far)
+    (sym c.in-Some.ensures.steps)
     ∙ c.loop-attr.invariant.1 kind known
 
 pub loop-attr-init : goal.loop-attr-init
@@ -49,7 +50,8 @@ pub loop-attr-preserved : goal.loop-attr-preserved
 loop-attr-preserved c = (
   c.loop-attr.invariant.0,
   λ kind known.
-      let other : c.in-Some.attr.kind ≢ kind = λ same. omega (arith, same, known, c.if-kind-lt-KINDS.false) in
+      let other : c.in-Some.attr.kind ≢ kind =
+      λ same. omega (arith, same, known, c.if-kind-lt-KINDS.false) in
       sym (walked-other kind (attribute_of c.in-Some.attr) c.next.new.self _ other)
       ∙ said (goal.at.loop-attr-preserved c).In-Some kind known,
 )
