@@ -16,9 +16,10 @@ pub enum Fate {
     Stop,
     /// A verdict repeated its table, and no rule queued it again.
     Repeat,
-    /// A full queue that fails open let it go on, and no further table queued it.
+    /// A queue that fails open let it go on, since it or its port's mailbox was full, and no
+    /// further table queued it.
     FailOpen,
-    /// A queue was absent, the rule has the bypass, and no further table queued it.
+    /// A queue was absent, what sent it there has the bypass, and no further table queued it.
     Bypass,
     /// A verdict dropped it.
     Dropped,

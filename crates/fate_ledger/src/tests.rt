@@ -90,8 +90,8 @@ fn histories_of(alloc: Global, all: &[Happens], lost: Option<Lost>) -> Result<Hi
     })
 }
 
-/// The ledger's lines, the counts, and the bytes of the released frames, where all these happen at
-/// a place and this was lost.
+/// The ledger, the counts, and of each released frame its second and its length, where all these
+/// happen at a place and this was lost.
 fn told_of(
     alloc: Global,
     count: u8,

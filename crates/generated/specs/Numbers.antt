@@ -1,4 +1,5 @@
--- The numbers of generated inputs, each once. They are this project's own. Lengths count bytes.
+-- The numbers of generated inputs, each once. They are this project's own but for those of an IPv4
+-- header. Lengths count bytes.
 use Rattle.std.specs.Prelude.{ℕ}
 use Rattle.packet_entry.specs.Numbers as shared
 

@@ -4,7 +4,7 @@ use nfqa_msgs::Request;
 use packet_entry::Bytes;
 use place_history::{AskWords, Did, Entry, Event, Histories, PortLog};
 
-/// About how many bytes a line has beside its byte texts, with numbers of a usual length.
+/// More bytes than a line has beside its byte texts, with numbers of a usual length.
 const LINE: usize = 96;
 /// The digits of a byte.
 const BYTE_DIGITS: usize = 2;

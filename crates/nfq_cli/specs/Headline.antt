@@ -59,7 +59,7 @@ pub record IsCutShort (f : PlayFiles) (old_count new_count : Counts) (old new : 
 -- ---- list
 
 -- The output is the listing of the queues of such a run as they stand before the ports end: all
--- frames have passed and every notice was received.
+-- frames have passed and the mailboxes were emptied.
 pub record IsListed (f : ListFiles) (old new : Contents) : Type 0 where
   pub tables : List (List Rule)
   pub script : ScriptValue

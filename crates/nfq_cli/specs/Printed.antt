@@ -7,7 +7,8 @@ use Rattle.nfq_cli.specs.declared.refusal.Limit.TheVariants as limit
 use Rattle.nfq_cli.specs.declared.refusal.Refusal.{Refusal}
 use Rattle.nfq_cli.specs.declared.refusal.Refusal.TheVariants as refusal
 
--- where the arguments are no command: all commands, with their arguments
+-- where the arguments are no command: all commands with their arguments, and `live`, which is to
+-- come
 abbrev pub usage_line : List ℕ
 usage_line =
     codes "usage: play RULES SCRIPT IN OUT LEDGER JOURNAL"

@@ -34,7 +34,7 @@ pub const USAGE: u8 = 1;
 pub fn play<H: Host>(alloc: Global, words: &[String], host: &mut H) -> u8
     ensures statuses { result ≤ 8 }
 
-    // 1 comes exactly where the arguments aren't a command, and then all commands are printed.
+    // 1 comes exactly where the arguments aren't a command, and then the usage line is printed.
     ensures usage { (result ≡ 1) ↔ (call_of_words words.now ≡ None) }
     ensures usage_printed { result ≡ 1 → IsTrue (H.tells host.old) → IsPrinted usage_line
         (H.write_faults host.old) (H.write_faults host.new) (H.content host.new) }

@@ -12,7 +12,7 @@ use pcap_io::CaptureFault;
 use std::alloc::AllocError;
 use text_lines::LineFault;
 
-/// Why a command stops before its end, each with a status of its own.
+/// Why a command stops before its end.
 #[derive(Clone, Copy, Debug, PartialEq, Eq)]
 pub enum Stop {
     /// An input couldn't be read.

@@ -1,4 +1,4 @@
--- The headers of queue messages and of their attributes (uapi linux/netfilter/nfnetlink.h and
+-- The header of queue messages and those that attributes hold (uapi linux/netfilter/nfnetlink.h and
 -- linux/netfilter/nfnetlink_queue.h), each as one table: a field a line, with its place and its
 -- width in bytes. Numbers have their highest byte first. Below each table stand the size of the
 -- whole header, where its last field ends, its text and what is read in it.

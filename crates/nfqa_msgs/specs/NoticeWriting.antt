@@ -1,6 +1,7 @@
 -- Notices: uapi linux/netfilter/nfnetlink_queue.h, and the kernel's `nfqnl_build_packet_message`.
--- The order of the attributes, the two devices, and that there always is a timestamp are this
--- project's.
+-- The attributes stand in the kernel's order. This project's are the two devices, that there always
+-- is a timestamp and never `NFQA_SKB_INFO`, and that the length in the message's header counts the
+-- last padding.
 use Rattle.std.specs.Prelude.{◌≡◌, ℕ, ◌^◌, ◌<◌, ◌≤◌, Bool, ◌&&◌, ◌||◌, ◌==◌, nat_lt, IsTrue}
 use Rattle.std.specs.Prelude.{if◌then◌else◌, List, [], ◌∷◌, ◌++◌, length, take, drop, Option, Some}
 use Rattle.std.specs.Prelude.{None, IfSome, option_map}

@@ -1,5 +1,6 @@
-//! The headers of queue messages and of their attributes, one module a header: its table of fields,
-//! its writer, and the reader of those that requests have. Numbers have their highest byte first.
+//! The header of queue messages and those that attributes hold, one module a header: its table of
+//! fields, its writer, and the reader of those that requests have. Numbers have their highest byte
+//! first.
 
 pub(crate) mod command;
 pub(crate) mod packet_address;

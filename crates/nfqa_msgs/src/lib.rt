@@ -2,8 +2,9 @@
 //! spelling, and the notices that tell a port of a waiting packet, written and read back.
 //!
 //! The sources are the kernel's uapi headers `linux/netlink.h`, `linux/netfilter/nfnetlink.h` and
-//! `linux/netfilter/nfnetlink_queue.h`, and `nfnetlink_queue.c`. Numbers in a message's header are
-//! little-endian, numbers after it are big-endian.
+//! `linux/netfilter/nfnetlink_queue.h`, and `nfnetlink_queue.c`. Numbers in the headers of a
+//! message and of its attributes are little-endian, those of `nfgenmsg` and of the attributes'
+//! contents big-endian.
 #![tactic(auto)]
 
 mod attribute_reading;

@@ -1,4 +1,4 @@
-//! The public numbers of the format: copy modes, commands and errnos (uapi
+//! The public numbers of the format: copy modes, the greatest range, commands and errnos (uapi
 //! `linux/netfilter/nfnetlink_queue.h`, `asm-generic/errno-base.h`, `asm-generic/errno.h`).
 
 /// Copy mode: no notice is sent. (`NFQNL_COPY_NONE`)

@@ -1,4 +1,4 @@
-//! Messages by their bytes, as the kernel and its clients write them.
+//! Messages by their bytes: requests as the kernel's clients write them, and notices.
 
 ghost use Rattle.std.specs.Prelude.{IfOk};
 ghost use Rattle.nfqa_msgs.specs.RequestReading.{AskedFits};

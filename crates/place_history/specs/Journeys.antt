@@ -18,7 +18,8 @@ use Rattle.place_history.specs.Moves.{Move, moves}
 
 -- ---- arrivals that are asked for
 
--- an arrival: at which queue, of which packet, and whether its rule has the bypass
+-- an arrival: at which queue, of which packet, and whether the rule or the verdict that sent it
+-- there has the bypass
 pub record Arrival : Type 0 where
   pub queue : ℕ
   pub card : Card

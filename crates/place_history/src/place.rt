@@ -85,11 +85,12 @@ impl Place {
         }
     }
 
-    /// Begins the arrival of a packet, which a rule with or without the bypass queued. Where no
-    /// notice is to be offered, the arrival has happened then: its entry is appended, and the
-    /// packet comes back, to be sent on or destroyed as the outcome says. Otherwise the notice is
-    /// for the queue's port, the packet stands offered, and only [`settle`](Place::settle) may
-    /// follow. When memory runs out the packet comes back, and nothing has changed.
+    /// Begins the arrival of a packet, which a rule or a verdict with or without the bypass sent
+    /// there. Where no notice is to be offered, the arrival has happened then: its entry is
+    /// appended, and the packet comes back, to be sent on or destroyed as the outcome says.
+    /// Otherwise the notice is for the queue's port, the packet stands offered, and of the calls
+    /// that change the place only [`settle`](Place::settle) may follow. When memory runs out the
+    /// packet comes back, and nothing has changed.
     pub fn begin(
         &mut self,
         alloc: Global,
@@ -274,8 +275,8 @@ impl Place {
     }
 
     /// Gives the waiting packets up, without an entry: how many that were; the number stops at
-    /// 4,294,967,295. It serves closing: then only [`into_entries`](Place::into_entries) may
-    /// follow. Takes no memory.
+    /// 4,294,967,295. It serves closing: of the calls that change or end the place only
+    /// [`into_entries`](Place::into_entries) may follow. Takes no memory.
     pub fn leave_waiting(&mut self) -> u32
         requires no_offer { self.old.offer ≡ None }
         requires standing { self.old.is_left ≡ false }

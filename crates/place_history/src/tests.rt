@@ -97,7 +97,7 @@ fn request(queue: u16, words: Words) -> Request
     }
 }
 
-/// A config request without anything.
+/// A config request of these parts, with its flags as their own mask.
 fn config(
     queue: u16,
     command: Option<u8>,

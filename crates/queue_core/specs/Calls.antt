@@ -22,7 +22,7 @@ use Rattle.queue_core.specs.Share.{share}
 use Rattle.queue_core.specs.WithOffer.{WithOffer, letter_of}
 
 -- What an arrival at a bound queue comes to: the lines from the copy mode on, and so the step of an
--- arrival in time, whatever the rule's bypass.
+-- arrival in time, with the bypass or without.
 pub record ArrivesAs (q : Bound) (card : Card) (room : Bool) (s : Stepped) : Type 0 where
   pub lines : arrive_bound q card room ≡ s
   pub step : card.visit ≢ last_visit → (bypass : Bool) →
@@ -69,8 +69,8 @@ SettlesArrival (settled.Back answer back) card room old new =
 abbrev pub ways_of : List (Card × Decision) → List (Card × Way)
 ways_of handed = map (λ h. (h.0, way_of h.1)) handed
 
--- a verdict or a batch that isn't refused, by what it handed out: nothing, so that nothing waited
--- there, or so many
+-- a verdict or a batch that isn't refused, by what it handed out: nothing, since it found none to
+-- take, or so many
 abbrev pub hands_out : Bound → List (Card × Decision) → Stepped
 hands_out q [] = unchanged (Some q) enoent
 hands_out q (h ∷ hs) = record {

@@ -76,6 +76,6 @@ abbrev pub configured : Option Params → Option ℕ → Option ℕ → Option �
 configured params maximum flags mask q =
     flags_set flags mask (maximum_set maximum (params_set params q))
 
--- whether a full queue lets packets go on
+-- whether a queue that is full, or whose port's mailbox is, lets packets go on
 abbrev pub fails_open : Bound → Bool
 fails_open q = bit_and q.flags flag_fail_open == flag_fail_open

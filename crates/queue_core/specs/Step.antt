@@ -44,8 +44,8 @@ pub record Stepped : Type 0 where
 
 -- An arrival's table. Of these lines the first that applies decides:
 --   1  it is the packet's 33rd visit: destroyed
---   2  the queue is absent, and the rule has no bypass: destroyed
---   3  the queue is absent, and the rule has the bypass: goes on with the next table
+--   2  the queue is absent, and the arrival has no bypass: destroyed
+--   3  the queue is absent, and the arrival has the bypass: goes on with the next table
 --   4  the copy mode is NONE: destroyed
 --   5  as many wait as may, and the queue fails open: goes on
 --   6  as many wait as may: destroyed, counted as dropped
@@ -124,7 +124,7 @@ arrive q card bypass room =
 abbrev pub turns_away : Bound → Bool
 turns_away q = (q.mode == copy_none) || is_full q
 
--- whether one of the first six lines decides, so that no notice is offered. A rule's bypass says
+-- whether one of the first six lines decides, so that no notice is offered. The bypass says
 -- how an absent queue decides, and not whether.
 abbrev pub is_decided_early : Option Bound → Card → Bool
 is_decided_early None card = true

@@ -4,7 +4,7 @@
 /// The queue belongs to another port.
 pub const EPERM: u16 = 1;
 
-/// Nothing waits there.
+/// A verdict or a batch names nothing that it may take.
 pub const ENOENT: u16 = 2;
 
 /// The queue is bound already.

@@ -11,7 +11,8 @@ pub enum Event {
     Arrive {
         /// The packet, with the visit and the table of this arrival.
         card: Card,
-        /// Whether the rule that queued it lets it go on where the queue is absent.
+        /// Whether the rule or the verdict that sent it there lets it go on where the queue is
+        /// absent.
         bypass: bool,
         /// Whether the port's mailbox took the notice; true where none was offered.
         room: bool,

@@ -18,7 +18,8 @@ pub enum Outcome {
     UserFullOpen { id: u32 },
     /// The queue is absent: destroyed.
     NoQueue,
-    /// The queue is absent, and the rule has the bypass: it goes on with the next table.
+    /// The queue is absent, and what sent it there has the bypass: it goes on with the next
+    /// table.
     Bypassed,
     /// The queue's copy mode is `NONE`: destroyed.
     CopyNone,

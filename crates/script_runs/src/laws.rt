@@ -44,8 +44,9 @@ pub fn each_port_has_its_log()
         map (λ (l : PortLog). l.port) h.logs ≡ script.ports }
 {}
 
-/// Each port did what the script says: its log is its opening messages, then notices, each with the
-/// messages that answer it, then the messages of its end, and its closing where the script says it.
+/// Each port did what the script says: its log is its opening messages, then blocks, each a notice
+/// with the messages that answer it or one message of its end, and its closing where the script
+/// says it.
 /// The requests in each queue's history are those of the ports' messages, one entry for each, in
 /// their order, with its errno. And the notices that ports received are those of the arrivals that
 /// their queues took, in their order, but for the last ones, which are left in the mailboxes; no

@@ -1,4 +1,4 @@
--- The numbers of a plane, each once. They are this project's own.
+-- The numbers of a plane, each once.
 use Rattle.std.specs.Prelude.{ℕ}
 use Rattle.packet_entry.specs.Numbers as shared
 

@@ -47,7 +47,7 @@ pub fn solo(
 }
 
 /// Appends the listing of the queues as they stand before the ports end: all frames of the capture,
-/// at most 200,000, have passed, and the mailboxes are empty. A line for each bound queue, by
+/// at most 200,000, have passed, and the mailboxes were emptied. A line for each bound queue, by
 /// ascending number. `NoMemory`, which is as that of [`solo`], leaves `out` as it was.
 pub fn list_before_ends(
     alloc: Global,

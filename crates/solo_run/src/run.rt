@@ -26,7 +26,7 @@ use std::alloc::Global;
 pub(crate) struct Run {
     pub(crate) plane: SoloPlane,
     pub(crate) inspectors: Vec<Inspector>,
-    /// The acknowledgements of one message. The plane's logs have what they say.
+    /// The acknowledgement of one message, where it has one. The plane's logs have what it says.
     pub(crate) replies: Vec<u8>,
     /// The text of one request. While it is being sent, the buffer isn't here.
     pub(crate) text: Vec<u8>,

@@ -18,7 +18,7 @@ const WHOLE: Params = Params {
     mode: PACKET,
 };
 
-/// How a packet arrives: whether its rule has the bypass, and whether the mailbox has room.
+/// How a packet arrives: whether with the bypass, and whether the mailbox has room.
 #[derive(Clone, Copy)]
 struct Rule {
     bypass: bool,

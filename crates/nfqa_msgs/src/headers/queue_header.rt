@@ -3,7 +3,7 @@
 //! | Place | Width | Field |
 //! |---|---|---|
 //! | 0 | 1 | address family; a request's is ignored |
-//! | 1 | 1 | version, 0; ignored |
+//! | 1 | 1 | version, 0; a request's is ignored |
 //! | 2 | 2 | number of the queue |
 
 ghost use Rattle.std.specs.Prelude.{◌≡◌, ◌≤◌, ◌<◌, ◌^◌, length, IfOk};

@@ -45,7 +45,7 @@ fn decided_outside(held: &Held, arrival: &Offer) -> Option<Outcome>
     if held.queues.contains_key(&arrival.queue) {
         return None;
     }
-    // The queue is absent: with the rule's bypass it goes on, without it is destroyed.
+    // The queue is absent: with the bypass it goes on, without it is destroyed.
     Some(if arrival.bypass {
         Outcome::Bypassed
     } else {

@@ -33,7 +33,7 @@ pub(super) struct Offer {
     pub(super) queue: u16,
     /// The packet.
     pub(super) card: Card,
-    /// Whether the rule that queued it has the bypass.
+    /// Whether the rule or the verdict that sent it there has the bypass.
     pub(super) bypass: bool,
 }
 
