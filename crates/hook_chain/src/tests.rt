@@ -19,20 +19,29 @@ fn rule(protocol: Option<u8>, mark: Option<MarkTest>, pick: Pick, bypass: bool) 
     }
 }
 
-fn mark(value: u32, mask: u32, negated: bool) -> Option<MarkTest> {
-    Some(MarkTest {
-        value,
-        mask,
-        negated,
-    })
+/// The test of a mark by its value, its mask, and whether it is negated.
+fn mark_of(parts: Option<(u32, u32, bool)>) -> Option<MarkTest> {
+    match parts {
+        None => None,
+        Some((value, mask, negated)) => Some(MarkTest {
+            value,
+            mask,
+            negated,
+        }),
+    }
 }
 
 fn number(queue: u16) -> Pick {
     Pick::Number { queue }
 }
 
+/// The queue, or where there is a total so many queues from it on.
 fn among(first: u16, total: u32) -> Pick {
-    Pick::Balance { first, total }
+    if total == 0 {
+        number(first)
+    } else {
+        Pick::Balance { first, total }
+    }
 }
 
 fn to(queue: u16, bypass: bool, table: u16) -> Next {
@@ -43,8 +52,12 @@ fn to(queue: u16, bypass: bool, table: u16) -> Next {
     }
 }
 
-fn queue(number: u16, bypass: bool) -> Decision {
-    Decision::Queue { number, bypass }
+/// The way to a queue, with or without the bypass, by a table; `None` where none is left.
+fn way(parts: Option<(u16, bool, u16)>) -> Next {
+    match parts {
+        None => Next::Released,
+        Some((queue, bypass, table)) => to(queue, bypass, table),
+    }
 }
 
 /// What comes before and after a table's line in a file.
@@ -102,9 +115,9 @@ fn refused_in(alloc: Global, frame: (&[u8], &[u8]), text: &[u8]) -> Result<Optio
 }
 
 #[test]
-fn each_kind_of_rule_is_read(rt: HostRuntime) -> Result<(), Fail> {
-    let alloc = rt.alloc();
-    let matches: [(&[u8], Option<u8>, Option<MarkTest>); 11] = [
+fn each_kind_of_match_is_read(rt: HostRuntime) -> Result<(), Fail> {
+    // The text, the protocol, and the value, the mask and the negation of a mark's test.
+    const MATCHING: [(&[u8], Option<u8>, Option<(u32, u32, bool)>); 11] = [
         (b"", None, None),
         (b"-p tcp", Some(6), None),
         (b"-p udp", Some(17), None),
@@ -112,28 +125,34 @@ fn each_kind_of_rule_is_read(rt: HostRuntime) -> Result<(), Fail> {
         (b"-p ipv6-icmp", Some(58), None),
         (b"-p 0", Some(0), None),
         (b"-p 255", Some(255), None),
-        (b"-m mark --mark 7", None, mark(7, u32::MAX, false)),
-        (b"-m mark --mark 0xAb/0x0F", None, mark(171, 15, false)),
-        (b"-m mark ! --mark 1/1", None, mark(1, 1, true)),
-        (b"-p 6 -m mark --mark 1/0", Some(6), mark(1, 0, false)),
+        (b"-m mark --mark 7", None, Some((7, 0xffff_ffff, false))),
+        (b"-m mark --mark 0xAb/0x0F", None, Some((171, 15, false))),
+        (b"-m mark ! --mark 1/1", None, Some((1, 1, true))),
+        (b"-p 6 -m mark --mark 1/0", Some(6), Some((1, 0, false))),
     ];
-    for (text, protocol, mark) in matches {
-        let wanted = rule(protocol, mark, number(0), false);
-        assert_eq!(rt; rule_of(alloc, MATCHES, text)?, Some(wanted));
+    for &(text, protocol, mark) in &MATCHING {
+        let wanted = rule(protocol, mark_of(mark), number(0), false);
+        assert_eq!(rt; rule_of(rt.alloc(), MATCHES, text)?, Some(wanted));
     }
-    let options: [(&[u8], Pick, bool); 8] = [
-        (b"", number(0), false),
-        (b"--queue-num 65535", number(65_535), false),
-        (b"--queue-balance 2:5", among(2, 4), false),
-        (b"--queue-balance 0:65534", among(0, 65_535), false),
-        (b"--queue-balance 1:65535", among(1, 65_535), false),
-        (b"--queue-bypass", number(0), true),
-        (b"--queue-num 3 --queue-bypass", number(3), true),
-        (b"--queue-bypass --queue-num 3", number(3), true),
+    Ok(())
+}
+
+#[test]
+fn each_kind_of_option_is_read(rt: HostRuntime) -> Result<(), Fail> {
+    // The text, the first queue, of how many or 0 for that queue alone, and the bypass.
+    const PICKED: [(&[u8], u16, u32, bool); 8] = [
+        (b"", 0, 0, false),
+        (b"--queue-num 65535", 65_535, 0, false),
+        (b"--queue-balance 2:5", 2, 4, false),
+        (b"--queue-balance 0:65534", 0, 65_535, false),
+        (b"--queue-balance 1:65535", 1, 65_535, false),
+        (b"--queue-bypass", 0, 0, true),
+        (b"--queue-num 3 --queue-bypass", 3, 0, true),
+        (b"--queue-bypass --queue-num 3", 3, 0, true),
     ];
-    for (text, pick, bypass) in options {
-        let wanted = rule(None, None, pick, bypass);
-        assert_eq!(rt; rule_of(alloc, OPTIONS, text)?, Some(wanted));
+    for &(text, first, total, bypass) in &PICKED {
+        let wanted = rule(None, None, among(first, total), bypass);
+        assert_eq!(rt; rule_of(rt.alloc(), OPTIONS, text)?, Some(wanted));
     }
     Ok(())
 }
@@ -214,27 +233,34 @@ const GOOD_FILES: [(&[u8], usize); 9] = [
 #[test]
 fn each_bad_line_is_refused_with_its_number(rt: HostRuntime) -> Result<(), Fail> {
     let alloc = rt.alloc();
-    for (text, what) in BAD_OPTIONS {
+    for &(text, what) in &BAD_OPTIONS {
         assert_eq!(rt; refused_in(alloc, OPTIONS, text)?, Some(2), "{what}");
     }
-    for (text, what) in BAD_MATCHES {
+    for &(text, what) in &BAD_MATCHES {
         assert_eq!(rt; refused_in(alloc, MATCHES, text)?, Some(2), "{what}");
     }
-    for (text, what) in BAD_LINES {
+    for &(text, what) in &BAD_LINES {
         assert_eq!(rt; refused_in(alloc, LINE, text)?, Some(2), "{what}");
     }
-    for (text, line, what) in BAD_FILES {
+    Ok(())
+}
+
+#[test]
+fn each_bad_file_is_refused_and_each_good_one_read(rt: HostRuntime) -> Result<(), Fail> {
+    let alloc = rt.alloc();
+    for &(text, line, what) in &BAD_FILES {
         assert!(rt; text.len() < 100);
         assert_eq!(rt; refused(alloc, text)?, Some(line), "{what}");
     }
-    for (text, count) in GOOD_FILES {
+    for &(text, count) in &GOOD_FILES {
         assert!(rt; text.len() < 100);
         assert_eq!(rt; read_tables(alloc, text)?.as_slice().len(), count);
     }
     Ok(())
 }
 
-/// A rules file as iptables-save writes it, with four tables, counters and comments.
+/// A rules file like those of iptables-save, with four tables, counters and comments, and with what
+/// a hand may write otherwise: blanks, line ends, zeros, hexadecimal digits, the order of options.
 const SAVED: &[u8] = b"# Generated by iptables-save v1.8.9 on Fri Nov 27 03:00:00 2026
 *mangle
 :PREROUTING ACCEPT [1840:226320]
@@ -270,11 +296,21 @@ COMMIT";
 fn saved_rules_are_read(rt: HostRuntime) -> Result<(), Fail> {
     let mangle = [
         rule(Some(6), None, number(1), false),
-        rule(Some(17), mark(1, u32::MAX, false), among(2, 4), true),
+        rule(
+            Some(17),
+            mark_of(Some((1, u32::MAX, false))),
+            among(2, 4),
+            true,
+        ),
     ];
     let filter = [
-        rule(None, mark(0xab, 0xff, true), number(0), true),
-        rule(Some(1), mark(7, u32::MAX, false), number(65_535), true),
+        rule(None, mark_of(Some((0xab, 0xff, true))), number(0), true),
+        rule(
+            Some(1),
+            mark_of(Some((7, u32::MAX, false))),
+            number(65_535),
+            true,
+        ),
         rule(Some(58), None, among(1, 65_535), false),
         rule(Some(17), None, among(0, 65_535), false),
         rule(None, None, number(0), false),
@@ -400,20 +436,20 @@ fn routed(
 
 #[test]
 fn packets_are_routed_from_a_table_on(rt: HostRuntime) -> Result<(), Fail> {
-    let alloc = rt.alloc();
-    let rows: [(&[u8], u16, Next); 7] = [
-        (ONE_RULE, 0, to(0, false, 1)),
-        (ONE_RULE, 1, to(0, false, 1)),
-        (ONE_RULE, 2, Next::Released),
-        (TWO_TABLES, 0, to(1, false, 1)),
-        (TWO_TABLES, 1, to(1, false, 1)),
-        (TWO_TABLES, 2, to(2, true, 2)),
-        (TWO_TABLES, 3, Next::Released),
+    // The rules, the first table asked, and the queue, its bypass and the table that queued.
+    const ROWS: [(&[u8], u16, Option<(u16, bool, u16)>); 7] = [
+        (ONE_RULE, 0, Some((0, false, 1))),
+        (ONE_RULE, 1, Some((0, false, 1))),
+        (ONE_RULE, 2, None),
+        (TWO_TABLES, 0, Some((1, false, 1))),
+        (TWO_TABLES, 1, Some((1, false, 1))),
+        (TWO_TABLES, 2, Some((2, true, 2))),
+        (TWO_TABLES, 3, None),
     ];
-    for (rules, from, wanted) in rows {
+    for &(rules, from, wanted) in &ROWS {
         assert!(rt; rules.len() < 200);
-        let next = routed(alloc, rules, 0, IPV4, &IPV4_BYTES, from)?;
-        assert_eq!(rt; next, wanted);
+        let next = routed(rt.alloc(), rules, 0, IPV4, &IPV4_BYTES, from)?;
+        assert_eq!(rt; next, way(wanted));
     }
     Ok(())
 }
@@ -440,20 +476,25 @@ fn sent_on(
 #[test]
 fn decisions_send_a_packet_on(rt: HostRuntime) -> Result<(), Fail> {
     let alloc = rt.alloc();
-    let rows: [(&[u8], Option<u32>, Decision, Option<Next>); 9] = [
-        (TWO_TABLES, None, Decision::Drop, None),
-        (TWO_TABLES, None, Decision::Accept, Some(to(2, true, 2))),
-        (TWO_TABLES, None, Decision::Repeat, Some(to(1, false, 1))),
-        (TWO_TABLES, None, Decision::Stop, Some(Next::Released)),
-        (TWO_TABLES, None, queue(9, true), Some(to(9, true, 1))),
-        (TWO_TABLES, None, queue(9, false), Some(to(9, false, 1))),
-        (ONE_RULE, None, Decision::Accept, Some(Next::Released)),
-        (UNMARKED, None, Decision::Repeat, Some(to(0, false, 1))),
-        (UNMARKED, Some(1), Decision::Repeat, Some(Next::Released)),
+    assert_eq!(rt; sent_on(alloc, TWO_TABLES, None, &Decision::Drop)?, None);
+    // The rules, the mark, the decision, and the queue, its bypass and the table that queued.
+    const ROWS: [(&[u8], Option<u32>, Decision, Option<(u16, bool, u16)>); 6] = [
+        (TWO_TABLES, None, Decision::Accept, Some((2, true, 2))),
+        (TWO_TABLES, None, Decision::Repeat, Some((1, false, 1))),
+        (TWO_TABLES, None, Decision::Stop, None),
+        (ONE_RULE, None, Decision::Accept, None),
+        (UNMARKED, None, Decision::Repeat, Some((0, false, 1))),
+        (UNMARKED, Some(1), Decision::Repeat, None),
     ];
-    for (rules, mark, decision, wanted) in rows {
+    for (rules, mark, decision, wanted) in &ROWS {
         assert!(rt; rules.len() < 200);
-        assert_eq!(rt; sent_on(alloc, rules, mark, &decision)?, wanted);
+        let next = sent_on(alloc, *rules, *mark, decision)?;
+        assert_eq!(rt; next, Some(way(*wanted)));
+    }
+    for &bypass in &[true, false] {
+        let decision = Decision::Queue { number: 9, bypass };
+        let next = sent_on(alloc, TWO_TABLES, None, &decision)?;
+        assert_eq!(rt; next, Some(to(9, bypass, 1)));
     }
     Ok(())
 }
@@ -470,12 +511,12 @@ fn spread(alloc: Global, key: u32, protocol: u16, bytes: &[u8]) -> Result<Next, 
 fn both_directions_of_a_flow_go_to_one_queue(rt: HostRuntime) -> Result<(), Fail> {
     let alloc = rt.alloc();
     // The queues are those of the kernel's jhash.h at these keys.
-    for (key, queue) in [(0, 2), (3, 1), (559_038_725, 0)] {
+    for &(key, queue) in &[(0, 2), (3, 1), (559_038_725, 0)] {
         let wanted = to(queue, false, 1);
         assert_eq!(rt; spread(alloc, key, IPV4, &ipv4(1, 2))?, wanted);
         assert_eq!(rt; spread(alloc, key, IPV4, &ipv4(2, 1))?, wanted);
     }
-    for (key, queue) in [(0, 3), (3, 1), (559_038_725, 3)] {
+    for &(key, queue) in &[(0, 3), (3, 1), (559_038_725, 3)] {
         let wanted = to(queue, false, 1);
         assert_eq!(rt; spread(alloc, key, IPV6, &ipv6(1, 2))?, wanted);
         assert_eq!(rt; spread(alloc, key, IPV6, &ipv6(2, 1))?, wanted);

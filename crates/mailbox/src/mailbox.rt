@@ -90,8 +90,7 @@ impl Mailbox {
         Ok((mailbox, sender, receiver))
     }
 
-    /// Makes another sender, by the one of number 0. It has the next number. It takes no memory,
-    /// and never answers that there was none.
+    /// Makes another sender, by the one of number 0. It has the next number. It takes no memory.
     pub fn split(&self, sender: &mut Sender) -> Result<Sender, NoMemory>
         requires mailbox { sender.old.mailbox ≡ self.now }
         requires first { sender.old.number ≡ 0 }

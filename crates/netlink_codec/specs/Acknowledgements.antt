@@ -1,6 +1,6 @@
 -- Acknowledgements: uapi linux/netlink.h, `struct nlmsgerr`, and the kernel's `netlink_ack` and
 -- `netlink_rcv_skb`. That an acknowledgement has flags 0, and the request's own port, is this
--- project's.
+-- project's, and so is that its length counts no padding behind the request that it quotes.
 use Rattle.std.specs.Prelude.{ℕ, ◌-◌, ◌^◌, Bool, ◌&&◌, ◌==◌, if◌then◌else◌, List, [], ◌++◌, take}
 use Rattle.std.specs.Prelude.{bit_and}
 use Rattle.byteorder.specs.Endian.{little_bytes}

@@ -1,5 +1,6 @@
-//! Messages by their bytes, as the kernel and its clients write them. Each call that appends runs
-//! on each kind of input that it has, with enough memory.
+//! Messages by their bytes: requests as the kernel's clients write them, a notice, and
+//! acknowledgements. Each call that appends runs on each kind of input that it has, with enough
+//! memory.
 
 ghost use Rattle.std.specs.Prelude.{◌≡◌, map, IfOk};
 ghost use Rattle.netlink_codec.specs.Attributes.{attributes};

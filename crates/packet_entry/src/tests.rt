@@ -19,23 +19,36 @@ const TAGGED: [u8; 18] = [2, 0, 0, 0, 0, 2, 2, 0, 0, 0, 0, 1, 0x81, 0, 0, 7, 8, 
 
 #[test]
 fn bytes_are_copied_shared_and_cut(rt: HostRuntime) -> Result<(), Fail> {
-    let whole = Bytes::copy(rt.alloc(), &BYTES)?;
-    // from, to, what is cut out
-    let cuts: [(usize, usize, &[u8]); 4] = [
+    // From, to, and what is cut out.
+    const CUTS: [(usize, usize, &[u8]); 4] = [
         (0, 20, &BYTES),
         (0, 0, &[]),
         (20, 20, &[]),
         (12, 16, &[10, 0, 0, 1]),
     ];
+    let whole = Bytes::copy(rt.alloc(), &BYTES)?;
     assert_eq!(rt; whole.len(), 20);
-    for (from, to, part) in cuts {
-        assert!(rt; from <= to && to <= whole.len());
-        let cut = whole.cut(from, to)?;
-        assert_eq!(rt; cut.as_slice(), part);
-        assert_eq!(rt; cut.share()?.as_slice(), part);
-        assert_eq!(rt; cut.is_empty(), part.is_empty());
+    for &(from, to, part) in &CUTS {
+        is_cut(&rt, &whole, from, to, part)?;
     }
-    // The address in the cut's middle.
+    Ok(())
+}
+
+/// What is cut out here is this part.
+fn is_cut(rt: &impl Abort, whole: &Bytes, from: usize, to: usize, part: &[u8]) -> Result<(), Fail> {
+    assert!(rt; from <= to && to <= whole.len());
+    let cut = whole.cut(from, to)?;
+    assert_eq!(rt; cut.as_slice(), part);
+    assert_eq!(rt; cut.share()?.as_slice(), part);
+    assert_eq!(rt; cut.is_empty(), part.is_empty());
+    Ok(())
+}
+
+#[test]
+fn a_cut_is_cut(rt: HostRuntime) -> Result<(), Fail> {
+    let whole = Bytes::copy(rt.alloc(), &BYTES)?;
+    assert_eq!(rt; whole.len(), 20);
+    // The two addresses, and of these the second.
     let cut = whole.cut(12, 20)?;
     assert_eq!(rt; cut.len(), 8);
     assert_eq!(rt; cut.cut(4, 8)?.as_slice(), [10, 0, 0, 2].as_slice());
@@ -128,19 +141,23 @@ fn an_edit_of_one_packet_changes_no_other(rt: HostRuntime) -> Result<(), Fail> {
     let untouched = other.card(alloc);
     other.destroy();
 
-    let first = first?;
-    assert_eq!(rt;
-        (first.number, first.visit, first.table, first.mark),
-        (7, 1, 2, 9)
-    );
-    assert_eq!(rt; first.bytes.as_slice(), BYTES.as_slice());
-    let second = second?;
-    assert_eq!(rt; second.mark, 9);
-    assert_eq!(rt; second.bytes.as_slice(), [0x45].as_slice());
-    let untouched = untouched?;
-    assert_eq!(rt; (untouched.number, untouched.mark), (8, 0));
-    assert_eq!(rt; untouched.bytes.as_slice(), BYTES.as_slice());
+    is_as(&rt, first, (7, 1, 2, 9), &BYTES)?;
+    is_as(&rt, second, (7, 1, 2, 9), &[0x45])?;
+    is_as(&rt, untouched, (8, 0, 0, 0), &BYTES)?;
     assert_eq!(rt; file.as_slice(), BYTES.as_slice());
+    Ok(())
+}
+
+/// The card has this number, visit, table and mark, and these bytes.
+fn is_as(
+    rt: &impl Abort,
+    card: Result<Card, NoMemory>,
+    facts: (u32, u32, u16, u32),
+    bytes: &[u8],
+) -> Result<(), Fail> {
+    let card = card?;
+    assert_eq!(rt; (card.number, card.visit, card.table, card.mark), facts);
+    assert_eq!(rt; card.bytes.as_slice(), bytes);
     Ok(())
 }
 

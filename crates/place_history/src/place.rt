@@ -34,8 +34,9 @@ use std::marker::Model;
 
 /// Queues by number, each the replay of its stored history: what the sequential queue makes of its
 /// entries. Of several places, a queue is at the one whose number is the queue's number modulo how
-/// many places there are. A call at one queue costs the queue's own work, and besides no more than
-/// the logarithm of the number of bound queues: none goes over the history.
+/// many places there are. By its structure a call at one queue costs the queue's own work, and
+/// besides, on the average of many, no more than the logarithm of the number of bound queues: none
+/// goes over the history, but for one that has to move it to more room.
 ///
 /// It is no `Drop`: it ends by `into_entries`.
 pub struct Place {

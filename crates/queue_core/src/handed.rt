@@ -31,7 +31,7 @@ impl Model for Handed {
 }
 
 impl Handed {
-    /// No packets and no room. Takes no memory.
+    /// No packets. Takes no memory.
     pub fn new(alloc: Global) -> Handed
         ensures { result.items ≡ [] }
     {

@@ -1,4 +1,4 @@
-//! What is known of the schedule's histories.
+//! What is known of the schedule, of its histories, and of what it is to be made by a script.
 
 ghost use Rattle.std.specs.Prelude.{◌≡◌, ◌≤◌, ℕ, true, List, [], ◌∷◌, map};
 ghost use Rattle.std.specs.Prelude.{◌+◌, ◌<◌, All, length};

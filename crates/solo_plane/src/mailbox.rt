@@ -29,7 +29,7 @@ impl Model for Mailbox {
 }
 
 impl Mailbox {
-    /// No notices and no room. Takes no memory.
+    /// No notices. Takes no memory.
     pub(crate) fn new(alloc: Global) -> Mailbox
         ensures { result.items ≡ [] }
     {

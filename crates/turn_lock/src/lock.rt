@@ -119,7 +119,7 @@ impl<S: Storied> TurnLock<S> {
     }
 
     /// Makes a pass that has seen the same and has appended nothing. Each of the two has a piece of
-    /// the part. It takes no memory, and never answers that there was none.
+    /// the part. It takes no memory.
     pub fn split(&self, pass: &mut Pass<S>) -> Result<Pass<S>, AllocError>
         requires lock { IsOf self.now pass.old }
         requires outside { (view_of pass.old).turn ≡ Outside }
