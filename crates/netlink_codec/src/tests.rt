@@ -92,13 +92,11 @@ const MESSAGES: [(&[u8], u16, u16, u32, u32); 8] = [
 /// Each message is read with its fields, and written again as it was.
 #[test]
 fn messages_are_read_and_written(rt: HostRuntime) -> Result<(), Fail> {
-    for (text, kind, flags, sequence, port) in MESSAGES {
+    for &(text, kind, flags, sequence, port) in &MESSAGES {
         let (message, used) = next_message(text).ok_or("no message")?;
         assert_eq!(rt; used, text.len());
-        assert_eq!(rt; message.kind, kind);
-        assert_eq!(rt; message.flags, flags);
-        assert_eq!(rt; message.sequence, sequence);
-        assert_eq!(rt; message.port, port);
+        assert_eq!(rt; (message.kind, message.flags), (kind, flags));
+        assert_eq!(rt; (message.sequence, message.port), (sequence, port));
         assert_eq!(rt; message.whole, text);
 
         assert!(rt; message.body.len() < 100);
@@ -122,7 +120,7 @@ const BODIES: [(&[u8], &[u8]); 6] = [
 /// A message is its header and its body, and nothing follows.
 #[test]
 fn a_message_of_each_length_is_written(rt: HostRuntime) -> Result<(), Fail> {
-    for (body, length) in BODIES {
+    for &(body, length) in &BODIES {
         assert!(rt; body.len() <= 65_536);
         let mut out = Vec::new(rt.alloc());
         put_message(&mut out, 0x0302, 5, 1, 7, body)?;
@@ -201,7 +199,7 @@ fn check_walk(
 
 #[test]
 fn attributes_are_walked_and_written(rt: HostRuntime) -> Result<(), Fail> {
-    for (text, wanted) in ATTRIBUTES {
+    for &(text, wanted) in &ATTRIBUTES {
         check_walk(&rt, rt.alloc(), text, wanted)?;
     }
     Ok(())
@@ -220,13 +218,17 @@ const WRITTEN: [(u16, &[u8], &[u8]); 7] = [
 
 #[test]
 fn an_attribute_of_each_length_is_written(rt: HostRuntime) -> Result<(), Fail> {
-    for (kind, content, text) in WRITTEN {
+    for &(kind, content, text) in &WRITTEN {
         assert!(rt; kind < 0x4000 && content.len() < 100);
         let mut out = Vec::new(rt.alloc());
         put_attr(&mut out, kind, content)?;
         assert_eq!(rt; out.as_slice(), text);
     }
+    Ok(())
+}
 
+#[test]
+fn the_longest_attribute_is_written(rt: HostRuntime) -> Result<(), Fail> {
     let longest = vec![in rt.alloc(); 0x55; 65_531]?;
     let mut out = Vec::new(rt.alloc());
     put_attr(&mut out, 10, longest.as_slice())?;
@@ -265,7 +267,7 @@ fn acknowledgement_of(alloc: Global, text: &[u8], errno: u16) -> Result<Vec<u8>,
 
 #[test]
 fn requests_are_acknowledged(rt: HostRuntime) -> Result<(), Fail> {
-    for (text, errno, length, code, quoted) in ACKNOWLEDGED {
+    for &(text, errno, length, code, quoted) in &ACKNOWLEDGED {
         let written = acknowledgement_of(rt.alloc(), text, errno)?;
         let (header, body) = written.as_slice().split_at_checked(16).ok_or("no header")?;
         let kind_2 = [length, 0, 0, 0, 2, 0, 0, 0];
@@ -274,11 +276,22 @@ fn requests_are_acknowledged(rt: HostRuntime) -> Result<(), Fail> {
         assert_eq!(rt; body.get(..4), Some(code));
         assert_eq!(rt; body.get(4..), text.get(..quoted));
     }
+    Ok(())
+}
+
+#[test]
+fn a_refusal_quotes_its_request(rt: HostRuntime) -> Result<(), Fail> {
     let refused = acknowledgement_of(rt.alloc(), &ACCEPT, 2)?;
     assert_eq!(rt; refused.as_slice(), REFUSAL.as_slice());
+    Ok(())
+}
 
-    // success without NLM_F_ACK
-    for text in [&ACCEPT[..], CUT, SHORT, MARKED, ODD] {
+/// Requests without `NLM_F_ACK`.
+const UNACKNOWLEDGED: [&[u8]; 5] = [&ACCEPT, CUT, SHORT, MARKED, ODD];
+
+#[test]
+fn success_without_the_flag_is_silent(rt: HostRuntime) -> Result<(), Fail> {
+    for &text in &UNACKNOWLEDGED {
         assert!(rt; acknowledgement_of(rt.alloc(), text, 0)?.is_empty());
     }
     Ok(())

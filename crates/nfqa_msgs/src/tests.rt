@@ -111,21 +111,25 @@ fn decoded_of(alloc: Global, text: &[u8]) -> Result<Decoded, Fail>
     Ok(decode_request(alloc, &message)?)
 }
 
+/// Maximum, flags and mask of a config request.
+type Numbers = (Option<u32>, Option<u32>, Option<u32>);
+
 #[test]
 fn configs_are_decoded(rt: HostRuntime) -> Result<(), Fail> {
-    let short = Params { range: 0, mode: 2 };
-    let long = Params {
+    const SHORT: Params = Params { range: 0, mode: 2 };
+    const LONG: Params = Params {
         range: 66_051,
         mode: 2,
     };
-    let none = (None, None, None);
-    let all = (Some(1_024), Some(1), Some(5));
-    for (text, at, command, params, numbers) in [
-        (BIND_QUEUE, 0, Some(BIND), None, none),
-        (SET_PARAMS, 0, None, Some(short), none),
-        (EMPTY_CONFIG, 258, None, None, none),
-        (FULL_CONFIG, 258, Some(UNBIND), Some(long), all),
-    ] {
+    const NO_NUMBERS: Numbers = (None, None, None);
+    const ALL: Numbers = (Some(1_024), Some(1), Some(5));
+    const ROWS: [(&[u8], u16, Option<u8>, Option<Params>, Numbers); 4] = [
+        (BIND_QUEUE, 0, Some(BIND), None, NO_NUMBERS),
+        (SET_PARAMS, 0, None, Some(SHORT), NO_NUMBERS),
+        (EMPTY_CONFIG, 258, None, None, NO_NUMBERS),
+        (FULL_CONFIG, 258, Some(UNBIND), Some(LONG), ALL),
+    ];
+    for &(text, at, command, params, numbers) in &ROWS {
         match decoded_of(rt.alloc(), text)? {
             Decoded::Asked {
                 request: Request::Config {
@@ -156,21 +160,22 @@ fn same(payload: &Option<Bytes>, wanted: Option<&[u8]>) -> bool {
 
 #[test]
 fn verdicts_are_decoded(rt: HostRuntime) -> Result<(), Fail> {
-    let first = Head { verdict: 1, id: 1 };
-    let far = Head {
+    const FIRST: Option<Head> = Some(Head { verdict: 1, id: 1 });
+    const FAR: Option<Head> = Some(Head {
         verdict: 1,
         id: 0x0a0b_0c0d,
-    };
-    let hello = b"hello".as_slice();
-    for (text, queue, head, mark, bytes) in [
-        (ACCEPT, 0, Some(first), None, None),
+    });
+    const HELLO: Option<&[u8]> = Some(b"hello");
+    const ROWS: [(&[u8], u16, Option<Head>, Option<u32>, Option<&[u8]>); 7] = [
+        (ACCEPT, 0, FIRST, None, None),
         (EMPTY_VERDICT, 513, None, None, None),
-        (FULL_VERDICT, 513, Some(far), Some(0x0102_0304), Some(hello)),
-        (NO_BYTES, 0, None, None, Some(&hello[..0])),
+        (FULL_VERDICT, 513, FAR, Some(0x0102_0304), HELLO),
+        (NO_BYTES, 0, None, None, Some(b"")),
         (CUT, 0, None, None, None),
-        (MARKED_TWICE, 0, Some(first), Some(9), None),
-        (WITH_UNKNOWN, 0, Some(first), None, None),
-    ] {
+        (MARKED_TWICE, 0, FIRST, Some(9), None),
+        (WITH_UNKNOWN, 0, FIRST, None, None),
+    ];
+    for &(text, queue, head, mark, bytes) in &ROWS {
         match decoded_of(rt.alloc(), text)? {
             Decoded::Asked {
                 request: Request::Verdict {
@@ -191,14 +196,15 @@ fn verdicts_are_decoded(rt: HostRuntime) -> Result<(), Fail> {
 
 #[test]
 fn batches_are_decoded(rt: HostRuntime) -> Result<(), Fail> {
-    let up_to_nine = Head {
+    const UP_TO_NINE: Head = Head {
         verdict: 0x0002_0003,
         id: 9,
     };
-    for (text, head, mark) in [
+    const ROWS: [(&[u8], Option<Head>, Option<u32>); 2] = [
         (EMPTY_BATCH, None, None),
-        (FULL_BATCH, Some(up_to_nine), Some(16)),
-    ] {
+        (FULL_BATCH, Some(UP_TO_NINE), Some(16)),
+    ];
+    for &(text, head, mark) in &ROWS {
         match decoded_of(rt.alloc(), text)? {
             Decoded::Asked {
                 request: Request::Batch {
@@ -215,17 +221,19 @@ fn batches_are_decoded(rt: HostRuntime) -> Result<(), Fail> {
 
 #[test]
 fn refusals_and_silence_come_by_the_lines(rt: HostRuntime) -> Result<(), Fail> {
-    for (text, errno) in [
+    const ROWS: [(&[u8], u16); 3] = [
         (HEAD_OF_SEVEN, 34),
         (UNKNOWN_NUMBER, 22),
         (ASKED_AS_NOTICE, 95),
-    ] {
+    ];
+    for &(text, errno) in &ROWS {
         match decoded_of(rt.alloc(), text)? {
             Decoded::Refused { errno: told } => assert_eq!(rt; told, errno),
             _ => assert!(rt; false, "isn't refused"),
         }
     }
-    for text in [BIND_WITHOUT_REQUEST, NOTICE] {
+    const SILENT: [&[u8]; 2] = [BIND_WITHOUT_REQUEST, NOTICE];
+    for &text in &SILENT {
         assert!(rt; matches!(&decoded_of(rt.alloc(), text)?, Decoded::Nothing));
     }
     assert!(rt; next_message(&ACCEPT[..15]).is_none());
@@ -243,7 +251,7 @@ fn rewritten(alloc: Global, call: u32, text: &[u8]) -> Result<Vec<u8>, Fail> {
 
 #[test]
 fn requests_are_written_as_they_were_read(rt: HostRuntime) -> Result<(), Fail> {
-    for (text, call) in [
+    const ROWS: [(&[u8], u32); 10] = [
         (BIND_QUEUE, 1),
         (SET_PARAMS, 1),
         (EMPTY_CONFIG, 1),
@@ -254,7 +262,8 @@ fn requests_are_written_as_they_were_read(rt: HostRuntime) -> Result<(), Fail> {
         (NO_BYTES, 3),
         (EMPTY_BATCH, 3),
         (FULL_BATCH, 3),
-    ] {
+    ];
+    for &(text, call) in &ROWS {
         assert_eq!(rt; rewritten(rt.alloc(), call, text)?.as_slice(), text);
     }
     Ok(())
@@ -320,17 +329,32 @@ fn noticed(alloc: Global, mode: u8, range: u32, packet: Packet) -> Result<Vec<u8
     Ok(out)
 }
 
+/// Mode, range, mark, protocol, link header and bytes of a packet, its notice, and the length and
+/// the number of bytes that this tells.
+type Noticed = (
+    u8,
+    u32,
+    u32,
+    u16,
+    &'static [u8],
+    &'static [u8],
+    &'static [u8],
+    u32,
+    usize,
+);
+
+const NOTICES: [Noticed; 6] = [
+    (META, 0, 0, IPV4, b"", V4, META_V4, 0, 0),
+    (META, 0, 42, IPV4, TAGGED, V4, META_TAGGED, 0, 0),
+    (PACKET, MAX_RANGE, 0, IPV4, b"", V4, NOTICE, 20, 20),
+    (PACKET, 0, 0, IPV4, b"", V4, RANGE_0, 20, 0),
+    (PACKET, 5, 0, IPV4, b"", V4, RANGE_5, 20, 5),
+    (PACKET, 8, 0x0102_0304, IPV6, LINK, V6, ALL_V6, 40, 8),
+];
+
 #[test]
 fn notices_are_written_and_read(rt: HostRuntime) -> Result<(), Fail> {
-    let none = b"".as_slice();
-    for (mode, range, mark, protocol, link, bytes, text, length, told) in [
-        (META, 0, 0, IPV4, none, V4, META_V4, 0, 0),
-        (META, 0, 42, IPV4, TAGGED, V4, META_TAGGED, 0, 0),
-        (PACKET, MAX_RANGE, 0, IPV4, none, V4, NOTICE, 20, 20),
-        (PACKET, 0, 0, IPV4, none, V4, RANGE_0, 20, 0),
-        (PACKET, 5, 0, IPV4, none, V4, RANGE_5, 20, 5),
-        (PACKET, 8, 0x0102_0304, IPV6, LINK, V6, ALL_V6, 40, 8),
-    ] {
+    for &(mode, range, mark, protocol, link, bytes, text, length, told) in &NOTICES {
         let packet = waiting(rt.alloc(), mark, protocol, link, bytes)?;
         let written = noticed(rt.alloc(), mode, range, packet)?;
         assert_eq!(rt; written.as_slice(), text);
@@ -357,7 +381,8 @@ const CUT_BY_ONE: &[u8] = b"\x4c\0\x01\0\0\x03\0\0\0\0\0\0\0\0\0\0\x02\0\0\0\
 #[test]
 fn the_longest_payload_is_told(rt: HostRuntime) -> Result<(), Fail> {
     let told = vec![in rt.alloc(); 0x45; 65_531]?;
-    for (size, front) in [(65_531, LONGEST), (65_532, CUT_BY_ONE)] {
+    const ROWS: [(usize, &[u8]); 2] = [(65_531, LONGEST), (65_532, CUT_BY_ONE)];
+    for &(size, front) in &ROWS {
         let bytes = vec![in rt.alloc(); 0x45; size]?;
         let packet = waiting(rt.alloc(), 0, IPV4, b"", &bytes)?;
         let written = noticed(rt.alloc(), PACKET, MAX_RANGE, packet)?;
@@ -379,22 +404,29 @@ fn the_longest_payload_is_told(rt: HostRuntime) -> Result<(), Fail> {
 
 #[test]
 fn a_shared_notice_is_read_as_any_other(rt: HostRuntime) -> Result<(), Fail> {
-    for (text, length, payload) in [
-        (META_V4, 0, b"".as_slice()),
-        (NOTICE, 20, V4),
-        (RANGE_0, 20, b"".as_slice()),
-        (RANGE_5, 20, &V4[..5]),
-        (ALL_V6, 40, &V6[..8]),
-    ] {
+    // The notice, the length, and how many bytes of which packet.
+    const ROWS: [(&[u8], u32, &[u8], usize); 5] = [
+        (META_V4, 0, V4, 0),
+        (NOTICE, 20, V4, 20),
+        (RANGE_0, 20, V4, 0),
+        (RANGE_5, 20, V4, 5),
+        (ALL_V6, 40, V6, 8),
+    ];
+    for &(text, length, packet, told) in &ROWS {
         let bytes = Bytes::copy(rt.alloc(), text)?;
         let notice = decode_shared_notice(rt.alloc(), &bytes)?.ok_or("no notice")?;
         assert_eq!(rt; (notice.queue, notice.id, notice.length), (0, 1, length));
-        assert_eq!(rt; notice.payload.as_slice(), payload);
+        assert_eq!(rt; Some(notice.payload.as_slice()), packet.get(..told));
     }
-    for text in [&NOTICE[..91], ACCEPT] {
-        let bytes = Bytes::copy(rt.alloc(), text)?;
-        assert!(rt; decode_shared_notice(rt.alloc(), &bytes)?.is_none());
-    }
+    Ok(())
+}
+
+#[test]
+fn a_shared_text_that_is_no_notice_is_none(rt: HostRuntime) -> Result<(), Fail> {
+    let cut = Bytes::copy(rt.alloc(), &NOTICE[..91])?;
+    assert!(rt; decode_shared_notice(rt.alloc(), &cut)?.is_none());
+    let verdict = Bytes::copy(rt.alloc(), ACCEPT)?;
+    assert!(rt; decode_shared_notice(rt.alloc(), &verdict)?.is_none());
     Ok(())
 }
 
