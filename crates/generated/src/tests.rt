@@ -71,12 +71,12 @@ fn file(alloc: Global, number: u64, count: u32) -> Result<Vec<u8>, NoMemory>
 
 #[test]
 fn a_number_gives_its_packets(rt: HostRuntime) -> Result<(), Fail> {
-    let rows: [(u64, u32, &[u8]); 3] = [
+    const ROWS: [(u64, u32, &[u8]); 3] = [
         (0, 1, &OF_ZERO),
         (u64::MAX, 1, &OF_THE_LAST),
         (1, 3, &THREE),
     ];
-    for (number, count, wanted) in rows {
+    for &(number, count, wanted) in &ROWS {
         assert!(rt; count >= 1 && count <= 3);
         let bytes = file(rt.alloc(), number, count)?;
         assert_eq!(rt; bytes.as_slice(), wanted, "of {number}");
@@ -91,7 +91,8 @@ fn texts_are_as_written(rt: HostRuntime) -> Result<(), Fail> {
     let rules = b"*filter\n-A FORWARD -j NFQUEUE --queue-balance 0:7\nCOMMIT\n";
     assert_eq!(rt; rules_text(), rules.as_slice());
     let mut script = String::from_str(alloc, "hashkey 1\n")?;
-    for (port, even, odd) in [(101, 0, 1), (102, 2, 3), (103, 4, 5), (104, 6, 7)] {
+    const PORTS: [(u32, u16, u16); 4] = [(101, 0, 1), (102, 2, 3), (103, 4, 5), (104, 6, 7)];
+    for (port, even, odd) in &PORTS {
         let block = format!(in alloc; "port {port}\nopen config {even} bind params packet 64\n")?;
         script.push_str(block.as_str())?;
         let block = format!(in alloc; "open config {odd} bind params packet 64\n")?;

@@ -429,7 +429,7 @@ fn refused_of(alloc: Global, front: &str, line: &str, times: u32, back: &str) ->
 #[test]
 fn limits_are_what_they_are(rt: HostRuntime) -> Result<(), Fail> {
     // what stands once, what many times, how often, what stands after it, the refused line
-    let rows: [(&str, &str, u32, &str, u32); 14] = [
+    const ROWS: [(&str, &str, u32, &str, u32); 14] = [
         ("", "down 1 after 2\n", 1_000, "port 7\n", 0),
         ("", "down 1 after 2\n", 1_001, "port 7\n", 1_001),
         ("port 7\n", "open raw 00\n", 1_000, "", 0),
@@ -451,7 +451,7 @@ fn limits_are_what_they_are(rt: HostRuntime) -> Result<(), Fail> {
         ("port 7\nopen verdict 1 drop 1 payload ", "00", 2_048, "", 0),
         ("port 7\nopen verdict 1 drop 1 payload ", "00", 2_049, "", 2),
     ];
-    for (front, line, times, back, wanted) in rows {
+    for &(front, line, times, back, wanted) in &ROWS {
         let refused = refused_of(rt.alloc(), front, line, times, back)?;
         assert_eq!(rt; refused, wanted, "{times} times {line}");
     }
