@@ -1,7 +1,7 @@
 //! The definitions on a history that was written out by hand, and what no contract says of a place:
 //! that its calls succeed where there is memory, on each kind of input.
 
-ghost use Rattle.std.specs.Prelude.{◌≡◌, ◌≤◌, None, false, map, [], ◌∷◌, IfOk};
+ghost use Rattle.std.specs.Prelude.{◌≡◌, ◌≤◌, ◌<◌, None, false, map, [], ◌∷◌, IfOk};
 ghost use Rattle.place_history.specs.History.{replay, IsLegal};
 ghost use Rattle.place_history.specs.Stays.{departures};
 ghost use Rattle.place_history.specs.Examples.{legal_history, altered_history, one_rule};
@@ -10,7 +10,7 @@ ghost use Rattle.place_history.specs.PlaceState.{IsAt};
 ghost use Rattle.place_history.specs.Happenings.{payload_of, queue_of};
 ghost use Rattle.place_history.specs.Journeys.{AreSound};
 
-use crate::{Entries, Event, Place, Reply};
+use crate::{Entries, Entry, Event, Place, Reply};
 use hook_chain::Decision;
 use nfqa_msgs::{BIND, Head, META, PACKET, Params, Request, UNBIND};
 use packet_entry::{Bytes, IPV4, NoMemory, Packet};
@@ -193,13 +193,24 @@ fn ask(
 {
     let mut handed = Handed::new(alloc);
     let errno = place.ask(alloc, port, call, request, &mut handed);
+    let (count, _) = released(handed);
+    Ok((errno?, count))
+}
+
+/// Releases the packets that were handed out: how many there were; and of the first its mark, how
+/// many bytes it has, and its decision.
+fn released(mut handed: Handed) -> (u32, Option<(u32, usize, Decision)>) {
     let mut count = 0u32;
-    while let Some((packet, _)) = handed.take() {
+    let mut first = None;
+    while let Some((packet, decision)) = handed.take() {
+        if count == 0 {
+            first = Some((packet.mark(), packet.bytes().len(), decision));
+        }
         packet.release();
         count = count.saturating_add(1);
     }
     handed.finish();
-    Ok((errno?, count))
+    (count, first)
 }
 
 /// Lets it happen.
@@ -255,158 +266,191 @@ fn told_of(alloc: Global, all: &[Happens]) -> Result<(Vec<(u16, Reply)>, Vec<u8>
     Ok((replies, lines))
 }
 
-/// To a request: errno, and how many packets left.
-fn answer(errno: u16, taken: u32) -> Reply {
-    Reply::Answer { errno, taken }
-}
+/// To a request that succeeds and lets nothing go.
+const DONE: Reply = Reply::Answer { errno: 0, taken: 0 };
 
-/// To an arrival.
-fn arrived(outcome: Outcome) -> Reply {
-    Reply::Arrived { outcome }
-}
+/// To a request that lets one packet go.
+const ONE_LEFT: Reply = Reply::Answer { errno: 0, taken: 1 };
+
+/// To another port's request.
+const NOT_OWNED: Reply = Reply::Answer { errno: 1, taken: 0 };
+
+/// To a request at an absent queue.
+const NO_DEVICE: Reply = Reply::Answer {
+    errno: 19,
+    taken: 0,
+};
+
+/// To a closed port, or a device that goes down: nothing left, or one packet.
+const NONE_FLUSHED: Reply = Reply::Flushed { taken: 0 };
+
+const ONE_FLUSHED: Reply = Reply::Flushed { taken: 1 };
 
 /// To an arrival that waits under this id.
-fn taken(id: u32) -> Reply {
-    arrived(Outcome::Taken { id })
-}
+const TAKEN_1: Reply = Reply::Arrived {
+    outcome: Outcome::Taken { id: 1 },
+};
 
-/// To a closed port, or a device that goes down.
-fn flushed(taken: u32) -> Reply {
-    Reply::Flushed { taken }
-}
+const TAKEN_2: Reply = Reply::Arrived {
+    outcome: Outcome::Taken { id: 2 },
+};
+
+const TAKEN_3: Reply = Reply::Arrived {
+    outcome: Outcome::Taken { id: 3 },
+};
+
+/// To an arrival with any other outcome.
+const BYPASSED: Reply = Reply::Arrived {
+    outcome: Outcome::Bypassed,
+};
+
+const NO_QUEUE: Reply = Reply::Arrived {
+    outcome: Outcome::NoQueue,
+};
+
+const COPY_NONE: Reply = Reply::Arrived {
+    outcome: Outcome::CopyNone,
+};
+
+const OVERFLOW: Reply = Reply::Arrived {
+    outcome: Outcome::Overflow,
+};
+
+const OVERFLOW_OPEN: Reply = Reply::Arrived {
+    outcome: Outcome::OverflowOpen,
+};
+
+const USER_FULL_2: Reply = Reply::Arrived {
+    outcome: Outcome::UserFull { id: 2 },
+};
+
+const USER_FULL_OPEN_1: Reply = Reply::Arrived {
+    outcome: Outcome::UserFullOpen { id: 1 },
+};
 
 /// What happens at queues 0, 1 and 5 of ports 7 and 8.
-fn at_three_queues() -> [Happens; 22] {
-    use Happens::{Arrives, Asks, GoesDown};
-    [
-        Arrives(0, 1, true, true),
-        Arrives(0, 2, false, true),
-        Asks(7, 0, Words::Bind),
-        Arrives(0, 3, true, true),
-        Asks(7, 0, Words::SetUp(PACKET, 1024)),
-        Asks(8, 1, Words::Bind),
-        Asks(8, 1, Words::SetUp(PACKET, 1)),
-        Asks(7, 5, Words::Bind),
-        Asks(7, 5, Words::SetUp(META, 1)),
-        Asks(7, 5, Words::FailOpen),
-        Arrives(0, 4, false, true),
-        Arrives(0, 5, false, false),
-        Arrives(0, 6, false, true),
-        Arrives(1, 7, false, true),
-        Arrives(1, 8, false, true),
-        Arrives(5, 9, false, false),
-        Arrives(5, 10, false, true),
-        Arrives(5, 11, true, true),
-        Asks(8, 0, Words::Verdict(1, 1)),
-        Asks(7, 0, Words::Verdict(1, 1)),
-        GoesDown(3),
-        Asks(7, 5, Words::Batch(0, 2)),
-    ]
-}
+const AT_THREE_QUEUES: [Happens; 22] = [
+    Happens::Arrives(0, 1, true, true),
+    Happens::Arrives(0, 2, false, true),
+    Happens::Asks(7, 0, Words::Bind),
+    Happens::Arrives(0, 3, true, true),
+    Happens::Asks(7, 0, Words::SetUp(PACKET, 1024)),
+    Happens::Asks(8, 1, Words::Bind),
+    Happens::Asks(8, 1, Words::SetUp(PACKET, 1)),
+    Happens::Asks(7, 5, Words::Bind),
+    Happens::Asks(7, 5, Words::SetUp(META, 1)),
+    Happens::Asks(7, 5, Words::FailOpen),
+    Happens::Arrives(0, 4, false, true),
+    Happens::Arrives(0, 5, false, false),
+    Happens::Arrives(0, 6, false, true),
+    Happens::Arrives(1, 7, false, true),
+    Happens::Arrives(1, 8, false, true),
+    Happens::Arrives(5, 9, false, false),
+    Happens::Arrives(5, 10, false, true),
+    Happens::Arrives(5, 11, true, true),
+    Happens::Asks(8, 0, Words::Verdict(1, 1)),
+    Happens::Asks(7, 0, Words::Verdict(1, 1)),
+    Happens::GoesDown(3),
+    Happens::Asks(7, 5, Words::Batch(0, 2)),
+];
 
 /// The queue and the reply of each entry that this makes: a device that goes down makes one at each
 /// of the three, everything else makes one.
-fn entered_at_three_queues() -> [(u16, Reply); 24] {
-    [
-        (0, arrived(Outcome::Bypassed)),
-        (0, arrived(Outcome::NoQueue)),
-        (0, answer(0, 0)),
-        (0, arrived(Outcome::CopyNone)),
-        (0, answer(0, 0)),
-        (1, answer(0, 0)),
-        (1, answer(0, 0)),
-        (5, answer(0, 0)),
-        (5, answer(0, 0)),
-        (5, answer(0, 0)),
-        (0, taken(1)),
-        (0, arrived(Outcome::UserFull { id: 2 })),
-        (0, taken(3)),
-        (1, taken(1)),
-        (1, arrived(Outcome::Overflow)),
-        (5, arrived(Outcome::UserFullOpen { id: 1 })),
-        (5, taken(2)),
-        (5, arrived(Outcome::OverflowOpen)),
-        (0, answer(1, 0)),
-        (0, answer(0, 1)),
-        (0, flushed(0)),
-        (1, flushed(0)),
-        (5, flushed(0)),
-        (5, answer(0, 1)),
-    ]
-}
+const ENTERED_AT_THREE_QUEUES: [(u16, Reply); 24] = [
+    (0, BYPASSED),
+    (0, NO_QUEUE),
+    (0, DONE),
+    (0, COPY_NONE),
+    (0, DONE),
+    (1, DONE),
+    (1, DONE),
+    (5, DONE),
+    (5, DONE),
+    (5, DONE),
+    (0, TAKEN_1),
+    (0, USER_FULL_2),
+    (0, TAKEN_3),
+    (1, TAKEN_1),
+    (1, OVERFLOW),
+    (5, USER_FULL_OPEN_1),
+    (5, TAKEN_2),
+    (5, OVERFLOW_OPEN),
+    (0, NOT_OWNED),
+    (0, ONE_LEFT),
+    (0, NONE_FLUSHED),
+    (1, NONE_FLUSHED),
+    (5, NONE_FLUSHED),
+    (5, ONE_LEFT),
+];
 
 #[test]
 fn what_happens_at_three_queues_is_entered(rt: HostRuntime) -> Result<(), Fail> {
     let lines = "    0      7     1 2 65531     0     1        3  1\n\
                  \x20   1      8     1 2 65531     1     0        1  1\n\
                  \x20   5      7     0 1     0     0     0        2  1\n";
-    let (replies, listed) = told_of(rt.alloc(), &at_three_queues())?;
-    assert_eq!(rt; &replies[..], &entered_at_three_queues()[..]);
-    assert_eq!(rt; &listed[..], lines.as_bytes());
+    let (replies, listed) = told_of(rt.alloc(), &AT_THREE_QUEUES)?;
+    assert_eq!(rt;
+        (&replies[..], &listed[..]),
+        (&ENTERED_AT_THREE_QUEUES[..], lines.as_bytes())
+    );
     Ok(())
 }
 
 #[test]
 fn an_absent_queue_lets_a_packet_by(rt: HostRuntime) -> Result<(), Fail> {
-    let (replies, lines) = told_of(rt.alloc(), &[Happens::Arrives(0, 1, true, true)])?;
-    assert_eq!(rt; &replies[..], [(0, arrived(Outcome::Bypassed))].as_slice());
-    assert_eq!(rt; &lines[..], b"".as_slice());
+    const ALL: [Happens; 1] = [Happens::Arrives(0, 1, true, true)];
+    const ENTRIES: [(u16, Reply); 1] = [(0, BYPASSED)];
+    let (replies, lines) = told_of(rt.alloc(), &ALL)?;
+    assert_eq!(rt; (&replies[..], &lines[..]), (&ENTRIES[..], b"".as_slice()));
     Ok(())
 }
 
 #[test]
 fn a_queue_of_none_overflows_and_a_device_finds_nothing(rt: HostRuntime) -> Result<(), Fail> {
-    let all = [
+    const ALL: [Happens; 4] = [
         Happens::Asks(7, 0, Words::Bind),
         Happens::Asks(7, 0, Words::SetUp(PACKET, 0)),
         Happens::Arrives(0, 1, false, true),
         Happens::GoesDown(1),
     ];
-    let entries = [
-        (0, answer(0, 0)),
-        (0, answer(0, 0)),
-        (0, arrived(Outcome::Overflow)),
-        (0, flushed(0)),
-    ];
-    let (replies, _) = told_of(rt.alloc(), &all)?;
-    assert_eq!(rt; &replies[..], entries.as_slice());
+    const ENTRIES: [(u16, Reply); 4] = [(0, DONE), (0, DONE), (0, OVERFLOW), (0, NONE_FLUSHED)];
+    let (replies, _) = told_of(rt.alloc(), &ALL)?;
+    assert_eq!(rt; &replies[..], &ENTRIES[..]);
     Ok(())
 }
 
 #[test]
 fn a_closed_port_loses_what_waits_in_each_queue(rt: HostRuntime) -> Result<(), Fail> {
-    let copies = Words::SetUp(PACKET, 1024);
     // Another port's batch takes nothing, and then the port closes.
-    let all = [
+    const ALL: [Happens; 8] = [
         Happens::Asks(7, 0, Words::Bind),
-        Happens::Asks(7, 0, copies),
+        Happens::Asks(7, 0, Words::SetUp(PACKET, 1024)),
         Happens::Asks(7, 1, Words::Bind),
-        Happens::Asks(7, 1, copies),
+        Happens::Asks(7, 1, Words::SetUp(PACKET, 1024)),
         Happens::Arrives(1, 1, false, true),
         Happens::Arrives(0, 2, false, true),
         Happens::Asks(8, 0, Words::Batch(1, 9)),
         Happens::Closes(7),
     ];
-    let entries = [
-        (0, answer(0, 0)),
-        (0, answer(0, 0)),
-        (1, answer(0, 0)),
-        (1, answer(0, 0)),
-        (1, taken(1)),
-        (0, taken(1)),
-        (0, answer(1, 0)),
-        (0, flushed(1)),
-        (1, flushed(1)),
+    const ENTRIES: [(u16, Reply); 9] = [
+        (0, DONE),
+        (0, DONE),
+        (1, DONE),
+        (1, DONE),
+        (1, TAKEN_1),
+        (0, TAKEN_1),
+        (0, NOT_OWNED),
+        (0, ONE_FLUSHED),
+        (1, ONE_FLUSHED),
     ];
-    let (replies, lines) = told_of(rt.alloc(), &all)?;
-    assert_eq!(rt; &replies[..], entries.as_slice());
-    assert_eq!(rt; &lines[..], b"".as_slice());
+    let (replies, lines) = told_of(rt.alloc(), &ALL)?;
+    assert_eq!(rt; (&replies[..], &lines[..]), (&ENTRIES[..], b"".as_slice()));
     Ok(())
 }
 
 #[test]
 fn an_unbound_queue_is_bound_anew(rt: HostRuntime) -> Result<(), Fail> {
-    let all = [
+    const ALL: [Happens; 6] = [
         Happens::Asks(7, 65_535, Words::Bind),
         Happens::Asks(7, 65_535, Words::SetUp(PACKET, 1024)),
         Happens::Arrives(65_535, 1, false, true),
@@ -414,76 +458,99 @@ fn an_unbound_queue_is_bound_anew(rt: HostRuntime) -> Result<(), Fail> {
         Happens::Asks(7, 65_535, Words::Unbind),
         Happens::Asks(4_294_967_295, 65_535, Words::Bind),
     ];
-    let entries = [
-        (65_535, answer(0, 0)),
-        (65_535, answer(0, 0)),
-        (65_535, taken(1)),
-        (65_535, answer(0, 1)),
-        (65_535, answer(19, 0)),
-        (65_535, answer(0, 0)),
+    const ENTRIES: [(u16, Reply); 6] = [
+        (65_535, DONE),
+        (65_535, DONE),
+        (65_535, TAKEN_1),
+        (65_535, ONE_LEFT),
+        (65_535, NO_DEVICE),
+        (65_535, DONE),
     ];
     let line = "65535 4294967295     0 0 65531     0     0        0  1\n";
-    let (replies, lines) = told_of(rt.alloc(), &all)?;
-    assert_eq!(rt; &replies[..], entries.as_slice());
-    assert_eq!(rt; &lines[..], line.as_bytes());
+    let (replies, lines) = told_of(rt.alloc(), &ALL)?;
+    assert_eq!(rt; (&replies[..], &lines[..]), (&ENTRIES[..], line.as_bytes()));
     Ok(())
 }
 
 #[test]
 fn the_33rd_visit_is_turned_away(rt: HostRuntime) -> Result<(), Fail> {
-    let alloc = rt.alloc();
     // Whether the queue is bound, and which visit it is.
-    let rows = [
+    const ROWS: [(bool, u32, Outcome); 4] = [
         (false, 32, Outcome::NoQueue),
         (true, 32, Outcome::CopyNone),
         (false, 33, Outcome::Loop),
         (true, 33, Outcome::Loop),
     ];
-    for (is_bound, visits, outcome) in rows {
-        let mut place = only(alloc);
-        let bound = if is_bound {
-            happen(&mut place, alloc, 1, Happens::Asks(7, 0, Words::Bind))
-        } else {
-            Ok(())
+    for &(is_bound, visits, outcome) in &ROWS {
+        let (came, entries) = visited(rt.alloc(), is_bound, visits)?;
+        let entered = match entries.get(is_bound as usize) {
+            Some(entry) => arrival(entry),
+            None => None,
         };
-        let came = arrive(&mut place, alloc, (0, 1, false, true), visits);
-        let entries = ended(place);
-        bound?;
-        assert_eq!(rt; came?, outcome);
-        let Some(entry) = entries.get(is_bound as usize) else {
-            return Err(Fail::new("no entry"));
-        };
-        assert_eq!(rt; entry.reply, arrived(outcome));
-        let Event::Arrive { card, bypass, room } = &entry.event else {
-            return Err(Fail::new("no arrival"));
-        };
-        assert_eq!(rt; (card.visit, *bypass, *room), (visits, false, true));
+        let wanted = Some((Reply::Arrived { outcome }, visits, false, true));
+        assert_eq!(rt; (came, entered), (outcome, wanted));
     }
     Ok(())
 }
 
+/// A packet's arrival at one of its visits, at a queue that is bound or not: its outcome, and what
+/// is entered.
+fn visited(alloc: Global, is_bound: bool, visits: u32) -> Result<(Outcome, Entries), NoMemory> {
+    let mut place = only(alloc);
+    let bound = if is_bound {
+        happen(&mut place, alloc, 1, Happens::Asks(7, 0, Words::Bind))
+    } else {
+        Ok(())
+    };
+    let came = arrive(&mut place, alloc, (0, 1, false, true), visits);
+    let entries = ended(place);
+    bound?;
+    Ok((came?, entries))
+}
+
+/// Of an arrival's entry: the reply, the visit, the bypass, and whether there was room.
+fn arrival(entry: &Entry) -> Option<(Reply, u32, bool, bool)> {
+    match &entry.event {
+        Event::Arrive { card, bypass, room } => Some((entry.reply, card.visit, *bypass, *room)),
+        _ => None,
+    }
+}
+
 #[test]
 fn queues_of_64_places_stand_apart(rt: HostRuntime) -> Result<(), Fail> {
-    let alloc = rt.alloc();
     for number in 0..64u8 {
-        let mut place = Place::new(alloc, number, 64);
+        let (bound, waiting, length, entries) = three_bound(rt.alloc(), number)?;
+        assert_eq!(rt;
+            (bound, waiting, entries.len(), length),
+            ((0, 0, 0), 0, 3, 3 * 51)
+        );
         let queues = [number as u16, number as u16 + 64, number as u16 + 65_472];
-        let first = bind(&mut place, alloc, queues[0]);
-        let second = bind(&mut place, alloc, queues[1]);
-        let last = bind(&mut place, alloc, queues[2]);
-        let mut lines = Vec::new(alloc);
-        let listed = place.listing(alloc, &mut lines);
-        let waiting = place.waiting();
-        place.leave_waiting();
-        let entries = place.into_entries();
-        listed?;
-        assert_eq!(rt; (first?, second?, last?), (0, 0, 0));
-        assert_eq!(rt; (waiting, entries.len(), lines.len()), (0, 3, 3 * 51));
         for (entry, queue) in entries.iter().zip(queues) {
-            assert_eq!(rt; (entry.queue, entry.reply), (queue, answer(0, 0)));
+            assert_eq!(rt; (entry.queue, entry.reply), (queue, DONE));
         }
     }
     Ok(())
+}
+
+/// Port 7 binds three queues of one of 64 places: the errnos, how many packets wait, the length of
+/// the listing, and what is entered.
+fn three_bound(
+    alloc: Global,
+    number: u8,
+) -> Result<((u16, u16, u16), u32, usize, Entries), NoMemory>
+    requires { number < 64 }
+{
+    let mut place = Place::new(alloc, number, 64);
+    let first = bind(&mut place, alloc, number as u16);
+    let second = bind(&mut place, alloc, number as u16 + 64);
+    let last = bind(&mut place, alloc, number as u16 + 65_472);
+    let mut lines = Vec::new(alloc);
+    let listed = place.listing(alloc, &mut lines);
+    let waiting = place.waiting();
+    place.leave_waiting();
+    let entries = place.into_entries();
+    listed?;
+    Ok(((first?, second?, last?), waiting, lines.len(), entries))
 }
 
 /// Port 7 binds a queue of a place.
@@ -498,10 +565,7 @@ fn bind(place: &mut Place, alloc: Global, queue: u16) -> Result<u16, NoMemory>
 {
     let mut handed = Handed::new(alloc);
     let errno = place.ask(alloc, 7, 1, request(queue, Words::Bind), &mut handed);
-    while let Some((packet, _)) = handed.take() {
-        packet.release();
-    }
-    handed.finish();
+    released(handed);
     errno
 }
 
@@ -511,18 +575,7 @@ fn a_verdict_hands_its_packet_out(rt: HostRuntime) -> Result<(), Fail> {
     let mut place = only(alloc);
     let mut handed = Handed::new(alloc);
     let answer = decided(&mut place, alloc, &mut handed);
-    let left = match handed.take() {
-        Some((packet, decision)) => {
-            let told = (packet.mark(), packet.bytes().len(), decision);
-            packet.release();
-            Some(told)
-        }
-        None => None,
-    };
-    while let Some((packet, _)) = handed.take() {
-        packet.release();
-    }
-    handed.finish();
+    let (_, left) = released(handed);
     let entries = ended(place);
     let to_queue_9 = Decision::Queue {
         number: 9,

@@ -116,30 +116,36 @@ const BYPASS: u8 = 2;
 
 const ROOM: u8 = 1;
 
+const TAKEN: Outcome = Outcome::Taken { id: 1 };
+
+const FULL: Outcome = Outcome::UserFull { id: 1 };
+
+const FULL_OPEN: Outcome = Outcome::UserFullOpen { id: 1 };
+
+const OVER: Outcome = Outcome::Overflow;
+
+const OVER_OPEN: Outcome = Outcome::OverflowOpen;
+
 #[test]
 fn each_arrival_has_its_outcome(rt: HostRuntime) -> Result<(), Fail> {
-    let alloc = rt.alloc();
-    let taken = Outcome::Taken { id: 1 };
-    let (full, full_open) = (Outcome::UserFull { id: 1 }, Outcome::UserFullOpen { id: 1 });
-    let (over, over_open) = (Outcome::Overflow, Outcome::OverflowOpen);
     // The queue's mode, maximum and flags, where it is bound, and what the arrival has; and then
     // the outcome, the last id, and how many were dropped and user dropped.
-    let rows = [
+    const ROWS: [(Option<(u8, u32, u32)>, u8, Outcome, (u32, u32, u32)); 12] = [
         (None, LAST | BYPASS | ROOM, Outcome::Loop, (0, 0, 0)),
         (Some((2, 9, 0)), LAST | ROOM, Outcome::Loop, (0, 0, 0)),
         (None, ROOM, Outcome::NoQueue, (0, 0, 0)),
         (None, BYPASS | ROOM, Outcome::Bypassed, (0, 0, 0)),
         (Some((0, 0, 1)), BYPASS, Outcome::CopyNone, (0, 0, 0)),
-        (Some((2, 0, 1)), ROOM, over_open, (0, 0, 0)),
-        (Some((1, 0, 9)), 0, over_open, (0, 0, 0)),
-        (Some((2, 0, 8)), BYPASS | ROOM, over, (0, 1, 0)),
-        (Some((2, 1, 1)), 0, full_open, (1, 0, 0)),
-        (Some((2, 1, 8)), BYPASS, full, (1, 0, 1)),
-        (Some((1, 1, 1)), ROOM, taken, (1, 0, 0)),
-        (Some((2, 1, 0)), BYPASS | ROOM, taken, (1, 0, 0)),
+        (Some((2, 0, 1)), ROOM, OVER_OPEN, (0, 0, 0)),
+        (Some((1, 0, 9)), 0, OVER_OPEN, (0, 0, 0)),
+        (Some((2, 0, 8)), BYPASS | ROOM, OVER, (0, 1, 0)),
+        (Some((2, 1, 1)), 0, FULL_OPEN, (1, 0, 0)),
+        (Some((2, 1, 8)), BYPASS, FULL, (1, 0, 1)),
+        (Some((1, 1, 1)), ROOM, TAKEN, (1, 0, 0)),
+        (Some((2, 1, 0)), BYPASS | ROOM, TAKEN, (1, 0, 0)),
     ];
-    for (i, (bound, has, outcome, counts)) in rows.into_iter().enumerate() {
-        let answer = outcome_of(alloc, bound, has)?;
+    for (i, &(bound, has, outcome, counts)) in ROWS.iter().enumerate() {
+        let answer = outcome_of(rt.alloc(), bound, has)?;
         assert_eq!(rt; answer, (outcome, counts), "row {i}");
     }
     Ok(())
@@ -266,10 +272,9 @@ fn config(alloc: Global, bound: Option<Queue>, port: u32, asked: Asked) -> (u16,
 
 #[test]
 fn each_config_request_has_its_answer(rt: HostRuntime) -> Result<(), Fail> {
-    let alloc = rt.alloc();
     // Whether the queue is bound, to port 7; the port that asks, its command, flags and mask; and
     // then the errno, and whether the queue is bound.
-    let rows = [
+    const ROWS: [(bool, u32, Option<u8>, Option<u32>, Option<u32>, u16, bool); 17] = [
         (false, 7, Some(3), None, None, 0, false),
         (true, 8, Some(4), Some(2), None, 0, true),
         (true, 7, None, Some(1), None, 22, true),
@@ -288,10 +293,9 @@ fn each_config_request_has_its_answer(rt: HostRuntime) -> Result<(), Fail> {
         (false, 7, Some(1), Some(1), Some(1), 0, true),
         (true, 7, None, None, Some(2), 0, true),
     ];
-    for (i, row) in rows.into_iter().enumerate() {
-        let (is_bound, port, command, flags, mask, errno, stays) = row;
+    for (i, &(is_bound, port, command, flags, mask, errno, stays)) in ROWS.iter().enumerate() {
         let asked = (command, None, Some(5), flags, mask);
-        let answer = answer_of(alloc, is_bound, port, asked);
+        let answer = answer_of(rt.alloc(), is_bound, port, asked);
         assert_eq!(rt; (answer.0, answer.1.is_some()), (errno, stays), "row {i}");
     }
     Ok(())
@@ -317,7 +321,12 @@ fn answer_of(
 #[test]
 fn a_config_request_sets_the_queue_up(rt: HostRuntime) -> Result<(), Fail> {
     // Mode and range, maximum, flags and mask; and the new queue's mode, range, maximum and flags.
-    let rows = [
+    const ROWS: [(
+        Option<(u8, u32)>,
+        Option<u32>,
+        (Option<u32>, Option<u32>),
+        (u8, u32, u32, u32),
+    ); 14] = [
         (None, None, (None, None), (0, 65_531, 1024, 0)),
         (Some((0, 9)), None, (None, None), (0, 0, 1024, 0)),
         (Some((1, 9)), None, (None, None), (1, 0, 1024, 0)),
@@ -333,13 +342,13 @@ fn a_config_request_sets_the_queue_up(rt: HostRuntime) -> Result<(), Fail> {
         (None, None, (Some(31), Some(13)), (0, 65_531, 1024, 13)),
         (Some((2, 40)), Some(3), (Some(1), Some(1)), (2, 40, 3, 1)),
     ];
-    for (i, (params, maxlen, (flags, mask), then)) in rows.into_iter().enumerate() {
+    for (i, &(params, maxlen, (flags, mask), then)) in ROWS.iter().enumerate() {
         let asked = (Some(BIND), params, maxlen, flags, mask);
         let bound = answer_of(rt.alloc(), false, 7, asked);
-        assert_eq!(rt; bound, (0, Some(then)), "row {i}");
         let asked = (None, params, maxlen, flags, mask);
         let set = answer_of(rt.alloc(), true, 7, asked);
-        assert_eq!(rt; set, (0, Some(then)), "row {i}");
+        let wanted = (0, Some(then));
+        assert_eq!(rt; (bound, set), (wanted, wanted), "row {i}");
     }
     Ok(())
 }
@@ -388,11 +397,9 @@ fn decided(
 
 #[test]
 fn each_verdict_goes_its_way(rt: HostRuntime) -> Result<(), Fail> {
-    let alloc = rt.alloc();
-    let to = |number, bypass| Decision::Queue { number, bypass };
     // The verdict, the mark and the payload that it sets; and its decision, the packet's mark and
     // how many bytes it then has. (`NF_QUEUE_NR` in uapi linux/netfilter.h)
-    let rows: [(u32, Option<u32>, Option<&[u8]>, Decision, u32, usize); 12] = [
+    const ROWS: [(u32, Option<u32>, Option<&[u8]>, Decision, u32, usize); 12] = [
         (0, None, None, Decision::Drop, 0, 20),
         (1, None, None, Decision::Accept, 0, 20),
         (1, Some(9), None, Decision::Accept, 9, 20),
@@ -400,29 +407,57 @@ fn each_verdict_goes_its_way(rt: HostRuntime) -> Result<(), Fail> {
         (1, Some(u32::MAX), Some(b""), Decision::Accept, u32::MAX, 0),
         (4, None, None, Decision::Repeat, 0, 20),
         (5, None, None, Decision::Stop, 0, 20),
-        (3, None, None, to(0, false), 0, 20),
-        (589_827, None, None, to(9, false), 0, 20),
-        (622_595, Some(9), None, to(9, true), 9, 20),
-        (4_294_934_531, None, None, to(65_535, true), 0, 20),
+        (3, None, None, TO_0, 0, 20),
+        (589_827, None, None, TO_9, 0, 20),
+        (622_595, Some(9), None, TO_9_OR_BY, 9, 20),
+        (4_294_934_531, None, None, TO_LAST_OR_BY, 0, 20),
         (32_769, None, None, Decision::Accept, 0, 20),
     ];
-    for (verdict, mark, payload, decision, marked, length) in rows {
-        let mut queue = copying(alloc);
-        let waits = arrivals(alloc, &mut queue, 1);
-        let head = Head { verdict, id: 1 };
-        let other = decided(alloc, &mut queue, Head { verdict, id: 2 }, mark, payload);
-        let taken = decided(alloc, &mut queue, head, mark, payload);
-        let left = ended(queue);
-        assert_eq!(rt; waits?, 1);
-        assert!(rt; other?.is_none());
-        let (way, mark, bytes) = taken?.ok_or("nothing waits")?;
-        assert_eq!(rt;
-            (way, mark, bytes.len(), left),
-            (decision, marked, length, 0),
-            "{verdict:x}"
-        );
+    for &(verdict, mark, payload, decision, marked, length) in &ROWS {
+        let answer = one_decided(rt.alloc(), verdict, mark, payload)?;
+        let wanted = (1, false, Some((decision, marked, length)), 0);
+        assert_eq!(rt; answer, wanted, "{verdict:x}");
     }
     Ok(())
+}
+
+/// To these queues, without the bypass.
+const TO_0: Decision = Decision::Queue {
+    number: 0,
+    bypass: false,
+};
+
+const TO_9: Decision = Decision::Queue {
+    number: 9,
+    bypass: false,
+};
+
+/// To these queues, with the bypass.
+const TO_9_OR_BY: Decision = Decision::Queue {
+    number: 9,
+    bypass: true,
+};
+
+const TO_LAST_OR_BY: Decision = Decision::Queue {
+    number: 65_535,
+    bypass: true,
+};
+
+/// A verdict where one packet waits: how many the queue took, whether the verdict takes one out
+/// under the next id, what it does under the packet's own, and how many wait then.
+fn one_decided(
+    alloc: Global,
+    verdict: u32,
+    mark: Option<u32>,
+    payload: Option<&[u8]>,
+) -> Result<(u32, bool, Option<(Decision, u32, usize)>, u32), NoMemory> {
+    let mut queue = copying(alloc);
+    let waits = arrivals(alloc, &mut queue, 1);
+    let other = decided(alloc, &mut queue, Head { verdict, id: 2 }, mark, payload);
+    let taken = decided(alloc, &mut queue, Head { verdict, id: 1 }, mark, payload);
+    let left = ended(queue);
+    let taken = taken?.map(|(way, mark, bytes)| (way, mark, bytes.len()));
+    Ok((waits?, other?.is_some(), taken, left))
 }
 
 /// So many packets arrive: how many the queue takes.
@@ -484,79 +519,113 @@ type Ids = (u32, u32);
 
 #[test]
 fn batches_take_their_share(rt: HostRuntime) -> Result<(), Fail> {
-    let alloc = rt.alloc();
-    let (half, none) = (2_147_483_649, (0, 0));
     // The last id and how many arrive after it, and once more; the batch's maximum and mark; and
     // then how many it takes, their marks added up, how many wait, and the last id.
-    let rows = [
-        ((4_294_967_294, 3), none, 0, None, (2, 0), 1, 1),
-        ((2, 2), none, 2, None, (0, 0), 2, 4),
-        ((0, 1), (half, 1), half + 1, None, (0, 0), 2, half + 1),
-        ((0, 1), (0, 1), 1, None, (1, 0), 1, 2),
-        ((0, 3), none, 3, Some(7), (3, 21), 0, 3),
-        ((0, 0), none, 9, None, (0, 0), 0, 0),
-        ((0, 1024), none, 1000, Some(1), (1000, 1000), 24, 1024),
+    const ROWS: [((Ids, Ids), u32, Option<u32>, ((u32, u64), u32, u32)); 7] = [
+        (((4_294_967_294, 3), NONE_MORE), 0, None, ((2, 0), 1, 1)),
+        (((2, 2), NONE_MORE), 2, None, ((0, 0), 2, 4)),
+        (((0, 1), (HALF, 1)), PAST_HALF, None, ((0, 0), 2, PAST_HALF)),
+        (((0, 1), (0, 1)), 1, None, ((1, 0), 1, 2)),
+        (((0, 3), NONE_MORE), 3, Some(7), ((3, 21), 0, 3)),
+        (((0, 0), NONE_MORE), 9, None, ((0, 0), 0, 0)),
+        (
+            ((0, 1024), NONE_MORE),
+            1000,
+            Some(1),
+            ((1000, 1000), 24, 1024),
+        ),
     ];
-    for (i, row) in rows.into_iter().enumerate() {
-        let (first, again, maximum, mark, taken, waits, then) = row;
-        let mut queue = copying(alloc);
-        let arrived = waiting_after(alloc, &mut queue, first, again);
-        let answer = batched(alloc, &mut queue, maximum, mark);
-        let used = queue.last();
-        let left = ended(queue);
-        arrived?;
-        assert_eq!(rt; (answer?, left, used), (taken, waits, then), "row {i}");
+    for (i, &(arrive, maximum, mark, wanted)) in ROWS.iter().enumerate() {
+        let answer = one_batch(rt.alloc(), arrive, maximum, mark)?;
+        assert_eq!(rt; answer, wanted, "row {i}");
     }
     Ok(())
 }
 
+/// Half of all ids and one, and the id after it.
+const HALF: u32 = 2_147_483_649;
+
+const PAST_HALF: u32 = HALF + 1;
+
+const NONE_MORE: Ids = (0, 0);
+
+/// A batch where packets have come to wait in two groups: how many it takes, their marks added up,
+/// how many wait, and the last id.
+fn one_batch(
+    alloc: Global,
+    arrive: (Ids, Ids),
+    maximum: u32,
+    mark: Option<u32>,
+) -> Result<((u32, u64), u32, u32), NoMemory> {
+    let mut queue = copying(alloc);
+    let arrived = waiting_after(alloc, &mut queue, arrive.0, arrive.1);
+    let answer = batched(alloc, &mut queue, maximum, mark);
+    let used = queue.last();
+    let left = ended(queue);
+    arrived?;
+    Ok((answer?, left, used))
+}
+
 #[test]
 fn a_notice_tells_of_the_packet(rt: HostRuntime) -> Result<(), Fail> {
-    let alloc = rt.alloc();
     // Mode and range; and then the length and the bytes that the notice tells.
-    let rows = [
+    const ROWS: [(u8, u32, u32, usize); 4] = [
         (META, 9, 0, 0),
         (PACKET, 0, 20, 20),
         (PACKET, 8, 20, 8),
         (PACKET, 20, 20, 20),
     ];
-    for (mode, range, length, bytes) in rows {
-        let mut queue = Queue::bind(alloc, 7);
-        queue.configure(Some(Params { range, mode }), None, None, None);
-        let packet = first_visit(alloc, 3);
-        let answer = match packet {
-            Ok(packet) => arrived(alloc, &mut queue, packet, true),
-            Err(NoMemory) => Err(NoMemory),
-        };
-        ended(queue);
-        let (port, letter) = answer?.1.ok_or("no notice")?;
-        let notice = decode_notice(alloc, letter.bytes.as_slice())?.ok_or("no notice")?;
+    for &(mode, range, length, bytes) in &ROWS {
+        let (port, letter) = notice_of(rt.alloc(), Params { range, mode })?.ok_or("no notice")?;
+        let notice = decode_notice(rt.alloc(), letter.bytes.as_slice())?.ok_or("no notice")?;
         assert_eq!(rt;
-            (port, letter.queue, letter.number, letter.visit),
-            (7, 5, 3, 1)
-        );
-        assert_eq!(rt;
-            (notice.queue, notice.id, notice.length, notice.payload.len()),
-            (5, 1, length, bytes)
+            (
+                (port, letter.queue, letter.number, letter.visit),
+                (notice.queue, notice.id, notice.length, notice.payload.len())
+            ),
+            ((7, 5, 3, 1), (5, 1, length, bytes))
         );
     }
     Ok(())
 }
 
+/// The notice of packet 3 at a queue with these parameters.
+fn notice_of(alloc: Global, params: Params) -> Result<Option<(u32, Letter)>, NoMemory> {
+    let packet = first_visit(alloc, 3)?;
+    let mut queue = Queue::bind(alloc, 7);
+    queue.configure(Some(params), None, None, None);
+    let answer = arrived(alloc, &mut queue, packet, true);
+    ended(queue);
+    Ok(answer?.1)
+}
+
 #[test]
 fn what_goes_down_destroys_what_waits(rt: HostRuntime) -> Result<(), Fail> {
-    let alloc = rt.alloc();
-    // The device, and how many packets of 1100 arrivals it destroys: 1024 wait at most.
-    for (device, destroyed) in [(0, 0), (1, 1024), (2, 1024), (3, 0), (u32::MAX, 0)] {
-        let mut queue = copying(alloc);
-        let taken = arrivals(alloc, &mut queue, 1100);
-        let dropped = queue.dropped();
-        let down = queue.device_down(device);
-        let left = ended(queue);
-        assert_eq!(rt; (taken?, dropped), (1024, 76));
-        assert_eq!(rt; (down, left), (destroyed, 1024 - destroyed));
+    // The device, and how many packets of 1100 arrivals it destroys, and how many it leaves: 1024
+    // wait at most.
+    const ROWS: [(u32, u32, u32); 5] = [
+        (0, 0, 1024),
+        (1, 1024, 0),
+        (2, 1024, 0),
+        (3, 0, 1024),
+        (u32::MAX, 0, 1024),
+    ];
+    for &(device, destroyed, left) in &ROWS {
+        let answer = gone_down(rt.alloc(), device)?;
+        assert_eq!(rt; answer, (1024, 76, destroyed, left));
     }
     Ok(())
+}
+
+/// 1100 packets arrive, and then a device goes down: how many were taken and dropped, and how many
+/// it destroys and leaves.
+fn gone_down(alloc: Global, device: u32) -> Result<(u32, u32, u32, u32), NoMemory> {
+    let mut queue = copying(alloc);
+    let taken = arrivals(alloc, &mut queue, 1100);
+    let dropped = queue.dropped();
+    let down = queue.device_down(device);
+    let left = ended(queue);
+    Ok((taken?, dropped, down, left))
 }
 
 /// Puts packets with the numbers from 1 to `count` in.
@@ -574,13 +643,19 @@ fn what_is_put_comes_out_in_its_order(rt: HostRuntime) -> Result<(), Fail> {
     let alloc = rt.alloc();
     let mut handed = Handed::new(alloc);
     let put = put_all(alloc, &mut handed, 3);
+    let numbers = numbers_of(handed);
+    put?;
+    assert_eq!(rt; numbers, 123);
+    Ok(())
+}
+
+/// The packets' numbers, as digits in their order.
+fn numbers_of(mut handed: Handed) -> u32 {
     let mut numbers = 0u32;
     while let Some((packet, _)) = handed.take() {
         numbers = numbers.wrapping_mul(10).wrapping_add(packet.number());
         packet.release();
     }
     handed.finish();
-    put?;
-    assert_eq!(rt; numbers, 123);
-    Ok(())
+    numbers
 }

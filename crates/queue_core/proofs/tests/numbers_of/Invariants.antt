@@ -1,5 +1,5 @@
 use Rattle.std.proofs.Common.{length}
-use Rattle.place_history.proofs.tests.bind.Given as goal
+use Rattle.queue_core.proofs.tests.numbers_of.Given as goal
 
 abbrev pub decreases-loop-packet : goal.decreases-loop-packet
 decreases-loop-packet l = length l.handed.items
