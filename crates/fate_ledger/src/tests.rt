@@ -90,6 +90,36 @@ fn histories_of(alloc: Global, all: &[Happens], lost: Option<Lost>) -> Result<Hi
     })
 }
 
+/// The ledger of these lines.
+fn ledger_bytes(alloc: Global, lines: &FateLines) -> Result<Vec<u8>, NoMemory> {
+    let mut ledger = Vec::new(alloc);
+    ledger_text(alloc, lines, &mut ledger)?;
+    Ok(ledger)
+}
+
+/// The counts of these lines.
+fn counts_bytes(alloc: Global, lines: &FateLines) -> Result<Vec<u8>, NoMemory> {
+    let mut counts = Vec::new(alloc);
+    counts_text(alloc, lines, &mut counts)?;
+    Ok(counts)
+}
+
+/// The seconds and the length of each released frame; nothing where a payload is too long for a
+/// capture.
+fn released_bytes(alloc: Global, capture: &Capture, lines: &FateLines) -> Result<Vec<u8>, NoMemory>
+    requires { length capture.now.frames ≡ length lines.now }
+{
+    let mut bytes = Vec::new(alloc);
+    if are_short(lines) {
+        let released = released_capture(alloc, capture, lines)?;
+        for frame in &released.frames {
+            bytes.push((frame.seconds % 16) as u8)?;
+            bytes.push((frame.bytes.len() % 128) as u8)?;
+        }
+    }
+    Ok(bytes)
+}
+
 /// The ledger, the counts, and of each released frame its second and its length, where all these
 /// happen at a place and this was lost.
 fn told_of(
@@ -101,16 +131,9 @@ fn told_of(
     let histories = histories_of(alloc, all, lost)?;
     let capture = capture_of(alloc, count)?;
     let lines = fates(alloc, &capture, &histories)?;
-    let (mut ledger, mut counts, mut bytes) = (Vec::new(alloc), Vec::new(alloc), Vec::new(alloc));
-    ledger_text(alloc, &lines, &mut ledger)?;
-    counts_text(alloc, &lines, &mut counts)?;
-    if are_short(&lines) {
-        let released = released_capture(alloc, &capture, &lines)?;
-        for frame in &released.frames {
-            bytes.push((frame.seconds % 16) as u8)?;
-            bytes.push((frame.bytes.len() % 128) as u8)?;
-        }
-    }
+    let ledger = ledger_bytes(alloc, &lines)?;
+    let counts = counts_bytes(alloc, &lines)?;
+    let bytes = released_bytes(alloc, &capture, &lines)?;
     Ok((ledger, counts, bytes))
 }
 
@@ -126,28 +149,33 @@ fn has_lines(
         return Ok(false);
     }
     let histories = histories_of(alloc, all, None)?;
-    let mut ledger = Vec::new(alloc);
-    ledger_text(alloc, &fates(alloc, capture, &histories)?, &mut ledger)?;
+    let ledger = ledger_bytes(alloc, &fates(alloc, capture, &histories)?)?;
     let rest = ledger.strip_prefix(b"record fate queue at mark bytes\n");
     Ok(rest == Some(lines))
 }
 
-/// What one row says: how many frames there are, what happens, and the lines of the ledger and of
-/// the counts behind it, with the seconds and the lengths of the released frames.
+/// What one row says: how many frames there are, what happens, what is lost, and the lines of the
+/// ledger and of the counts behind it, with the seconds and the lengths of the released frames.
 fn agrees(
     alloc: Global,
     count: u8,
     all: &[Happens],
+    lost: Option<Lost>,
     told: (&[u8], &[u8], &[u8]),
 ) -> Result<bool, NoMemory> {
-    let (ledger, counts, bytes) = told_of(alloc, count, all, None)?;
+    let (ledger, counts, bytes) = told_of(alloc, count, all, lost)?;
     Ok(ledger.as_slice() == told.0 && counts.as_slice() == told.1 && bytes.as_slice() == told.2)
+}
+
+/// Whether the ledger has these lines behind its heading, where all these happen to so many frames.
+fn says(alloc: Global, count: u8, all: &[Happens], lines: &[u8]) -> Result<bool, NoMemory> {
+    has_lines(alloc, &capture_of(alloc, count)?, all, lines)
 }
 
 #[test]
 fn accepted_and_dropped_packets(rt: HostRuntime) -> Result<(), Fail> {
     use Happens::{Arrives, Asks};
-    let all = [
+    const ALL: [Happens; 8] = [
         Asks(0, Words::Bind),
         Asks(0, Words::Packets(1024)),
         Arrives(0, 1, 1),
@@ -157,21 +185,20 @@ fn accepted_and_dropped_packets(rt: HostRuntime) -> Result<(), Fail> {
         Arrives(0, 3, 1),
         Asks(0, Words::Verdict(1, 3)),
     ];
-    let ledger = b"record fate queue at mark bytes\n1 accept 0 4 0 20\n2 drop 0 6 0 20\n\
-        3 accept 0 8 0 20\n";
-    let told = (
-        ledger.as_slice(),
-        b"accept 2\ndrop 1\n".as_slice(),
-        [0, 20, 2, 20].as_slice(),
+    const TOLD: (&[u8], &[u8], &[u8]) = (
+        b"record fate queue at mark bytes\n1 accept 0 4 0 20\n2 drop 0 6 0 20\n\
+        3 accept 0 8 0 20\n",
+        b"accept 2\ndrop 1\n",
+        &[0, 20, 2, 20],
     );
-    assert!(rt; agrees(rt.alloc(), 3, &all, told)?);
+    assert!(rt; agrees(rt.alloc(), 3, &ALL, None, TOLD)?);
     Ok(())
 }
 
 #[test]
 fn packets_that_leave_out_of_order(rt: HostRuntime) -> Result<(), Fail> {
     use Happens::{Arrives, Asks};
-    let all = [
+    const ALL: [Happens; 10] = [
         Asks(0, Words::Bind),
         Asks(0, Words::Packets(1024)),
         Arrives(0, 1, 1),
@@ -183,22 +210,20 @@ fn packets_that_leave_out_of_order(rt: HostRuntime) -> Result<(), Fail> {
         Asks(0, Words::Batch(5, 1)),
         Asks(0, Words::Verdict(4, 4)),
     ];
-    let ledger = b"record fate queue at mark bytes\n1 stop 0 9 0 20\n2 accept 0 8 0 20\n\
-        3 drop 0 7 0 20\n4 repeat 0 10 0 20\n";
-    let counts = b"accept 1\nstop 1\nrepeat 1\ndrop 1\n";
-    let told = (
-        ledger.as_slice(),
-        counts.as_slice(),
-        [0, 20, 1, 20, 3, 20].as_slice(),
+    const TOLD: (&[u8], &[u8], &[u8]) = (
+        b"record fate queue at mark bytes\n1 stop 0 9 0 20\n2 accept 0 8 0 20\n\
+        3 drop 0 7 0 20\n4 repeat 0 10 0 20\n",
+        b"accept 1\nstop 1\nrepeat 1\ndrop 1\n",
+        &[0, 20, 1, 20, 3, 20],
     );
-    assert!(rt; agrees(rt.alloc(), 4, &all, told)?);
+    assert!(rt; agrees(rt.alloc(), 4, &ALL, None, TOLD)?);
     Ok(())
 }
 
 #[test]
 fn full_queues(rt: HostRuntime) -> Result<(), Fail> {
     use Happens::{Arrives, Asks, FindsNoRoom};
-    let all = [
+    const ALL: [Happens; 8] = [
         Asks(0, Words::Bind),
         Asks(0, Words::Packets(1)),
         Arrives(0, 1, 1),
@@ -208,18 +233,20 @@ fn full_queues(rt: HostRuntime) -> Result<(), Fail> {
         Asks(0, Words::Verdict(1, 1)),
         Asks(0, Words::Verdict(1, 2)),
     ];
-    let ledger = b"record fate queue at mark bytes\n1 accept 0 7 0 20\n2 overflow 0 4 0 20\n\
-        3 userfull 0 6 0 20\n";
-    let counts = b"accept 1\noverflow 1\nuserfull 1\n";
-    let told = (ledger.as_slice(), counts.as_slice(), [0, 20].as_slice());
-    assert!(rt; agrees(rt.alloc(), 3, &all, told)?);
+    const TOLD: (&[u8], &[u8], &[u8]) = (
+        b"record fate queue at mark bytes\n1 accept 0 7 0 20\n2 overflow 0 4 0 20\n\
+        3 userfull 0 6 0 20\n",
+        b"accept 1\noverflow 1\nuserfull 1\n",
+        &[0, 20],
+    );
+    assert!(rt; agrees(rt.alloc(), 3, &ALL, None, TOLD)?);
     Ok(())
 }
 
 #[test]
 fn queues_that_fail_open(rt: HostRuntime) -> Result<(), Fail> {
     use Happens::{Arrives, Asks};
-    let all = [
+    const ALL: [Happens; 12] = [
         Asks(0, Words::Bind),
         Asks(0, Words::Packets(1)),
         Asks(0, Words::FailOpen),
@@ -233,44 +260,40 @@ fn queues_that_fail_open(rt: HostRuntime) -> Result<(), Fail> {
         Arrives(1, 1, 2),
         Asks(1, Words::Batch(1, 2)),
     ];
-    let ledger = b"record fate queue at mark bytes\n1 accept 1 5 0 20\n2 accept 1 5 0 20\n\
-        3 failopen 0 6 0 20\n";
-    let counts = b"accept 2\nfailopen 1\n";
-    let told = (
-        ledger.as_slice(),
-        counts.as_slice(),
-        [0, 20, 1, 20, 2, 20].as_slice(),
+    const TOLD: (&[u8], &[u8], &[u8]) = (
+        b"record fate queue at mark bytes\n1 accept 1 5 0 20\n2 accept 1 5 0 20\n\
+        3 failopen 0 6 0 20\n",
+        b"accept 2\nfailopen 1\n",
+        &[0, 20, 1, 20, 2, 20],
     );
-    assert!(rt; agrees(rt.alloc(), 3, &all, told)?);
+    assert!(rt; agrees(rt.alloc(), 3, &ALL, None, TOLD)?);
     Ok(())
 }
 
 #[test]
 fn absent_queues_and_no_copies(rt: HostRuntime) -> Result<(), Fail> {
     use Happens::{Arrives, Asks, Passes};
-    let all = [
+    const ALL: [Happens; 5] = [
         Passes(5, 1, 1),
         Arrives(5, 2, 1),
         Asks(0, Words::Bind),
         Passes(0, 3, 1),
         Arrives(0, 4, 33),
     ];
-    let ledger = b"record fate queue at mark bytes\n1 bypass 5 1 0 20\n2 noqueue 5 2 0 20\n\
-        3 copynone 0 2 0 20\n4 loop 0 3 0 20\n5 unhooked - - 0 20\n";
-    let counts = b"unhooked 1\nbypass 1\nnoqueue 1\ncopynone 1\nloop 1\n";
-    let told = (
-        ledger.as_slice(),
-        counts.as_slice(),
-        [0, 20, 4, 20].as_slice(),
+    const TOLD: (&[u8], &[u8], &[u8]) = (
+        b"record fate queue at mark bytes\n1 bypass 5 1 0 20\n2 noqueue 5 2 0 20\n\
+        3 copynone 0 2 0 20\n4 loop 0 3 0 20\n5 unhooked - - 0 20\n",
+        b"unhooked 1\nbypass 1\nnoqueue 1\ncopynone 1\nloop 1\n",
+        &[0, 20, 4, 20],
     );
-    assert!(rt; agrees(rt.alloc(), 5, &all, told)?);
+    assert!(rt; agrees(rt.alloc(), 5, &ALL, None, TOLD)?);
     Ok(())
 }
 
 #[test]
 fn marks_and_replaced_bytes(rt: HostRuntime) -> Result<(), Fail> {
     use Happens::{Arrives, Asks};
-    let all = [
+    const ALL: [Happens; 8] = [
         Asks(0, Words::Bind),
         Asks(0, Words::Packets(9)),
         Arrives(0, 1, 1),
@@ -280,22 +303,20 @@ fn marks_and_replaced_bytes(rt: HostRuntime) -> Result<(), Fail> {
         Arrives(0, 3, 1),
         Asks(0, Words::Verdict(5, 3)),
     ];
-    let ledger = b"record fate queue at mark bytes\n1 repeat 0 4 1 20\n2 accept 0 6 0 24\n\
-        3 stop 0 8 0 20\n";
-    let counts = b"accept 1\nstop 1\nrepeat 1\n";
-    let told = (
-        ledger.as_slice(),
-        counts.as_slice(),
-        [0, 20, 1, 24, 2, 20].as_slice(),
+    const TOLD: (&[u8], &[u8], &[u8]) = (
+        b"record fate queue at mark bytes\n1 repeat 0 4 1 20\n2 accept 0 6 0 24\n\
+        3 stop 0 8 0 20\n",
+        b"accept 1\nstop 1\nrepeat 1\n",
+        &[0, 20, 1, 24, 2, 20],
     );
-    assert!(rt; agrees(rt.alloc(), 3, &all, told)?);
+    assert!(rt; agrees(rt.alloc(), 3, &ALL, None, TOLD)?);
     Ok(())
 }
 
 #[test]
 fn queues_that_end(rt: HostRuntime) -> Result<(), Fail> {
     use Happens::{Arrives, Asks, Closes, GoesDown};
-    let all = [
+    const ALL: [Happens; 13] = [
         Asks(0, Words::Bind),
         Asks(0, Words::Packets(9)),
         Arrives(0, 1, 1),
@@ -310,70 +331,75 @@ fn queues_that_end(rt: HostRuntime) -> Result<(), Fail> {
         Asks(1, Words::Packets(9)),
         Arrives(1, 4, 1),
     ];
-    let ledger = b"record fate queue at mark bytes\n1 devicedown 0 4 0 20\n2 unbind 0 6 0 20\n\
-        3 portclosed 0 10 0 20\n4 waiting 1 3 0 20\n";
-    let counts = b"unbind 1\nportclosed 1\ndevicedown 1\nwaiting 1\n";
-    let told = (ledger.as_slice(), counts.as_slice(), [].as_slice());
-    assert!(rt; agrees(rt.alloc(), 4, &all, told)?);
+    const TOLD: (&[u8], &[u8], &[u8]) = (
+        b"record fate queue at mark bytes\n1 devicedown 0 4 0 20\n2 unbind 0 6 0 20\n\
+        3 portclosed 0 10 0 20\n4 waiting 1 3 0 20\n",
+        b"unbind 1\nportclosed 1\ndevicedown 1\nwaiting 1\n",
+        &[],
+    );
+    assert!(rt; agrees(rt.alloc(), 4, &ALL, None, TOLD)?);
     Ok(())
 }
 
 #[test]
 fn a_packet_that_was_lost(rt: HostRuntime) -> Result<(), Fail> {
     use Happens::{Arrives, Asks};
-    let all = [
+    const ALL: [Happens; 4] = [
         Asks(0, Words::Bind),
         Asks(0, Words::Packets(9)),
         Arrives(0, 1, 1),
         Asks(0, Words::Verdict(1, 1)),
     ];
-    let lost = Lost {
+    const LOST: Lost = Lost {
         number: 1,
         visit: 2,
     };
-    let (ledger, counts, bytes) = told_of(rt.alloc(), 1, &all, Some(lost))?;
-    let line = b"record fate queue at mark bytes\n1 nomemory 0 4 0 20\n";
-    assert!(rt; ledger.as_slice() == line.as_slice());
-    assert!(rt; counts.as_slice() == b"nomemory 1\n".as_slice());
-    assert!(rt; bytes.is_empty());
+    const TOLD: (&[u8], &[u8], &[u8]) = (
+        b"record fate queue at mark bytes\n1 nomemory 0 4 0 20\n",
+        b"nomemory 1\n",
+        &[],
+    );
+    assert!(rt; agrees(rt.alloc(), 1, &ALL, Some(LOST), TOLD)?);
     Ok(())
 }
 
 #[test]
 fn an_empty_capture_has_the_heading_alone(rt: HostRuntime) -> Result<(), Fail> {
     use Happens::Asks;
-    let all = [Asks(0, Words::Bind), Asks(0, Words::Whole)];
-    assert!(rt; has_lines(rt.alloc(), &capture_of(rt.alloc(), 0)?, &all, b"")?);
+    const ALL: [Happens; 2] = [Asks(0, Words::Bind), Asks(0, Words::Whole)];
+    assert!(rt; says(rt.alloc(), 0, &ALL, b"")?);
     Ok(())
+}
+
+/// Whether three packets have these lines where so many of them may wait.
+fn overflows(alloc: Global, maximum: u32, lines: &[u8]) -> Result<bool, NoMemory> {
+    use Happens::{Arrives, Asks};
+    let all = [
+        Asks(0, Words::Bind),
+        Asks(0, Words::Whole),
+        Asks(0, Words::Maximum(maximum)),
+        Arrives(0, 1, 1),
+        Arrives(0, 2, 1),
+        Arrives(0, 3, 1),
+        Asks(0, Words::Verdict(1, 1)),
+    ];
+    says(alloc, 3, &all, lines)
 }
 
 #[test]
 fn each_overflow_is_named_by_its_arrival(rt: HostRuntime) -> Result<(), Fail> {
-    use Happens::{Arrives, Asks};
-    let three = capture_of(rt.alloc(), 3)?;
-    for (maximum, lines) in [
+    const ROWS: [(u32, &[u8]); 2] = [
         (
             1,
-            b"1 accept 0 7 0 20\n2 overflow 0 5 0 20\n3 overflow 0 6 0 20\n".as_slice(),
+            b"1 accept 0 7 0 20\n2 overflow 0 5 0 20\n3 overflow 0 6 0 20\n",
         ),
         (
             0,
             b"1 overflow 0 4 0 20\n2 overflow 0 5 0 20\n3 overflow 0 6 0 20\n",
         ),
-    ] {
-        let all = [
-            Asks(0, Words::Bind),
-            Asks(0, Words::Whole),
-            Asks(0, Words::Maximum(maximum)),
-            Arrives(0, 1, 1),
-            Arrives(0, 2, 1),
-            Arrives(0, 3, 1),
-            Asks(0, Words::Verdict(1, 1)),
-        ];
-        assert!(rt;
-            has_lines(rt.alloc(), &three, &all, lines)?,
-            "maximum {maximum}"
-        );
+    ];
+    for &(maximum, lines) in &ROWS {
+        assert!(rt; overflows(rt.alloc(), maximum, lines)?, "maximum {maximum}");
     }
     Ok(())
 }
@@ -381,7 +407,7 @@ fn each_overflow_is_named_by_its_arrival(rt: HostRuntime) -> Result<(), Fail> {
 #[test]
 fn what_fails_open_leaves_at_the_next_queue(rt: HostRuntime) -> Result<(), Fail> {
     use Happens::{Arrives, Asks};
-    let all = [
+    const ALL: [Happens; 16] = [
         Asks(0, Words::Bind),
         Asks(0, Words::Whole),
         Asks(0, Words::Maximum(1)),
@@ -399,15 +425,15 @@ fn what_fails_open_leaves_at_the_next_queue(rt: HostRuntime) -> Result<(), Fail>
         Asks(1, Words::Verdict(1, 2)),
         Asks(1, Words::Verdict(1, 3)),
     ];
-    let lines = b"1 accept 1 8 0 20\n2 accept 1 6 0 20\n3 accept 1 7 0 20\n";
-    assert!(rt; has_lines(rt.alloc(), &capture_of(rt.alloc(), 3)?, &all, lines)?);
+    const LINES: &[u8] = b"1 accept 1 8 0 20\n2 accept 1 6 0 20\n3 accept 1 7 0 20\n";
+    assert!(rt; says(rt.alloc(), 3, &ALL, LINES)?);
     Ok(())
 }
 
 #[test]
 fn a_full_mailbox_is_named_by_the_arrival(rt: HostRuntime) -> Result<(), Fail> {
     use Happens::{Arrives, Asks, FindsNoRoom};
-    let all = [
+    const ALL: [Happens; 7] = [
         Asks(0, Words::Bind),
         Asks(0, Words::Whole),
         Arrives(0, 1, 1),
@@ -416,44 +442,52 @@ fn a_full_mailbox_is_named_by_the_arrival(rt: HostRuntime) -> Result<(), Fail> {
         Asks(0, Words::Verdict(1, 1)),
         Asks(0, Words::Verdict(1, 2)),
     ];
-    let lines = b"1 accept 0 6 0 20\n2 userfull 0 4 0 20\n3 userfull 0 5 0 20\n";
-    assert!(rt; has_lines(rt.alloc(), &capture_of(rt.alloc(), 3)?, &all, lines)?);
+    const LINES: &[u8] = b"1 accept 0 6 0 20\n2 userfull 0 4 0 20\n3 userfull 0 5 0 20\n";
+    assert!(rt; says(rt.alloc(), 3, &ALL, LINES)?);
     Ok(())
 }
 
 #[test]
-fn queues_without_a_copy_or_a_port(rt: HostRuntime) -> Result<(), Fail> {
-    use Happens::{Arrives, Asks, Passes};
-    let three = capture_of(rt.alloc(), 3)?;
-    let bound = [
+fn a_queue_without_a_copy(rt: HostRuntime) -> Result<(), Fail> {
+    use Happens::{Asks, Passes};
+    const ALL: [Happens; 4] = [
         Asks(0, Words::Bind),
         Passes(0, 1, 1),
         Passes(0, 2, 1),
         Passes(0, 3, 1),
     ];
-    let lines = b"1 copynone 0 2 0 20\n2 copynone 0 3 0 20\n3 copynone 0 4 0 20\n";
-    assert!(rt; has_lines(rt.alloc(), &three, &bound, lines)?);
+    const LINES: &[u8] = b"1 copynone 0 2 0 20\n2 copynone 0 3 0 20\n3 copynone 0 4 0 20\n";
+    assert!(rt; says(rt.alloc(), 3, &ALL, LINES)?);
+    Ok(())
+}
 
-    let passed = [Passes(5, 1, 1), Passes(5, 2, 1), Passes(5, 3, 1)];
-    let lines = b"1 bypass 5 1 0 20\n2 bypass 5 2 0 20\n3 bypass 5 3 0 20\n";
-    assert!(rt; has_lines(rt.alloc(), &three, &passed, lines)?);
+#[test]
+fn a_queue_without_a_port_is_passed(rt: HostRuntime) -> Result<(), Fail> {
+    use Happens::Passes;
+    const ALL: [Happens; 3] = [Passes(5, 1, 1), Passes(5, 2, 1), Passes(5, 3, 1)];
+    const LINES: &[u8] = b"1 bypass 5 1 0 20\n2 bypass 5 2 0 20\n3 bypass 5 3 0 20\n";
+    assert!(rt; says(rt.alloc(), 3, &ALL, LINES)?);
+    Ok(())
+}
 
-    let stopped = [Arrives(5, 1, 1), Arrives(5, 2, 1), Arrives(5, 3, 1)];
-    let lines = b"1 noqueue 5 1 0 20\n2 noqueue 5 2 0 20\n3 noqueue 5 3 0 20\n";
-    assert!(rt; has_lines(rt.alloc(), &three, &stopped, lines)?);
+#[test]
+fn a_queue_without_a_port_stops_packets(rt: HostRuntime) -> Result<(), Fail> {
+    use Happens::Arrives;
+    const ALL: [Happens; 3] = [Arrives(5, 1, 1), Arrives(5, 2, 1), Arrives(5, 3, 1)];
+    const LINES: &[u8] = b"1 noqueue 5 1 0 20\n2 noqueue 5 2 0 20\n3 noqueue 5 3 0 20\n";
+    assert!(rt; says(rt.alloc(), 3, &ALL, LINES)?);
     Ok(())
 }
 
 #[test]
 fn a_shorter_payload_is_the_ledgers_length(rt: HostRuntime) -> Result<(), Fail> {
     use Happens::{ArrivesLong, Asks};
-    let all = [
+    const ALL: [Happens; 3] = [
         Asks(0, Words::BindWhole),
         ArrivesLong(0, 1, 84),
         Asks(0, Words::Replaces(1, 40)),
     ];
-    let one = capture_of(rt.alloc(), 1)?;
-    assert!(rt; has_lines(rt.alloc(), &one, &all, b"1 accept 0 3 0 40\n")?);
+    assert!(rt; says(rt.alloc(), 1, &ALL, b"1 accept 0 3 0 40\n")?);
     Ok(())
 }
 
@@ -486,7 +520,7 @@ fn ethernet(alloc: Global, lengths: &[usize]) -> Result<Capture, NoMemory> {
 #[test]
 fn a_frame_that_no_rule_sees_has_its_whole_length(rt: HostRuntime) -> Result<(), Fail> {
     use Happens::{Arrives, ArrivesLong, Asks};
-    let all = [
+    const ALL: [Happens; 6] = [
         Asks(0, Words::Bind),
         Asks(0, Words::Whole),
         Arrives(0, 2, 1),
@@ -494,53 +528,70 @@ fn a_frame_that_no_rule_sees_has_its_whole_length(rt: HostRuntime) -> Result<(),
         ArrivesLong(0, 3, 40),
         Asks(0, Words::Verdict(1, 2)),
     ];
+    const LINES: &[u8] = b"1 unhooked - - 0 42\n2 accept 0 4 0 20\n3 accept 0 6 0 40\n";
     let capture = ethernet(rt.alloc(), &[42, 38, 54])?;
-    let lines = b"1 unhooked - - 0 42\n2 accept 0 4 0 20\n3 accept 0 6 0 40\n";
-    assert!(rt; has_lines(rt.alloc(), &capture, &all, lines)?);
+    assert!(rt; has_lines(rt.alloc(), &capture, &ALL, LINES)?);
     Ok(())
 }
 
 #[test]
-fn a_packet_that_is_repeated(rt: HostRuntime) -> Result<(), Fail> {
+fn a_packet_that_is_repeated_once(rt: HostRuntime) -> Result<(), Fail> {
     use Happens::{Arrives, Asks};
-    let one = capture_of(rt.alloc(), 1)?;
-    let once = [
+    const ALL: [Happens; 4] = [
         Asks(0, Words::Bind),
         Asks(0, Words::Whole),
         Arrives(0, 1, 1),
         Asks(0, Words::Marked(4, 1, 1)),
     ];
-    assert!(rt; has_lines(rt.alloc(), &one, &once, b"1 repeat 0 4 1 20\n")?);
-
-    let mut ever = Vec::new(rt.alloc());
-    ever.push(Asks(0, Words::Bind))?;
-    ever.push(Asks(0, Words::Whole))?;
-    for visit in 1..33 {
-        ever.push(Arrives(0, 1, visit))?;
-        ever.push(Asks(0, Words::Verdict(4, visit)))?;
-    }
-    ever.push(Arrives(0, 1, 33))?;
-    assert!(rt; has_lines(rt.alloc(), &one, &ever, b"1 loop 0 67 0 20\n")?);
+    assert!(rt; says(rt.alloc(), 1, &ALL, b"1 repeat 0 4 1 20\n")?);
     Ok(())
+}
+
+/// A packet that is repeated at each visit, up to the one that is too many.
+fn repeats(alloc: Global) -> Result<Vec<Happens>, NoMemory> {
+    use Happens::{Arrives, Asks};
+    let mut all = Vec::new(alloc);
+    all.push(Asks(0, Words::Bind))?;
+    all.push(Asks(0, Words::Whole))?;
+    for visit in 1..33 {
+        all.push(Arrives(0, 1, visit))?;
+        all.push(Asks(0, Words::Verdict(4, visit)))?;
+    }
+    all.push(Arrives(0, 1, 33))?;
+    Ok(all)
+}
+
+#[test]
+fn a_packet_that_is_repeated_at_each_visit(rt: HostRuntime) -> Result<(), Fail> {
+    let all = repeats(rt.alloc())?;
+    assert!(rt; says(rt.alloc(), 1, &all, b"1 loop 0 67 0 20\n")?);
+    Ok(())
+}
+
+/// Whether a packet that one verdict sends to queue 9, and that fares there as this says, has this
+/// line.
+fn sent_on(alloc: Global, verdict: u32, onward: Happens, line: &[u8]) -> Result<bool, NoMemory> {
+    use Happens::{Arrives, Asks};
+    let all = [
+        Asks(0, Words::Bind),
+        Asks(0, Words::Whole),
+        Arrives(0, 1, 1),
+        Asks(0, Words::Verdict(verdict, 1)),
+        onward,
+    ];
+    says(alloc, 1, &all, line)
 }
 
 #[test]
 fn a_packet_that_is_sent_to_an_absent_queue(rt: HostRuntime) -> Result<(), Fail> {
-    use Happens::{Arrives, Asks, Passes};
-    let one = capture_of(rt.alloc(), 1)?;
-    for (verdict, onward, line) in [
-        (622_595, Passes(9, 1, 2), b"1 bypass 9 1 0 20\n".as_slice()),
+    use Happens::{Arrives, Passes};
+    const ROWS: [(u32, Happens, &[u8]); 2] = [
+        (622_595, Passes(9, 1, 2), b"1 bypass 9 1 0 20\n"),
         (589_827, Arrives(9, 1, 2), b"1 noqueue 9 1 0 20\n"),
-    ] {
-        let all = [
-            Asks(0, Words::Bind),
-            Asks(0, Words::Whole),
-            Arrives(0, 1, 1),
-            Asks(0, Words::Verdict(verdict, 1)),
-            onward,
-        ];
+    ];
+    for &(verdict, onward, line) in &ROWS {
         assert!(rt;
-            has_lines(rt.alloc(), &one, &all, line)?,
+            sent_on(rt.alloc(), verdict, onward, line)?,
             "verdict {verdict}"
         );
     }
@@ -550,7 +601,7 @@ fn a_packet_that_is_sent_to_an_absent_queue(rt: HostRuntime) -> Result<(), Fail>
 #[test]
 fn an_unbound_queue_names_its_request(rt: HostRuntime) -> Result<(), Fail> {
     use Happens::{Arrives, Asks};
-    let all = [
+    const ALL: [Happens; 7] = [
         Asks(0, Words::Bind),
         Asks(0, Words::Whole),
         Arrives(0, 1, 1),
@@ -559,25 +610,30 @@ fn an_unbound_queue_names_its_request(rt: HostRuntime) -> Result<(), Fail> {
         Asks(0, Words::Unbind),
         Asks(0, Words::Batch(1, 3)),
     ];
-    let lines = b"1 unbind 0 6 0 20\n2 unbind 0 6 0 20\n3 unbind 0 6 0 20\n";
-    assert!(rt; has_lines(rt.alloc(), &capture_of(rt.alloc(), 3)?, &all, lines)?);
+    const LINES: &[u8] = b"1 unbind 0 6 0 20\n2 unbind 0 6 0 20\n3 unbind 0 6 0 20\n";
+    assert!(rt; says(rt.alloc(), 3, &ALL, LINES)?);
     Ok(())
 }
 
 #[test]
-fn a_port_that_closes_and_a_device_that_goes_down(rt: HostRuntime) -> Result<(), Fail> {
-    use Happens::{Arrives, Asks, Closes, GoesDown};
-    let closed = [
+fn a_port_that_closes(rt: HostRuntime) -> Result<(), Fail> {
+    use Happens::{Arrives, Asks, Closes};
+    const ALL: [Happens; 5] = [
         Asks(0, Words::BindWhole),
         Asks(1, Words::BindWhole),
         Arrives(0, 1, 1),
         Arrives(1, 2, 1),
         Closes,
     ];
-    let lines = b"1 portclosed 0 3 0 20\n2 portclosed 1 3 0 20\n";
-    assert!(rt; has_lines(rt.alloc(), &capture_of(rt.alloc(), 2)?, &closed, lines)?);
+    const LINES: &[u8] = b"1 portclosed 0 3 0 20\n2 portclosed 1 3 0 20\n";
+    assert!(rt; says(rt.alloc(), 2, &ALL, LINES)?);
+    Ok(())
+}
 
-    let down = [
+#[test]
+fn a_device_that_goes_down(rt: HostRuntime) -> Result<(), Fail> {
+    use Happens::{Arrives, Asks, GoesDown};
+    const ALL: [Happens; 6] = [
         Asks(0, Words::Bind),
         Asks(0, Words::Whole),
         Arrives(0, 1, 1),
@@ -585,15 +641,14 @@ fn a_port_that_closes_and_a_device_that_goes_down(rt: HostRuntime) -> Result<(),
         GoesDown,
         Arrives(0, 3, 1),
     ];
-    let lines = b"1 devicedown 0 5 0 20\n2 devicedown 0 5 0 20\n3 waiting 0 6 0 20\n";
-    assert!(rt; has_lines(rt.alloc(), &capture_of(rt.alloc(), 3)?, &down, lines)?);
+    const LINES: &[u8] = b"1 devicedown 0 5 0 20\n2 devicedown 0 5 0 20\n3 waiting 0 6 0 20\n";
+    assert!(rt; says(rt.alloc(), 3, &ALL, LINES)?);
     Ok(())
 }
 
-/// A frame of an Ethernet capture with this fate and this last payload, as it is written; nothing
-/// where it isn't.
-fn written(alloc: Global, frame: &[u8], fate: Fate, payload: &[u8]) -> Result<Vec<u8>, NoMemory>
-    requires { length payload.now ≤ longest_packet }
+/// An Ethernet capture of this frame.
+fn one_frame(alloc: Global, frame: &[u8]) -> Result<Capture, NoMemory>
+    ensures { IfOk result (λ capture. length capture.frames ≡ 1) }
 {
     let mut frames = Frames::new(alloc);
     let bytes = Bytes::copy(alloc, frame)?;
@@ -605,6 +660,23 @@ fn written(alloc: Global, frame: &[u8], fate: Fate, payload: &[u8]) -> Result<Ve
             bytes,
         })
         .map_err(|_| NoMemory)?;
+    Ok(Capture {
+        big: false,
+        nanos: false,
+        zone: 0,
+        sigfigs: 0,
+        snap: SNAP,
+        link: 1,
+        frames,
+    })
+}
+
+/// The line of a packet with this fate and this last payload.
+fn one_line(alloc: Global, fate: Fate, payload: &[u8]) -> Result<FateLines, NoMemory>
+    requires { length payload.now ≤ longest_packet }
+    ensures one { IfOk result (λ lines. length lines ≡ 1) }
+    ensures short { IfOk result (λ lines. All (λ l. length l.payload ≤ longest_packet) lines) }
+{
     let mut lines = FateLines::new(alloc);
     let payload = Bytes::copy(alloc, payload)?;
     lines
@@ -617,15 +689,16 @@ fn written(alloc: Global, frame: &[u8], fate: Fate, payload: &[u8]) -> Result<Ve
             payload,
         })
         .map_err(|_| NoMemory)?;
-    let capture = Capture {
-        big: false,
-        nanos: false,
-        zone: 0,
-        sigfigs: 0,
-        snap: SNAP,
-        link: 1,
-        frames,
-    };
+    Ok(lines)
+}
+
+/// A frame of an Ethernet capture with this fate and this last payload, as it is written; nothing
+/// where it isn't.
+fn written(alloc: Global, frame: &[u8], fate: Fate, payload: &[u8]) -> Result<Vec<u8>, NoMemory>
+    requires { length payload.now ≤ longest_packet }
+{
+    let capture = one_frame(alloc, frame)?;
+    let lines = one_line(alloc, fate, payload)?;
     let mut out = Vec::new(alloc);
     for frame in &released_capture(alloc, &capture, &lines)?.frames {
         out.push((frame.original % 128) as u8)?;

@@ -72,17 +72,17 @@ fn arrives(alloc: Global, mark: u32, outcome: Outcome) -> Result<Vec<u8>, NoMemo
 
 #[test]
 fn arrivals_that_are_taken(rt: HostRuntime) -> Result<(), Fail> {
+    const LINE: &[u8] = b">nfq-journal 1\nA 9 3 2 1 y n 4 5 6 2048 ab01 - taken:4294967295\nend\n";
     let taken = arrives(rt.alloc(), 4, Outcome::Taken { id: 4_294_967_295 })?;
-    let line = b">nfq-journal 1\nA 9 3 2 1 y n 4 5 6 2048 ab01 - taken:4294967295\nend\n";
-    assert!(rt; taken.as_slice() == line.as_slice());
+    assert!(rt; taken.as_slice() == LINE);
     Ok(())
 }
 
 #[test]
 fn arrivals_that_are_turned_away(rt: HostRuntime) -> Result<(), Fail> {
+    const LINE: &[u8] = b">nfq-journal 1\nA 9 3 2 1 y n 0 5 6 2048 ab01 - userfull-open:7\nend\n";
     let full = arrives(rt.alloc(), 0, Outcome::UserFullOpen { id: 7 })?;
-    let line = b">nfq-journal 1\nA 9 3 2 1 y n 0 5 6 2048 ab01 - userfull-open:7\nend\n";
-    assert!(rt; full.as_slice() == line.as_slice());
+    assert!(rt; full.as_slice() == LINE);
     Ok(())
 }
 
@@ -96,93 +96,111 @@ fn asks(alloc: Global, request: Request, errno: u16, taken: u32) -> Result<Vec<u
     told_of(alloc, 2, event, Reply::Answer { errno, taken })
 }
 
-#[test]
-fn config_requests(rt: HostRuntime) -> Result<(), Fail> {
-    let request = Request::Config {
+/// A config request with each part.
+fn config() -> Request {
+    Request::Config {
         queue: 2,
         command: Some(1),
         params: Some(Params { range: 64, mode: 2 }),
         maxlen: Some(3),
         flags: Some(4),
         mask: Some(5),
-    };
-    let told = asks(rt.alloc(), request, 16, 0)?;
-    let line = b">nfq-journal 1\n\
-        M 2 7 12 config 2 cmd 1 params 2 64 maxlen 3 flags 4 mask 5 = 16 0\nend\n";
-    assert!(rt; told.as_slice() == line.as_slice());
-    Ok(())
+    }
 }
 
 #[test]
-fn verdict_requests(rt: HostRuntime) -> Result<(), Fail> {
-    let alloc = rt.alloc();
-    let request = Request::Verdict {
+fn config_requests(rt: HostRuntime) -> Result<(), Fail> {
+    const LINE: &[u8] = b">nfq-journal 1\n\
+        M 2 7 12 config 2 cmd 1 params 2 64 maxlen 3 flags 4 mask 5 = 16 0\nend\n";
+    let told = asks(rt.alloc(), config(), 16, 0)?;
+    assert!(rt; told.as_slice() == LINE);
+    Ok(())
+}
+
+/// A verdict with a mark and a payload.
+fn verdict(alloc: Global) -> Result<Request, NoMemory> {
+    Ok(Request::Verdict {
         queue: 2,
         head: Some(Head { verdict: 4, id: 8 }),
         mark: Some(9),
         payload: Some(Bytes::copy(alloc, &[0x0f])?),
-    };
-    let told = asks(alloc, request, 0, 1)?;
-    let line = b">nfq-journal 1\nM 2 7 12 verdict 2 4 8 mark 9 payload 0f = 0 1\nend\n";
-    assert!(rt; told.as_slice() == line.as_slice());
+    })
+}
+
+#[test]
+fn verdict_requests(rt: HostRuntime) -> Result<(), Fail> {
+    const LINE: &[u8] = b">nfq-journal 1\nM 2 7 12 verdict 2 4 8 mark 9 payload 0f = 0 1\nend\n";
+    let told = asks(rt.alloc(), verdict(rt.alloc())?, 0, 1)?;
+    assert!(rt; told.as_slice() == LINE);
     Ok(())
 }
 
 #[test]
 fn batch_requests(rt: HostRuntime) -> Result<(), Fail> {
+    const LINE: &[u8] = b">nfq-journal 1\nM 2 7 12 batch 2 - = 22 0\nend\n";
     let request = Request::Batch {
         queue: 2,
         head: None,
         mark: None,
     };
     let told = asks(rt.alloc(), request, 22, 0)?;
-    let line = b">nfq-journal 1\nM 2 7 12 batch 2 - = 22 0\nend\n";
-    assert!(rt; told.as_slice() == line.as_slice());
+    assert!(rt; told.as_slice() == LINE);
+    Ok(())
+}
+
+/// The journal of one thing that took three packets back.
+fn flushed(alloc: Global, queue: u16, event: Event) -> Result<Vec<u8>, NoMemory> {
+    told_of(alloc, queue, event, Reply::Flushed { taken: 3 })
+}
+
+#[test]
+fn ports_that_close(rt: HostRuntime) -> Result<(), Fail> {
+    let closed = flushed(rt.alloc(), 0, Event::PortClosed { port: 7 })?;
+    assert!(rt; closed.as_slice() == b">nfq-journal 1\nC 0 7 3\nend\n".as_slice());
     Ok(())
 }
 
 #[test]
-fn ports_and_devices(rt: HostRuntime) -> Result<(), Fail> {
-    let alloc = rt.alloc();
-    let flushed = Reply::Flushed { taken: 3 };
-    let closed = told_of(alloc, 0, Event::PortClosed { port: 7 }, flushed)?;
-    assert!(rt; closed.as_slice() == b">nfq-journal 1\nC 0 7 3\nend\n".as_slice());
-    let down = told_of(alloc, 1, Event::DeviceDown { device: 2 }, flushed)?;
+fn devices_that_go_down(rt: HostRuntime) -> Result<(), Fail> {
+    let down = flushed(rt.alloc(), 1, Event::DeviceDown { device: 2 })?;
     assert!(rt; down.as_slice() == b">nfq-journal 1\nD 1 2 3\nend\n".as_slice());
     Ok(())
 }
 
-#[test]
-fn logs_of_messages(rt: HostRuntime) -> Result<(), Fail> {
-    let alloc = rt.alloc();
+/// A message that was sent as bytes, and refused.
+fn sent(alloc: Global) -> Result<Did, NoMemory> {
     let ask = AskWords::Raw {
         bytes: Bytes::copy(alloc, &[0x10, 0xff])?,
     };
-    let sent = logged(
-        alloc,
-        Did::Sent {
-            call: 1,
-            ask,
-            answer: Some(22),
-        },
-    )?;
+    Ok(Did::Sent {
+        call: 1,
+        ask,
+        answer: Some(22),
+    })
+}
+
+#[test]
+fn logs_of_messages(rt: HostRuntime) -> Result<(), Fail> {
+    let sent = logged(rt.alloc(), sent(rt.alloc())?)?;
     assert!(rt; sent.as_slice() == b">nfq-journal 1\nP 7\nS 1 raw 10ff = 22\nend\n".as_slice());
     Ok(())
 }
 
 #[test]
-fn logs_of_notices_and_closings(rt: HostRuntime) -> Result<(), Fail> {
-    let alloc = rt.alloc();
-    let received = logged(
-        alloc,
-        Did::Received {
-            queue: 2,
-            number: 3,
-            visit: 4,
-        },
-    )?;
+fn logs_of_notices(rt: HostRuntime) -> Result<(), Fail> {
+    let did = Did::Received {
+        queue: 2,
+        number: 3,
+        visit: 4,
+    };
+    let received = logged(rt.alloc(), did)?;
     assert!(rt; received.as_slice() == b">nfq-journal 1\nP 7\nR 2 3 4\nend\n".as_slice());
-    let closed = logged(alloc, Did::Closed)?;
+    Ok(())
+}
+
+#[test]
+fn logs_of_closings(rt: HostRuntime) -> Result<(), Fail> {
+    let closed = logged(rt.alloc(), Did::Closed)?;
     assert!(rt; closed.as_slice() == b">nfq-journal 1\nP 7\nX\nend\n".as_slice());
     Ok(())
 }
@@ -273,9 +291,14 @@ fn push_spelt(text: &str, out: &mut String) -> Result<(), Fail> {
 }
 
 #[test]
-fn journals_are_read_and_written_again(rt: HostRuntime) -> Result<(), Fail> {
+fn a_journal_is_read_and_written_again(rt: HostRuntime) -> Result<(), Fail> {
     let worked = told_again(rt.alloc(), WORKED)?;
     assert_eq!(rt; &worked[..], WORKED.as_bytes());
+    Ok(())
+}
+
+#[test]
+fn a_journal_without_packets_is_read_and_written_again(rt: HostRuntime) -> Result<(), Fail> {
     let bare = told_again(rt.alloc(), NO_PACKETS)?;
     assert_eq!(rt; &bare[..], NO_PACKETS.as_bytes());
     Ok(())
@@ -413,15 +436,24 @@ const CHANGES: &str = "\
 0|11|S 1 raw 0a0b = 65535
 0|19|X~end";
 
+/// The line that this row wants refused, the one that is changed, and what stands there.
+fn parts(row: &str) -> Result<(u32, usize, &str), Fail> {
+    let (line, change) = row.split_once('|').ok_or("a row without a line")?;
+    let (number, text) = change.split_once('|').ok_or("a row without a number")?;
+    Ok((line.parse()?, number.parse()?, text))
+}
+
+/// How the worked journal is answered with another text in place of this line.
+fn answer(alloc: Global, number: usize, text: &str) -> Result<u32, Fail> {
+    let journal = changed(alloc, number, text)?;
+    Ok(refused_line(alloc, journal.as_bytes()))
+}
+
 #[test]
 fn bad_journals_are_refused_at_their_first_bad_line(rt: HostRuntime) -> Result<(), Fail> {
     for row in CHANGES.lines() {
-        let (line, change) = row.split_once('|').ok_or("a row without a line")?;
-        let (number, text) = change.split_once('|').ok_or("a row without a number")?;
-        let wanted: u32 = line.parse()?;
-        let journal = changed(rt.alloc(), number.parse()?, text)?;
-        let answer = refused_line(rt.alloc(), journal.as_bytes());
-        assert_eq!(rt; answer, wanted, "{row}");
+        let (wanted, number, text) = parts(row)?;
+        assert_eq!(rt; answer(rt.alloc(), number, text)?, wanted, "{row}");
     }
     Ok(())
 }

@@ -64,20 +64,43 @@ fn words(alloc: Global, words: &[&str]) -> Result<Vec<String>, AllocError> {
     Ok(all)
 }
 
-/// The status of `play r s c o l j`.
-fn played(alloc: Global, host: &mut MemoryHost) -> Result<u8, AllocError> {
-    let words = words(alloc, &["play", "r", "s", "c", "o", "l", "j"])?;
+/// The status of this command.
+fn done(alloc: Global, host: &mut MemoryHost, command: &[&str]) -> Result<u8, AllocError> {
+    let words = words(alloc, command)?;
     Ok(play(alloc, &words, host))
 }
 
-/// No output was written.
-fn no_output(rt: &impl Abort, host: &MemoryHost) {
-    for name in ["o", "l", "j"] {
+/// The status of `play r s c o l j`.
+fn played(alloc: Global, host: &mut MemoryHost) -> Result<u8, AllocError> {
+    done(alloc, host, &["play", "r", "s", "c", "o", "l", "j"])
+}
+
+/// There is no file of these names.
+fn lacks(rt: &impl Abort, host: &MemoryHost, names: &[&str]) {
+    for name in names {
         assert!(rt; host.get(name).is_none());
     }
 }
 
+/// No output was written.
+fn no_output(rt: &impl Abort, host: &MemoryHost) {
+    lacks(rt, host, &["o", "l", "j"]);
+}
+
+/// The file of this name holds these bytes.
+fn has(rt: &impl Abort, host: &MemoryHost, name: &str, bytes: &[u8]) {
+    assert!(rt; host.get(name) == Some(bytes));
+}
+
 /// The file of this name holds this text.
 fn holds(rt: &impl Abort, host: &MemoryHost, name: &str, text: &str) {
-    assert!(rt; host.get(name) == Some(text.as_bytes()));
+    has(rt, host, name, text.as_bytes());
+}
+
+/// Begins a record: of a frame of so many bytes, captured at this second.
+fn push_head(capture: &mut Vec<u8>, second: u32, length: u32) -> Result<(), AllocError> {
+    for word in &[second, 0, length, length] {
+        capture.extend_from_slice(&word.to_le_bytes())?;
+    }
+    Ok(())
 }

@@ -12,6 +12,7 @@ use crate::{Fed, Refused, SoloPlane, only_feeding_feeds};
 use hook_chain::read_tables;
 use nfqa_msgs::{BIND, Head, PACKET, Params, Request, encode_request};
 use packet_entry::{IPV4, Packet};
+use place_history::Histories;
 use std::alloc::Global;
 use std::test::Fail;
 
@@ -90,7 +91,7 @@ fn verdict_on(queue: u16, head: Head, mark: Option<u32>) -> Request
 }
 
 /// Port 7 sends a message: how many of its bytes are used, and how many are answered.
-fn send(plane: &mut SoloPlane, alloc: Global, bytes: &[u8], fed: u32) -> Result<(u32, usize), Fail>
+fn send(plane: &mut SoloPlane, alloc: Global, bytes: &[u8], fed: u32) -> Result<Sent, Fail>
     requires { IsGoing fed plane.old }
     ensures { IsGoing fed plane.new }
 {
@@ -138,39 +139,54 @@ fn plane(alloc: Global, rules: &[u8], mail: u32) -> Result<SoloPlane, Fail>
     Ok(SoloPlane::new(alloc, &[7], mail, tables, 0)?)
 }
 
-/// What a plane was told to do, and what it answered.
-#[derive(Clone, Copy, Debug, PartialEq, Eq)]
-struct Told {
-    bound: (u32, usize),
-    set_up: (u32, usize),
-    fed: Fed,
-    notice: Option<(u16, u32, u32, usize)>,
-    accepted: (u32, usize),
-    nothing_left: bool,
-    destroyed: u32,
+/// Of a message, how many of its bytes are used, and how many are answered.
+type Sent = (u32, usize);
+
+/// Of a notice, the queue, the packet, the visit, and the length of its text.
+type Noticed = (u16, u32, u32, usize);
+
+/// Port 7 binds queue 0 and asks for whole packets.
+fn set_up(plane: &mut SoloPlane, alloc: Global) -> Result<(Sent, Sent), Fail>
+    requires { IsGoing 0 plane.old }
+    ensures { IsGoing 0 plane.new }
+{
+    let bound = send_ask(plane, alloc, 0, Ask::Bind, 1, 0)?;
+    let set_up = send_ask(plane, alloc, 0, Ask::Whole, 2, 0)?;
+    Ok((bound, set_up))
 }
+
+/// Packet 1 is fed and told of.
+fn told_of(plane: &mut SoloPlane, alloc: Global) -> Result<(Fed, Option<Noticed>), Fail>
+    requires { IsGoing 0 plane.old }
+    ensures { IsGoing 1 plane.new }
+{
+    let fed = feed(plane, alloc, 1, 0)?;
+    let notice = receive(plane, 1)?;
+    Ok((fed, notice))
+}
+
+/// Packet 1 is accepted, and then a device goes down: the message, whether nothing more is told,
+/// and how many packets the device destroys.
+fn accepted(plane: &mut SoloPlane, alloc: Global) -> Result<(Sent, bool, u32), Fail>
+    requires { IsGoing 1 plane.old }
+{
+    let accepted = send_ask(plane, alloc, 0, Ask::Verdict(1, 1), 3, 1)?;
+    let nothing_left = receive(plane, 1)?.is_none();
+    let destroyed = plane.device_down(1)?;
+    Ok((accepted, nothing_left, destroyed))
+}
+
+/// What a plane was told to do, and what it answered.
+type Told = ((Sent, Sent), (Fed, Option<Noticed>), (Sent, bool, u32));
 
 /// Port 7 binds queue 0 and asks for whole packets. Packet 1 is fed and told of; it is accepted,
 /// and then a device goes down.
 fn one_packet(plane: &mut SoloPlane, alloc: Global) -> Result<Told, Fail>
     requires { IsGoing 0 plane.old }
 {
-    let bound = send_ask(plane, alloc, 0, Ask::Bind, 1, 0)?;
-    let set_up = send_ask(plane, alloc, 0, Ask::Whole, 2, 0)?;
-    let fed = feed(plane, alloc, 1, 0)?;
-    let notice = receive(plane, 1)?;
-    let accepted = send_ask(plane, alloc, 0, Ask::Verdict(1, 1), 3, 1)?;
-    let nothing_left = receive(plane, 1)?.is_none();
-    let destroyed = plane.device_down(1)?;
-    Ok(Told {
-        bound,
-        set_up,
-        fed,
-        notice,
-        accepted,
-        nothing_left,
-        destroyed,
-    })
+    let set_up = set_up(plane, alloc)?;
+    let told = told_of(plane, alloc)?;
+    Ok((set_up, told, accepted(plane, alloc)?))
 }
 
 /// Port 7 asks this of a queue, by a message of this number.
@@ -181,7 +197,7 @@ fn send_ask(
     ask: Ask,
     call: u32,
     fed: u32,
-) -> Result<(u32, usize), Fail>
+) -> Result<Sent, Fail>
     requires { IsGoing fed plane.old }
     ensures { IsGoing fed plane.new }
 {
@@ -190,8 +206,8 @@ fn send_ask(
     send(plane, alloc, text.as_slice(), fed)
 }
 
-/// Port 7 receives a notice: queue, packet, visit, and the length of its text.
-fn receive(plane: &mut SoloPlane, fed: u32) -> Result<Option<(u16, u32, u32, usize)>, Fail>
+/// Port 7 receives a notice.
+fn receive(plane: &mut SoloPlane, fed: u32) -> Result<Option<Noticed>, Fail>
     requires { IsGoing fed plane.old }
     ensures { IsGoing fed plane.new }
 {
@@ -208,23 +224,25 @@ fn an_accepted_packet_goes_its_way(rt: HostRuntime) -> Result<(), Fail> {
     let mut plane = plane(rt.alloc(), ONE_RULE, 1024)?;
     let told = one_packet(&mut plane, rt.alloc());
     let histories = plane.close(rt.alloc());
-    let told = told?;
-    assert_eq!(rt; told.bound, (28, 36));
-    assert_eq!(rt; told.set_up, (32, 36));
-    assert_eq!(rt; told.fed, Fed::Waiting);
-    assert_eq!(rt; told.notice, Some((0, 1, 1, 92)));
-    assert_eq!(rt; told.accepted, (32, 0));
-    assert!(rt; told.nothing_left);
-    assert_eq!(rt; told.destroyed, 0);
+    let set_up = ((28, 36), (32, 36));
+    let notice = (Fed::Waiting, Some((0, 1, 1, 92)));
+    assert_eq!(rt; told?, (set_up, notice, ((32, 0), true, 0)));
     let histories = histories?;
-    assert_eq!(rt; histories.entries.len(), 5);
-    assert_eq!(rt; histories.lost.len(), 0);
-    assert_eq!(rt; histories.logs.len(), 1);
-    if let Some(log) = histories.logs.get(0) {
-        assert_eq!(rt; log.port, 7);
-        assert_eq!(rt; log.dids.len(), 4);
-    }
+    let lengths = (
+        histories.entries.len(),
+        histories.lost.len(),
+        histories.logs.len(),
+    );
+    assert_eq!(rt; (lengths, first_log(&histories)), ((5, 0, 1), Some((7, 4))));
     Ok(())
+}
+
+/// The first log's port, and how many things it did.
+fn first_log(histories: &Histories) -> Option<(u32, usize)> {
+    match histories.logs.get(0) {
+        Some(log) => Some((log.port, log.dids.len())),
+        None => None,
+    }
 }
 
 /// A verdict message whose only attribute is cut.
@@ -239,20 +257,29 @@ const SHORT_HEADER: &[u8] = &[
 ];
 
 /// Port 7 binds queue 0, sends two messages that are refused, and bytes that are no message.
-fn refused_messages(plane: &mut SoloPlane, alloc: Global) -> Result<[(u32, usize); 4], Fail>
+fn refused_messages(
+    plane: &mut SoloPlane,
+    alloc: Global,
+) -> Result<(Sent, (Sent, Sent, Sent)), Fail>
     requires { IsGoing 0 plane.old }
     ensures { IsGoing 0 plane.new }
 {
     let bound = send_ask(plane, alloc, 0, Ask::Bind, 1, 0)?;
+    Ok((bound, three_sent(plane, alloc)?))
+}
+
+/// A verdict message that ends in its header.
+const NO_MESSAGE: &[u8] = &[0x1c, 0, 0, 0, 1, 3, 1, 0, 3, 0, 0, 0, 7, 0, 0];
+
+/// Port 7 sends two messages that are refused, and bytes that are no message.
+fn three_sent(plane: &mut SoloPlane, alloc: Global) -> Result<(Sent, Sent, Sent), Fail>
+    requires { IsGoing 0 plane.old }
+    ensures { IsGoing 0 plane.new }
+{
     let cut = send(plane, alloc, CUT_VERDICT, 0)?;
     let short = send(plane, alloc, SHORT_HEADER, 0)?;
-    let none = send(
-        plane,
-        alloc,
-        &[0x1c, 0, 0, 0, 1, 3, 1, 0, 3, 0, 0, 0, 7, 0, 0],
-        0,
-    )?;
-    Ok([bound, cut, short, none])
+    let none = send(plane, alloc, NO_MESSAGE, 0)?;
+    Ok((cut, short, none))
 }
 
 #[test]
@@ -261,12 +288,10 @@ fn a_refused_message_comes_back_whole(rt: HostRuntime) -> Result<(), Fail> {
     let told = refused_messages(&mut plane, rt.alloc());
     plane.close_port(7);
     let histories = plane.close(rt.alloc());
-    assert_eq!(rt; told?, [(28, 36), (28, 48), (32, 52), (0, 0)]);
+    assert_eq!(rt; told?, ((28, 36), ((28, 48), (32, 52), (0, 0))));
     let histories = histories?;
     // The bind, the verdict without a header, and the closing; the third was refused unread.
-    assert_eq!(rt; histories.entries.len(), 3);
-    if let Some(log) = histories.logs.get(0) {
-        assert_eq!(rt; log.dids.len(), 4);
-    }
+    let length = histories.entries.len();
+    assert_eq!(rt; (length, first_log(&histories)), (3, Some((7, 4))));
     Ok(())
 }

@@ -1,6 +1,6 @@
 //! Worked runs over frames of several kinds.
 
-use super::{HEADER, RULES, holds, host, played};
+use super::{HEADER, RULES, has, holds, host, played, push_head};
 use std::alloc::{AllocError, Global};
 use std::process::Abort;
 use std::test::Fail;
@@ -44,14 +44,17 @@ fn file(alloc: Global, link: u8, frames: &[&[u8]]) -> Result<Vec<u8>, AllocError
     let mut second = 0u32;
     for frame in frames {
         second = second.wrapping_add(1);
-        let length = u32::try_from(frame.len()).unwrap_or(0).to_le_bytes();
-        bytes.extend_from_slice(&second.to_le_bytes())?;
-        bytes.extend_from_slice(&[0, 0, 0, 0])?;
-        bytes.extend_from_slice(&length)?;
-        bytes.extend_from_slice(&length)?;
+        push_head(&mut bytes, second, u32::try_from(frame.len()).unwrap_or(0))?;
         bytes.extend_from_slice(frame)?;
     }
     Ok(bytes)
+}
+
+/// The ledger of these lines.
+fn ledger(alloc: Global, lines: &str) -> Result<String, AllocError> {
+    let mut ledger = String::from_str(alloc, "record fate queue at mark bytes\n")?;
+    ledger.push_str(lines)?;
+    Ok(ledger)
 }
 
 /// A run of this capture gives these lines of the ledger, and this output.
@@ -63,12 +66,11 @@ fn check(
     output: &[u8],
 ) -> Result<(), Fail> {
     let [rules, script, lines] = texts;
+    let ledger = ledger(alloc, lines)?;
     let mut host = host(alloc, rules, script, input)?;
     assert_eq!(rt; played(alloc, &mut host)?, 0);
-    let mut ledger = String::from_str(alloc, "record fate queue at mark bytes\n")?;
-    ledger.push_str(lines)?;
     holds(rt, &host, "l", ledger.as_str());
-    assert_eq!(rt; host.get("o").ok_or("no output")?, output);
+    has(rt, &host, "o", output);
     Ok(())
 }
 
@@ -83,26 +85,31 @@ fn frames_of_ethernet_are_played(rt: HostRuntime) -> Result<(), Fail> {
 }
 
 #[test]
-fn protocols_and_flows_are_queued_apart(rt: HostRuntime) -> Result<(), Fail> {
+fn protocols_are_queued_apart(rt: HostRuntime) -> Result<(), Fail> {
     let alloc = rt.alloc();
-    let (tcp, udp) = (packet(6, 1, 2), packet(17, 1, 2));
-    let nothing = file(alloc, RAW, &[])?;
-
     let rules = "*filter\n-A FORWARD -p tcp -j NFQUEUE --queue-num 0\n\
         -A FORWARD -p udp -j NFQUEUE --queue-num 1\nCOMMIT\n";
     let script = "port 7\nopen config 0 bind params packet 0\nopen config 1 bind params packet 0\n\
         end close\n";
     let ledger = "1 portclosed 0 3 0 20\n2 portclosed 1 3 0 20\n";
-    let input = file(alloc, RAW, &[&tcp, &udp])?;
-    check(&rt, alloc, [rules, script, ledger], &input, &nothing)?;
+    let input = file(alloc, RAW, &[&packet(6, 1, 2), &packet(17, 1, 2)])?;
+    check(&rt, alloc, [rules, script, ledger], &input, &HEADER)
+}
 
-    // Both directions of a flow have one hash: of the key 0 and TCP it is 0x866ff798, of UDP
-    // 0x494b7e8a.
-    let input = file(alloc, RAW, &[&tcp, &packet(6, 2, 1), &udp])?;
+/// Both directions of a flow have one hash: of the key 0 and TCP it is 0x866ff798, of UDP
+/// 0x494b7e8a.
+#[test]
+fn flows_are_queued_apart(rt: HostRuntime) -> Result<(), Fail> {
+    let alloc = rt.alloc();
+    let input = file(
+        alloc,
+        RAW,
+        &[&packet(6, 1, 2), &packet(6, 2, 1), &packet(17, 1, 2)],
+    )?;
     let rules = "*filter\n-A FORWARD -j NFQUEUE --queue-balance 0:3\nCOMMIT\n";
     let ledger = "1 noqueue 2 1 0 20\n2 noqueue 2 2 0 20\n3 noqueue 1 1 0 20\n";
-    check(&rt, alloc, [rules, "port 7\n", ledger], &input, &nothing)?;
+    check(&rt, alloc, [rules, "port 7\n", ledger], &input, &HEADER)?;
     let rules = "*filter\n-A FORWARD -j NFQUEUE --queue-balance 0:65534\nCOMMIT\n";
     let ledger = "1 noqueue 34415 1 0 20\n2 noqueue 34415 2 0 20\n3 noqueue 18763 1 0 20\n";
-    check(&rt, alloc, [rules, "port 7\n", ledger], &input, &nothing)
+    check(&rt, alloc, [rules, "port 7\n", ledger], &input, &HEADER)
 }

@@ -1,9 +1,9 @@
 //! Runs of `list`, and what they refuse.
 
-use super::{HEADER, RULES, capture, holds, host, no_output, words};
-use crate::command::play;
+use super::{HEADER, RULES, capture, done, holds, host, lacks, no_output};
 use host_io::MemoryHost;
 use std::alloc::{AllocError, Global};
+use std::process::Abort;
 use std::test::Fail;
 
 /// A script, the packets of the capture, and the listing: the queue's number, its port, how many
@@ -24,57 +24,85 @@ port 7|1 2 3|";
 
 /// The status of `list r s c o`.
 fn listed(alloc: Global, host: &mut MemoryHost) -> Result<u8, AllocError> {
-    let words = words(alloc, &["list", "r", "s", "c", "o"])?;
-    Ok(play(alloc, &words, host))
+    done(alloc, host, &["list", "r", "s", "c", "o"])
+}
+
+/// The capture of a row's packets.
+fn capture_of(alloc: Global, numbers: &str) -> Result<Vec<u8>, Fail> {
+    let mut packets = Vec::new(alloc);
+    for number in numbers.split_whitespace() {
+        packets.push(number.parse()?)?;
+    }
+    Ok(capture(alloc, &packets)?)
+}
+
+/// The host of a row's script and packets.
+fn host_of(alloc: Global, script: &str, numbers: &str) -> Result<MemoryHost, Fail> {
+    let script = script.replace(alloc, "/", "\n")?;
+    let input = capture_of(alloc, numbers)?;
+    host(alloc, RULES, script.as_str(), &input)
+}
+
+/// The listing of a row.
+fn listing_of(alloc: Global, lines: &str) -> Result<String, AllocError> {
+    let mut listing = String::new(alloc);
+    for line in lines.split('/') {
+        if !line.is_empty() {
+            listing.push_str(line)?;
+            listing.push_str("\n")?;
+        }
+    }
+    Ok(listing)
+}
+
+/// A row's run writes its listing, and nothing else.
+fn check(rt: &impl Abort, alloc: Global, row: &str) -> Result<(), Fail> {
+    let (script, rest) = row.split_once('|').ok_or("no packets")?;
+    let (numbers, lines) = rest.split_once('|').ok_or("no listing")?;
+    let listing = listing_of(alloc, lines)?;
+    let mut host = host_of(alloc, script, numbers)?;
+    assert_eq!(rt; listed(alloc, &mut host)?, 0);
+    holds(rt, &host, "o", listing.as_str());
+    lacks(rt, &host, &["l", "j", "-"]);
+    Ok(())
 }
 
 #[test]
 fn queues_are_listed_before_the_ports_end(rt: HostRuntime) -> Result<(), Fail> {
     let alloc = rt.alloc();
     for row in LISTED.lines() {
-        let mut columns = row.split('|');
-        let script = columns
-            .next()
-            .ok_or("no script")?
-            .replace(alloc, "/", "\n")?;
-        let mut packets = Vec::new(alloc);
-        for number in columns.next().ok_or("no packets")?.split_whitespace() {
-            packets.push(number.parse()?)?;
-        }
-        let mut listing = String::new(alloc);
-        for line in columns.next().ok_or("no listing")?.split('/') {
-            if !line.is_empty() {
-                listing.push_str(line)?;
-                listing.push_str("\n")?;
-            }
-        }
-        let mut host = host(alloc, RULES, script.as_str(), &capture(alloc, &packets)?)?;
-        assert_eq!(rt; listed(alloc, &mut host)?, 0);
-        holds(&rt, &host, "o", listing.as_str());
-        for name in ["l", "j", "-"] {
-            assert!(rt; host.get(name).is_none());
-        }
+        check(&rt, alloc, row)?;
     }
     Ok(())
 }
 
 #[test]
-fn list_ends_as_play_does_where_it_cannot_go_on(rt: HostRuntime) -> Result<(), Fail> {
+fn list_refuses_what_play_refuses(rt: HostRuntime) -> Result<(), Fail> {
     let alloc = rt.alloc();
-    let mut refused = host(alloc, RULES, "x", &HEADER)?;
-    assert_eq!(rt; listed(alloc, &mut refused)?, 6);
-    holds(&rt, &refused, "-", "script refused: line 1\n");
-    no_output(&rt, &refused);
+    let mut host = host(alloc, RULES, "x", &HEADER)?;
+    assert_eq!(rt; listed(alloc, &mut host)?, 6);
+    holds(&rt, &host, "-", "script refused: line 1\n");
+    no_output(&rt, &host);
+    Ok(())
+}
 
-    let mut unread = host(alloc, RULES, "port 7", &HEADER)?;
-    unread.fail_call(5)?;
-    assert_eq!(rt; listed(alloc, &mut unread)?, 2);
-    no_output(&rt, &unread);
+#[test]
+fn list_stops_at_a_read_that_fails(rt: HostRuntime) -> Result<(), Fail> {
+    let alloc = rt.alloc();
+    let mut host = host(alloc, RULES, "port 7", &HEADER)?;
+    host.fail_call(5)?;
+    assert_eq!(rt; listed(alloc, &mut host)?, 2);
+    no_output(&rt, &host);
+    Ok(())
+}
 
-    // The inputs take six reads.
-    let mut unwritten = host(alloc, RULES, "port 7\nopen config 0 bind", &HEADER)?;
-    unwritten.short_call(7)?;
-    assert_eq!(rt; listed(alloc, &mut unwritten)?, 3);
-    assert!(rt; unwritten.get("-").is_none());
+/// The inputs take six reads.
+#[test]
+fn list_stops_at_a_write_that_takes_nothing(rt: HostRuntime) -> Result<(), Fail> {
+    let alloc = rt.alloc();
+    let mut host = host(alloc, RULES, "port 7\nopen config 0 bind", &HEADER)?;
+    host.short_call(7)?;
+    assert_eq!(rt; listed(alloc, &mut host)?, 3);
+    assert!(rt; host.get("-").is_none());
     Ok(())
 }

@@ -1,10 +1,10 @@
 //! Runs of `gen` and `trial`. The counts and packets are those that the published algorithms of
 //! xoshiro256++ and SplitMix64 give.
 
-use super::{HEADER, holds, played, words};
-use crate::command::play;
+use super::{HEADER, done, has, holds, lacks, played};
 use host_io::MemoryHost;
 use std::alloc::{AllocError, Global};
+use std::process::Abort;
 use std::test::Fail;
 
 const GENERATED_RULES: &str = "*filter\n-A FORWARD -j NFQUEUE --queue-balance 0:7\nCOMMIT\n";
@@ -36,11 +36,8 @@ on any do verdict this accept this
 /// 0xb7b311b3b0d45872: length, protocol, and the last bytes of source and destination.
 const PACKETS: [[u8; 4]; 3] = [[62, 17, 145, 174], [78, 6, 158, 78], [68, 6, 88, 212]];
 
-/// The status of a command, where `r`, `s` and `c` have room too.
-fn done(alloc: Global, host: &mut MemoryHost, command: &[&str]) -> Result<u8, AllocError> {
-    let words = words(alloc, command)?;
-    Ok(play(alloc, &words, host))
-}
+/// A generation of three packets.
+const GENERATION: [&str; 6] = ["gen", "7", "3", "r", "s", "c"];
 
 /// A host with room for whatever is written.
 fn roomy(alloc: Global) -> Result<MemoryHost, Fail> {
@@ -51,6 +48,15 @@ fn roomy(alloc: Global) -> Result<MemoryHost, Fail> {
     Ok(host)
 }
 
+/// The header of a packet's record and that of the packet, captured at this second.
+fn headers(second: u8, packet: [u8; 4]) -> [u8; 36] {
+    let [length, protocol, from, to] = packet;
+    [
+        second, 0, 0, 0, 0, 0, 0, 0, length, 0, 0, 0, length, 0, 0, 0, 0x45, 0, 0, length, 0, 0, 0,
+        0, 0x40, protocol, 0, 0, 10, 0, 0, from, 10, 0, 1, to,
+    ]
+}
+
 /// The generated capture of these packets.
 fn capture_of(alloc: Global, packets: &[[u8; 4]]) -> Result<Vec<u8>, AllocError> {
     let mut header = HEADER;
@@ -58,13 +64,10 @@ fn capture_of(alloc: Global, packets: &[[u8; 4]]) -> Result<Vec<u8>, AllocError>
     header[18] = 4;
     let mut bytes = Vec::from_slice(alloc, &header)?;
     let mut second = 0u8;
-    for [length, protocol, source, destination] in packets {
+    for packet in packets {
         second = second.wrapping_add(1);
-        bytes.extend_from_slice(&[second, 0, 0, 0, 0, 0, 0, 0])?;
-        bytes.extend_from_slice(&[*length, 0, 0, 0, *length, 0, 0, 0])?;
-        bytes.extend_from_slice(&[0x45, 0, 0, *length, 0, 0, 0, 0, 0x40, *protocol, 0, 0])?;
-        bytes.extend_from_slice(&[10, 0, 0, *source, 10, 0, 1, *destination])?;
-        for _ in 20..*length {
+        bytes.extend_from_slice(&headers(second, *packet))?;
+        for _ in 20..packet[0] {
             bytes.push(0)?;
         }
     }
@@ -74,26 +77,25 @@ fn capture_of(alloc: Global, packets: &[[u8; 4]]) -> Result<Vec<u8>, AllocError>
 #[test]
 fn generated_inputs_are_written(rt: HostRuntime) -> Result<(), Fail> {
     let alloc = rt.alloc();
+    let capture = capture_of(alloc, &PACKETS)?;
     let mut host = roomy(alloc)?;
-    assert_eq!(rt;
-        done(alloc, &mut host, &["gen", "7", "3", "r", "s", "c"])?,
-        0
-    );
+    assert_eq!(rt; done(alloc, &mut host, &GENERATION)?, 0);
     holds(&rt, &host, "r", GENERATED_RULES);
     holds(&rt, &host, "s", GENERATED_SCRIPT);
-    let capture = capture_of(alloc, &PACKETS)?;
-    assert_eq!(rt; host.get("c").ok_or("no capture")?, capture.as_slice());
-    assert!(rt; host.get("-").is_none());
+    has(&rt, &host, "c", &capture);
+    lacks(&rt, &host, &["-"]);
+    Ok(())
+}
 
-    // The second write takes nothing: the rules are whole, and the capture isn't reached.
-    let mut stopped = roomy(alloc)?;
-    stopped.short_call(2)?;
-    assert_eq!(rt;
-        done(alloc, &mut stopped, &["gen", "7", "3", "r", "s", "c"])?,
-        3
-    );
-    holds(&rt, &stopped, "r", GENERATED_RULES);
-    assert!(rt; stopped.get("c").is_none());
+/// The second write takes nothing: the rules are whole, and the capture isn't reached.
+#[test]
+fn generation_stops_at_a_write_that_takes_nothing(rt: HostRuntime) -> Result<(), Fail> {
+    let alloc = rt.alloc();
+    let mut host = roomy(alloc)?;
+    host.short_call(2)?;
+    assert_eq!(rt; done(alloc, &mut host, &GENERATION)?, 3);
+    holds(&rt, &host, "r", GENERATED_RULES);
+    lacks(&rt, &host, &["c"]);
     Ok(())
 }
 
@@ -103,6 +105,30 @@ fn lines_with(ledger: &[u8], fate: &str) -> usize {
         .split(|byte| *byte == b'\n')
         .filter(|line| line.split(|byte| *byte == b' ').nth(1) == Some(fate.as_bytes()))
         .count()
+}
+
+/// A trial of this number and count prints these lines.
+fn tries(
+    rt: &impl Abort,
+    alloc: Global,
+    host: &mut MemoryHost,
+    sample: [&str; 2],
+    lines: &str,
+) -> Result<(), AllocError> {
+    let [number, count] = sample;
+    assert_eq!(rt; done(alloc, host, &["trial", number, count])?, 0);
+    holds(rt, host, "-", lines);
+    Ok(())
+}
+
+/// The ledger has this many lines of packets that are accepted and that are dropped.
+fn has_fates(rt: &impl Abort, host: &MemoryHost, counts: (usize, usize)) -> Result<(), Fail> {
+    let ledger = host.get("l").ok_or("no ledger")?;
+    assert_eq!(rt;
+        (lines_with(ledger, "accept"), lines_with(ledger, "drop")),
+        counts
+    );
+    Ok(())
 }
 
 /// `gen 7 60`, then `play`, and `trial 7 60` twice.
@@ -115,13 +141,10 @@ fn what_is_tried_is_what_is_played(rt: HostRuntime) -> Result<(), Fail> {
         0
     );
     assert_eq!(rt; played(alloc, &mut host)?, 0);
-    let ledger = host.get("l").ok_or("no ledger")?;
-    assert_eq!(rt; lines_with(ledger, "accept"), 26);
-    assert_eq!(rt; lines_with(ledger, "drop"), 34);
-    assert!(rt; host.get("-").is_none());
+    has_fates(&rt, &host, (26, 34))?;
+    lacks(&rt, &host, &["-"]);
     for _ in 0..2 {
-        assert_eq!(rt; done(alloc, &mut host, &["trial", "7", "60"])?, 0);
-        holds(&rt, &host, "-", "accept 26\ndrop 34\n");
+        tries(&rt, alloc, &mut host, ["7", "60"], "accept 26\ndrop 34\n")?;
     }
     Ok(())
 }
@@ -130,16 +153,15 @@ fn what_is_tried_is_what_is_played(rt: HostRuntime) -> Result<(), Fail> {
 fn the_least_and_the_greatest_number_are_tried(rt: HostRuntime) -> Result<(), Fail> {
     let alloc = rt.alloc();
     let mut host = roomy(alloc)?;
-    assert_eq!(rt; done(alloc, &mut host, &["trial", "0", "1"])?, 0);
-    holds(&rt, &host, "-", "drop 1\n");
-    assert_eq!(rt;
-        done(alloc, &mut host, &["trial", "18446744073709551615", "1"])?,
-        0
-    );
-    holds(&rt, &host, "-", "accept 1\n");
-    for name in ["r", "s", "c", "o", "l", "j"] {
-        assert!(rt; host.get(name).is_none());
-    }
+    tries(&rt, alloc, &mut host, ["0", "1"], "drop 1\n")?;
+    tries(
+        &rt,
+        alloc,
+        &mut host,
+        ["18446744073709551615", "1"],
+        "accept 1\n",
+    )?;
+    lacks(&rt, &host, &["r", "s", "c", "o", "l", "j"]);
 
     host.short_call(3)?;
     assert_eq!(rt; done(alloc, &mut host, &["trial", "0", "1"])?, 3);

@@ -2,7 +2,7 @@
 //! come the ledger's lines, the numbers of the frames that are written, and lines that the journal
 //! has.
 
-use super::{HEADER, RULES, capture, host, played, record};
+use super::{HEADER, RULES, capture, has, host, played, record};
 use host_io::MemoryHost;
 use std::alloc::{AllocError, Global};
 use std::process::Abort;
@@ -234,7 +234,7 @@ end raw 240000000103010003000000070000000000000004007f000c0002000000000100000002
 ";
 
 /// A run as it is written out above.
-#[derive(Debug, Drop)]
+#[derive(Drop)]
 struct Run {
     rules: String,
     script: String,
@@ -286,6 +286,17 @@ fn take(alloc: Global, run: &mut Run, line: &str) -> Result<(), Fail> {
     Ok(())
 }
 
+/// A host with the inputs of a run.
+fn host_of(alloc: Global, run: &Run) -> Result<MemoryHost, Fail> {
+    let rules = if run.rules.is_empty() {
+        RULES
+    } else {
+        run.rules.as_str()
+    };
+    let input = capture(alloc, &run.packets)?;
+    host(alloc, rules, run.script.as_str(), &input)
+}
+
 /// The journal has this line.
 fn has_line(journal: &[u8], wanted: &str) -> bool {
     journal
@@ -293,22 +304,20 @@ fn has_line(journal: &[u8], wanted: &str) -> bool {
         .any(|line| line == wanted.as_bytes())
 }
 
-/// Plays a run, and compares what it leaves.
-fn check(rt: &impl Abort, alloc: Global, run: &Run) -> Result<(), Fail> {
-    let rules = if run.rules.is_empty() {
-        RULES
-    } else {
-        run.rules.as_str()
-    };
-    let input = capture(alloc, &run.packets)?;
-    let mut host: MemoryHost = host(alloc, rules, run.script.as_str(), &input)?;
-    assert_eq!(rt; played(alloc, &mut host)?, 0);
-    assert_eq!(rt; host.get("l").ok_or("no ledger")?, run.ledger.as_bytes());
-    assert_eq!(rt; host.get("o").ok_or("no output")?, run.output.as_slice());
-    let journal = host.get("j").ok_or("no journal")?;
-    for line in &run.journal {
+/// The journal has these lines.
+fn has_lines(rt: &impl Abort, journal: &[u8], lines: &[String]) {
+    for line in lines {
         assert!(rt; has_line(journal, line.as_str()));
     }
+}
+
+/// Plays a run, and compares what it leaves.
+fn check(rt: &impl Abort, alloc: Global, run: &Run) -> Result<(), Fail> {
+    let mut host = host_of(alloc, run)?;
+    assert_eq!(rt; played(alloc, &mut host)?, 0);
+    has(rt, &host, "l", run.ledger.as_bytes());
+    has(rt, &host, "o", &run.output);
+    has_lines(rt, host.get("j").ok_or("no journal")?, &run.journal);
     Ok(())
 }
 

@@ -100,15 +100,59 @@ fn played(
     Ok((fed, lines))
 }
 
-/// A request at a queue that answers this errno, and lets so many packets go.
-fn asked(queue: u16, errno: u16, taken: u32) -> Line {
-    (queue, (0, 0), Reply::Answer { errno, taken })
-}
+/// To a request that succeeds and lets nothing go, or one packet.
+const DONE: Reply = Reply::Answer { errno: 0, taken: 0 };
 
-/// A packet with this number and mark that arrives at a queue.
-fn came(queue: u16, number: u32, mark: u32, outcome: Outcome) -> Line {
-    (queue, (number, mark), Reply::Arrived { outcome })
-}
+const ONE_LEFT: Reply = Reply::Answer { errno: 0, taken: 1 };
+
+/// To a verdict under an id at which nothing waits.
+const NO_ENTRY: Reply = Reply::Answer { errno: 2, taken: 0 };
+
+/// To an arrival that waits under this id.
+const TAKEN_1: Reply = Reply::Arrived {
+    outcome: Outcome::Taken { id: 1 },
+};
+
+const TAKEN_2: Reply = Reply::Arrived {
+    outcome: Outcome::Taken { id: 2 },
+};
+
+const TAKEN_3: Reply = Reply::Arrived {
+    outcome: Outcome::Taken { id: 3 },
+};
+
+const TAKEN_32: Reply = Reply::Arrived {
+    outcome: Outcome::Taken { id: 32 },
+};
+
+/// To an arrival with any other outcome.
+const OVERFLOW_OPEN: Reply = Reply::Arrived {
+    outcome: Outcome::OverflowOpen,
+};
+
+const USER_FULL_2: Reply = Reply::Arrived {
+    outcome: Outcome::UserFull { id: 2 },
+};
+
+const USER_FULL_3: Reply = Reply::Arrived {
+    outcome: Outcome::UserFull { id: 3 },
+};
+
+const COPY_NONE: Reply = Reply::Arrived {
+    outcome: Outcome::CopyNone,
+};
+
+const BYPASSED: Reply = Reply::Arrived {
+    outcome: Outcome::Bypassed,
+};
+
+const NO_QUEUE: Reply = Reply::Arrived {
+    outcome: Outcome::NoQueue,
+};
+
+const LOOP: Reply = Reply::Arrived {
+    outcome: Outcome::Loop,
+};
 
 /// Two tables, the first queues every packet at queue 0 and the second at queue 1.
 const TWO_TABLES: &[u8] = b"*filter\n-A FORWARD -j NFQUEUE --queue-num 0\nCOMMIT\n\
@@ -138,36 +182,36 @@ const FAILS_OPEN: [Step; 17] = [
 
 #[test]
 fn a_full_queue_that_fails_open(rt: HostRuntime) -> Result<(), Fail> {
+    const ALL_WAIT: [Fed; 3] = [Fed::Waiting, Fed::Waiting, Fed::Waiting];
+    const WANTED: [Line; 16] = [
+        (0, (0, 0), DONE),
+        (0, (0, 0), DONE),
+        (0, (0, 0), DONE),
+        (0, (0, 0), DONE),
+        (0, (1, 0), TAKEN_1),
+        (0, (2, 0), OVERFLOW_OPEN),
+        (0, (3, 0), OVERFLOW_OPEN),
+        (0, (0, 0), ONE_LEFT),
+        (1, (0, 0), DONE),
+        (1, (0, 0), DONE),
+        (1, (2, 0), TAKEN_1),
+        (1, (3, 0), TAKEN_2),
+        (1, (1, 0), TAKEN_3),
+        (1, (0, 0), ONE_LEFT),
+        (1, (0, 0), ONE_LEFT),
+        (1, (0, 0), ONE_LEFT),
+    ];
     let (fed, lines) = played(rt.alloc(), TWO_TABLES, 1024, &FAILS_OPEN)?;
     assert_eq!(rt;
-        fed.as_slice(),
-        &[Fed::Waiting, Fed::Waiting, Fed::Waiting][..]
+        (fed.as_slice(), lines.as_slice()),
+        (&ALL_WAIT[..], &WANTED[..])
     );
-    let wanted = [
-        asked(0, 0, 0),
-        asked(0, 0, 0),
-        asked(0, 0, 0),
-        asked(0, 0, 0),
-        came(0, 1, 0, Outcome::Taken { id: 1 }),
-        came(0, 2, 0, Outcome::OverflowOpen),
-        came(0, 3, 0, Outcome::OverflowOpen),
-        asked(0, 0, 1),
-        asked(1, 0, 0),
-        asked(1, 0, 0),
-        came(1, 2, 0, Outcome::Taken { id: 1 }),
-        came(1, 3, 0, Outcome::Taken { id: 2 }),
-        came(1, 1, 0, Outcome::Taken { id: 3 }),
-        asked(1, 0, 1),
-        asked(1, 0, 1),
-        asked(1, 0, 1),
-    ];
-    assert_eq!(rt; lines.as_slice(), &wanted[..]);
     Ok(())
 }
 
 #[test]
 fn a_full_mailbox(rt: HostRuntime) -> Result<(), Fail> {
-    let steps = [
+    const STEPS: [Step; 8] = [
         Step::Ask(0, Ask::Bind),
         Step::Ask(0, Ask::Whole),
         Step::Feed(1),
@@ -177,29 +221,29 @@ fn a_full_mailbox(rt: HostRuntime) -> Result<(), Fail> {
         Step::Ask(0, Ask::Verdict(1, 1)),
         Step::Ask(0, Ask::Verdict(1, 2)),
     ];
-    let (fed, lines) = played(rt.alloc(), ONE_RULE, 1, &steps)?;
-    assert_eq!(rt;
-        fed.as_slice(),
-        &[Fed::Waiting, Fed::Destroyed, Fed::Destroyed][..]
-    );
-    let wanted = [
-        asked(0, 0, 0),
-        asked(0, 0, 0),
-        came(0, 1, 0, Outcome::Taken { id: 1 }),
-        came(0, 2, 0, Outcome::UserFull { id: 2 }),
-        came(0, 3, 0, Outcome::UserFull { id: 3 }),
-        asked(0, 0, 1),
-        asked(0, 2, 0),
+    const ONE_WAITS: [Fed; 3] = [Fed::Waiting, Fed::Destroyed, Fed::Destroyed];
+    const WANTED: [Line; 7] = [
+        (0, (0, 0), DONE),
+        (0, (0, 0), DONE),
+        (0, (1, 0), TAKEN_1),
+        (0, (2, 0), USER_FULL_2),
+        (0, (3, 0), USER_FULL_3),
+        (0, (0, 0), ONE_LEFT),
+        (0, (0, 0), NO_ENTRY),
     ];
-    assert_eq!(rt; lines.as_slice(), &wanted[..]);
+    let (fed, lines) = played(rt.alloc(), ONE_RULE, 1, &STEPS)?;
+    assert_eq!(rt;
+        (fed.as_slice(), lines.as_slice()),
+        (&ONE_WAITS[..], &WANTED[..])
+    );
     Ok(())
 }
 
 /// What becomes of a packet under these rules, and its arrival, where queue 0 is bound and nothing
 /// else was asked.
 fn one_under(alloc: Global, rules: &[u8]) -> Result<(Option<Fed>, Option<Line>), Fail> {
-    let steps = [Step::Ask(0, Ask::Bind), Step::Feed(1)];
-    let (fed, lines) = played(alloc, rules, 1024, &steps)?;
+    const STEPS: [Step; 2] = [Step::Ask(0, Ask::Bind), Step::Feed(1)];
+    let (fed, lines) = played(alloc, rules, 1024, &STEPS)?;
     Ok((fed.first().copied(), lines.get(1).copied()))
 }
 
@@ -211,12 +255,14 @@ const QUEUE_5: &[u8] = b"*filter\n-A FORWARD -j NFQUEUE --queue-num 5\nCOMMIT\n"
 
 #[test]
 fn a_queue_that_copies_nothing_or_is_absent(rt: HostRuntime) -> Result<(), Fail> {
-    let copy_none = (Some(Fed::Destroyed), Some(came(0, 1, 0, Outcome::CopyNone)));
-    assert_eq!(rt; one_under(rt.alloc(), BYPASS_0)?, copy_none);
-    let bypassed = (Some(Fed::Released), Some(came(5, 1, 0, Outcome::Bypassed)));
-    assert_eq!(rt; one_under(rt.alloc(), BYPASS_5)?, bypassed);
-    let no_queue = (Some(Fed::Destroyed), Some(came(5, 1, 0, Outcome::NoQueue)));
-    assert_eq!(rt; one_under(rt.alloc(), QUEUE_5)?, no_queue);
+    const ROWS: [(&[u8], Fed, Line); 3] = [
+        (BYPASS_0, Fed::Destroyed, (0, (1, 0), COPY_NONE)),
+        (BYPASS_5, Fed::Released, (5, (1, 0), BYPASSED)),
+        (QUEUE_5, Fed::Destroyed, (5, (1, 0), NO_QUEUE)),
+    ];
+    for &(rules, fed, line) in &ROWS {
+        assert_eq!(rt; one_under(rt.alloc(), rules)?, (Some(fed), Some(line)));
+    }
     Ok(())
 }
 
@@ -239,14 +285,14 @@ const UNMARKED: &[u8] =
 
 #[test]
 fn a_packet_that_is_marked_and_repeated_goes_its_way(rt: HostRuntime) -> Result<(), Fail> {
-    let lines = after(rt.alloc(), UNMARKED, Step::Ask(0, Ask::Marking(4, 1, 1)))?;
-    let wanted = [
-        asked(0, 0, 0),
-        asked(0, 0, 0),
-        came(0, 1, 0, Outcome::Taken { id: 1 }),
-        asked(0, 0, 1),
+    const WANTED: [Line; 4] = [
+        (0, (0, 0), DONE),
+        (0, (0, 0), DONE),
+        (0, (1, 0), TAKEN_1),
+        (0, (0, 0), ONE_LEFT),
     ];
-    assert_eq!(rt; lines.as_slice(), &wanted[..]);
+    let lines = after(rt.alloc(), UNMARKED, Step::Ask(0, Ask::Marking(4, 1, 1)))?;
+    assert_eq!(rt; lines.as_slice(), &WANTED[..]);
     Ok(())
 }
 
@@ -266,31 +312,34 @@ fn repeated(alloc: Global) -> Result<Vec<Step>, NoMemory> {
 fn a_packet_is_repeated_32_times(rt: HostRuntime) -> Result<(), Fail> {
     let steps = repeated(rt.alloc())?;
     let (_, lines) = played(rt.alloc(), UNMARKED, 1024, steps.as_slice())?;
-    assert_eq!(rt; lines.len(), 67);
-    let id = 32;
-    assert_eq!(rt;
+    let last = (
         lines.get(64).copied(),
-        Some(came(0, 1, 0, Outcome::Taken { id }))
+        lines.get(65).copied(),
+        lines.get(66).copied(),
     );
-    assert_eq!(rt; lines.get(65).copied(), Some(asked(0, 0, 1)));
-    assert_eq!(rt; lines.get(66).copied(), Some(came(0, 1, 0, Outcome::Loop)));
+    let wanted = (
+        Some((0, (1, 0), TAKEN_32)),
+        Some((0, (0, 0), ONE_LEFT)),
+        Some((0, (1, 0), LOOP)),
+    );
+    assert_eq!(rt; (lines.len(), last), (67, wanted));
     Ok(())
+}
+
+/// The entries of such a plane after the third: the last step's, and the one that follows.
+fn last_two(alloc: Global, rules: &[u8], last: Step) -> Result<(Option<Line>, Option<Line>), Fail> {
+    let lines = after(alloc, rules, last)?;
+    Ok((lines.get(3).copied(), lines.get(4).copied()))
 }
 
 #[test]
 fn a_verdict_sends_a_packet_to_an_absent_queue(rt: HostRuntime) -> Result<(), Fail> {
-    let lines = after(rt.alloc(), ONE_RULE, Step::Ask(0, Ask::Verdict(622_595, 1)))?;
-    assert_eq!(rt; lines.get(3).copied(), Some(asked(0, 0, 1)));
-    assert_eq!(rt;
-        lines.get(4).copied(),
-        Some(came(9, 1, 0, Outcome::Bypassed))
-    );
-    let lines = after(rt.alloc(), ONE_RULE, Step::Ask(0, Ask::Verdict(589_827, 1)))?;
-    assert_eq!(rt; lines.get(3).copied(), Some(asked(0, 0, 1)));
-    assert_eq!(rt;
-        lines.get(4).copied(),
-        Some(came(9, 1, 0, Outcome::NoQueue))
-    );
+    const ROWS: [(u32, Reply); 2] = [(622_595, BYPASSED), (589_827, NO_QUEUE)];
+    for &(verdict, reply) in &ROWS {
+        let step = Step::Ask(0, Ask::Verdict(verdict, 1));
+        let wanted = (Some((0, (0, 0), ONE_LEFT)), Some((9, (1, 0), reply)));
+        assert_eq!(rt; last_two(rt.alloc(), ONE_RULE, step)?, wanted);
+    }
     Ok(())
 }
 
@@ -309,17 +358,13 @@ const KIND_127: &[u8] = &[
 #[test]
 fn the_last_mark_counts_and_other_attributes_do_not(rt: HostRuntime) -> Result<(), Fail> {
     // Queue 1 is absent, and tells the mark with which the packet left queue 0.
-    let lines = after(rt.alloc(), TWO_TABLES, Step::Send(MARKED_TWICE))?;
-    assert_eq!(rt; lines.get(3).copied(), Some(asked(0, 0, 1)));
-    assert_eq!(rt;
-        lines.get(4).copied(),
-        Some(came(1, 1, 9, Outcome::NoQueue))
-    );
-    let lines = after(rt.alloc(), TWO_TABLES, Step::Send(KIND_127))?;
-    assert_eq!(rt; lines.get(3).copied(), Some(asked(0, 0, 1)));
-    assert_eq!(rt;
-        lines.get(4).copied(),
-        Some(came(1, 1, 0, Outcome::NoQueue))
-    );
+    const ROWS: [(&[u8], u32); 2] = [(MARKED_TWICE, 9), (KIND_127, 0)];
+    for &(bytes, mark) in &ROWS {
+        let wanted = (Some((0, (0, 0), ONE_LEFT)), Some((1, (1, mark), NO_QUEUE)));
+        assert_eq!(rt;
+            last_two(rt.alloc(), TWO_TABLES, Step::Send(bytes))?,
+            wanted
+        );
+    }
     Ok(())
 }
