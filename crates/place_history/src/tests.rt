@@ -385,13 +385,13 @@ const ENTERED_AT_THREE_QUEUES: [(u16, Reply); 24] = [
 
 #[test]
 fn what_happens_at_three_queues_is_entered(rt: HostRuntime) -> Result<(), Fail> {
-    let lines = "    0      7     1 2 65531     0     1        3  1\n\
-                 \x20   1      8     1 2 65531     1     0        1  1\n\
-                 \x20   5      7     0 1     0     0     0        2  1\n";
+    const LINES: &[u8] = b"    0      7     1 2 65531     0     1        3  1\n\
+        \x20   1      8     1 2 65531     1     0        1  1\n\
+        \x20   5      7     0 1     0     0     0        2  1\n";
     let (replies, listed) = told_of(rt.alloc(), &AT_THREE_QUEUES)?;
     assert_eq!(rt;
         (&replies[..], &listed[..]),
-        (&ENTERED_AT_THREE_QUEUES[..], lines.as_bytes())
+        (&ENTERED_AT_THREE_QUEUES[..], LINES)
     );
     Ok(())
 }
@@ -466,9 +466,9 @@ fn an_unbound_queue_is_bound_anew(rt: HostRuntime) -> Result<(), Fail> {
         (65_535, NO_DEVICE),
         (65_535, DONE),
     ];
-    let line = "65535 4294967295     0 0 65531     0     0        0  1\n";
+    const LINE: &[u8] = b"65535 4294967295     0 0 65531     0     0        0  1\n";
     let (replies, lines) = told_of(rt.alloc(), &ALL)?;
-    assert_eq!(rt; (&replies[..], &lines[..]), (&ENTRIES[..], line.as_bytes()));
+    assert_eq!(rt; (&replies[..], &lines[..]), (&ENTRIES[..], LINE));
     Ok(())
 }
 
