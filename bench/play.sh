@@ -1,8 +1,8 @@
 #!/bin/sh
 # A benchmark, not a test: plays captures that it makes itself, and prints for each shape the processor time and the
-# peak memory of `nfq play`, and their ratios to two programs of baselines.c: one by hand that writes the same bytes
-# without a proof, and a floor that reads the inputs and writes files of the outputs' sizes. Last come `gen`, `play` of
-# what it writes, and `trial`, of 200,000 packets.
+# peak memory of `nfq play`, and their ratios to a floor, a program of baselines.c that reads the inputs and writes files
+# of the outputs' sizes; for three shapes also to one by hand, which writes the same bytes without a proof. Last come
+# `gen`, `play` of what it writes, and `trial`, of 200,000 packets.
 set -eu
 top=$(cd "$(dirname "$0")/.." && pwd)
 work=$(mktemp -d)

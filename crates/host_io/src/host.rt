@@ -62,8 +62,9 @@ pub trait Host {
         ensures writes { writes self.new ≡ writes self.old };
 
     /// Stores a prefix of the piece at place `at` of the named file and answers its length, in
-    /// bytes. At place 0 the file is made anew first, also for an empty piece. After a failure the
-    /// named file holds any bytes, or isn't there.
+    /// bytes. At place 0 the file is made anew first, also for an empty piece, but for the standard
+    /// output of a process, which keeps what it got. After a failure the named file holds any
+    /// bytes, or isn't there.
     fn write(&mut self, name: &str, at: u64, piece: &[u8]) -> Result<usize, Failed>
         requires { IsTrue (tells self.old) →
             (at ≡ 0) ⊎ (at ≡ length (bytes_of (content self.old name.now))) }

@@ -1,4 +1,4 @@
-//! Out of memory, as one answer that all crates share.
+//! Out of memory, as an answer that most crates share.
 
 use std::alloc::{AllocError, AllocFailed};
 use std::error::Error;

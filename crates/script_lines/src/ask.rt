@@ -21,7 +21,8 @@ pub enum Ask {
 /// What an inspector asks for, in its order.
 pub type Asks = Sequence<Ask>;
 
-/// Adds each of these messages, in their order. Their bytes are shared, not copied.
+/// Adds each of these messages, in their order. Their bytes are shared, not copied. When memory
+/// runs out, some of them may have been added.
 pub fn put_words(out: &mut Vec<Ask>, all: &Sequence<AskWords>) -> Result<(), NoMemory>
     ensures { OnOk result (out.new.items ≡ out.old.items ++ map Words all.now) }
 {
