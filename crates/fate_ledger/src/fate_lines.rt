@@ -74,13 +74,13 @@ fn follow(
     ensures lasts { OnOk result (lasts.new.items
         ≡ following.noted_all (following.told_by queues.old entry.now) lasts.old.items) }
 {
-    let mut followed = match queues.remove(&entry.queue) {
-        Some(followed) => followed,
-        None => Followed::new(alloc),
+    if !queues.contains_key(&entry.queue) {
+        queues.insert(entry.queue, Followed::new(alloc))?;
+    }
+    let Some(followed) = queues.get_mut(&entry.queue) else {
+        unreachable!()
     };
-    followed.follow(entry, lasts)?;
-    queues.insert(entry.queue, followed)?;
-    Ok(())
+    followed.follow(entry, lasts)
 }
 
 /// The numbers of the packets that were lost.
