@@ -31,7 +31,8 @@ use queue_core::replies_tell_how_many_left;
 /// Each line is that of the last event of its frame's packet: of an entry whose arrival is the
 /// packet's, or in whose step the packet left, with its queue, its place, and the packet there
 /// after its edits. No event of another entry has a greater visit, and none after it the same. A
-/// frame whose packet has no event is unhooked.
+/// frame whose packet has no event is unhooked. But the fate of a packet that the histories call
+/// lost is `nomemory`, with an event and without.
 pub fn each_line_names_the_last_event()
     ensures { (h : AllHistories) (frames : List AFrame) (place : ℕ) (f : AFrame) (l : ALine) →
         AreLegal h.entries → slice_get frames place ≡ Some f →

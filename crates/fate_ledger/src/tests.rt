@@ -448,34 +448,30 @@ fn a_full_mailbox_is_named_by_the_arrival(rt: HostRuntime) -> Result<(), Fail> {
 }
 
 #[test]
-fn a_queue_without_a_copy(rt: HostRuntime) -> Result<(), Fail> {
-    use Happens::{Asks, Passes};
-    const ALL: [Happens; 4] = [
-        Asks(0, Words::Bind),
-        Passes(0, 1, 1),
-        Passes(0, 2, 1),
-        Passes(0, 3, 1),
+fn queues_that_take_no_packet(rt: HostRuntime) -> Result<(), Fail> {
+    use Happens::{Arrives, Asks, Passes};
+    const ROWS: [(&[Happens], &[u8]); 3] = [
+        (
+            &[
+                Asks(0, Words::Bind),
+                Passes(0, 1, 1),
+                Passes(0, 2, 1),
+                Passes(0, 3, 1),
+            ],
+            b"1 copynone 0 2 0 20\n2 copynone 0 3 0 20\n3 copynone 0 4 0 20\n",
+        ),
+        (
+            &[Passes(5, 1, 1), Passes(5, 2, 1), Passes(5, 3, 1)],
+            b"1 bypass 5 1 0 20\n2 bypass 5 2 0 20\n3 bypass 5 3 0 20\n",
+        ),
+        (
+            &[Arrives(5, 1, 1), Arrives(5, 2, 1), Arrives(5, 3, 1)],
+            b"1 noqueue 5 1 0 20\n2 noqueue 5 2 0 20\n3 noqueue 5 3 0 20\n",
+        ),
     ];
-    const LINES: &[u8] = b"1 copynone 0 2 0 20\n2 copynone 0 3 0 20\n3 copynone 0 4 0 20\n";
-    assert!(rt; says(rt.alloc(), 3, &ALL, LINES)?);
-    Ok(())
-}
-
-#[test]
-fn a_queue_without_a_port_is_passed(rt: HostRuntime) -> Result<(), Fail> {
-    use Happens::Passes;
-    const ALL: [Happens; 3] = [Passes(5, 1, 1), Passes(5, 2, 1), Passes(5, 3, 1)];
-    const LINES: &[u8] = b"1 bypass 5 1 0 20\n2 bypass 5 2 0 20\n3 bypass 5 3 0 20\n";
-    assert!(rt; says(rt.alloc(), 3, &ALL, LINES)?);
-    Ok(())
-}
-
-#[test]
-fn a_queue_without_a_port_stops_packets(rt: HostRuntime) -> Result<(), Fail> {
-    use Happens::Arrives;
-    const ALL: [Happens; 3] = [Arrives(5, 1, 1), Arrives(5, 2, 1), Arrives(5, 3, 1)];
-    const LINES: &[u8] = b"1 noqueue 5 1 0 20\n2 noqueue 5 2 0 20\n3 noqueue 5 3 0 20\n";
-    assert!(rt; says(rt.alloc(), 3, &ALL, LINES)?);
+    for &(all, lines) in &ROWS {
+        assert!(rt; says(rt.alloc(), 3, all, lines)?);
+    }
     Ok(())
 }
 

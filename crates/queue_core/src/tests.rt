@@ -108,8 +108,7 @@ fn arrive(
     }
 }
 
-/// What an arrival can have beside its queue: the 33rd visit, the rule's bypass, room in the port's
-/// mailbox.
+/// What an arrival can have beside its queue: the 33rd visit, the bypass, room in the port's mailbox.
 const LAST: u8 = 4;
 
 const BYPASS: u8 = 2;
