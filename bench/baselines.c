@@ -1,11 +1,11 @@
 // Two programs to compare nfq with.
 //
 //   baselines floor RULES SCRIPT IN OUT LEDGER JOURNAL SIZE SIZE SIZE
-//     reads the three inputs and writes three files of these sizes, in pieces of 256 KiB.
+//     reads the three inputs and writes three files of these sizes, in pieces of up to 256 KiB.
 //   baselines tuned RULES SCRIPT IN OUT LEDGER JOURNAL
-//     writes the bytes that `nfq play` writes for a script that accepts every frame of a capture of
-//     microseconds and raw IP, without a check: the capture is read whole, and each output is written in
-//     pieces of 256 KiB.
+//     writes the bytes that `nfq play` writes for the one rule and the script of play.sh that accepts every
+//     frame, and a little-endian capture of microseconds and of IPv4 as raw IP, without a check: the capture is
+//     read whole, and each output is written in pieces of up to 256 KiB.
 #include <fcntl.h>
 #include <stdint.h>
 #include <stdio.h>

@@ -47,7 +47,7 @@ abbrev pub lasts : List Happening → ℕ → ℕ → List (Option Happening)
 lasts hs number zero = []
 lasts hs number (suc more) = last_of number hs None ∷ lasts hs (number + 1) more
 
--- the last event of the packet at this place, where it has a place
+-- the last events, after one more of the packet at this place, where it has a place
 abbrev pub noted_at : ℕ → Option (Option Happening) → Happening → List (Option Happening)
     → List (Option Happening)
 noted_at at None h kept = kept

@@ -25,7 +25,7 @@ use Rattle.fate_ledger.specs.Fates.{happenings_after, fate_line, is_lost}
 
 -- ---- an event of a packet
 
--- the state of an entry's queue before it, and what its step is
+-- an entry's step, from the state of its queue before it
 abbrev pub step_after : List Entry → Entry → Stepped
 step_after before e = step (replay (history e.queue before)) e.event
 
@@ -129,7 +129,7 @@ abbrev pub Waits : List Entry → Happening → Type 0
 Waits es h =
     times (is_visit h.card.number h.card.visit) (waiting_in (replay (history h.queue es))) ≡ 1
 
--- a packet left in the step of an event that is its last: its entry is one of these, after others
+-- the packet of an event left in that event's step: its entry is one of these, after others
 pub record LeftThere (es : List Entry) (h : Happening) : Type 0 where
   pub before : List Entry
   pub entry : Entry

@@ -14,7 +14,7 @@ pub struct Happening {
     pub queue: u16,
     /// The place of its entry in the queue's history, counted from 1.
     pub at: u64,
-    /// What became of the packet, if this is its last event.
+    /// What became of the packet, if this is its last event and it wasn't lost.
     pub fate: Fate,
     /// The packet there, after its edits.
     pub card: Card,

@@ -23,7 +23,8 @@ const SNAP: u32 = 262_144;
 const BYTES: [u8; 20] = [
     0x45, 0, 0, 20, 0, 1, 0, 0, 0x40, 6, 0, 0, 10, 0, 0, 1, 10, 0, 0, 2,
 ];
-/// Other bytes, all alike: replaced payloads, long packets and Ethernet frames are cut from these.
+/// Other bytes, all alike, from which most replaced payloads, long packets and Ethernet frames are
+/// cut.
 const OTHER_BYTES: [u8; 84] = [0x46; 84];
 
 /// A capture of so many packets.
@@ -154,8 +155,8 @@ fn has_lines(
     Ok(rest == Some(lines))
 }
 
-/// What one row says: how many frames there are, what happens, what is lost, and the lines of the
-/// ledger and of the counts behind it, with the seconds and the lengths of the released frames.
+/// Whether the ledger, the counts, and the second and the length of each released frame are these,
+/// where all these happen to so many frames, and this is lost.
 fn agrees(
     alloc: Global,
     count: u8,
@@ -688,8 +689,8 @@ fn one_line(alloc: Global, fate: Fate, payload: &[u8]) -> Result<FateLines, NoMe
     Ok(lines)
 }
 
-/// A frame of an Ethernet capture with this fate and this last payload, as it is written; nothing
-/// where it isn't.
+/// Of a frame of an Ethernet capture with this fate and this last payload, as it is written: the
+/// original length modulo 128, and the bytes; nothing where it isn't written.
 fn written(alloc: Global, frame: &[u8], fate: Fate, payload: &[u8]) -> Result<Vec<u8>, NoMemory>
     requires { length payload.now ≤ longest_packet }
 {

@@ -44,6 +44,6 @@ first_port = 101
 abbrev pub flow_key : ℕ
 flow_key = 1
 
--- how many bytes of a packet a notice has
+-- how many bytes of a packet a notice has at most
 abbrev pub copy_range : ℕ
 copy_range = 64

@@ -91,7 +91,8 @@ Reads s m found m' =
     (m' ≡ (read_view m.0 s.word (totals_of found), m.1))
     × NeverDescend (readings_of s.word m'.0.readings)
 
--- a Writer's seat is told that what another read of its place was read off what it published
+-- a Writer's seat is told that what another read of its place was read off the opening zeros and
+-- what it published
 abbrev pub Compares : Step ℕ → Sat → ℕ → Sat → Type 0
 Compares s m found m' =
     (m' ≡ (clear_view m.0, m.1))

@@ -1,7 +1,9 @@
 -- The flow hash, and the queue that it picks: `jhash_3words` of include/linux/jhash.h, and
--- `reciprocal_scale` of include/linux/math.h. Which three words are hashed is this project's own
--- choice: the smaller address word, the greater one, and the protocol. All numbers are whole
--- numbers, and a word is one below 2 ^ 32.
+-- `reciprocal_scale` of include/linux/math.h. The three words are the smaller address word, the
+-- greater one, and the protocol, as for IPv4 in `hash_v4` of the kernel's nf_queue.h; that the
+-- words of addresses are read with their highest byte first, and which words of IPv6 addresses are
+-- taken, is this project's own choice. All numbers are whole numbers, and a word is one below
+-- 2 ^ 32.
 use Rattle.std.specs.Prelude.{ℕ, ◌+◌, ◌-◌, ◌*◌, ◌/◌, ◌%◌, ◌^◌, ◌==◌, min, max, bit_xor, Option}
 use Rattle.std.specs.Prelude.{Some, None, if◌then◌else◌}
 use Rattle.ip_fields.specs.Numbers.{ipv4_version}

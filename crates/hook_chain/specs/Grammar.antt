@@ -1,6 +1,7 @@
 -- The grammar of a rules file: what is written, production by production, as iptables-save(8)
--- writes it and iptables-extensions(8) names its parts. The square brackets of these comments say
--- that a part may be missing. Nothing here reads: a production says which words stand for a value.
+-- writes it and iptables(8) and iptables-extensions(8) name its parts. The square brackets of these
+-- comments say that a part may be missing. Nothing here reads: a production says which words stand
+-- for a value.
 use Rattle.std.specs.Prelude.{ℕ, ◌≡◌, ◌≢◌, ◌≤◌, ◌⊎◌, Bool, true, false, IsTrue, List, [], ◌∷◌}
 use Rattle.std.specs.Prelude.{◌++◌, length, map, flat_map, All, AllPairs, Option, Some, None, codes}
 use Rattle.std.specs.List.{list_all}

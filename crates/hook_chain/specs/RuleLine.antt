@@ -1,5 +1,5 @@
--- The line `-A FORWARD MATCHES -j NFQUEUE OPTIONS`, by its words: iptables-extensions(8), the
--- matches `-p` and `mark` and the target NFQUEUE, as iptables-save(8) writes them.
+-- The line `-A FORWARD MATCHES -j NFQUEUE OPTIONS`, by its words: `-p` of iptables(8), and the
+-- match `mark` and the target NFQUEUE of iptables-extensions(8), as iptables-save(8) writes them.
 use Rattle.std.specs.Prelude.{ℕ, ◌+◌, ◌-◌, ◌^◌, ◌&&◌, nat_lt, nat_le, not, Bool, true, false, List}
 use Rattle.std.specs.Prelude.{[], ◌∷◌, Option, Some, None, is_some, is_none, unwrap_or, option_map}
 use Rattle.std.specs.Prelude.{bytes_eq, codes, if◌then◌else◌}

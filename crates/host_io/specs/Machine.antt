@@ -15,7 +15,7 @@ pub record Entry : Type 0 where
   pub name : List ℕ
   -- the bytes of its file; None: there is no such file
   pub content : Option (List ℕ)
-  -- how many bytes its file may have after a write; None: no room was ever given
+  -- up to how many bytes writes may fill its file; None: no room was ever given
   pub room : Option ℕ
   pub read_faults : ℕ
   pub write_faults : ℕ
@@ -30,7 +30,7 @@ pub record Machine : Type 0 where
   pub failing : List ℕ  -- the numbers of the calls that fail; the first call has number 1
   pub short : List ℕ  -- the numbers of the calls that, if they are writes, take nothing
 
--- no file, no room, no call so far, and none that goes wrong
+-- no file, no room, no call so far, and none that is told to go wrong
 abbrev pub new_machine : Machine
 new_machine =
     record {

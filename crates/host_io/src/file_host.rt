@@ -14,8 +14,8 @@ use std::{fs, io};
 /// The name that stands for standard output.
 const STANDARD_OUTPUT: &str = "-";
 
-/// The files of the system, by their paths, and standard output as `-`. It doesn't tell what they
-/// hold.
+/// The files of the system, by their paths, and for writes standard output as `-`. It doesn't tell
+/// what they hold.
 ///
 /// Contracts see it as its one counter, which stands for both counts of every name: it rises at
 /// each failure and at each write that takes nothing of a piece that isn't empty. A file is opened

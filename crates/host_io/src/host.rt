@@ -20,7 +20,8 @@ impl fmt::Display for Failed {
 
 impl Error for Failed {}
 
-/// What holds files by their names and can fail. The name `-` is standard output.
+/// What holds files by their names and can fail. What is written to the name `-` goes to standard
+/// output.
 ///
 /// A host either tells what its files hold or doesn't, and never changes in this. For each name it
 /// has a count of failed reads and one of failed writes. No count falls. A count stands still at

@@ -160,7 +160,7 @@ fn a_file_is_read_whole_up_to_its_limit(rt: HostRuntime) -> Result<(), Fail> {
 fn a_file_of_any_number_of_pieces_is_read_whole(rt: HostRuntime) -> Result<(), Fail> {
     let mut host = MemoryHost::new(rt.alloc());
     let mut bytes = Vec::new(rt.alloc());
-    // Around one piece of 64 KiB, and around four.
+    // No byte and one, around one piece of 64 KiB, and around four.
     for size in [0, 1, 65_535, 65_536, 65_537, 262_143, 262_144, 262_145] {
         bytes.resize(size, b'x')?;
         host.put(rt.alloc(), "in", &bytes)?;

@@ -108,7 +108,8 @@ pub fn read_whole<H: Host>(
     Err(ReadStop::TooLarge)
 }
 
-/// Writes these bytes as the whole of the named file, which the host makes anew. Takes no memory.
+/// Writes these bytes as the whole of the named file, which the host makes anew, or as all that the
+/// call has for standard output. Takes no memory.
 pub fn write_whole<H: Host>(host: &mut H, name: &str, bytes: &[u8]) -> Result<(), WriteFault>
     ensures bytes { OnOk result (IsTrue (H.tells host.old) →
         H.content host.new name.now ≡ Some bytes.now) }

@@ -1,5 +1,5 @@
--- The numbers of whole scripts, each once. They are this project's own limits; those of single
--- lines are script_lines', and the last value of a count is queue_core's.
+-- The numbers of whole scripts, each once. They are this project's own limits and defaults; those
+-- of single lines are script_lines', and the last value of a count is queue_core's.
 use Rattle.std.specs.Prelude.{ℕ}
 use Rattle.packet_entry.specs.Numbers as shared
 

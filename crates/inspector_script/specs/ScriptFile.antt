@@ -136,8 +136,8 @@ script_at p b =
     (unwrap_or p.key default_key) p.downs p.ports (p.blocks ++ b ∷ [])
 
 -- The script that these lines make from a place on, or the number of the first line that no form
--- allows in its place; `line_number` is the first line's. A file without a port is refused after
--- its last line.
+-- allows in its place; `line_number` is the first line's. A file whose lines may all stand, but
+-- without a port, is refused after its last line.
 unfoldable pub script_from : ℕ → Place → List (List ℕ) → Result ScriptValue ℕ
 script_from line_number p [] =
     option_map_or (λ b. Ok (script_at p b)) p.last (Err line_number)

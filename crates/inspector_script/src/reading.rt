@@ -31,9 +31,9 @@ const DEFAULT_KEY: u32 = 0;
 
 /// The script that a file spells.
 ///
-/// `Bad` comes exactly where a line may not stand in its place, with the first such line; and, with
-/// the number of lines plus 1, where the file has no port. `NoMemory` comes when out of memory. The
-/// lines are read one after the other, each once.
+/// Unless memory runs out, `Bad` comes exactly where a line may not stand in its place, with the
+/// first such line; and, with the number of lines plus 1, where all may but the file has no port.
+/// `NoMemory` comes when out of memory. The lines are read one after the other, each once.
 pub fn read_script(alloc: Global, bytes: &[u8]) -> Result<Script, LineFault>
     requires { length bytes.now < 2 ^ 32 - 1 }
 

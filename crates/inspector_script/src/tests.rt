@@ -34,7 +34,8 @@ fn text_of(alloc: Global, row: &str) -> Result<Vec<u8>, Fail> {
     Ok(text)
 }
 
-/// How a text is answered: 0 where it is read, and else the line that is refused.
+/// How a text is answered: 0 where it is read, the line where one is refused, and else the largest
+/// number.
 fn refused_line(alloc: Global, text: &[u8]) -> u32 {
     if text.len() > 1_000_000 {
         return u32::MAX;
@@ -410,10 +411,10 @@ fn bad_files_are_refused_at_their_first_bad_line(rt: HostRuntime) -> Result<(), 
     Ok(())
 }
 
-/// Adds this line so many times.
-fn push_times(text: &mut String, line: &str, times: u32) -> Result<(), Fail> {
+/// Adds this text so many times.
+fn push_times(text: &mut String, added: &str, times: u32) -> Result<(), Fail> {
     for _ in 0..times {
-        text.push_str(line)?;
+        text.push_str(added)?;
     }
     Ok(())
 }

@@ -35,7 +35,7 @@ ipv6_fields bytes = record {
   destination = network_number ipv6_address_length ipv6_destination_at bytes;
 }
 
--- a whole header of version 4 or 6 has fields, and nothing else has
+-- 20 bytes of version 4 and 40 of version 6 have fields, and nothing else has
 unfoldable pub fields_of : List ℕ → Option IpFields
 fields_of bytes =
     if nat_le ipv4_header_length (length bytes) && (version_of bytes == ipv4_version)

@@ -1,5 +1,6 @@
 -- The histories that a journal tells in full: nothing was lost, the entries stand by queue, no port
--- has two logs, and each value is one that its field can hold.
+-- has two logs or did anything after its closing, each request is of its entry's queue and each
+-- reply of its event's kind, and each value is one that its field can hold.
 use Rattle.std.specs.Prelude.{ℕ, ◌≡◌, ◌≢◌, ◌<◌, ◌≤◌, ◌^◌, ⊤, List, [], map, All, AllPairs, Option}
 use Rattle.std.specs.Prelude.{IfSome}
 use Rattle.hex.specs.Hex.{IsBytes}

@@ -1,8 +1,8 @@
-//! Why a journal was refused.
+//! Why no histories were read from a text.
 
 use thiserror::Error;
 
-/// Why a journal was refused.
+/// Why no histories were read from a text.
 #[derive(Clone, Copy, Debug, PartialEq, Eq, Error)]
 pub enum JournalFault {
     /// The first line, counted from 1, at whose end the text no longer begins a journal; the

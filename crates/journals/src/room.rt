@@ -9,7 +9,7 @@ const LINE: usize = 96;
 /// The digits of a byte.
 const BYTE_DIGITS: usize = 2;
 
-/// More bytes than the journal mostly has: of small packets up to three times as many. Where it has
+/// More bytes than the journal mostly has: of small packets some three times as many. Where it has
 /// more after all, it grows.
 pub fn room_for(histories: &Histories) -> usize {
     let mut room = LINE;

@@ -148,7 +148,7 @@ fn batch_requests(rt: HostRuntime) -> Result<(), Fail> {
     Ok(())
 }
 
-/// The journal of one thing that took three packets back.
+/// The journal of one thing that destroyed three packets.
 fn flushed(alloc: Global, queue: u16, event: Event) -> Result<Vec<u8>, NoMemory> {
     told_of(alloc, queue, event, Reply::Flushed { taken: 3 })
 }
@@ -251,7 +251,8 @@ fn told_again(alloc: Global, text: &str) -> Result<Vec<u8>, Fail> {
     Ok(out)
 }
 
-/// How a text is answered: 0 where it is read, and else the line that is refused.
+/// How a text is answered: 0 where it is read, the line where one is refused, and else the largest
+/// number.
 fn refused_line(alloc: Global, text: &[u8]) -> u32 {
     if text.len() > 1_000_000 {
         return u32::MAX;

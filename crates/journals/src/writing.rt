@@ -119,7 +119,8 @@ fn push_entry_line(alloc: Global, entry: &Entry, out: &mut String) -> Result<(),
     push_reply(&entry.reply, out)
 }
 
-/// What an arrival's line says of the packet, and the blank after it.
+/// What an arrival's line says of the packet, of the bypass and of the room, and the blank after
+/// it.
 fn push_card(
     alloc: Global,
     card: &Card,

@@ -37,7 +37,8 @@ fn one_letter_at_a_time(rt: HostRuntime) -> Result<(), Fail> {
     Ok(())
 }
 
-/// Sends so many letters, numbered from 0, and says how many the mailbox took.
+/// Sends letters, numbered from 0, until one comes back, so many at most, and says how many the
+/// mailbox took.
 fn fill(rt: &impl Wait, alloc: Global, mailbox: &Mailbox, sender: &mut Sender, most: u32) -> u32
     requires { sender.old.mailbox ≡ mailbox.now }
     ensures taken { result ≤ most }

@@ -1,6 +1,7 @@
 -- Acknowledgements: uapi linux/netlink.h, `struct nlmsgerr`, and the kernel's `netlink_ack` and
--- `netlink_rcv_skb`. That an acknowledgement has flags 0, and the request's own port, is this
--- project's, and so is that its length counts no padding behind the request that it quotes.
+-- `netlink_rcv_skb`. That the acknowledgement of a success has flags 0, and that each has the
+-- request's own port, is this project's, and so is that its length counts no padding behind the
+-- request that it quotes.
 use Rattle.std.specs.Prelude.{ℕ, ◌-◌, ◌^◌, Bool, ◌&&◌, ◌==◌, if◌then◌else◌, List, [], ◌++◌, take}
 use Rattle.std.specs.Prelude.{bit_and}
 use Rattle.byteorder.specs.Endian.{little_bytes}

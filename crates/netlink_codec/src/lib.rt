@@ -12,8 +12,8 @@ mod message_header;
 mod messages;
 
 pub use acknowledgements::ack;
-// The walk has another name in its module: names that differ only in case, as `attrs` and `Attrs`,
-// are refused in one module.
+// The walk has another name in its module: two items whose names differ only in case, as `attrs`
+// and `Attrs`, are refused in the module where both are defined.
 pub use attributes::{Attr, Attrs, attr_header, attr_padding, put_attr, walk_attrs as attrs};
 pub use laws::{
     one_message_in_front, one_row_is_held, walk_goes_on_or_ends, written_attributes_are_walked,

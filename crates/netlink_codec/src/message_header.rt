@@ -1,13 +1,15 @@
 //! The header of a message: `struct nlmsghdr` of uapi linux/netlink.h, 16 bytes. Each field is a
 //! number with its lowest byte first.
 //!
-//! | Place | Width | Name     |                            |
-//! |-------|-------|----------|----------------------------|
-//! | 0     | 4     | length   | bytes of header and body   |
-//! | 4     | 2     | kind     | what the message is about  |
-//! | 6     | 2     | flags    | `NLM_F_REQUEST` and others |
-//! | 8     | 4     | sequence | the sender's number for it |
-//! | 12    | 4     | port     | the sender's port          |
+//! | Place | Width | Name     |                                             |
+//! |-------|-------|----------|---------------------------------------------|
+//! | 0     | 4     | length   | bytes of header and body                    |
+//! | 4     | 2     | kind     | what the message is about                   |
+//! | 6     | 2     | flags    | `NLM_F_REQUEST` and others                  |
+//! | 8     | 4     | sequence | the sender's number for it                  |
+//! | 12    | 4     | port     | the sender's port                           |
+//!
+//! An acknowledgement has the sequence and the port of the request that it answers.
 
 ghost use Rattle.std.specs.Prelude.{◌≡◌, ◌≤◌, length};
 ghost use Rattle.netlink_codec.specs.Fields.{told};

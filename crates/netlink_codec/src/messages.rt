@@ -22,9 +22,9 @@ pub struct Message<'a> {
     pub kind: u16,
     /// Flags, such as `NLM_F_REQUEST` 1 and `NLM_F_ACK` 4.
     pub flags: u16,
-    /// The sender's number for this message.
+    /// The sender's number for this message; in an acknowledgement, the request's.
     pub sequence: u32,
-    /// The port of the sender.
+    /// The port of the sender; in an acknowledgement, the request's.
     pub port: u32,
     /// The bytes after the header, without padding.
     pub body: &'a [u8],

@@ -1,5 +1,5 @@
-//! Messages by their bytes: requests as the kernel's clients write them, a notice, and
-//! acknowledgements. Each call that appends runs on each kind of input that it has, with enough
+//! Messages by their bytes: requests, as the kernel's clients write them and malformed, a notice,
+//! and acknowledgements. Each call that appends runs on each kind of input that it has, with enough
 //! memory.
 
 ghost use Rattle.std.specs.Prelude.{◌≡◌, map, IfOk};

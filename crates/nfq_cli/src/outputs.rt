@@ -43,7 +43,7 @@ pub fn outputs_of(
     let mut journal = Vec::new(alloc);
     journal_text(alloc, &histories, &mut journal)?;
     let lines = fates(alloc, capture, &histories)?;
-    // The histories are as large as the texts: they end here.
+    // The histories aren't needed any more: they end here.
     drop(histories);
     let mut ledger = Vec::new(alloc);
     ledger_text(alloc, &lines, &mut ledger)?;

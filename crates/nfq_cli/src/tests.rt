@@ -1,4 +1,5 @@
-//! Runs of the commands over a machine in memory. What they expect was written out by hand.
+//! Runs of the commands over a machine in memory. What they expect was written out by hand, but for
+//! generated inputs and for the longest run.
 
 mod frames;
 mod listed;

@@ -1,7 +1,7 @@
 -- The numbers of nfnetlink_queue messages, each once: uapi linux/netfilter/nfnetlink.h,
--- linux/netfilter/nfnetlink_queue.h, linux/netfilter.h, linux/socket.h and asm-generic/errno-base.h
--- and errno.h. Kinds, numbers and places have no unit; lengths are in bytes. The sizes of headers
--- follow from their fields, in Headers.antt.
+-- linux/netfilter/nfnetlink_queue.h, linux/netfilter.h, asm-generic/errno-base.h and errno.h, and
+-- the kernel's include/linux/socket.h. Kinds, numbers and places have no unit; lengths are in
+-- bytes. The sizes of headers follow from their fields, in Headers.antt.
 use Rattle.std.specs.Prelude.{ℕ}
 use Rattle.packet_entry.specs.Numbers.{longest_payload}
 

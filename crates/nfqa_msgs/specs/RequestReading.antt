@@ -128,7 +128,7 @@ AskedFits Nothing = Unit {0}
 AskedFits (Refused errno) = Unit {0}
 AskedFits (Asked request) = PayloadFits request
 
--- the request has bytes for a packet's place
+-- the request has a payload for a packet, which may be empty
 abbrev pub has_payload : Request → Bool
 has_payload (Config queue command params maxlen flags mask) = false
 has_payload (Verdict queue head mark None) = false

@@ -16,7 +16,7 @@ pub struct Head {
 /// What of a packet is copied into its notice.
 #[derive(Clone, Copy, Debug, PartialEq, Eq)]
 pub struct Params {
-    /// How many bytes at most, under the mode `PACKET`.
+    /// How many bytes at most, under the mode `PACKET`; 0 asks for as many as a notice can have.
     pub range: u32,
     /// `NONE`, `META` or `PACKET`. Any other mode changes neither mode nor range.
     pub mode: u8,

@@ -1,4 +1,5 @@
-//! Messages by their bytes: requests as the kernel's clients write them, and notices.
+//! Messages by their bytes: requests, as the kernel's clients write them and malformed, and
+//! notices.
 
 ghost use Rattle.std.specs.Prelude.{IfOk};
 ghost use Rattle.nfqa_msgs.specs.RequestReading.{AskedFits};

@@ -1,4 +1,4 @@
-//! Bytes that are shared: copies and cuts of one buffer, which none of them can change.
+//! Bytes that can be shared: lists over one buffer, which none of them can change.
 
 ghost use Rattle.std.specs.Prelude.{◌≡◌, ◌≤◌, ◌↔◌, List, [], length, slice_range, IfOk, IfErr};
 ghost use Rattle.std.specs.Prelude.{IsTrue};

@@ -1,7 +1,7 @@
 //! What travels through the machinery: packets, the notices that tell of them, and the lists that
 //! hold such things. A packet is a linear value: it can be read, changed and moved, but neither
 //! copied nor lost, and the two calls that spend it say whether it went on or was destroyed. Its
-//! bytes are shared: whatever else knows them holds the same buffer, which nothing can change.
+//! bytes can be shared: then several hold one buffer, which nothing can change.
 #![tactic(auto)]
 
 mod bytes;

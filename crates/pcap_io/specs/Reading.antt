@@ -97,8 +97,9 @@ read_record big frame_number at text =
           (record_header_length + number_at big w32 captured_at text);
     })
 
--- The text is a whole capture, and then something that is no whole record. The place of the fault
--- is the number of that record, counted from 1, and the byte at which it begins.
+-- The text is a whole capture, and then a record that is cut or too long. The fault tells the
+-- number of that record, counted from 1, and the byte at which it begins where it is cut, and else
+-- its length.
 pub record BreaksOff (text : List ℕ) (fault : CaptureFault) : Type 0 where
   pub before : List ℕ
   pub capture : Capture

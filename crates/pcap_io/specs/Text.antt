@@ -11,7 +11,7 @@ use Rattle.pcap_io.specs.declared.capture.Capture.{Capture}
 use Rattle.pcap_io.specs.declared.capture.Frame.{Frame}
 use Rattle.pcap_io.specs.Numbers.{microsecond_magic, nanosecond_magic, major_version, minor_version}
 
--- a number of a header: all are in one byte order, that of the machine which wrote the file
+-- a number of a header: all are in one byte order, the capture's
 abbrev pub field : Bool → Width → ℕ → List ℕ
 field big w n = if big then to_be_bytes w n else to_le_bytes w n
 

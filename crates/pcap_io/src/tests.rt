@@ -155,7 +155,7 @@ fn a_capture_is_cut_at_each_byte(rt: HostRuntime) {
     }
 }
 
-/// The first 24 bytes with one byte changed.
+/// The first 24 bytes with one byte set, and the front of a pcapng file.
 #[test]
 fn a_header_is_refused_by_its_first_fault(rt: HostRuntime) {
     let table = [

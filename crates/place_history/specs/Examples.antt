@@ -79,7 +79,7 @@ four_packets = three_packets ++ entering_packet 4 ∷ []
 
 -- ---- a place that is the only one
 
--- every queue is at it; nothing was begun there, and it goes on
+-- every queue is at it; nothing that was begun there is unsettled, and it goes on
 pub record IsOnly (place : PlaceState) : Type 0 where
   pub at : (queue : ℕ) → IsAt place queue
   pub no_offer : place.offer ≡ None

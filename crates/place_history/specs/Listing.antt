@@ -1,5 +1,5 @@
--- The listing of queues: a line for each bound one, by ascending number, as the kernel prints them
--- in /proc/net/netfilter/nfnetlink_queue (seq_show in nfnetlink_queue.c).
+-- The listing of queues: a line for each bound one, as the kernel prints it in
+-- /proc/net/netfilter/nfnetlink_queue (seq_show in nfnetlink_queue.c), but by ascending number.
 use Rattle.std.specs.Prelude.{ℕ, ◌-◌, ◌++◌, List, [], length, replicate, Option, Some, None}
 use Rattle.std.specs.Prelude.{codes, decimal, flat_map}
 use Rattle.queue_core.specs.State.{Bound}

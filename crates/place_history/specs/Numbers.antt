@@ -1,4 +1,4 @@
--- The numbers of queues' places and of their listing, each once.
+-- The numbers of queues, of their places and of totals, each once.
 use Rattle.std.specs.Prelude.{ℕ}
 use Rattle.packet_entry.specs.Numbers as shared
 

@@ -54,7 +54,7 @@ pub fn a_closed_port_has_no_queues()
 
 /// The entries of a device that goes down are one at each bound queue, and none elsewhere. Where it
 /// is one of the two by which every packet comes in and goes out, nothing waits then.
-pub fn a_device_that_goes_down_leaves_nothing_waiting()
+pub fn a_device_that_packets_pass_leaves_nothing_waiting()
     ensures entries { (device queue : ℕ) (es : List Entry) → queue < queue_count →
         history queue (downs device es) ≡ down_of device queue (state_of es queue) }
     ensures none { (device queue : ℕ) (es : List Entry) → queue < queue_count →

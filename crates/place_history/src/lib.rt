@@ -16,7 +16,7 @@ pub use journeys::{
     an_entry_is_a_move, each_packet_waits_is_lost_or_is_over, soundness_is_kept_move_by_move,
 };
 pub use laws::{
-    a_closed_port_has_no_queues, a_device_that_goes_down_leaves_nothing_waiting,
+    a_closed_port_has_no_queues, a_device_that_packets_pass_leaves_nothing_waiting,
     a_legal_history_goes_on, each_front_of_a_legal_history_is_legal, each_stay_ends_once,
 };
 pub use log::{AskWords, Did, Dids, PortLog};

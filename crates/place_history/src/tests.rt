@@ -237,7 +237,8 @@ fn happen(place: &mut Place, alloc: Global, call: u32, happens: Happens) -> Resu
     Ok(())
 }
 
-/// Lets all these happen, one after the other, as messages from 1 on.
+/// Lets all these happen, one after the other. A message's number is its place among them, from 1
+/// on.
 fn happen_all(place: &mut Place, alloc: Global, all: &[Happens]) -> Result<(), NoMemory>
     requires { IsOnly place.old }
     ensures { IsOnly place.new }

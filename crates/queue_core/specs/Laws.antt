@@ -79,6 +79,6 @@ pub record IsUntouched (q : Option Bound) (s : Stepped) : Type 0 where
 abbrev pub AreApart : Option Bound → Type 0
 AreApart q = IfSome q (λ q. IsDistinct nat_eq (keys_of q.waiting))
 
--- a queue whose ids are of 32 bits, and where fewer packets wait than there are ids
+-- a queue whose last id is of 32 bits, and where fewer packets wait than there are ids
 abbrev pub HasIds : Option Bound → Type 0
 HasIds q = IfSome q (λ q. (q.last < id_count) × (length q.waiting < id_count))

@@ -141,7 +141,7 @@ is_decided_early (Some q) card = (card.visit == last_visit) || turns_away q
 --   6   BIND of a bound queue: EBUSY
 --   7   UNBIND of an absent queue: ENODEV
 --   8   UNBIND of a bound queue: 0; all that waits is destroyed, the queue is absent, and the other
---       parts of the request aren't read
+--       parts of the request have no effect
 --   9   any other command than BIND: EOPNOTSUPP
 --   10  no command, and the queue is absent: ENODEV
 --   11  otherwise: 0; BIND makes a new queue for the sender, and then params, maximum and flags

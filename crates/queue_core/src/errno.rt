@@ -1,5 +1,5 @@
 //! The errors that an acknowledgement carries, by their numbers in asm-generic/errno-base.h.
-//! `EINVAL` and `EOPNOTSUPP` stand in `nfqa_msgs`.
+//! `EINVAL`, `ERANGE` and `EOPNOTSUPP` stand in `nfqa_msgs`.
 
 /// The queue belongs to another port.
 pub const EPERM: u16 = 1;

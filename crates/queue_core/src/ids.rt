@@ -1,4 +1,4 @@
-//! The ids of what waits: the next one, the place of one, and those before a batch's maximum.
+//! The ids of what waits: the next one, the place of one, and those that a batch takes.
 
 ghost use Rattle.std.specs.Prelude.{◌≡◌, ◌<◌, length, MatchOption, None};
 ghost use Rattle.std.specs.Map.{lookup, keys_of};

@@ -69,7 +69,7 @@ pub fn replies_tell_how_many_left()
 
 /// What leaves in the step of a config request, of a closed port or of a device that goes down is
 /// destroyed: none of it goes on.
-pub fn what_no_verdict_decided_is_destroyed()
+pub fn what_is_flushed_is_destroyed()
     ensures config { (q : Option Bound) (port : ℕ) (ask : ConfigAsk) →
         AllAreGone (config q port ask) }
     ensures port { (q : Option Bound) → AllAreGone (port_closed q) }

@@ -19,7 +19,7 @@ pub use handed::Handed;
 pub use laws::{
     another_port_changes_nothing, each_packet_stays_or_leaves, first_free_id, ids_stay_apart,
     public_numbers, replies_tell_how_many_left, room_matters_where_a_notice_is_offered,
-    share_is_the_longest, share_of_ascending_ids, what_no_verdict_decided_is_destroyed,
+    share_is_the_longest, share_of_ascending_ids, what_is_flushed_is_destroyed,
 };
 pub use offers::{Begun, NoRoom, Outcome, Settled};
 pub use queue::{DEFAULT_MAXIMUM, Queue};

@@ -19,7 +19,7 @@ const BYTES: [u8; 20] = [
     0x45, 0, 0, 0x14, 0, 1, 0, 0, 0x40, 6, 0, 0, 10, 0, 0, 1, 10, 0, 0, 2,
 ];
 
-/// The packet with this number at its first visit.
+/// The packet with this number at its first visit; for 0 that with the number 1.
 fn first_visit(alloc: Global, number: u32) -> Result<Packet, NoMemory>
     ensures { IfOk result (λ packet. packet.visit ≡ 1) }
 {
@@ -108,7 +108,8 @@ fn arrive(
     }
 }
 
-/// What an arrival can have beside its queue: the 33rd visit, the bypass, room in the port's mailbox.
+/// What an arrival can have beside its queue: the 33rd visit, the bypass, room in the port's
+/// mailbox.
 const LAST: u8 = 4;
 
 const BYPASS: u8 = 2;
@@ -599,7 +600,7 @@ fn notice_of(alloc: Global, params: Params) -> Result<Option<(u32, Letter)>, NoM
 }
 
 #[test]
-fn what_goes_down_destroys_what_waits(rt: HostRuntime) -> Result<(), Fail> {
+fn two_devices_destroy_what_waits(rt: HostRuntime) -> Result<(), Fail> {
     // The device, and how many packets of 1100 arrivals it destroys, and how many it leaves: 1024
     // wait at most.
     const ROWS: [(u32, u32, u32); 5] = [

@@ -20,7 +20,7 @@ use Rattle.script_lines.specs.Asking.{words_alone}
 use Rattle.script_lines.specs.AskLine.{ask_of, only_word}
 use Rattle.script_lines.specs.ConditionLine.{condition_of}
 
--- an ask with numbers alone
+-- an ask that doesn't say `this`
 unfoldable pub without_notice : List (List ℕ) → Option AskWords
 without_notice ws = ask_of ws >>= words_alone
 
@@ -85,7 +85,7 @@ set_up word ws =
       if nat_le 1 port then Some (line.Port port) else None)
     else None
 
--- `close` alone, or an ask with numbers alone
+-- `close` alone, or an ask that doesn't say `this`
 unfoldable pub end_of : List (List ℕ) → Option BlockLine
 end_of ws =
     if option_map_or (λ word. bytes_eq word (codes "close")) (only_word ws) false

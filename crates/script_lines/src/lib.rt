@@ -1,9 +1,9 @@
 //! The lines of a script: what each says, and what a line that answers notices asks for.
 //!
-//! [`read_line`] reads what one line says. A [`Line`] sets up the run, begins a port's block, or
-//! stands inside one. An [`OnLine`] has [`Condition`]s, which hold of a notice or don't, and
-//! [`Template`]s, which are asks once the notice is known. Which lines may follow which is
-//! `inspector_script`'s.
+//! [`read_line`] reads what one line says. A [`Line`] says nothing, sets up the run, begins a
+//! port's block, or stands inside one. An [`OnLine`] has [`Condition`]s, which hold of a notice or
+//! don't, and [`Template`]s, which are asks once the notice is known. Which lines may follow which
+//! is `inspector_script`'s.
 #![tactic(auto)]
 
 mod answering;

@@ -163,7 +163,7 @@ fn end(alloc: Global, line: &[u8]) -> Result<Option<BlockLine>, NoMemory>
     }
 }
 
-/// An ask that needs no notice: it has numbers alone.
+/// An ask that needs no notice: it doesn't say `this`.
 #[tactic(auto, unfolding(crate::specs::Line::without_notice))]
 fn read_alone(alloc: Global, line: &[u8]) -> Result<Option<AskWords>, NoMemory>
     ensures value { IfOk result (λ words. words ≡ without_notice (words_of line.now)) }

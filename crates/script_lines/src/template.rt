@@ -108,7 +108,7 @@ impl Judgement {
     }
 }
 
-/// One ask of a line that answers notices.
+/// One ask of a line.
 #[derive(Debug, Drop)]
 pub enum Template {
     /// `config`

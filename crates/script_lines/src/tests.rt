@@ -55,7 +55,7 @@ fn longer(than: u32) -> Condition {
     Condition::Longer { than }
 }
 
-/// Whether a condition holds of the port's notice of this number and payload.
+/// Checks of each row whether its condition holds of the port's notice of this number and payload.
 fn check(
     rt: &impl Abort,
     alloc: Global,

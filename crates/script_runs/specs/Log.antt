@@ -25,8 +25,8 @@ use Rattle.script_runs.specs.Schedule.{is_received}
 -- ---- what a port does, told in full
 
 -- A log tells of a notice its queue, number and visit, and of a message how it was logged. Here
--- stand the whole notice and the message itself; and where an ask was taken up, its bytes cut into
--- messages.
+-- stand the whole notice and the message itself; and it is told where an ask was taken up, whose
+-- bytes are then cut into messages.
 pub data Note : Type 0 where
   Got : Letter → Note
   Begun : Note
@@ -116,7 +116,7 @@ abbrev pub is_some_due : List Due → Bool
 is_some_due [] = false
 is_some_due (d ∷ ds) = true
 
--- where the port stands after this
+-- where the port stands, with this in its log
 abbrev pub having : ℕ → Note → Standing → Standing
 having port n t = record t { dids = t.dids ++ dids_by port n }
 
@@ -124,6 +124,7 @@ abbrev pub replaced : List Due → Standing → Standing
 replaced instead t =
     record t { owed = owed_then instead t.owed; ends = ends_then instead t.owed t.ends }
 
+-- where the port stands after this
 abbrev pub after : ScriptValue → ℕ → ℕ → Standing → Note → Standing
 after script place port t (Got l) =
     let u = having port (Got l) t in

@@ -29,7 +29,7 @@ pleas_by port (Ask by call request) reply =
 pleas_by port (PortClosed closed) reply = []
 pleas_by port (DeviceDown device) reply = []
 
--- the requests of a port in a history
+-- the requests of a port in an entry, and in a history
 abbrev pub pleas_of : ℕ → Entry → List Plea
 pleas_of port e = pleas_by port e.event e.reply
 

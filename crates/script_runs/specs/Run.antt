@@ -33,13 +33,15 @@ pub record IsMadeBy (script : ScriptValue) (frames : ℕ) (h : Histories) (notes
   -- what a port received are the notices of the arrivals that its queues took
   pub notices : (port : ℕ) → list_any (nat_eq port) script.ports ≡ true →
       AreNotices h.entries port (notes port) (left port)
-  -- and where a port's log has its closing, the queues' histories have it
+  -- where a port's log has its closing, no history has a second one of the port nor a request of it
+  -- behind its closing, and in the end no queue is bound to it; else no history has one
   pub closings : (port : ℕ) → list_any (nat_eq port) script.ports ≡ true →
       AreClosings h.entries port (logged port (notes port))
   -- an arrival found no room only where the port was sent as many notices as its mailbox holds
   pub room : (port : ℕ) → list_any (nat_eq port) script.ports ≡ true →
       AreRoomy script.mail h.entries port (notes port) (left port)
-  -- frames arrive in their order, and devices go down between them where the script says it
+  -- first arrivals come in the order of frames, and devices go down between them where the script
+  -- says it
   pub feeder : AreFed script frames h.entries
   -- the ports open before all else and end behind all that was fed, each in their order
   pub order : AreOrdered script notes h.entries

@@ -33,7 +33,9 @@ ghost use Rattle.script_runs.specs.LettersLeft.{left_in};
 ghost use Rattle.script_runs.specs.Run.{IsMadeBy};
 
 use netlink_codec::{written_attributes_are_walked, written_message_is_in_front};
-use place_history::{a_closed_port_has_no_queues, a_device_that_goes_down_leaves_nothing_waiting};
+use place_history::{
+    a_closed_port_has_no_queues, a_device_that_packets_pass_leaves_nothing_waiting,
+};
 use queue_core::each_packet_stays_or_leaves;
 use solo_plane::what_goes_on_is_in_time;
 
@@ -52,10 +54,11 @@ pub fn each_port_has_its_log()
 /// their queues took, in their order, but for the last ones, which are left in the mailboxes; no
 /// claim is made here of how many they are. Where a port closed, no queue is bound to it in the
 /// end, and none has a second closing or a later request of it. An arrival found no room only where
-/// the port was sent as many notices as its mailbox holds. In each queue's history frames arrive in
-/// their order, and each `down` line that takes effect stands between those of the frames up to its
-/// own and those of later ones. What ports ask as they open stands before all else, and what they
-/// ask as they end, with their closings, behind all that was fed, each in the order of the ports.
+/// the port was sent as many notices as its mailbox holds. In each queue's history first arrivals
+/// come in the order of their frames, and each `down` line that takes effect stands between those
+/// of the frames up to its own and those of later ones. What ports ask as they open stands before
+/// all else, and what they ask as they end, with their closings, behind all that was fed, each in
+/// the order of the ports.
 pub fn ports_do_what_the_script_says()
     ensures { (script : ScriptValue) (tables : List (List Rule)) (c : Capture) (h : Histories) →
         IsScript script → IsSolo script tables c h →
@@ -63,7 +66,7 @@ pub fn ports_do_what_the_script_says()
         × IsMadeBy script (length c.frames) h notes (left_in (run script tables c)) }
 {
     a_closed_port_has_no_queues();
-    a_device_that_goes_down_leaves_nothing_waiting();
+    a_device_that_packets_pass_leaves_nothing_waiting();
     each_packet_stays_or_leaves();
     what_goes_on_is_in_time();
 }

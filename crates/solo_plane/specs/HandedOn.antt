@@ -1,4 +1,4 @@
--- What a request lets go on, and what may be lost of it.
+-- Visits that are in time, of packets that wait and that go on; and what leaves as one arrives.
 use Rattle.std.specs.Prelude.{◌≡◌, ◌≢◌, ◌⊎◌, ℕ, List, [], ◌∷◌, Bool, ◌||◌, ◌==◌, nat_le, count_by}
 use Rattle.packet_entry.specs.declared.packet.Card.{Card}
 use Rattle.packet_entry.specs.Numbers.{last_visit}

@@ -35,8 +35,8 @@ fn hand_on(held: &mut Held, alloc: Global, setting: &Setting, mut handed: Handed
     handed.finish();
 }
 
-/// Carries out a port's request, and moves on what it let go on: its errno. When memory runs out
-/// nothing has happened.
+/// Carries out a port's request, and moves on what it let go on: its errno. `NoMemory` leaves all
+/// as it was; a packet whose next arrival finds no memory is lost.
 pub(crate) fn ask(
     held: &mut Held,
     alloc: Global,

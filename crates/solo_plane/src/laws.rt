@@ -25,7 +25,7 @@ ghost use Rattle.solo_plane.specs.Soundness.{IsSound};
 use netlink_codec::one_message_in_front;
 use nfqa_msgs::spelling_decodes_to_its_request;
 use place_history::{a_legal_history_goes_on, an_entry_is_a_move, soundness_is_kept_move_by_move};
-use queue_core::{each_packet_stays_or_leaves, what_no_verdict_decided_is_destroyed};
+use queue_core::{each_packet_stays_or_leaves, what_is_flushed_is_destroyed};
 
 /// The histories of a plane stay sound for the packets that were fed and those that were lost, and
 /// legal: through feeding and messages always, and where a port closes or a device goes down if the
@@ -47,7 +47,7 @@ pub fn histories_stay_sound()
     ensures in_time { (es : List Entry) → AreLegal es → WaitInTime es }
 {
     each_packet_stays_or_leaves();
-    what_no_verdict_decided_is_destroyed();
+    what_is_flushed_is_destroyed();
     an_entry_is_a_move();
     a_legal_history_goes_on();
     soundness_is_kept_move_by_move();

@@ -28,7 +28,8 @@ use std::alloc::Global;
 /// errno of 4.
 const ACK_LENGTH: usize = 20;
 
-/// Carries out what a message is decoded to: its errno. When memory runs out nothing has happened.
+/// Carries out what a message is decoded to: its errno. `NoMemory` leaves all as it was; a packet
+/// whose next arrival finds no memory is lost.
 fn carry_out(
     held: &mut Held,
     alloc: Global,
@@ -54,7 +55,7 @@ fn carry_out(
 }
 
 /// A port sends the first message of some bytes, where one stands there: how many bytes it uses.
-/// When memory runs out nothing has happened.
+/// `NoMemory` leaves all as it was; a packet whose next arrival finds no memory is lost.
 pub(crate) fn message(
     held: &mut Held,
     alloc: Global,
@@ -84,8 +85,8 @@ pub(crate) fn message(
     }
 }
 
-/// A port sends a message: it is carried out, logged, and acknowledged where that is due. When
-/// memory runs out nothing has happened.
+/// A port sends a message: it is carried out, logged, and acknowledged where that is due.
+/// `NoMemory` leaves all as it was; a packet whose next arrival finds no memory is lost.
 fn send(
     held: &mut Held,
     alloc: Global,

@@ -176,7 +176,7 @@ fn accepted(plane: &mut SoloPlane, alloc: Global) -> Result<(Sent, bool, u32), F
     Ok((accepted, nothing_left, destroyed))
 }
 
-/// What a plane was told to do, and what it answered.
+/// What a plane answered.
 type Told = ((Sent, Sent), (Fed, Option<Noticed>), (Sent, bool, u32));
 
 /// Port 7 binds queue 0 and asks for whole packets. Packet 1 is fed and told of; it is accepted,
@@ -290,7 +290,7 @@ fn a_refused_message_comes_back_whole(rt: HostRuntime) -> Result<(), Fail> {
     let histories = plane.close(rt.alloc());
     assert_eq!(rt; told?, ((28, 36), ((28, 48), (32, 52), (0, 0))));
     let histories = histories?;
-    // The bind, the verdict without a header, and the closing; the third was refused unread.
+    // The bind, the verdict without a header, and the closing; the third asks nothing of a queue.
     let length = histories.entries.len();
     assert_eq!(rt; (length, first_log(&histories)), (3, Some((7, 4))));
     Ok(())

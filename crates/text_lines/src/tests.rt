@@ -1,4 +1,4 @@
-//! Each public call on small texts, one row a text. The expected values follow from the rules of
+//! Each public call on small texts, most of them rows. The expected values follow from the rules of
 //! the formats alone.
 
 use super::*;

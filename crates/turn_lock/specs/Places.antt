@@ -1,4 +1,4 @@
--- Places of entries in a list, as ascending lists of numbers; and beginnings of a list.
+-- Places of entries in a list, as ascending lists of numbers; and the longer of two lists.
 use Rattle.std.specs.Prelude.{◌≡◌, ℕ, ◌+◌, ◌-◌, ◌<◌, ◌≤◌, ◌⊎◌, List, [], ◌∷◌, length}
 use Rattle.std.specs.Prelude.{if◌then◌else◌, nat_lt}
 use Rattle.std.specs.Coded.{×_prop, Unit-prop, le_prop}

@@ -9,8 +9,9 @@ use crate::view::View;
 use atomic_table::Seat;
 
 /// The right to take turns at one lock. A pass has no bytes. Contracts see the list that it has
-/// seen, the places of the entries that its own turns appended, its part of the lock and the label
-/// of the lock's state. A pass that is dropped keeps its part, so the lock can't be closed after.
+/// seen, the places of the entries that its own turns appended, or those of the passes that were
+/// joined into it, its part of the lock and the label of the lock's state. A pass that is dropped
+/// keeps its part, so the lock can't be closed after.
 #[derive(Drop)]
 pub struct Pass<S: Storied> {
     pub(crate) seat: Seat<Option<S>, View<S::Entry, S>>,

@@ -31,7 +31,8 @@ pub(crate) enum Turn<E> {
 pub(crate) struct View<E, S> {
     /// The list that it has seen.
     pub seen: LinkedList<E>,
-    /// The places of the entries that its turns appended, ascending.
+    /// The places of the entries that its turns appended, or those of the passes that were joined
+    /// into it, ascending.
     pub own: LinkedList<u64>,
     pub part: Part,
     /// The state that the lock was made with, for its label; `None` once it was joined into

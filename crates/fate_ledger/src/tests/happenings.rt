@@ -1,4 +1,5 @@
-//! What happens at a place, as the rows of the tests say it: each thing is one call of the place.
+//! What happens at a place, as the rows of the tests say it: each thing is one call of the place,
+//! or two, since an arrival begins and is settled.
 
 ghost use Rattle.std.specs.Prelude.{◌≤◌, IfOk, IfSome, length};
 ghost use Rattle.packet_entry.specs.Numbers.{longest_packet, longest_payload};

@@ -1,4 +1,5 @@
-//! Runs whose files are compared whole.
+//! Runs whose files are compared whole; of the longest the ledger and the journal by the number of
+//! their lines.
 
 use super::{HEADER, RULES, SCRIPT, capture, has, holds, host, played, push_head};
 use host_io::MemoryHost;

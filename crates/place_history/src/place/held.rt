@@ -26,7 +26,7 @@ pub(super) struct Held {
     pub(super) offer: Option<Offer>,
 }
 
-/// An arrival whose notice is offered.
+/// An arrival that is begun.
 #[derive(Drop)]
 pub(super) struct Offer {
     /// The queue's number.

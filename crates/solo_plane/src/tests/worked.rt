@@ -1,5 +1,5 @@
 //! Worked examples of packets that go from queue to queue: what happens, one after the other, and
-//! all that stands in the histories afterwards.
+//! what then stands in the entries: queue, packet, mark and reply.
 
 ghost use Rattle.std.specs.Prelude.{◌≡◌, ◌<◌, ◌≤◌, ◌+◌};
 ghost use Rattle.solo_plane.specs.Examples.{IsGoing};
@@ -69,7 +69,7 @@ fn happen_all(plane: &mut SoloPlane, alloc: Global, steps: &[Step]) -> Result<Ve
     Ok(all)
 }
 
-/// What stands in the histories.
+/// What is looked at of the entries.
 fn lines_of(alloc: Global, entries: &Entries) -> Result<Vec<Line>, NoMemory> {
     let mut lines = Vec::new(alloc);
     for entry in entries {
@@ -83,7 +83,7 @@ fn lines_of(alloc: Global, entries: &Entries) -> Result<Vec<Line>, NoMemory> {
 }
 
 /// A plane with these rules and mailboxes of this size, from its beginning to its end: what became
-/// of the packets, and what stands in the histories.
+/// of the packets, and what is looked at of the entries.
 fn played(
     alloc: Global,
     rules: &[u8],

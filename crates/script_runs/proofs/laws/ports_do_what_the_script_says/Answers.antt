@@ -10,5 +10,5 @@ returns c = λ script tables capture h is solo.
       leaves = c.what_goes_on_is_in_time.ensures.arrival;
       conserve = c.each_packet_stays_or_leaves.ensures;
       closings = c.a_closed_port_has_no_queues.ensures.entries;
-      downs = c.a_device_that_goes_down_leaves_nothing_waiting.ensures.entries;
+      downs = c.a_device_that_packets_pass_leaves_nothing_waiting.ensures.entries;
     }) script tables capture h is.ports_differ solo

@@ -9,9 +9,9 @@ use Rattle.solo_plane.proofs.laws.histories_stay_sound.Goals as goal
 laws : goal.After-soundness_is_kept_move_by_move → Laws
 laws c = record {
   conserves = c.each_packet_stays_or_leaves.ensures;
-  config_gone = c.what_no_verdict_decided_is_destroyed.ensures.config;
-  port_gone = c.what_no_verdict_decided_is_destroyed.ensures.port;
-  device_gone = c.what_no_verdict_decided_is_destroyed.ensures.device;
+  config_gone = c.what_is_flushed_is_destroyed.ensures.config;
+  port_gone = c.what_is_flushed_is_destroyed.ensures.port;
+  device_gone = c.what_is_flushed_is_destroyed.ensures.device;
   is_move = c.an_entry_is_a_move.ensures;
   goes_on = c.a_legal_history_goes_on.ensures.all;
   enters = c.soundness_is_kept_move_by_move.ensures.enters;

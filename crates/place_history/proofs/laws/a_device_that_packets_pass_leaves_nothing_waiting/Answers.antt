@@ -1,5 +1,5 @@
 use Rattle.place_history.proofs.Swept.{down_one, down_none}
-use Rattle.place_history.proofs.laws.a_device_that_goes_down_leaves_nothing_waiting.Goals as goal
+use Rattle.place_history.proofs.laws.a_device_that_packets_pass_leaves_nothing_waiting.Goals as goal
 
 pub returns-clause-entries : goal.returns-clause-entries
 returns-clause-entries c = down_one

@@ -1,5 +1,5 @@
 use Rattle.queue_core.proofs.Tables.{config_destroys, port_destroys, device_destroys}
-use Rattle.queue_core.proofs.laws.what_no_verdict_decided_is_destroyed.Goals as goal
+use Rattle.queue_core.proofs.laws.what_is_flushed_is_destroyed.Goals as goal
 
 pub returns-clause-config : goal.returns-clause-config
 returns-clause-config c = config_destroys
