@@ -93,7 +93,8 @@ pub fn what_holds_of_packets_stays_so()
 /// Where the packets that entered were read with the capture's frames, the payload of each line in
 /// sound histories is the packet that its frame was read with, or no longer than a verdict's
 /// payload may be, unless the packet has no event. So no payload is longer than a frame may be, nor
-/// is a released frame, which has it behind its link header: the released capture can be written.
+/// is a released frame, which is as it was read or has the payload behind its link header: the
+/// released capture can be written.
 pub fn payloads_were_read_or_given()
     ensures each { (tables : List (List ARule)) (key link : ℕ) (entered : List ACard)
         (h : AllHistories) (frames : List AFrame) → AreRead link frames entered →

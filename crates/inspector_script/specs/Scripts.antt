@@ -17,7 +17,8 @@ use Rattle.inspector_script.specs.Blocks as block
 pub record ScriptValue : Type 0 where
   -- how many notices each mailbox holds
   pub mail : ℕ
-  -- after how many frames each time the mailboxes are emptied; 0 is not before the end
+  -- after how many frames each time the mailboxes are emptied, and after the last; 0 is after the
+  -- last alone
   pub pace : ℕ
   -- the key of the flow hash
   pub key : ℕ

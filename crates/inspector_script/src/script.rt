@@ -67,7 +67,8 @@ impl Script {
         self.mail
     }
 
-    /// After how many frames each time the mailboxes are emptied; 0 is not before the end.
+    /// After how many frames each time the mailboxes are emptied, and after the last; 0 is after
+    /// the last alone.
     pub fn pace(&self) -> u32
         ensures { result ≡ self.now.pace }
     {

@@ -65,7 +65,7 @@ reached laws h wf =
     reach laws (suc (length rest)) start h rest (omega arith) wf (sound_start start refl) front
     (front h rest wf refl)
 
--- what begins with a journal is that journal
+-- a journal that begins with a journal is that journal
 pub same_journal : Laws → (text rest : List ℕ) (a b : Histories) → IsJournal text a →
     IsJournal (text ++ rest) b → (rest ≡ []) × (b ≡ a)
 same_journal laws t rest a b j k =

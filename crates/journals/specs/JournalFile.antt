@@ -139,7 +139,7 @@ put (Some l) d = Some (Some (record { port = l.port; dids = l.dids ++ d ∷ [] }
 abbrev pub closed : Place → Place
 closed p = record p { logs = logs_of p; last = None }
 
--- the place after a line that says this; none where it may not stand here
+-- the place after a line that says this; none where it may not stand here, or is the last line
 unfoldable pub after : Place → Line → Option Place
 after p Heading = None
 after p (EntryLine e) =

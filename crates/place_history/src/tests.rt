@@ -398,7 +398,7 @@ fn what_happens_at_three_queues_is_entered(rt: HostRuntime) -> Result<(), Fail> 
 }
 
 #[test]
-fn an_absent_queue_lets_a_packet_by(rt: HostRuntime) -> Result<(), Fail> {
+fn an_absent_queue_is_bypassed(rt: HostRuntime) -> Result<(), Fail> {
     const ALL: [Happens; 1] = [Happens::Arrives(0, 1, true, true)];
     const ENTRIES: [(u16, Reply); 1] = [(0, BYPASSED)];
     let (replies, lines) = told_of(rt.alloc(), &ALL)?;

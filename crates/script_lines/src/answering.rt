@@ -13,7 +13,7 @@ use std::alloc::Global;
 /// An `on` line.
 #[derive(Debug, Drop)]
 pub struct OnLine {
-    /// The line answers where they all hold.
+    /// The line answers where they all hold, and those of no line before it in its block do.
     pub conditions: Sequence<Condition>,
     /// What it asks for.
     pub asks: Sequence<Template>,

@@ -33,8 +33,8 @@ pub enum Line {
     Nothing,
     /// `mail N`: how many notices each mailbox holds.
     Mail { mail: u32 },
-    /// `pace N`: after how many frames each time the mailboxes are emptied; 0 is not before the
-    /// end.
+    /// `pace N`: after how many frames each time the mailboxes are emptied, and after the last; 0
+    /// is after the last alone.
     Pace { pace: u32 },
     /// `hashkey N`: the key of the flow hash.
     Key { key: u32 },

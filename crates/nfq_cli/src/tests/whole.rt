@@ -1,5 +1,5 @@
-//! Runs whose files are compared whole; of the longest the ledger and the journal by the number of
-//! their lines.
+//! Runs whose files are compared whole, but for the journal of a replaced payload, and for the
+//! longest, whose ledger and journal are compared by the number of their lines.
 
 use super::{HEADER, RULES, SCRIPT, capture, has, holds, host, played, push_head};
 use host_io::MemoryHost;
