@@ -38,7 +38,7 @@ impl Followed {
     }
 
     /// Follows the queue's next entry, and notes it for each packet that it is an event of, where
-    /// it is the last one so far.
+    /// it is the last one so far. When memory runs out, some of it may have been noted.
     pub fn follow(&mut self, entry: &Entry, lasts: &mut Lasts) -> Result<(), NoMemory>
         ensures at { OnOk result (self.new.at ≡ following.place_after self.old.at) }
         ensures waiting { OnOk result (self.new.waiting

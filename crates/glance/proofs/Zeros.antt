@@ -2,7 +2,7 @@
 use Rattle.std.proofs.Common.{◌≡◌, ◌≤◌, ℕ, zero, suc, List, length, refl, ap, arith, get_or, take}
 use Rattle.std.proofs.Common.{replicate}
 
--- as many zeros of a row of zeros as are asked for
+-- a zero
 abbrev nothing : ℕ
 nothing = 0
 

@@ -1,5 +1,5 @@
 -- Where a packet goes next: nf_hook_slow (core.c of the kernel's netfilter) and nf_reinject
--- (nf_queue.c, since 6.10 nfnetlink_queue.c) over the tables of one hook, and two matches: the
+-- (nf_queue.c, since 6.9 nfnetlink_queue.c) over the tables of one hook, and two matches: the
 -- protocol of iptables(8) and the mark of iptables-extensions(8).
 use Rattle.std.specs.Prelude.{ℕ, ◌+◌, ◌-◌, ◌==◌, max, Bool, true, false, not, ◌&&◌, bit_and, List}
 use Rattle.std.specs.Prelude.{[], ◌∷◌, drop, find, Option, Some, None, if◌then◌else◌}

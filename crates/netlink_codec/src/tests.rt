@@ -10,8 +10,8 @@ use std::alloc::{AllocError, Global};
 use std::process::Abort;
 use std::test::Fail;
 
-/// A verdict for packet 1 of queue 0, field by field, as netlink(7) and uapi
-/// linux/netfilter/nfnetlink_queue.h lay it out.
+/// A verdict for packet 1 of queue 0, field by field, as uapi linux/netlink.h,
+/// linux/netfilter/nfnetlink.h and linux/netfilter/nfnetlink_queue.h lay it out.
 const ACCEPT: [u8; 32] = [
     // struct nlmsghdr
     32, 0, 0, 0, // 0: length, of header and body

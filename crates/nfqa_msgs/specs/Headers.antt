@@ -1,7 +1,7 @@
 -- The header of queue messages and those that attributes hold (uapi linux/netfilter/nfnetlink.h and
 -- linux/netfilter/nfnetlink_queue.h), each as one table: a field a line, with its place and its
 -- width in bytes. Numbers have their highest byte first. Below each table stand the size of the
--- whole header, where its last field ends, its text and what is read in it.
+-- whole header, where its last field ends, its text and, of a request's, what is read in it.
 use Rattle.std.specs.Prelude.{ℕ, ◌+◌, List, [], ◌∷◌, ◌++◌, slice_index, take, drop, replicate}
 use Rattle.byteorder.specs.Endian.{big_bytes, big_number}
 use Rattle.netlink_codec.specs.Fields.{Field}

@@ -4,7 +4,8 @@ use std::alloc::{AllocError, AllocFailed};
 use std::error::Error;
 use std::fmt;
 
-/// Out of memory. The call that answers it has changed nothing, unless its own page says otherwise.
+/// Out of memory. The call that answers it has changed nothing of what it borrows, unless its own
+/// page says otherwise.
 #[derive(Clone, Copy, Debug, PartialEq, Eq)]
 pub struct NoMemory;
 

@@ -103,7 +103,7 @@ candidate (suc n) id q h m =
           record { way = c.way + 1; short = omega (arith, c.short); is = c.is ∙ after_by id c.way })
     ]
 
--- this id is not one of those after it, as long as these are fewer than all others
+-- this id is not one of those after it, as long as these are fewer than all ids
 apart : (n id q : ℕ) → n < id_count → id < id_count → IsCandidate n (id_after id) q →
     nat_eq id q ≡ false
 apart n id q few h c = ne_eqb id q (λ e. omega (arith, c.short, c.is, e))

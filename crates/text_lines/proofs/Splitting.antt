@@ -144,7 +144,7 @@ unfolding words_of
 words_of-empty [] e = refl
 words_of-empty (x ∷ xs) e = absurd (omega arith)
 
--- what comes after the blanks begins with none
+-- the first of what comes after n of them is the one at place n
 pub get_or-drop_first : (n : ℕ) (xs : List ℕ) → get_or (drop n xs) 0 0 ≡ get_or xs n 0
 get_or-drop_first zero xs = refl
 get_or-drop_first (suc n) [] = refl

@@ -28,7 +28,8 @@ pub fn parts_meet_where_they_share_a_way()
     ensures whole { (q : Tree) → Apart Whole q → void q ≡ true }
 {}
 
-/// A part in normal form is known by its ways, and unions and cuts are in normal form.
+/// A part in normal form is known by its ways, and unions and cuts of such parts are in normal
+/// form.
 pub fn a_part_is_known_by_its_ways()
     ensures known { (p q : Tree) → is_normal p ≡ true → is_normal q ≡ true →
         ((way : ℕ → Bool) → covers p way ≡ covers q way) → p ≡ q }
