@@ -40,11 +40,6 @@ pub record IsRead (bytes : List ℕ) (at n : ℕ) (old new : List ℕ) : Type 0 
 abbrev pub written : Option (List ℕ) → ℕ → List ℕ → List ℕ
 written file at piece = take at (bytes_of file) ++ piece
 
--- `Rises` over a longer time
-pub Rises_over : (before old new after : ℕ) →
-    before ≤ old → Rises old new → new ≤ after → Rises before after
-Rises_over before old new after early rises late = omega arith
-
 pub later_now : {H : Type 0} {tells : H → Bool} {read_faults write_faults : H → List ℕ → ℕ}
     (host : H) → IsLater tells read_faults write_faults host host
 later_now host =

@@ -2,7 +2,7 @@
 use Rattle.std.proofs.Common.{◌≡◌, ◌≤◌, ◌⊎◌, ◌∙◌, ℕ, List, Option, Some, None, Result, Ok, Err}
 use Rattle.std.proofs.Common.{OnOk, OnErr, refl, sym, ap, subst, inl, inr, arith, [], ◌∷◌, map}
 use Rattle.std.specs.Prelude.{IsErrAnd, IsSomeAnd}
-use Rattle.host_io.specs.Host.{Rises, SameFiles, Rises_over}
+use Rattle.host_io.specs.Host.{Rises, SameFiles}
 use Rattle.nfq_cli.specs.declared.refusal.Refusal.{Refusal}
 use Rattle.nfq_cli.specs.declared.refusal.Refusal.TheVariants as refusal
 use Rattle.nfq_cli.specs.declared.stop.Stop.{Stop}
@@ -137,7 +137,7 @@ answered why stop.NoMemory old_count new_count new Unread stops printed unread =
 -- ---- over a longer time
 
 rises_since : (before old new : ℕ) → before ≤ old → Rises old new → Rises before new
-rises_since before old new early rises = Rises_over before old new new early rises (omega arith)
+rises_since before old new early rises = omega arith
 
 stay_since : (ts : List Text) (k0 k1 k2 : Contents) → SameFiles k0 k1 →
     Stay (map (λ (u : Text). u.name) ts) k1 k2 → Stay (map (λ (u : Text). u.name) ts) k0 k2
