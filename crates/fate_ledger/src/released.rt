@@ -73,7 +73,7 @@ fn keep(
         .map_err(|_| NoMemory)
 }
 
-/// A released frame as it is written: as it was read, unless its packet's bytes were replaced.
+/// A released frame as it is written: as it was read, unless its packet's last bytes are others.
 fn written(alloc: Global, link: u32, frame: &Frame, line: &FateLine) -> Result<Frame, NoMemory>
     requires { length line.now.payload ≤ longest_packet }
     ensures { IfOk result (λ out. out ≡ text.written link frame.now line.now) }
