@@ -36,9 +36,10 @@ enum Stop {
 /// The tables of a rules file as iptables-save(8) writes it, reduced to the FORWARD chain, the
 /// target NFQUEUE and the matches of protocol and mark.
 ///
-/// `Bad` comes exactly where a line may not stand in its place or the file ends inside a table,
-/// with the first such line. `NoMemory` comes when out of memory, which is taken only from the
-/// first line on that begins a table. The lines are read one after the other, each once.
+/// Unless memory runs out, `Bad` comes exactly where a line may not stand in its place, with the
+/// first such line; and, with the number of lines plus 1, where all may but the file ends inside a
+/// table. `NoMemory` comes when out of memory, which is taken only from the first line on that
+/// begins a table. The lines are read one after the other, each once.
 pub fn read_tables(alloc: Global, bytes: &[u8]) -> Result<Tables, LineFault>
     requires { length bytes.now < 2 ^ 32 - 1 }
 
@@ -47,8 +48,8 @@ pub fn read_tables(alloc: Global, bytes: &[u8]) -> Result<Tables, LineFault>
     ensures only { (tables : List (List Rule)) → IsRulesFile bytes.now tables →
         Answers result (Ok tables) }
 
-    // What is refused is refused at the first line that may not stand, and a file with such a line
-    // is refused there, unless memory runs out.
+    // What is refused is refused at the first line that may not stand, or at the one that is
+    // missing at the end, and a file with such a line is refused there, unless memory runs out.
     ensures refused { (line : ℕ) → result ≡ Err (LineFault.Bad line) →
         IsFirstRefused bytes.now line }
     ensures stuck { (line : ℕ) → IsFirstRefused bytes.now line → Answers result (Err line) }

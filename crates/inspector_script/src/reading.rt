@@ -41,8 +41,8 @@ pub fn read_script(alloc: Global, bytes: &[u8]) -> Result<Script, LineFault>
     ensures found { IfOk result (IsScriptFile bytes.now) }
     ensures only { (s : ScriptValue) → IsScriptFile bytes.now s → Answers result (Ok s) }
 
-    // What is refused is refused at the first line that may not stand, and a file with such a line
-    // is refused there, unless memory runs out.
+    // What is refused is refused at the first line that may not stand, or at the one that is
+    // missing at the end, and a file with such a line is refused there, unless memory runs out.
     ensures refused { (line : ℕ) → result ≡ Err (LineFault.Bad line) →
         IsFirstRefused bytes.now line }
     ensures stuck { (line : ℕ) → IsFirstRefused bytes.now line → Answers result (Err line) }

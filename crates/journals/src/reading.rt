@@ -32,8 +32,9 @@ pub fn read_journal(alloc: Global, bytes: &[u8]) -> Result<Histories, JournalFau
     ensures found { IfOk result (IsJournal bytes.now) }
     ensures only { (h : value.Histories) → IsJournal bytes.now h → Answers result h }
 
-    // What is refused is no journal, and is refused at the first line that can't stand in one. What
-    // has such a line is refused there, unless memory runs out.
+    // What is refused is no journal, and is refused at the first line that can't stand in one, or
+    // at the one that is missing at the end. What has such a line is refused there, unless memory
+    // runs out.
     ensures refused { (line : ℕ) → result ≡ Err (fault.Bad line) → IsFirstRefused bytes.now line }
     ensures stuck { (line : ℕ) → IsFirstRefused bytes.now line → IsRefusedAt result line }
 {
