@@ -4,8 +4,8 @@
 //     reads the three inputs and writes three files of these sizes, in pieces of up to 256 KiB.
 //   baselines tuned RULES SCRIPT IN OUT LEDGER JOURNAL
 //     writes the bytes that `nfq play` writes for the one rule and the script of play.sh that accepts every
-//     frame, and a little-endian capture of microseconds and of IPv4 as raw IP, without a check: the capture is
-//     read whole, and each output is written in pieces of up to 256 KiB.
+//     frame, and a little-endian capture of microseconds and of IPv4 as raw IP, in frames of up to 131,072 bytes,
+//     without a check: the capture is read whole, and each output is written in pieces of up to 256 KiB.
 #include <fcntl.h>
 #include <stdint.h>
 #include <stdio.h>
