@@ -6,11 +6,12 @@ ghost use Rattle.pcap_io.specs.declared.fault.CaptureFault.TheVariants.{NoMemory
 use packet_entry::NoMemory;
 use thiserror::Error;
 
-/// The first fault of a file, from its front, with its place. Frames count from 1, and 0 is the
-/// file's header; `at` is the offset in bytes at which that frame's record begins.
+/// The first fault of a file, from its front, with its record where it is in one. Frames count from
+/// 1, and 0 is the file's header; `at` is the offset in bytes at which that frame's record begins.
 #[derive(Clone, Copy, Debug, PartialEq, Eq, Error)]
 pub enum CaptureFault {
-    /// There are fewer than four bytes, or the first four are none of the format's magic numbers.
+    /// There are fewer than four bytes, or the first four are neither one of the format's magic
+    /// numbers nor pcapng's.
     #[error("no pcap magic")]
     Magic,
     /// The file is a pcapng file: it begins with the bytes 0a 0d 0d 0a.

@@ -2,9 +2,9 @@
 //! (pcap-savefile(5)), in either byte order, with microseconds or nanoseconds.
 //!
 //! `read_capture` takes the whole file as bytes and gives the capture that it is, or the first
-//! fault from the front with its place; `read_shared_capture` does so without copying a frame.
-//! `write_capture` appends the file of a capture. The two directions are inverse to each other,
-//! byte for byte.
+//! fault from the front, with its record where it is in one; `read_shared_capture` does so without
+//! copying a frame. `write_capture` appends the file of a capture. The two directions are inverse
+//! to each other, byte for byte.
 #![tactic(auto)]
 
 mod capture;

@@ -1,7 +1,7 @@
 //! The sequential queue: packets wait under ids, oldest first, until a verdict names them. The
 //! calls that change it are steps of the definitions in `specs/`, by the tables of the queue's
-//! rules read from the top: `begin` and, where it offers a notice, `settle` are one together, and
-//! `skip_to` alone is none.
+//! rules read from the top: `begin` and, where it offers a notice, `settle` are one together, but
+//! for a packet's 33rd visit, which is decided before `begin`; and `skip_to` alone is none.
 #![tactic(auto)]
 
 mod decision;
