@@ -72,7 +72,7 @@ SHAPES = [
     ("frames of 1,500 bytes", 44_000, ONE_RULE, ACCEPTED, lambda n: alike(n, 1500), True),
     ("flows over eight queues", 200_000, "*filter\n-A FORWARD -j NFQUEUE --queue-balance 0:7\nCOMMIT\n", balanced(), mixed, False),
     ("the last of 1,000 rules", 20_000, LAST_RULE, ACCEPTED, lambda n: alike(n, 60), False),
-    ("32 visits a packet", 6_000, ONE_RULE, OPENED + "on any do verdict this repeat this\n", lambda n: alike(n, 60), False),
+    ("32 repeats a packet", 6_000, ONE_RULE, OPENED + "on any do verdict this repeat this\n", lambda n: alike(n, 60), False),
     ("batches of 100", 200_000, ONE_RULE, "pace 100\n" + OPENED + "on every 100 do batch this accept this\n",
      lambda n: alike(n, 60), False),
     ("20,000 that wait, 16,000 of them answered backwards", 20_000, ONE_RULE, backwards(20_000, 16_000),
