@@ -48,6 +48,7 @@ pub fn walk_attrs(body: &[u8]) -> Attrs<'_>
 ///
 /// `AllocError` is out of memory, and then `out` has what it had. It doesn't come where `out` has
 /// room for the attribute with its padding.
+#[inline(always)]
 pub fn put_attr(out: &mut Vec<u8>, kind: u16, body: &[u8]) -> Result<(), AllocError>
     requires kind { kind < kind_limit }
     requires content { length body.now ≤ longest_content }

@@ -19,7 +19,8 @@ pub use laws::{
     one_message_in_front, one_row_is_held, walk_goes_on_or_ends, written_attributes_are_walked,
     written_message_is_in_front,
 };
-pub use messages::{Message, next_message, put_message};
+pub use messages::{Message, next_message, put_message, put_split_message};
+
 
 #[cfg(test)]
 mod tests;

@@ -103,17 +103,47 @@ pub fn put_message(
         ≤ vec_capacity out.old → IsOk result }
     ensures capacity { vec_capacity out.old ≤ vec_capacity out.new }
 {
+    put_split_message(out, kind, flags, sequence, port, body, &[], &[])
+}
+
+/// Appends a message as [`put_message`] does, whose body is `head`, `middle` and `tail`, one behind
+/// the other, so that what lies apart needn't be brought together before.
+pub fn put_split_message(
+    out: &mut Vec<u8>,
+    kind: u16,
+    flags: u16,
+    sequence: u32,
+    port: u32,
+    head: &[u8],
+    middle: &[u8],
+    tail: &[u8],
+) -> Result<(), AllocError>
+    requires { length head.now + length middle.now + length tail.now < 2 ^ 31 }
+    ensures ok { OnOk result (out.new.items ≡ out.old.items
+        ++ message_text kind flags sequence port (head.now ++ middle.now ++ tail.now)) }
+    ensures err { OnErr result (out.new.items ≡ out.old.items) }
+
+    // Where there is room it succeeds, and room is never lost.
+    ensures room { vec_len out.old + (message_header_length
+        + (length head.now + length middle.now + length tail.now))
+        ≤ vec_capacity out.old → IsOk result }
+    ensures capacity { vec_capacity out.old ≤ vec_capacity out.new }
+{
+    let body = head.len() + middle.len() + tail.len();
     let header = put_message_header(MessageHeader {
-        length: (MESSAGE_HEADER_LENGTH + body.len()) as u32,
+        length: (MESSAGE_HEADER_LENGTH + body) as u32,
         kind,
         flags,
         sequence,
         port,
     });
-    append_parts(out, &header, body, &[])
+    out.reserve(MESSAGE_HEADER_LENGTH + body)?;
+    out.extend_from_slice(&header)?;
+    append_parts(out, head, middle, tail)
 }
 
 /// Appends `head`, `middle` and `tail`, or nothing.
+#[inline(always)]
 pub(crate) fn append_parts(
     out: &mut Vec<u8>,
     head: &[u8],

@@ -3,6 +3,7 @@ use Rattle.std.proofs.Common.{◌≡◌, ℕ, ◌+◌, ◌-◌, ◌<◌, ◌≤�
 use Rattle.std.proofs.Common.{drop, refl, sym, ap, ap₂, ◌∙◌, arith, append-nil, append_assoc}
 use Rattle.std.proofs.Common.{length-append, Option, Some, replicate, zero, suc}
 use Rattle.std.specs.Prelude.{slice_range, nat_eq, false}
+
 use Rattle.std.proofs.Math.Dec.{eqb-suc-zero}
 use Rattle.std.proofs.Math.Seq.{drop-append_seam, take-append_seam}
 use Rattle.std.proofs.lemmas.Option.{same_Some}
@@ -17,7 +18,7 @@ use Rattle.nfqa_msgs.specs.Numbers.{notice_number, payload_kind}
 use Rattle.nfqa_msgs.specs.Kinds.{queue_kind}
 use Rattle.nfqa_msgs.specs.Headers.{queue_header}
 use Rattle.nfqa_msgs.specs.NoticeWriting.{Told, family_of, front_parts, payload_part}
-use Rattle.nfqa_msgs.specs.NoticeWriting.{notice_front, notice_body, notice_text}
+use Rattle.nfqa_msgs.specs.NoticeWriting.{notice_front, notice_body, notice_text, padded_payload}
 
 abbrev pub framed : NetlinkMessage → ℕ → Option (NetlinkMessage × ℕ)
 framed message used = Some (message, used)
@@ -49,9 +50,6 @@ pub is_read : (bytes body : List ℕ) (message : NetlinkMessage) (used : ℕ) �
 is_read bytes body message used only fits is =
     same-message message _ used _ (only _ _ (stands_alone bytes body fits is))
 
--- what follows the payload's header
-abbrev pub padded_payload : List ℕ → List ℕ
-padded_payload payload = payload ++ zero_padding (attribute_header_length + length payload)
 
 abbrev pub payload_header : List ℕ → List ℕ
 payload_header payload =
@@ -93,6 +91,17 @@ body_text told =
     (flat_map-append attribute_text (front_parts told) (payload_part told.payload))
     ∙ sym (append_assoc head (attributes_text (front_parts told))
     (attributes_text (payload_part told.payload)))
+
+-- where there is a payload, its header stands behind the front
+pub body_with_payload : (told : Told) → nat_eq (length told.payload) 0 ≡ false →
+    notice_body told
+    ≡ (notice_front told ++ payload_header told.payload) ++ padded_payload told.payload
+body_with_payload told some =
+    body_text told
+    ∙ ap (λ xs. notice_front told ++ xs) (payload_text told.payload some)
+    ∙ sym (append_assoc (notice_front told) (payload_header told.payload)
+    (padded_payload told.payload))
+
 
 -- ---- where the payload stands
 

@@ -2,7 +2,7 @@
 -- The attributes stand in the kernel's order. This project's are the two devices, that there always
 -- is a timestamp and never `NFQA_SKB_INFO`, and that the length in the message's header counts the
 -- last padding.
-use Rattle.std.specs.Prelude.{◌≡◌, ℕ, ◌^◌, ◌<◌, ◌≤◌, Bool, ◌&&◌, ◌||◌, ◌==◌, nat_lt, IsTrue}
+use Rattle.std.specs.Prelude.{◌≡◌, ℕ, ◌+◌, ◌^◌, ◌<◌, ◌≤◌, Bool, ◌&&◌, ◌||◌, ◌==◌, nat_lt, IsTrue}
 use Rattle.std.specs.Prelude.{if◌then◌else◌, List, [], ◌∷◌, ◌++◌, length, take, drop, Option, Some}
 use Rattle.std.specs.Prelude.{None, IfSome, option_map}
 use Rattle.packet_entry.specs.declared.packet.Card.{Card}
@@ -10,7 +10,8 @@ use Rattle.packet_entry.specs.Numbers.{longest_payload, ipv4_type}
 use Rattle.packet_entry.specs.Fields.{IsProtocol}
 use Rattle.packet_entry.specs.Card.{IsCard}
 use Rattle.netlink_codec.specs.Messages.{message_text}
-use Rattle.netlink_codec.specs.Attributes.{Attribute, attributes_text}
+use Rattle.netlink_codec.specs.Attributes.{Attribute, attributes_text, zero_padding}
+use Rattle.netlink_codec.specs.Numbers.{attribute_header_length}
 use Rattle.nfqa_msgs.specs.Numbers.{notice_number, packet_header_kind, mark_kind, timestamp_kind}
 use Rattle.nfqa_msgs.specs.Numbers.{input_device_kind, output_device_kind, hardware_address_kind}
 use Rattle.nfqa_msgs.specs.Numbers.{payload_kind, full_length_kind, input_device, output_device}
@@ -75,6 +76,13 @@ notice_front told =
 abbrev pub notice_body : Told → List ℕ
 notice_body told =
     queue_header (family_of told.protocol) told.queue ++ attributes_text (notice_parts told)
+
+-- the zeros behind the packet's bytes
+abbrev pub payload_padding : List ℕ → List ℕ
+payload_padding payload = zero_padding (attribute_header_length + length payload)
+
+abbrev pub padded_payload : List ℕ → List ℕ
+padded_payload payload = payload ++ payload_padding payload
 
 -- the text of a notice: flags, sequence and port are 0
 unfoldable pub notice_text : Told → List ℕ

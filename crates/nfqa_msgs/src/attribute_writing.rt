@@ -12,6 +12,7 @@ use netlink_codec::put_attr;
 use std::alloc::AllocError;
 
 /// Appends an attribute.
+#[inline(always)]
 pub(crate) fn put_part(body: &mut Vec<u8>, kind: u16, content: &[u8]) -> Result<(), AllocError>
     requires kind { kind < kind_limit }
     requires content { length content.now ≤ longest_payload }
@@ -22,6 +23,7 @@ pub(crate) fn put_part(body: &mut Vec<u8>, kind: u16, content: &[u8]) -> Result<
 }
 
 /// Appends an attribute that is one number, where there is one.
+#[inline(always)]
 pub(crate) fn put_value(body: &mut Vec<u8>, kind: u16, value: Option<u32>) -> Result<(), AllocError>
     requires { kind < kind_limit }
     ensures { OnOk result (body.new.items ≡ body.old.items

@@ -5,25 +5,20 @@ ghost use Rattle.std.specs.Prelude.{option_map, Some, IfSome, IfOk, IsTrue};
 ghost use Rattle.std.specs.Prelude.{MatchOption};
 ghost use Rattle.packet_entry.specs.Numbers.{longest_payload};
 ghost use Rattle.netlink_codec.specs.Messages.{FitsHeader, message_text, message_with};
-ghost use Rattle.netlink_codec.specs.Attributes.{attributes_text, attribute_header_text};
-ghost use Rattle.netlink_codec.specs.Attributes.{zero_padding};
-ghost use Rattle.netlink_codec.specs.Numbers.{attribute_header_length};
-ghost use Rattle.nfqa_msgs.specs.Numbers.{notice_number, payload_kind};
+ghost use Rattle.nfqa_msgs.specs.Numbers.{notice_number};
 ghost use Rattle.nfqa_msgs.specs.Kinds.{queue_kind};
-ghost use Rattle.nfqa_msgs.specs.NoticeWriting.{FitsTold, notice_body, notice_text, payload_part};
+ghost use Rattle.nfqa_msgs.specs.NoticeWriting.{FitsTold, notice_body, notice_text};
+ghost use Rattle.nfqa_msgs.specs.NoticeWriting.{padded_payload};
+
 ghost use Rattle.nfqa_msgs.specs.Telling.{telling};
 
-use crate::kinds::{NOTICE, NUMBERS, PAYLOAD, QUEUE_SUBSYSTEM};
+use crate::kinds::{NOTICE, NUMBERS, QUEUE_SUBSYSTEM};
 use crate::notice::Telling;
-use crate::notice_writing::front_of;
-use netlink_codec::{
-    Message, attr_header, attr_padding, next_message, written_attributes_are_walked,
-};
+use crate::notice_writing::{front_of, padding_behind};
+use netlink_codec::{Message, next_message, written_attributes_are_walked};
 use packet_entry::NoMemory;
 use std::alloc::Global;
 
-/// At most so many zeros follow an attribute's content, up to the next multiple of 4.
-const MOST_PADDING: usize = 3;
 
 /// Whether the bytes are the notice that tells this. The payload is compared where it lies: none of
 /// its bytes is copied.
@@ -80,7 +75,7 @@ fn is_body_of(alloc: Global, body: &[u8], told: &Telling<'_>) -> Result<bool, No
     ensures { IfOk result
         (λ same. IsTrue same ↔ (body.now ≡ notice_body (telling told.now))) }
 {
-    let front = front_of(alloc, told, 0)?;
+    let front = front_of(alloc, told)?;
     match behind(body, &front) {
         None => Ok(false),
         Some(rest) => Ok(is_payload(rest, told.payload)),
@@ -95,19 +90,13 @@ fn behind<'a>(bytes: &'a [u8], front: &[u8]) -> Option<&'a [u8]>
     bytes.strip_prefix(front)
 }
 
-/// Whether these bytes are the attribute of the payload, or nothing where it is empty.
+/// Whether these bytes are the payload and the zeros behind it.
 fn is_payload(bytes: &[u8], payload: &[u8]) -> bool
     requires { length payload.now ≤ longest_payload }
-    ensures { IsTrue result ↔ (bytes.now ≡ attributes_text (payload_part payload.now)) }
+    ensures { IsTrue result ↔ (bytes.now ≡ padded_payload payload.now) }
 {
-    if payload.is_empty() {
-        return bytes.is_empty();
-    }
-    match behind(bytes, &attr_header(PAYLOAD, payload.len())) {
+    match behind(bytes, payload) {
         None => false,
-        Some(content) => match behind(content, payload) {
-            None => false,
-            Some(padding) => padding == &[0; MOST_PADDING][..attr_padding(payload.len())],
-        },
+        Some(padding) => padding == padding_behind(payload),
     }
 }

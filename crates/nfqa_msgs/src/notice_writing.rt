@@ -10,11 +10,13 @@ ghost use Rattle.nfqa_msgs.specs.Numbers.{hardware_address_length};
 ghost use Rattle.nfqa_msgs.specs.RequestWriting.{part};
 ghost use Rattle.nfqa_msgs.specs.NoticeWriting.{FitsTold, notice, notice_text, notice_body};
 ghost use Rattle.nfqa_msgs.specs.NoticeWriting.{notice_front, told_of, source_in, cut_of};
-ghost use Rattle.nfqa_msgs.specs.NoticeWriting.{told_bytes, family_of, mark_content, payload_part};
+ghost use Rattle.nfqa_msgs.specs.NoticeWriting.{told_bytes, family_of, mark_content};
+ghost use Rattle.nfqa_msgs.specs.NoticeWriting.{padded_payload, payload_padding};
+
 ghost use Rattle.nfqa_msgs.specs.Telling.{telling};
 
 use crate::PACKET;
-use crate::attribute_writing::{put_part, put_value};
+use crate::attribute_writing::put_value;
 use crate::headers::packet_address::{ADDRESS_LENGTH, put_address};
 use crate::headers::packet_header::put_packet_header;
 use crate::headers::queue_header::{IPV4_FAMILY, IPV6_FAMILY, begin_body};
@@ -23,7 +25,7 @@ use crate::kinds::{
     FULL_LENGTH, INPUT_DEVICE, MARK, NOTICE, NUMBERS, OUTPUT_DEVICE, PAYLOAD, QUEUE_SUBSYSTEM,
 };
 use crate::notice::Telling;
-use netlink_codec::{put_message, written_attributes_are_walked};
+use netlink_codec::{attr_header, attr_padding, put_split_message, written_attributes_are_walked};
 use packet_entry::{IPV4, NoMemory, Packet};
 use std::alloc::{AllocError, Global};
 
@@ -32,10 +34,10 @@ const INPUT: u32 = 1;
 /// The index of the device by which every packet goes out.
 const OUTPUT: u32 = 2;
 
-/// Bytes that hold the attributes before the packet's bytes.
-const FRONT_ROOM: usize = 80;
-/// Bytes that hold the header and the padding of the attribute of the packet's bytes.
-const PAYLOAD_ROOM: usize = 8;
+/// Bytes that hold the attributes before the packet's bytes, and the header of these.
+const FRONT_ROOM: usize = 84;
+/// At most so many zeros follow an attribute's content, up to the next multiple of 4.
+const MOST_PADDING: usize = 3;
 
 /// Where the source address begins in an Ethernet header, after the destination's 6 bytes.
 const LINK_SOURCE_AT: usize = 6;
@@ -130,31 +132,49 @@ pub(crate) fn put_notice(out: &mut Vec<u8>, told: &Telling<'_>) -> Result<(), Al
 {
     // By the codec's law the body is short enough for a message.
     written_attributes_are_walked();
-    let body = body_of(*out.allocator(), told)?;
-    put_message(out, QUEUE_SUBSYSTEM * NUMBERS + NOTICE, 0, 0, 0, &body)
+    let front = front_of(*out.allocator(), told)?;
+    let padding = padding_behind(told.payload);
+    put_split_message(
+        out,
+        QUEUE_SUBSYSTEM * NUMBERS + NOTICE,
+        0,
+        0,
+        0,
+        &front,
+        told.payload,
+        padding,
+    )
 }
 
-/// The bytes after the message's header.
-fn body_of(alloc: Global, told: &Telling<'_>) -> Result<Vec<u8>, AllocError>
+/// What stands between the message's header and the packet's bytes.
+pub(crate) fn front_of(alloc: Global, told: &Telling<'_>) -> Result<Vec<u8>, AllocError>
     requires { FitsTold (telling told.now) }
-    ensures { IfOk result (λ body. body.items ≡ notice_body (telling told.now)) }
+    ensures { IfOk result (λ front.
+        notice_body (telling told.now) ≡ front.items ++ padded_payload told.now.payload.now) }
 {
-    let mut body = front_of(alloc, told, PAYLOAD_ROOM + told.payload.len())?;
-    put_payload(&mut body, told.payload)?;
-    Ok(body)
+    let mut front = parts_before(alloc, told)?;
+    if told.payload.is_empty() {
+        return Ok(front);
+    }
+    front.extend_from_slice(&attr_header(PAYLOAD, told.payload.len()))?;
+    Ok(front)
+
 }
 
-/// The same before the packet's bytes, with room for so many bytes behind it.
-pub(crate) fn front_of(
-    alloc: Global,
-    told: &Telling<'_>,
-    room: usize,
-) -> Result<Vec<u8>, AllocError>
-    requires fits { FitsTold (telling told.now) }
-    requires room { room < 2 ^ 31 }
+/// The zeros behind the packet's bytes.
+pub(crate) fn padding_behind(payload: &[u8]) -> &[u8]
+    requires { length payload.now ≤ longest_payload }
+    ensures { result.now ≡ payload_padding payload.now }
+{
+    &[0; MOST_PADDING][..attr_padding(payload.len())]
+}
+
+/// What stands before the attribute of the packet's bytes.
+fn parts_before(alloc: Global, told: &Telling<'_>) -> Result<Vec<u8>, AllocError>
+    requires { FitsTold (telling told.now) }
     ensures { IfOk result (λ front. front.items ≡ notice_front (telling told.now)) }
 {
-    let mut body = begin_body(alloc, family(told.protocol), told.queue, FRONT_ROOM + room)?;
+    let mut body = begin_body(alloc, family(told.protocol), told.queue, FRONT_ROOM)?;
     put_packet_header(&mut body, told.id, told.protocol)?;
     put_value(&mut body, INPUT_DEVICE, Some(INPUT))?;
     put_value(&mut body, OUTPUT_DEVICE, Some(OUTPUT))?;
@@ -186,14 +206,3 @@ fn put_mark(body: &mut Vec<u8>, mark: u32) -> Result<(), AllocError>
     put_value(body, MARK, Some(mark))
 }
 
-/// Appends the packet's bytes, where some are told.
-fn put_payload(body: &mut Vec<u8>, payload: &[u8]) -> Result<(), AllocError>
-    requires { length payload.now ≤ longest_payload }
-    ensures { OnOk result (body.new.items ≡ body.old.items
-        ++ attributes_text (payload_part payload.now)) }
-{
-    if payload.is_empty() {
-        return Ok(());
-    }
-    put_part(body, PAYLOAD, payload)
-}

@@ -2,6 +2,8 @@
 
 ghost use Rattle.std.specs.Prelude.{◌≡◌, ◌≤◌, ◌↔◌, List, [], length, slice_range, IfOk, IfErr};
 ghost use Rattle.std.specs.Prelude.{IsTrue};
+ghost use Rattle.std.specs.Arc.{arc_value};
+
 
 use crate::NoMemory;
 use std::alloc::{AllocFailed, Global};
@@ -37,11 +39,7 @@ impl Bytes {
     pub fn new(_alloc: Global) -> Bytes
         ensures { result ≡ [] }
     {
-        Bytes {
-            buffer: None,
-            start: 0,
-            end: 0,
-        }
+        no_bytes()
     }
 
     /// A copy of the bytes, in a buffer of their own.
@@ -82,16 +80,8 @@ impl Bytes {
         ensures { IfOk result (λ bytes. bytes ≡ slice_range self.now start end) }
     {
         match &self.buffer {
-            Some(buffer) => Ok(Bytes {
-                buffer: Some(Arc::try_clone(buffer)?),
-                start: self.start + start,
-                end: self.start + end,
-            }),
-            None => Ok(Bytes {
-                buffer: None,
-                start: 0,
-                end: 0,
-            }),
+            Some(buffer) => part_of(buffer, self.start + start, self.start + end),
+            None => Ok(no_bytes()),
         }
     }
 
@@ -121,6 +111,37 @@ impl Bytes {
 }
 
 /// The bytes of this list alone, as a list of numbers.
+/// Empty bytes, which have no buffer.
+fn no_bytes() -> Bytes
+    ensures { result ≡ [] }
+{
+    Bytes {
+        buffer: None,
+        start: 0,
+        end: 0,
+    }
+}
+
+/// The part of a buffer from `start` to before `end`, which shares it unless it is empty.
+fn part_of(
+    buffer: &Arc<Vec<u8>, Global>,
+    start: usize,
+    end: usize,
+) -> Result<Bytes, NoMemory>
+    requires order { start ≤ end }
+    requires within { end ≤ length (arc_value buffer.now).items }
+    ensures { IfOk result (λ bytes. bytes ≡ slice_range (arc_value buffer.now).items start end) }
+{
+    if start == end {
+        return Ok(no_bytes());
+    }
+    Ok(Bytes {
+        buffer: Some(Arc::try_clone(buffer)?),
+        start,
+        end,
+    })
+}
+
 impl fmt::Debug for Bytes {
     fn fmt<W: fmt::Write>(&self, f: &mut fmt::Formatter<W>) -> fmt::Result {
         let bytes = self.as_slice();

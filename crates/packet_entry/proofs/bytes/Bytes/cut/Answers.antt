@@ -3,13 +3,13 @@ use Rattle.std.proofs.Common.{◌≡◌, ◌+◌, ◌-◌, ◌≤◌, drop, subs
 use Rattle.std.specs.Prelude.{slice_range}
 use Rattle.std.specs.Arc.{arc_value}
 use Rattle.std.proofs.lemmas.List.{length-take}
-use Rattle.std.specs.Prelude.{length}
+use Rattle.std.specs.Prelude.{length, IfOk}
 use Rattle.packet_entry.specs.SharedBytes.{bytes_of}
 use Rattle.packet_entry.proofs.Cuts.{cut_of_cut}
 use Rattle.packet_entry.proofs.bytes.Bytes.cut.Goals as goal
 
-pub returns-in_ok-try_clone-in-Some : goal.returns-in_ok-try_clone-in-Some
-returns-in_ok-try_clone-in-Some c =
+pub returns-in-Some : goal.returns-in-Some
+returns-in-Some c =
     let from = c.self.inside.start in
     let to = c.self.inside.end in
     let buffer = (arc_value c.in-Some.buffer).items in
@@ -17,7 +17,8 @@ returns-in_ok-try_clone-in-Some c =
     subst (λ b. bytes_of b from to ≡ c.args.self.now) c.in-Some.is c.self.view_is in
     let within : c.args.end ≤ to - from =
     omega (arith, c.requires.within, length-take (to - from) (drop from buffer), ap length whole) in
-    ap (λ v. slice_range v.items (from + c.args.start) (from + c.args.end))
-    c.in_ok-try_clone-in-Some.ensures
-    ∙ sym (cut_of_cut buffer from to c.args.start c.args.end c.requires.order within)
-    ∙ ap (λ bytes. slice_range bytes c.args.start c.args.end) whole
+    let same : slice_range buffer (from + c.args.start) (from + c.args.end)
+    ≡ slice_range c.args.self.now c.args.start c.args.end =
+    sym (cut_of_cut buffer from to c.args.start c.args.end c.requires.order within)
+    ∙ ap (λ bytes. slice_range bytes c.args.start c.args.end) whole in
+    subst (λ xs. IfOk c.part_of.result (λ bytes. bytes ≡ xs)) same c.part_of.ensures
