@@ -48,7 +48,7 @@ pub(crate) fn grouped(entries: Entries) -> Result<Entries, NoMemory>
     ensures { IfOk result (IsGrouped entries) }
 {
     let mut list = entries.into_vec();
-    list.sort_by_key(|entry| entry.queue)?;
+    list.sort_by_cached_key(|entry| entry.queue)?;
     Ok(Sequence::from_vec(list))
 }
 

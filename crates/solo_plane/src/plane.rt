@@ -142,8 +142,7 @@ impl SoloPlane {
             ≡ closed_ports (world_in self.old) p }
         ensures err { OnErr result (world_in self.new ≡ world_in self.old) }
     {
-        ports::make_log_room(&mut self.held.ports, port)?;
-        Ok(ports::receive(&mut self.held.ports, port))
+        ports::receive(&mut self.held.ports, port)
     }
 
     /// A port closes: each queue that is bound to it ends, with all that waits in it destroyed.

@@ -1,6 +1,7 @@
 //! One port.
 
-ghost use Rattle.std.specs.Prelude.{◌≡◌, ◌<◌, ◌≤◌, [], IfOk, OnOk, false};
+ghost use Rattle.std.specs.Prelude.{◌≡◌, ◌<◌, ◌≤◌, [], IfOk, OnOk, OnErr, false};
+
 ghost use Rattle.place_history.specs.declared.log.Did.TheVariants.{Sent};
 ghost use Rattle.solo_plane.specs.Calls.{sent_in};
 
@@ -60,9 +61,23 @@ impl PortState {
         self.dids.make_room(2)
     }
 
-    /// Takes the first notice out, which is noted; `None` exactly where there is none. Takes no
-    /// memory.
-    pub(crate) fn receive(&mut self) -> Option<Letter>
+    /// Takes the first notice out, which is noted; `None` exactly where there is none, and then no
+    /// memory is taken.
+    pub(crate) fn receive(&mut self) -> Result<Option<Letter>, NoMemory>
+        ensures port { OnOk result (port_of self.new ≡ received (port_of self.old)) }
+        ensures letter { IfOk result (λ letter. letter ≡ first_of self.old.mailbox.items) }
+        ensures err { OnErr result (port_of self.new ≡ port_of self.old) }
+    {
+        if self.mailbox.len() == 0 {
+            return Ok(None);
+        }
+        self.make_room()?;
+        Ok(self.take_first())
+    }
+
+    /// The same with the room for what is noted.
+    fn take_first(&mut self) -> Option<Letter>
+
         requires { 2 ≤ self.old.dids.room }
         ensures port { port_of self.new ≡ received (port_of self.old) }
         ensures letter { result ≡ first_of self.old.mailbox.items }

@@ -1,6 +1,6 @@
 //! The ports by number.
 
-ghost use Rattle.std.specs.Prelude.{◌≡◌, ◌<◌, ◌≤◌, OnOk, IsSome, IsSomeAnd, false};
+ghost use Rattle.std.specs.Prelude.{◌≡◌, ◌<◌, ◌≤◌, IfOk, OnOk, OnErr, IsSome, IsSomeAnd, false};
 ghost use Rattle.std.specs.BTreeMap.{get};
 ghost use Rattle.std.specs.Ordering.{nat_cmp};
 ghost use Rattle.place_history.specs.declared.log.Did.TheVariants.{Sent};
@@ -76,12 +76,15 @@ pub(crate) fn make_log_room(ports: &mut Ports, port: u32) -> Result<(), NoMemory
     state.make_room()
 }
 
-/// A port receives its first notice, which is noted; `None` exactly where there is none. Takes no
-/// memory.
-pub(crate) fn receive(ports: &mut Ports, port: u32) -> Option<Letter>
-    requires { OnPort ports.old port (λ p. 2 ≤ p.dids.room) }
-    ensures ports { ports_of ports.new ≡ changed_at port received (ports_of ports.old) }
-    ensures letter { IsSomeAnd (ports_of ports.old port) (λ p. result ≡ first_of p.letters) }
+/// A port receives its first notice, which is noted; `None` exactly where there is none, and then
+/// no memory is taken.
+pub(crate) fn receive(ports: &mut Ports, port: u32) -> Result<Option<Letter>, NoMemory>
+    requires { IsSome (get nat_cmp ports.old port) }
+    ensures ports { OnOk result
+        (ports_of ports.new ≡ changed_at port received (ports_of ports.old)) }
+    ensures letter { IfOk result (λ letter.
+        IsSomeAnd (ports_of ports.old port) (λ p. letter ≡ first_of p.letters)) }
+    ensures err { OnErr result (ports_of ports.new ≡ ports_of ports.old) }
 {
     let Some(state) = ports.get_mut(&port) else {
         unreachable!()
