@@ -451,8 +451,9 @@ fn a_full_mailbox_is_named_by_the_arrival(rt: HostRuntime) -> Result<(), Fail> {
 #[test]
 fn queues_that_take_no_packet(rt: HostRuntime) -> Result<(), Fail> {
     use Happens::{Arrives, Asks, Passes};
-    const ROWS: [(&[Happens], &[u8]); 3] = [
+    const ROWS: [(&str, &[Happens], &[u8]); 3] = [
         (
+            "copynone",
             &[
                 Asks(0, Words::Bind),
                 Passes(0, 1, 1),
@@ -462,16 +463,18 @@ fn queues_that_take_no_packet(rt: HostRuntime) -> Result<(), Fail> {
             b"1 copynone 0 2 0 20\n2 copynone 0 3 0 20\n3 copynone 0 4 0 20\n",
         ),
         (
+            "bypass",
             &[Passes(5, 1, 1), Passes(5, 2, 1), Passes(5, 3, 1)],
             b"1 bypass 5 1 0 20\n2 bypass 5 2 0 20\n3 bypass 5 3 0 20\n",
         ),
         (
+            "noqueue",
             &[Arrives(5, 1, 1), Arrives(5, 2, 1), Arrives(5, 3, 1)],
             b"1 noqueue 5 1 0 20\n2 noqueue 5 2 0 20\n3 noqueue 5 3 0 20\n",
         ),
     ];
-    for &(all, lines) in &ROWS {
-        assert!(rt; says(rt.alloc(), 3, all, lines)?);
+    for &(fate, all, lines) in &ROWS {
+        assert!(rt; says(rt.alloc(), 3, all, lines)?, "{fate}");
     }
     Ok(())
 }

@@ -21,6 +21,5 @@ pub use laws::{
 };
 pub use messages::{Message, next_message, put_message, put_split_message};
 
-
 #[cfg(test)]
 mod tests;

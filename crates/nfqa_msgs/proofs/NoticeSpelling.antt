@@ -1,13 +1,11 @@
 -- The text of a notice, part after part.
-use Rattle.std.proofs.Common.{◌≡◌, ℕ, ◌+◌, ◌-◌, ◌<◌, ◌≤◌, List, [], ◌∷◌, ◌++◌, length, min, take}
+use Rattle.std.proofs.Common.{◌≡◌, ℕ, ◌+◌, ◌-◌, ◌≤◌, List, [], ◌∷◌, ◌++◌, length, min, take}
 use Rattle.std.proofs.Common.{drop, refl, sym, ap, ap₂, ◌∙◌, arith, append-nil, append_assoc}
-use Rattle.std.proofs.Common.{length-append, Option, Some, replicate, zero, suc}
+use Rattle.std.proofs.Common.{length-append, Option, Some}
 use Rattle.std.specs.Prelude.{slice_range, nat_eq, false}
-
 use Rattle.std.proofs.Math.Dec.{eqb-suc-zero}
 use Rattle.std.proofs.Math.Seq.{drop-append_seam, take-append_seam}
 use Rattle.std.proofs.lemmas.Option.{same_Some}
-use Rattle.std.proofs.lemmas.List.{length-replicate}
 use Rattle.std.proofs.lemmas.List.Concat.{flat_map-append}
 use Rattle.netlink_codec.specs.Messages.{NetlinkMessage, FitsHeader, Front, message_with}
 use Rattle.netlink_codec.specs.Messages.{message_text, header_text, pad}
@@ -50,27 +48,9 @@ pub is_read : (bytes body : List ℕ) (message : NetlinkMessage) (used : ℕ) �
 is_read bytes body message used only fits is =
     same-message message _ used _ (only _ _ (stands_alone bytes body fits is))
 
-
 abbrev pub payload_header : List ℕ → List ℕ
 payload_header payload =
     attribute_header_text payload_kind (attribute_header_length + length payload)
-
-abbrev three_zeros : List ℕ
-three_zeros = 0 ∷ 0 ∷ 0 ∷ []
-
--- at most three zeros
-pub zeros_of : (n total : ℕ) → n < 4 → n ≡ length (zero_padding total) →
-    take n three_zeros ≡ zero_padding total
-zeros_of n total below is =
-    let many : n ≡ pad total - total = is ∙ length-replicate (pad total - total) 0 in
-    few n below ∙ ap (λ k. replicate k 0) many
-  where
-    few : (k : ℕ) → k < 4 → take k three_zeros ≡ replicate k 0
-    few zero h = refl
-    few (suc zero) h = refl
-    few (suc (suc zero)) h = refl
-    few (suc (suc (suc zero))) h = refl
-    few (suc (suc (suc (suc k)))) h = absurd (omega arith)
 
 -- the payload's attribute
 pub payload_text : (payload : List ℕ) → nat_eq (length payload) 0 ≡ false →
@@ -101,7 +81,6 @@ body_with_payload told some =
     ∙ ap (λ xs. notice_front told ++ xs) (payload_text told.payload some)
     ∙ sym (append_assoc (notice_front told) (payload_header told.payload)
     (padded_payload told.payload))
-
 
 -- ---- where the payload stands
 

@@ -9,7 +9,6 @@ ghost use Rattle.nfqa_msgs.specs.Numbers.{notice_number};
 ghost use Rattle.nfqa_msgs.specs.Kinds.{queue_kind};
 ghost use Rattle.nfqa_msgs.specs.NoticeWriting.{FitsTold, notice_body, notice_text};
 ghost use Rattle.nfqa_msgs.specs.NoticeWriting.{padded_payload};
-
 ghost use Rattle.nfqa_msgs.specs.Telling.{telling};
 
 use crate::kinds::{NOTICE, NUMBERS, QUEUE_SUBSYSTEM};
@@ -18,7 +17,6 @@ use crate::notice_writing::{front_of, padding_behind};
 use netlink_codec::{Message, next_message, written_attributes_are_walked};
 use packet_entry::NoMemory;
 use std::alloc::Global;
-
 
 /// Whether the bytes are the notice that tells this. The payload is compared where it lies: none of
 /// its bytes is copied.

@@ -12,7 +12,6 @@ ghost use Rattle.nfqa_msgs.specs.NoticeWriting.{FitsTold, notice, notice_text, n
 ghost use Rattle.nfqa_msgs.specs.NoticeWriting.{notice_front, told_of, source_in, cut_of};
 ghost use Rattle.nfqa_msgs.specs.NoticeWriting.{told_bytes, family_of, mark_content};
 ghost use Rattle.nfqa_msgs.specs.NoticeWriting.{padded_payload, payload_padding};
-
 ghost use Rattle.nfqa_msgs.specs.Telling.{telling};
 
 use crate::PACKET;
@@ -158,7 +157,6 @@ pub(crate) fn front_of(alloc: Global, told: &Telling<'_>) -> Result<Vec<u8>, All
     }
     front.extend_from_slice(&attr_header(PAYLOAD, told.payload.len()))?;
     Ok(front)
-
 }
 
 /// The zeros behind the packet's bytes.
@@ -205,4 +203,3 @@ fn put_mark(body: &mut Vec<u8>, mark: u32) -> Result<(), AllocError>
     }
     put_value(body, MARK, Some(mark))
 }
-

@@ -4,7 +4,6 @@ ghost use Rattle.std.specs.Prelude.{◌≡◌, ◌≤◌, ◌↔◌, List, [], l
 ghost use Rattle.std.specs.Prelude.{IsTrue};
 ghost use Rattle.std.specs.Arc.{arc_value};
 
-
 use crate::NoMemory;
 use std::alloc::{AllocFailed, Global};
 use std::fmt;
@@ -16,7 +15,7 @@ use std::sync::Arc;
 /// buffer ends with its last list. It may be used from several threads.
 #[derive(Drop)]
 pub struct Bytes {
-    /// `None` for a list that was made without a buffer, and has no bytes.
+    /// `None` only where the list has no bytes.
     buffer: Option<Arc<Vec<u8>, Global>>,
     /// Where the bytes begin in the buffer, and where they end.
     start: usize,
@@ -123,11 +122,7 @@ fn no_bytes() -> Bytes
 }
 
 /// The part of a buffer from `start` to before `end`, which shares it unless it is empty.
-fn part_of(
-    buffer: &Arc<Vec<u8>, Global>,
-    start: usize,
-    end: usize,
-) -> Result<Bytes, NoMemory>
+fn part_of(buffer: &Arc<Vec<u8>, Global>, start: usize, end: usize) -> Result<Bytes, NoMemory>
     requires order { start ≤ end }
     requires within { end ≤ length (arc_value buffer.now).items }
     ensures { IfOk result (λ bytes. bytes ≡ slice_range (arc_value buffer.now).items start end) }

@@ -21,7 +21,6 @@ pub fn each_front_of_a_legal_history_is_legal()
 {}
 
 /// A legal history goes on by each step that its state allows, and then its state is that step's.
-/// The histories of the other queues are as they were.
 pub fn a_legal_history_goes_on()
     ensures state { (es : List Entry) (e : Entry) →
         replay (es ++ e ∷ []) ≡ (step (replay es) e.event).state }

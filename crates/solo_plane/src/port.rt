@@ -1,7 +1,6 @@
 //! One port.
 
 ghost use Rattle.std.specs.Prelude.{◌≡◌, ◌<◌, ◌≤◌, [], IfOk, OnOk, OnErr, false};
-
 ghost use Rattle.place_history.specs.declared.log.Did.TheVariants.{Sent};
 ghost use Rattle.solo_plane.specs.Calls.{sent_in};
 
@@ -77,7 +76,6 @@ impl PortState {
 
     /// The same with the room for what is noted.
     fn take_first(&mut self) -> Option<Letter>
-
         requires { 2 ≤ self.old.dids.room }
         ensures port { port_of self.new ≡ received (port_of self.old) }
         ensures letter { result ≡ first_of self.old.mailbox.items }
