@@ -48,6 +48,10 @@ pub(crate) fn grouped(entries: Entries) -> Result<Entries, NoMemory>
     ensures { IfOk result (IsGrouped entries) }
 {
     let mut list = entries.into_vec();
+    // They often ascend as they stand, as those of one queue do.
+    if list.is_sorted_by_key(|entry| entry.queue) {
+        return Ok(Sequence::from_vec(list));
+    }
     list.sort_by_cached_key(|entry| entry.queue)?;
     Ok(Sequence::from_vec(list))
 }
