@@ -1,4 +1,4 @@
-// Two programs to compare nfq with.
+// Three programs to compare nfq with.
 //
 //   baselines floor RULES SCRIPT IN OUT LEDGER JOURNAL SIZE SIZE SIZE
 //     reads the three inputs and writes three files of these sizes, in pieces of up to 256 KiB.
@@ -6,6 +6,9 @@
 //     writes the bytes that `nfq play` writes for the one rule and the script of play.sh that accepts every
 //     frame, and a little-endian capture of microseconds and of IPv4 as raw IP, in frames of up to 131,072 bytes,
 //     without a check: the capture is read whole, and each output is written in pieces of up to 256 KiB.
+//   baselines whole RULES SCRIPT IN OUT LEDGER JOURNAL
+//     the same, but keeps each output whole until the last is made, as nfq does, which touches none where memory
+//     runs out.
 #include <fcntl.h>
 #include <stdint.h>
 #include <stdio.h>
@@ -40,20 +43,28 @@ static void floor_of(char **names, char **sizes) {
     }
 }
 
-typedef struct { int file; size_t used; char bytes[PIECE]; } Out;
+typedef struct { const char *name; int file; size_t used, room; char *bytes; } Out;
+
+// An output that holds `room` bytes before it is written. Its file is made where it is first written.
+static Out output(const char *name, size_t room) {
+    Out out = { name, -1, 0, room, malloc(room) };
+    if (!out.bytes) { perror(name); exit(8); }
+    return out;
+}
 
 static void flushed(Out *out) {
-    size_t at = 0;
-    while (at < out->used) {
-        ssize_t n = write(out->file, out->bytes + at, out->used - at);
-        if (n <= 0) { perror("write"); exit(3); }
+    if (out->file < 0) out->file = opened(out->name, O_WRONLY | O_CREAT | O_TRUNC);
+    for (size_t at = 0; at < out->used;) {
+        size_t left = out->used - at;
+        ssize_t n = write(out->file, out->bytes + at, left < PIECE ? left : PIECE);
+        if (n <= 0) { perror(out->name); exit(3); }
         at += n;
     }
     out->used = 0;
 }
 
 static void put(Out *out, const void *bytes, size_t length) {
-    if (out->used + length > PIECE) flushed(out);
+    if (out->used + length > out->room) flushed(out);
     memcpy(out->bytes + out->used, bytes, length);
     out->used += length;
 }
@@ -69,7 +80,7 @@ static void number(Out *out, uint32_t n) {
 
 static void hexadecimal(Out *out, const uint8_t *bytes, uint32_t length) {
     static const char digit[] = "0123456789abcdef";
-    if (out->used + 2 * (size_t)length > PIECE) flushed(out);
+    if (out->used + 2 * (size_t)length > out->room) flushed(out);
     for (uint32_t i = 0; i < length; i++) {
         out->bytes[out->used++] = digit[bytes[i] >> 4];
         out->bytes[out->used++] = digit[bytes[i] & 15];
@@ -78,7 +89,8 @@ static void hexadecimal(Out *out, const uint8_t *bytes, uint32_t length) {
 
 static uint32_t u32_at(const uint8_t *bytes) { uint32_t n; memcpy(&n, bytes, 4); return n; }
 
-static void tuned(char **names) {
+// Each frame has a line of at most 64 bytes in the ledger, and four of at most 96 beside its bytes in the journal.
+static void by_hand(char **names, int is_whole) {
     int file = opened(names[2], O_RDONLY);
     struct stat told;
     fstat(file, &told);
@@ -88,10 +100,11 @@ static void tuned(char **names) {
         if (n <= 0) { perror(names[2]); exit(2); }
         at += n;
     }
-    static Out out, ledger, journal;
-    out.file = opened(names[3], O_WRONLY | O_CREAT | O_TRUNC);
-    ledger.file = opened(names[4], O_WRONLY | O_CREAT | O_TRUNC);
-    journal.file = opened(names[5], O_WRONLY | O_CREAT | O_TRUNC);
+    size_t size = told.st_size, frames = 0;
+    for (size_t at = 24; at < size; at += 16 + u32_at(capture + at + 8)) frames++;
+    Out out = output(names[3], is_whole ? size : PIECE);
+    Out ledger = output(names[4], is_whole ? 64 * (frames + 1) : PIECE);
+    Out journal = output(names[5], is_whole ? 2 * size + 4 * 96 * (frames + 1) : PIECE);
     text(&ledger, "record fate queue at mark bytes\n");
     text(&journal, "nfq-journal 1\nM 0 7 1 config 0 cmd 1 = 0 0\nM 0 7 2 config 0 params 2 0 = 0 0\n");
     put(&out, capture, 24);
@@ -123,7 +136,8 @@ static void tuned(char **names) {
 
 int main(int count, char **words) {
     if (count == 11 && strcmp(words[1], "floor") == 0) floor_of(words + 2, words + 8);
-    else if (count == 8 && strcmp(words[1], "tuned") == 0) tuned(words + 2);
+    else if (count == 8 && strcmp(words[1], "tuned") == 0) by_hand(words + 2, 0);
+    else if (count == 8 && strcmp(words[1], "whole") == 0) by_hand(words + 2, 1);
     else { fprintf(stderr, "usage: see the head of baselines.c\n"); return 1; }
     return 0;
 }

@@ -1,11 +1,15 @@
 #!/bin/sh
 # A benchmark, not a test: plays captures that it makes itself, and prints for each shape the processor time and the
 # peak memory of `nfq play`, and their ratios to a floor, a program of baselines.c that reads the inputs and writes files
-# of the outputs' sizes; for three shapes also to one by hand, which writes the same bytes without a proof. Last come
-# `gen`, `play` of what it writes, and `trial`, of 200,000 packets.
+# of the outputs' sizes; for three shapes also to two by hand, which write the same bytes without a proof, one of them
+# with each output kept whole until the last is made, as `nfq play` keeps them. Last come `gen`, `play` of what it
+# writes, and `trial`, of 200,000 packets.
 set -eu
 top=$(cd "$(dirname "$0")/.." && pwd)
+# As ./nfq has it, so that each program takes its memory alike.
+export GLIBC_TUNABLES=glibc.malloc.hugetlb=1
 work=$(mktemp -d)
+
 trap 'rm -rf "$work"' EXIT
 # Builds the program where it is stale. Arguments that are no command end with 1.
 "$top/nfq" >/dev/null || [ $? -eq 1 ]
@@ -66,7 +70,7 @@ def backwards(waiting, backward):
     return "\n".join(lines) + "\n"
 
 SHAPES = [
-    # name, frames, rules, script, capture, whether the program by hand does the same
+    # name, frames, rules, script, capture, whether the programs by hand do the same
     ("frames of 60 bytes", 200_000, ONE_RULE, ACCEPTED, lambda n: alike(n, 60), True),
     ("64 MiB", 200_000, ONE_RULE, ACCEPTED, lambda n: alike(n, 319), True),
     ("frames of 1,500 bytes", 44_000, ONE_RULE, ACCEPTED, lambda n: alike(n, 1500), True),
@@ -99,19 +103,21 @@ for name, frames, rules, script, capture, by_hand in SHAPES:
     play = measured([sys.argv[1], "play", *INPUTS, *OUTPUTS])
     others = []
     if by_hand:
-        others.append(("by hand", measured(["./baselines", "tuned", *INPUTS, *BY_HAND])))
-        for ours, theirs in zip(OUTPUTS, BY_HAND):
-            subprocess.check_call(["cmp", ours, theirs])
+        for who, mode in (("by hand", "tuned"), ("kept whole", "whole")):
+            others.append((who, measured(["./baselines", mode, *INPUTS, *BY_HAND])))
+            for ours, theirs in zip(OUTPUTS, BY_HAND):
+                subprocess.check_call(["cmp", ours, theirs])
     sizes = [str(os.path.getsize(it)) for it in OUTPUTS]
     others.append(("floor", measured(["./baselines", "floor", *INPUTS, *BY_HAND, *sizes])))
     print(f"{name}, {frames} frames, {os.path.getsize('in.pcap') / 1e6:.1f} MB in, {sum(map(int, sizes)) / 1e6:.1f} MB out")
     for who, it in (("nfq play", play), *others):
-        print(f"  {who:9} {it[0]:.3f} s of processor time, {it[1]:.3f} s in all, {it[2]:.0f} MiB at the peak; "
+        print(f"  {who:10} {it[0]:.3f} s of processor time, {it[1]:.3f} s in all, {it[2]:.0f} MiB at the peak; "
               f"nfq play takes {play[0] / it[0]:.1f} times the time and {play[2] / it[2]:.1f} times the memory")
 
 print("generated from the number 7, 200,000 packets")
 for name, words in (("gen", ["gen", "7", "200000", *INPUTS]), ("play", ["play", *INPUTS, *OUTPUTS]),
                     ("trial", ["trial", "7", "200000"])):
     it = measured([sys.argv[1], *words])
-    print(f"  {name:9} {it[0]:.3f} s of processor time, {it[1]:.3f} s in all, {it[2]:.0f} MiB at the peak")
+    print(f"  {name:10} {it[0]:.3f} s of processor time
+, {it[1]:.3f} s in all, {it[2]:.0f} MiB at the peak")
 PY
