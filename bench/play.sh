@@ -9,7 +9,6 @@ top=$(cd "$(dirname "$0")/.." && pwd)
 # As ./nfq has it, so that each program takes its memory alike.
 export GLIBC_TUNABLES=glibc.malloc.hugetlb=1
 work=$(mktemp -d)
-
 trap 'rm -rf "$work"' EXIT
 # Builds the program where it is stale. Arguments that are no command end with 1.
 "$top/nfq" >/dev/null || [ $? -eq 1 ]
@@ -118,6 +117,5 @@ print("generated from the number 7, 200,000 packets")
 for name, words in (("gen", ["gen", "7", "200000", *INPUTS]), ("play", ["play", *INPUTS, *OUTPUTS]),
                     ("trial", ["trial", "7", "200000"])):
     it = measured([sys.argv[1], *words])
-    print(f"  {name:10} {it[0]:.3f} s of processor time
-, {it[1]:.3f} s in all, {it[2]:.0f} MiB at the peak")
+    print(f"  {name:10} {it[0]:.3f} s of processor time, {it[1]:.3f} s in all, {it[2]:.0f} MiB at the peak")
 PY

@@ -109,7 +109,6 @@ impl Bytes {
     }
 }
 
-/// The bytes of this list alone, as a list of numbers.
 /// Empty bytes, which have no buffer.
 fn no_bytes() -> Bytes
     ensures { result ≡ [] }
@@ -137,6 +136,7 @@ fn part_of(buffer: &Arc<Vec<u8>, Global>, start: usize, end: usize) -> Result<By
     })
 }
 
+/// The bytes of this list alone, as a list of numbers.
 impl fmt::Debug for Bytes {
     fn fmt<W: fmt::Write>(&self, f: &mut fmt::Formatter<W>) -> fmt::Result {
         let bytes = self.as_slice();
