@@ -1,10 +1,10 @@
 //! How many frames have each fate, as text.
 
-ghost use Rattle.std.specs.Prelude.{◌≡◌, ◌++◌, ◌+◌, OnOk, OnErr, IfOk, string_bytes, count_by};
+ghost use Rattle.std.specs.Prelude.{◌≡◌, ◌++◌, ◌+◌, OnOk, OnErr, count_by};
 ghost use Rattle.fate_ledger.specs.Counts as text;
 
 use crate::{Fate, FateLines};
-use journals::append_text;
+use journals::{append_number, append_text, append_word};
 use packet_entry::NoMemory;
 use std::alloc::{AllocError, Global};
 
@@ -35,14 +35,14 @@ pub fn counts_text(alloc: Global, lines: &FateLines, out: &mut Vec<u8>) -> Resul
     ensures ok { OnOk result (out.new.items ≡ out.old.items ++ text.counts lines.now) }
     ensures err { OnErr result (out.new.items ≡ out.old.items) }
 {
-    let mut counts = String::new(alloc);
+    let mut counts = Vec::new(alloc);
     push_counts(&FATES, lines, &mut counts)?;
     append_text(counts, out)
 }
 
-fn push_counts(fates: &[Fate], lines: &FateLines, out: &mut String) -> Result<(), AllocError>
-    ensures { OnOk result (string_bytes out.new
-        ≡ string_bytes out.old ++ text.counts_of fates.now lines.now) }
+fn push_counts(fates: &[Fate], lines: &FateLines, out: &mut Vec<u8>) -> Result<(), AllocError>
+    ensures { OnOk result (out.new.items
+        ≡ out.old.items ++ text.counts_of fates.now lines.now) }
 {
     for fate in fates {
         push_count(*fate, count_of(*fate, lines), out)?;
@@ -50,15 +50,16 @@ fn push_counts(fates: &[Fate], lines: &FateLines, out: &mut String) -> Result<()
     Ok(())
 }
 
-fn push_count(fate: Fate, count: usize, out: &mut String) -> Result<(), AllocError>
-    ensures { OnOk result (string_bytes out.new
-        ≡ string_bytes out.old ++ text.count_line fate count) }
+fn push_count(fate: Fate, count: usize, out: &mut Vec<u8>) -> Result<(), AllocError>
+    ensures { OnOk result (out.new.items
+        ≡ out.old.items ++ text.count_line fate count) }
 {
     if count == 0 {
         return Ok(());
     }
-    let fate = fate.name();
-    writeln!(out, "{fate} {count}")
+    append_word(fate.name(), out)?;
+    append_number(" ", count as u64, out)?;
+    append_word("\n", out)
 }
 
 /// How many lines have this fate.

@@ -1,10 +1,10 @@
 //! The ledger: what became of each frame, as text.
 
-ghost use Rattle.std.specs.Prelude.{◌≡◌, ◌++◌, OnOk, OnErr, IfOk, string_bytes};
+ghost use Rattle.std.specs.Prelude.{◌≡◌, ◌++◌, OnOk, OnErr};
 ghost use Rattle.fate_ledger.specs.Ledger as text;
 
 use crate::{FateLine, FateLines};
-use journals::append_text;
+use journals::{append_number, append_text, append_word};
 use packet_entry::NoMemory;
 use std::alloc::{AllocError, Global};
 
@@ -17,20 +17,20 @@ pub fn ledger_text(alloc: Global, lines: &FateLines, out: &mut Vec<u8>) -> Resul
     ensures err { OnErr result (out.new.items ≡ out.old.items) }
 {
     let room = lines.len().saturating_add(1).saturating_mul(LINE);
-    let mut ledger = String::with_capacity(alloc, room)?;
+    let mut ledger = Vec::with_capacity(alloc, room)?;
     push_ledger(lines, &mut ledger)?;
     append_text(ledger, out)
 }
 
-fn push_ledger(lines: &FateLines, out: &mut String) -> Result<(), AllocError>
-    ensures { OnOk result (string_bytes out.new ≡ string_bytes out.old ++ text.ledger lines.now) }
+fn push_ledger(lines: &FateLines, out: &mut Vec<u8>) -> Result<(), AllocError>
+    ensures { OnOk result (out.new.items ≡ out.old.items ++ text.ledger lines.now) }
 {
-    out.push_str("record fate queue at mark bytes\n")?;
+    append_word("record fate queue at mark bytes\n", out)?;
     push_lines(lines, out)
 }
 
-fn push_lines(lines: &FateLines, out: &mut String) -> Result<(), AllocError>
-    ensures { OnOk result (string_bytes out.new ≡ string_bytes out.old ++ text.lines lines.now) }
+fn push_lines(lines: &FateLines, out: &mut Vec<u8>) -> Result<(), AllocError>
+    ensures { OnOk result (out.new.items ≡ out.old.items ++ text.lines lines.now) }
 {
     for line in lines {
         push_line(line, out)?;
@@ -38,25 +38,27 @@ fn push_lines(lines: &FateLines, out: &mut String) -> Result<(), AllocError>
     Ok(())
 }
 
-fn push_line(line: &FateLine, out: &mut String) -> Result<(), AllocError>
-    ensures { OnOk result (string_bytes out.new ≡ string_bytes out.old ++ text.line line.now) }
+fn push_line(line: &FateLine, out: &mut Vec<u8>) -> Result<(), AllocError>
+    ensures { OnOk result (out.new.items ≡ out.old.items ++ text.line line.now) }
 {
-    let number = line.number;
-    let fate = line.fate.name();
-    let mark = line.mark;
-    let length = line.payload.len();
-    write!(out, "{number} {fate} ")?;
+    append_number("", line.number as u64, out)?;
+    append_word(" ", out)?;
+    append_word(line.fate.name(), out)?;
+    append_word(" ", out)?;
     push_place(line.queue, line.at, out)?;
-    writeln!(out, " {mark} {length}")
+    append_number(" ", line.mark as u64, out)?;
+    append_number(" ", line.payload.len() as u64, out)?;
+    append_word("\n", out)
 }
 
 /// Where the last event stands, `- -` where there is none.
-fn push_place(queue: u16, at: u64, out: &mut String) -> Result<(), AllocError>
-    ensures { OnOk result (string_bytes out.new ≡ string_bytes out.old ++ text.place queue at) }
+fn push_place(queue: u16, at: u64, out: &mut Vec<u8>) -> Result<(), AllocError>
+    ensures { OnOk result (out.new.items ≡ out.old.items ++ text.place queue at) }
 {
     if at == 0 {
-        out.push_str("- -")
+        append_word("- -", out)
     } else {
-        write!(out, "{queue} {at}")
+        append_number("", queue as u64, out)?;
+        append_number(" ", at, out)
     }
 }

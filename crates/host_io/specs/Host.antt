@@ -1,5 +1,5 @@
 -- What the calls of a host do to its files and to its counts of faults.
-use Rattle.std.specs.Prelude.{◌≡◌, ◌≢◌, ℕ, ◌+◌, ◌-◌, ◌^◌, ◌<◌, ◌≤◌, min, Bool, List, [], ◌++◌}
+use Rattle.std.specs.Prelude.{◌≡◌, ◌≢◌, ◌⊎◌, ℕ, ◌+◌, ◌-◌, ◌^◌, ◌<◌, ◌≤◌, min, Bool, List, [], ◌++◌}
 use Rattle.std.specs.Prelude.{length, take, drop, Option, unwrap_or}
 use Rattle.std.proofs.Common.{arith, refl, ◌∙◌}
 use Rattle.std.proofs.Math.Nat.{le_refl}
@@ -35,6 +35,10 @@ pub record IsRead (bytes : List ℕ) (at n : ℕ) (old new : List ℕ) : Type 0 
   pub there : n ≤ length bytes - at
   pub copied : new ≡ take n (drop at bytes) ++ drop n old
   pub end : n ≡ 0 → 0 < length old → length bytes ≤ at
+
+-- a write may go on here: at the file's end, or at its start, where it is made anew
+abbrev pub MayGoOn : Option (List ℕ) → ℕ → Type 0
+MayGoOn file at = (at ≡ 0) ⊎ (at ≡ length (bytes_of file))
 
 -- what a file holds after a write of the piece at place `at`: its first `at` bytes, and the piece
 abbrev pub written : Option (List ℕ) → ℕ → List ℕ → List ℕ

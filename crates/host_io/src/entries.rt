@@ -1,9 +1,9 @@
 //! The names of the machine in memory.
 
-ghost use Rattle.std.specs.Prelude.{◌≡◌, ◌⊎◌, ◌-◌, ◌≤◌, length, take, option_copied, unwrap_or};
+ghost use Rattle.std.specs.Prelude.{◌≡◌, ◌-◌, ◌≤◌, length, take, option_copied, unwrap_or};
 ghost use Rattle.std.specs.Prelude.{OnOk, OnErr, None};
 ghost use Rattle.std.specs.List.{find, position};
-ghost use Rattle.host_io.specs.Host.{bytes_of};
+ghost use Rattle.host_io.specs.Host.{MayGoOn};
 ghost use Rattle.host_io.specs.Machine.{is_named, bare_entry, content_among, room_among, changed};
 ghost use Rattle.host_io.specs.Machine.{changed_or_new, holding, with_fault, shared_raised, stored};
 
@@ -79,7 +79,7 @@ pub(crate) fn count_fault(entries: &mut [Entry], name: &str, others: &mut u64, c
 /// Stores the first `count` bytes of the piece at place `at` of the named file, if the name has an
 /// entry. What stood from `at` on is cut off, even where `count` is 0.
 pub(crate) fn store_in(entries: &mut [Entry], name: &str, at: u64, piece: &[u8], count: usize)
-    requires at { (at ≡ 0) ⊎ (at ≡ length (bytes_of (content_among entries.old name.now))) }
+    requires at { MayGoOn (content_among entries.old name.now) at }
     requires count { count ≤ length piece.now }
     requires room { count ≤ unwrap_or (room_among entries.old name.now) 0 - at }
     ensures { entries.new ≡ changed entries.old name.now

@@ -1,8 +1,8 @@
 //! One name of the machine in memory: its file, its room and its faults.
 
-ghost use Rattle.std.specs.Prelude.{◌≡◌, ◌-◌, ◌≤◌, ◌⊎◌, length, take, unwrap_or, option_copied};
+ghost use Rattle.std.specs.Prelude.{◌≡◌, ◌-◌, ◌≤◌, length, take, unwrap_or, option_copied};
 ghost use Rattle.std.specs.Prelude.{IfOk, OnOk, OnErr, None};
-ghost use Rattle.host_io.specs.Host.{bytes_of};
+ghost use Rattle.host_io.specs.Host.{MayGoOn};
 ghost use Rattle.host_io.specs.Machine.{bare_entry, holding, is_named, with_fault};
 ghost use Rattle.host_io.specs.Machine.{stored};
 
@@ -145,7 +145,7 @@ impl Entry {
 
     /// Stores the first `count` bytes of the piece at place `at`, which is 0 or the file's length.
     pub(crate) fn store(&mut self, at: u64, piece: &[u8], count: usize)
-        requires at { (at ≡ 0) ⊎ (at ≡ length (bytes_of self.old.content)) }
+        requires at { MayGoOn self.old.content at }
         requires count { count ≤ length piece.now }
         requires room { count ≤ unwrap_or self.old.room 0 - at }
         ensures { self.new ≡ stored at piece.now (take count piece.now) self.old }

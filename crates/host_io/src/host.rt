@@ -1,9 +1,9 @@
 //! The edge to files: a trait whose clauses say what a read and a write do, over any host.
 
-ghost use Rattle.std.specs.Prelude.{◌≡◌, ◌⊎◌, ℕ, ◌+◌, ◌<◌, ◌≤◌, Bool, List, Option, length, take};
+ghost use Rattle.std.specs.Prelude.{◌≡◌, ℕ, ◌+◌, ◌<◌, ◌≤◌, Bool, List, Option, length, take};
 ghost use Rattle.std.specs.Prelude.{IsTrue, IsSome, IfOk, OnOk, OnErr};
 ghost use Rattle.host_io.specs.Host.{Rises, IsLater, SameFiles, ChangesOnly, IsRead, bytes_of};
-ghost use Rattle.host_io.specs.Host.{written};
+ghost use Rattle.host_io.specs.Host.{MayGoOn, written};
 
 use std::error::Error;
 use std::fmt;
@@ -67,8 +67,7 @@ pub trait Host {
     /// output of a process, which keeps what it got. After a failure the named file holds any
     /// bytes, or isn't there.
     fn write(&mut self, name: &str, at: u64, piece: &[u8]) -> Result<usize, Failed>
-        requires { IsTrue (tells self.old) →
-            (at ≡ 0) ⊎ (at ≡ length (bytes_of (content self.old name.now))) }
+        requires { IsTrue (tells self.old) → MayGoOn (content self.old name.now) at }
         ensures within { IfOk result (λ n. n ≤ length piece.now) }
         ensures bytes { IfOk result (λ n. IsTrue (tells self.old) →
             content self.new name.now ≡

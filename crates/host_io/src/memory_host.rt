@@ -1,11 +1,11 @@
 //! A machine in memory that fails where it is told to.
 
-ghost use Rattle.std.specs.Prelude.{◌≡◌, ◌⊎◌, ◌+◌, ◌-◌, ◌<◌, ◌≤◌, ◌++◌, ◌↔◌, [], ◌∷◌, true, length};
+ghost use Rattle.std.specs.Prelude.{◌≡◌, ◌+◌, ◌-◌, ◌<◌, ◌≤◌, ◌++◌, ◌↔◌, [], ◌∷◌, true, length};
 ghost use Rattle.std.specs.Prelude.{take, drop, option_copied, IsTrue, IsSome, IsErr, IfOk, OnOk};
 ghost use Rattle.std.specs.Prelude.{OnErr, if◌then◌else◌, ◌==◌};
 ghost use Rattle.std.specs.List.{list_any};
 ghost use Rattle.host_io.specs.Host.{Rises, IsLater, SameFiles, ChangesOnly, IsRead, bytes_of};
-ghost use Rattle.host_io.specs.Host.{written};
+ghost use Rattle.host_io.specs.Host.{MayGoOn, written};
 ghost use Rattle.host_io.specs.Machine.{new_machine, put, give_room, content_of, read_faults_of};
 ghost use Rattle.host_io.specs.Machine.{write_faults_of, read_fails, after_read, write_fails};
 ghost use Rattle.host_io.specs.Machine.{taken, after_write};
@@ -134,7 +134,7 @@ impl MemoryHost {
 
     /// A write, as the definitions of the machine have it.
     fn write_step(&mut self, name: &str, at: u64, piece: &[u8]) -> Result<usize, Failed>
-        requires { (at ≡ 0) ⊎ (at ≡ length (bytes_of (content_of self.old name.now))) }
+        requires { MayGoOn (content_of self.old name.now) at }
         ensures fails { IsErr result ↔ IsTrue (write_fails self.old name.now) }
         ensures taken { IfOk result (λ n. n ≡ length (taken self.old name.now at piece.now)) }
         ensures machine { self.new ≡ after_write self.old name.now at piece.now }
@@ -191,7 +191,7 @@ impl Host for MemoryHost {
     }
 
     fn write(&mut self, name: &str, at: u64, piece: &[u8]) -> Result<usize, Failed>
-        requires { (at ≡ 0) ⊎ (at ≡ length (bytes_of (content_of self.old name.now))) }
+        requires { MayGoOn (content_of self.old name.now) at }
 
         ensures fails { IsErr result ↔ IsTrue (write_fails self.old name.now) }
         ensures taken { IfOk result (λ n. n ≡ length (taken self.old name.now at piece.now)) }

@@ -88,6 +88,8 @@ fn a_whole_file_comes_in_the_pieces_that_the_host_gives(rt: HostRuntime) -> Resu
     assert!(rt; is_read(rt.alloc(), &mut host, ("in", 4, Err(ReadStop::TooLarge))));
     write_whole(&mut host, "out", b"whole")?;
     assert_eq!(rt; host.taken, 5);
+    write_on(&mut host, "out", 5, b" and part")?;
+    assert_eq!(rt; host.taken, 14);
     Ok(())
 }
 

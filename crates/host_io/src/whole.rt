@@ -1,9 +1,10 @@
 //! Whole files, over any host.
 
-ghost use Rattle.std.specs.Prelude.{◌≡◌, ◌⊎◌, ◌+◌, ◌<◌, ◌≤◌, max, length, take, IsTrue, IfOk, OnOk};
-ghost use Rattle.std.specs.Prelude.{OnErr, IsErrOf, None};
+ghost use Rattle.std.specs.Prelude.{◌≡◌, ◌⊎◌, ◌+◌, ◌<◌, ◌≤◌, ◌^◌, max, length, take, drop, IsTrue};
+ghost use Rattle.std.specs.Prelude.{IfOk, OnOk, OnErr, IsErrOf, None};
 ghost use Rattle.host_io.specs.declared.whole.ReadStop.TheVariants.{NoMemory, ReadFault};
 ghost use Rattle.host_io.specs.Host.{Rises, IsLater, SameFiles, ChangesOnly, bytes_of};
+ghost use Rattle.host_io.specs.Host.{MayGoOn, written};
 ghost use Rattle.std.specs.Io.{StartsWith};
 
 use crate::{Failed, Host};
@@ -122,13 +123,30 @@ pub fn write_whole<H: Host>(host: &mut H, name: &str, bytes: &[u8]) -> Result<()
     // one where there are no bytes.
     ensures writes { H.writes host.new ≤ H.writes host.old + max 1 (length bytes.now) }
 {
-    let mut at = 0usize;
+    write_on(host, name, 0, bytes)
+}
+
+/// Writes these bytes behind the `at` bytes that the named file has; at place 0 the host makes it
+/// anew. So a file can be written part by part. Takes no memory.
+pub fn write_on<H: Host>(host: &mut H, name: &str, at: u64, bytes: &[u8]) -> Result<(), WriteFault>
+    requires behind { IsTrue (H.tells host.old) → MayGoOn (H.content host.old name.now) at }
+    requires places { at + length bytes.now < 2 ^ 64 }
+    ensures bytes { OnOk result (IsTrue (H.tells host.old) →
+        H.content host.new name.now ≡ Some (written (H.content host.old name.now) at bytes.now)) }
+    ensures write_fault { OnErr result
+        (Rises (H.write_faults host.old name.now) (H.write_faults host.new name.now)) }
+    ensures files { ChangesOnly name.now (H.content host.old) (H.content host.new) }
+    ensures later { IsLater H.tells H.read_faults H.write_faults host.old host.new }
+    ensures reads { H.reads host.new ≡ H.reads host.old }
+    ensures writes { H.writes host.new ≤ H.writes host.old + max 1 (length bytes.now) }
+{
+    let mut done = 0usize;
     loop {
-        let Ok(n) = write_on(host, name, bytes, at) else {
+        let Ok(n) = write_piece(host, name, at, bytes, done) else {
             return Err(WriteFault);
         };
-        at += n;
-        if at == bytes.len() {
+        done += n;
+        if done == bytes.len() {
             return Ok(());
         }
         if n == 0 {
@@ -167,23 +185,30 @@ fn read_on<H: Host>(
     Ok(n)
 }
 
-/// Writes the bytes from place `at` on, after those that the file has got.
-fn write_on<H: Host>(host: &mut H, name: &str, bytes: &[u8], at: usize) -> Result<usize, Failed>
-    requires at { at ≤ length bytes.now }
-    requires stored { 0 < at → IsTrue (H.tells host.old) →
-        H.content host.old name.now ≡ Some (take at bytes.now) }
+/// Writes what is left of the bytes, of which the file has got so many behind its first `at`.
+fn write_piece<H: Host>(
+    host: &mut H,
+    name: &str,
+    at: u64,
+    bytes: &[u8],
+    done: usize,
+) -> Result<usize, Failed>
+    requires done { done ≤ length bytes.now }
+    requires places { at + length bytes.now < 2 ^ 64 }
+    requires behind { IsTrue (H.tells host.old) →
+        MayGoOn (H.content host.old name.now) (at + done) }
 
-    ensures within { IfOk result (λ n. at + n ≤ length bytes.now) }
-    ensures stored { IfOk result (λ n. IsTrue (H.tells host.old) →
-        H.content host.new name.now ≡ Some (take (at + n) bytes.now)) }
+    ensures within { IfOk result (λ n. done + n ≤ length bytes.now) }
+    ensures stored { IfOk result (λ n. IsTrue (H.tells host.old) → H.content host.new name.now ≡
+        Some (written (H.content host.old name.now) (at + done) (take n (drop done bytes.now)))) }
     ensures failed { OnErr result
         (Rises (H.write_faults host.old name.now) (H.write_faults host.new name.now)) }
-    ensures nothing { IfOk result (λ n. n ≡ 0 → at < length bytes.now →
+    ensures nothing { IfOk result (λ n. n ≡ 0 → done < length bytes.now →
         Rises (H.write_faults host.old name.now) (H.write_faults host.new name.now)) }
     ensures files { ChangesOnly name.now (H.content host.old) (H.content host.new) }
     ensures later { IsLater H.tells H.read_faults H.write_faults host.old host.new }
     ensures reads { H.reads host.new ≡ H.reads host.old }
     ensures writes { H.writes host.new ≤ H.writes host.old + 1 }
 {
-    host.write(name, at as u64, &bytes[at..])
+    host.write(name, at + done as u64, &bytes[done..])
 }

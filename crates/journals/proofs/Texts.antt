@@ -1,12 +1,11 @@
 -- Texts that are appended piece by piece.
-use Rattle.std.proofs.Common.{◌≡◌, List, ◌∷◌, ◌++◌, ℕ, Result, Ok, Err, OnOk, is_ok, cond, ap}
+use Rattle.std.proofs.Common.{◌≡◌, List, ◌∷◌, ◌++◌, ℕ, Result, Ok, Err, OnOk, ap}
 use Rattle.std.proofs.Common.{sym, ◌∙◌, append_assoc}
 
 -- a heading, a body, and at the end an ending
 pub framed : {T E : Type 0} (r : Result T E) (old first second new heading body ending : List ℕ) →
     first ≡ old ++ heading → second ≡ first ++ body
-    → new ≡ cond (is_ok r) (second ++ ending) second →
-    OnOk r (new ≡ old ++ (heading ++ body ++ ending))
+    → OnOk r (new ≡ second ++ ending) → OnOk r (new ≡ old ++ (heading ++ body ++ ending))
 framed (Err e) old first second new heading body ending p q h = tt
 framed (Ok x) old first second new heading body ending p q h =
     h ∙ ap (λ z. z ++ ending) (q ∙ ap (λ z. z ++ body) p ∙ append_assoc old heading body)

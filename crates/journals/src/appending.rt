@@ -1,20 +1,38 @@
-//! Texts that are appended as a whole.
+//! What the texts of journals and ledgers are appended by.
 
-ghost use Rattle.std.specs.Prelude.{◌≡◌, ◌++◌, OnOk, OnErr, string_bytes};
+ghost use Rattle.std.specs.Prelude.{◌≡◌, ◌++◌, OnOk, OnErr, decimal};
 
+use itoa::Buffer;
 use packet_entry::NoMemory;
+use std::alloc::AllocError;
 
 /// Appends a text to bytes. Where there are none yet, its memory is taken over as it is. Out of
 /// memory the bytes are as they were.
-pub fn append_text(text: String, out: &mut Vec<u8>) -> Result<(), NoMemory>
-    ensures ok { OnOk result (out.new.items ≡ out.old.items ++ string_bytes text) }
+pub fn append_text(mut text: Vec<u8>, out: &mut Vec<u8>) -> Result<(), NoMemory>
+    ensures ok { OnOk result (out.new.items ≡ out.old.items ++ text.items) }
     ensures err { OnErr result (out.new.items ≡ out.old.items) }
 {
-    let mut bytes = text.into_bytes();
     if out.is_empty() {
-        *out = bytes;
+        *out = text;
         return Ok(());
     }
-    out.append(&mut bytes)?;
+    out.append(&mut text)?;
     Ok(())
+}
+
+/// Appends a word. Out of memory the text is as it was.
+#[inline(always)]
+pub fn append_word(word: &str, out: &mut Vec<u8>) -> Result<(), AllocError>
+    ensures { OnOk result (out.new.items ≡ out.old.items ++ word.now) }
+{
+    out.extend_from_slice(word.as_bytes())
+}
+
+/// Appends a word and a number behind it, in decimal. Out of memory the word may stand there alone.
+#[inline(always)]
+pub fn append_number(word: &str, number: u64, out: &mut Vec<u8>) -> Result<(), AllocError>
+    ensures { OnOk result (out.new.items ≡ out.old.items ++ (word.now ++ decimal number)) }
+{
+    append_word(word, out)?;
+    append_word(Buffer::new().format(number), out)
 }

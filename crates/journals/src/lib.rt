@@ -15,7 +15,7 @@ mod room;
 mod stop;
 mod writing;
 
-pub use appending::append_text;
+pub use appending::{append_number, append_text, append_word};
 pub use fault::JournalFault;
 pub use laws::{
     a_text_has_one_refused_line, a_text_has_one_value, each_text_is_read_or_refused,

@@ -1,17 +1,20 @@
 //! From histories to a journal's text.
 
-ghost use Rattle.std.specs.Prelude.{◌≡◌, ◌∷◌, ◌++◌, [], OnOk, OnErr, IfOk, string_bytes, codes};
+ghost use Rattle.std.specs.Prelude.{◌≡◌, ◌∷◌, ◌++◌, [], OnOk, OnErr, IfOk, codes};
 ghost use Rattle.std.specs.Prelude.{decimal};
 ghost use Rattle.text_lines.specs.Hexadecimal.{hexadecimal};
 ghost use Rattle.journals.specs.Journal as text;
 
-use crate::appending::append_text;
+use crate::appending::{append_number, append_text, append_word};
 use crate::room::room_for;
 use nfqa_msgs::{Head, Params, Request};
 use packet_entry::{Bytes, Card, NoMemory};
 use place_history::{AskWords, Did, Dids, Entries, Entry, Event, Histories, Logs, PortLog, Reply};
 use queue_core::Outcome;
 use std::alloc::{AllocError, Global};
+
+/// How many digits a byte has.
+const DIGITS: usize = 2;
 
 /// Appends the journal of these histories. Out of memory nothing has changed.
 ///
@@ -20,100 +23,100 @@ pub fn journal_text(alloc: Global, histories: &Histories, out: &mut Vec<u8>) -> 
     ensures ok { OnOk result (out.new.items ≡ out.old.items ++ text.journal histories.now) }
     ensures err { OnErr result (out.new.items ≡ out.old.items) }
 {
-    let mut journal = String::with_capacity(alloc, room_for(histories))?;
-    push_journal(alloc, histories, &mut journal)?;
+    let mut journal = Vec::with_capacity(alloc, room_for(histories))?;
+    push_journal(histories, &mut journal)?;
     append_text(journal, out)
 }
 
-fn push_journal(alloc: Global, histories: &Histories, out: &mut String) -> Result<(), AllocError>
-    ensures { OnOk result (string_bytes out.new ≡ string_bytes out.old
+fn push_journal(histories: &Histories, out: &mut Vec<u8>) -> Result<(), AllocError>
+    ensures { OnOk result (out.new.items ≡ out.old.items
         ++ text.journal histories.now) }
 {
-    out.push_str("nfq-journal 1\n")?;
-    push_histories(alloc, histories, out)?;
-    out.push_str("end\n")
+    append_word("nfq-journal 1\n", out)?;
+    push_histories(histories, out)?;
+    append_word("end\n", out)
 }
 
-fn push_histories(alloc: Global, histories: &Histories, out: &mut String) -> Result<(), AllocError>
-    ensures { OnOk result (string_bytes out.new ≡ string_bytes out.old
+fn push_histories(histories: &Histories, out: &mut Vec<u8>) -> Result<(), AllocError>
+    ensures { OnOk result (out.new.items ≡ out.old.items
         ++ text.histories histories.now) }
 {
-    push_entries(alloc, &histories.entries, out)?;
-    push_logs(alloc, &histories.logs, out)
+    push_entries(&histories.entries, out)?;
+    push_logs(&histories.logs, out)
 }
 
-fn push_entries(alloc: Global, entries: &Entries, out: &mut String) -> Result<(), AllocError>
-    ensures { OnOk result (string_bytes out.new ≡ string_bytes out.old
+fn push_entries(entries: &Entries, out: &mut Vec<u8>) -> Result<(), AllocError>
+    ensures { OnOk result (out.new.items ≡ out.old.items
         ++ text.entries entries.now) }
 {
     for entry in entries {
-        push_entry(alloc, entry, out)?;
+        push_entry(entry, out)?;
     }
     Ok(())
 }
 
-fn push_logs(alloc: Global, logs: &Logs, out: &mut String) -> Result<(), AllocError>
-    ensures { OnOk result (string_bytes out.new ≡ string_bytes out.old ++ text.logs logs.now) }
+fn push_logs(logs: &Logs, out: &mut Vec<u8>) -> Result<(), AllocError>
+    ensures { OnOk result (out.new.items ≡ out.old.items ++ text.logs logs.now) }
 {
     for log in logs {
-        push_log(alloc, log, out)?;
+        push_log(log, out)?;
     }
     Ok(())
 }
 
-fn push_log(alloc: Global, log: &PortLog, out: &mut String) -> Result<(), AllocError>
-    ensures { OnOk result (string_bytes out.new ≡ string_bytes out.old ++ text.log log.now) }
+fn push_log(log: &PortLog, out: &mut Vec<u8>) -> Result<(), AllocError>
+    ensures { OnOk result (out.new.items ≡ out.old.items ++ text.log log.now) }
 {
-    let port = log.port;
-    writeln!(out, "P {port}")?;
-    push_dids(alloc, &log.dids, out)
+    append_number("P ", log.port as u64, out)?;
+    append_word("\n", out)?;
+    push_dids(&log.dids, out)
 }
 
-fn push_dids(alloc: Global, dids: &Dids, out: &mut String) -> Result<(), AllocError>
-    ensures { OnOk result (string_bytes out.new ≡ string_bytes out.old ++ text.dids dids.now) }
+fn push_dids(dids: &Dids, out: &mut Vec<u8>) -> Result<(), AllocError>
+    ensures { OnOk result (out.new.items ≡ out.old.items ++ text.dids dids.now) }
 {
     for did in dids {
-        push_did(alloc, did, out)?;
+        push_did(did, out)?;
     }
     Ok(())
 }
 
-fn push_entry(alloc: Global, entry: &Entry, out: &mut String) -> Result<(), AllocError>
-    ensures { OnOk result (string_bytes out.new ≡ string_bytes out.old ++ text.entry entry.now) }
+fn push_entry(entry: &Entry, out: &mut Vec<u8>) -> Result<(), AllocError>
+    ensures { OnOk result (out.new.items ≡ out.old.items ++ text.entry entry.now) }
 {
-    push_entry_line(alloc, entry, out)?;
-    out.push_str("\n")
+    push_entry_line(entry, out)?;
+    append_word("\n", out)
 }
 
-fn push_entry_line(alloc: Global, entry: &Entry, out: &mut String) -> Result<(), AllocError>
-    ensures { OnOk result (string_bytes out.new ≡ string_bytes out.old
+fn push_entry_line(entry: &Entry, out: &mut Vec<u8>) -> Result<(), AllocError>
+    ensures { OnOk result (out.new.items ≡ out.old.items
         ++ text.entry_line entry.now) }
 {
-    let queue = entry.queue;
+    let queue = entry.queue as u64;
     match &entry.event {
         Event::Arrive { card, bypass, room } => {
-            let bypass = yes_no(*bypass);
-            let room = yes_no(*room);
-            write!(out, "A {queue} ")?;
-            push_card(alloc, card, bypass, room, out)?;
+            append_number("A ", queue, out)?;
+            append_word(" ", out)?;
+            push_card(card, yes_no(*bypass), yes_no(*room), out)?;
         }
         Event::Ask {
             port,
             call,
             request,
         } => {
-            let port = *port;
-            let call = *call;
-            write!(out, "M {queue} {port} {call} ")?;
-            push_request(alloc, request, out)?;
+            append_number("M ", queue, out)?;
+            append_number(" ", *port as u64, out)?;
+            append_number(" ", *call as u64, out)?;
+            append_word(" ", out)?;
+            push_request(request, out)?;
         }
         Event::PortClosed { port } => {
-            let port = *port;
-            write!(out, "C {queue} {port}")?;
+            append_number("C ", queue, out)?;
+            append_number(" ", *port as u64, out)?;
         }
         Event::DeviceDown { device } => {
-            let device = *device;
-            write!(out, "D {queue} {device}")?;
+            append_number("D ", queue, out)?;
+            append_number(" ", *device as u64, out)?;
         }
     }
     push_reply(&entry.reply, out)
@@ -121,48 +124,53 @@ fn push_entry_line(alloc: Global, entry: &Entry, out: &mut String) -> Result<(),
 
 /// What an arrival's line says of the packet, of the bypass and of the room, and the blank after
 /// it.
-fn push_card(
-    alloc: Global,
-    card: &Card,
-    bypass: &str,
-    room: &str,
-    out: &mut String,
-) -> Result<(), AllocError>
-    ensures { OnOk result (string_bytes out.new ≡ string_bytes out.old
+fn push_card(card: &Card, bypass: &str, room: &str, out: &mut Vec<u8>) -> Result<(), AllocError>
+    ensures { OnOk result (out.new.items ≡ out.old.items
         ++ text.card card.now bypass.now room.now) }
 {
     push_journey(card, out)?;
-    write!(out, "{bypass} {room} ")?;
+    push_ways(bypass, room, out)?;
     push_facts(card, out)?;
-    push_bytes(alloc, card.link.as_slice(), out)?;
-    out.push_str(" ")?;
-    push_bytes(alloc, card.bytes.as_slice(), out)?;
-    out.push_str(" ")
+    push_bytes(card.link.as_slice(), out)?;
+    append_word(" ", out)?;
+    push_bytes(card.bytes.as_slice(), out)?;
+    append_word(" ", out)
+}
+
+/// Whether the packet may go on without a queue, and whether the mailbox had room.
+fn push_ways(bypass: &str, room: &str, out: &mut Vec<u8>) -> Result<(), AllocError>
+    ensures { OnOk result (out.new.items ≡ out.old.items
+        ++ (bypass.now ++ codes " " ++ room.now ++ codes " ")) }
+{
+    append_word(bypass, out)?;
+    append_word(" ", out)?;
+    append_word(room, out)?;
+    append_word(" ", out)
 }
 
 /// Where the packet is on its way.
-fn push_journey(card: &Card, out: &mut String) -> Result<(), AllocError>
-    ensures { OnOk result (string_bytes out.new ≡ string_bytes out.old ++ text.journey card.now) }
+fn push_journey(card: &Card, out: &mut Vec<u8>) -> Result<(), AllocError>
+    ensures { OnOk result (out.new.items ≡ out.old.items ++ text.journey card.now) }
 {
-    let number = card.number;
-    let visit = card.visit;
-    let table = card.table;
-    write!(out, "{number} {visit} {table} ")
+    append_number("", card.number as u64, out)?;
+    append_number(" ", card.visit as u64, out)?;
+    append_number(" ", card.table as u64, out)?;
+    append_word(" ", out)
 }
 
 /// What else is known of the packet, but for its bytes.
-fn push_facts(card: &Card, out: &mut String) -> Result<(), AllocError>
-    ensures { OnOk result (string_bytes out.new ≡ string_bytes out.old ++ text.facts card.now) }
+fn push_facts(card: &Card, out: &mut Vec<u8>) -> Result<(), AllocError>
+    ensures { OnOk result (out.new.items ≡ out.old.items ++ text.facts card.now) }
 {
-    let mark = card.mark;
-    let seconds = card.seconds;
-    let micros = card.micros;
-    let protocol = card.protocol;
-    write!(out, "{mark} {seconds} {micros} {protocol} ")
+    append_number("", card.mark as u64, out)?;
+    append_number(" ", card.seconds as u64, out)?;
+    append_number(" ", card.micros as u64, out)?;
+    append_number(" ", card.protocol as u64, out)?;
+    append_word(" ", out)
 }
 
-fn push_request(alloc: Global, request: &Request, out: &mut String) -> Result<(), AllocError>
-    ensures { OnOk result (string_bytes out.new ≡ string_bytes out.old
+fn push_request(request: &Request, out: &mut Vec<u8>) -> Result<(), AllocError>
+    ensures { OnOk result (out.new.items ≡ out.old.items
         ++ text.request request.now) }
 {
     match request {
@@ -174,8 +182,7 @@ fn push_request(alloc: Global, request: &Request, out: &mut String) -> Result<()
             flags,
             mask,
         } => {
-            let queue = *queue;
-            write!(out, "config {queue}")?;
+            append_number("config ", *queue as u64, out)?;
             push_command(*command, out)?;
             push_params(*params, out)?;
             push_number(" maxlen ", *maxlen, out)?;
@@ -188,128 +195,136 @@ fn push_request(alloc: Global, request: &Request, out: &mut String) -> Result<()
             mark,
             payload,
         } => {
-            let queue = *queue;
-            write!(out, "verdict {queue} ")?;
+            append_number("verdict ", *queue as u64, out)?;
+            append_word(" ", out)?;
             push_head(*head, out)?;
             push_number(" mark ", *mark, out)?;
-            push_payload(alloc, payload, out)
+            push_payload(payload, out)
         }
         Request::Batch { queue, head, mark } => {
-            let queue = *queue;
-            write!(out, "batch {queue} ")?;
+            append_number("batch ", *queue as u64, out)?;
+            append_word(" ", out)?;
             push_head(*head, out)?;
             push_number(" mark ", *mark, out)
         }
     }
 }
 
-fn push_command(command: Option<u8>, out: &mut String) -> Result<(), AllocError>
-    ensures { OnOk result (string_bytes out.new ≡ string_bytes out.old
+fn push_command(command: Option<u8>, out: &mut Vec<u8>) -> Result<(), AllocError>
+    ensures { OnOk result (out.new.items ≡ out.old.items
         ++ text.part (codes " cmd ") command) }
 {
     match command {
-        Some(command) => write!(out, " cmd {command}"),
+        Some(command) => append_number(" cmd ", command as u64, out),
         None => Ok(()),
     }
 }
 
-fn push_params(params: Option<Params>, out: &mut String) -> Result<(), AllocError>
-    ensures { OnOk result (string_bytes out.new ≡ string_bytes out.old ++ text.params params) }
+fn push_params(params: Option<Params>, out: &mut Vec<u8>) -> Result<(), AllocError>
+    ensures { OnOk result (out.new.items ≡ out.old.items ++ text.params params) }
 {
     match params {
-        Some(Params { range, mode }) => write!(out, " params {mode} {range}"),
+        Some(Params { range, mode }) => {
+            append_number(" params ", mode as u64, out)?;
+            append_number(" ", range as u64, out)
+        }
         None => Ok(()),
     }
 }
 
 /// The verdict and the id, of a batch the greatest; `-` where there is no verdict header.
-fn push_head(head: Option<Head>, out: &mut String) -> Result<(), AllocError>
-    ensures { OnOk result (string_bytes out.new ≡ string_bytes out.old ++ text.head head) }
+fn push_head(head: Option<Head>, out: &mut Vec<u8>) -> Result<(), AllocError>
+    ensures { OnOk result (out.new.items ≡ out.old.items ++ text.head head) }
 {
     match head {
-        Some(Head { verdict, id }) => write!(out, "{verdict} {id}"),
-        None => out.push_str("-"),
+        Some(Head { verdict, id }) => {
+            append_number("", verdict as u64, out)?;
+            append_number(" ", id as u64, out)
+        }
+        None => append_word("-", out),
     }
 }
 
 /// A word and its number, where there is one.
-fn push_number(word: &str, number: Option<u32>, out: &mut String) -> Result<(), AllocError>
-    ensures { OnOk result (string_bytes out.new ≡ string_bytes out.old
+fn push_number(word: &str, number: Option<u32>, out: &mut Vec<u8>) -> Result<(), AllocError>
+    ensures { OnOk result (out.new.items ≡ out.old.items
         ++ text.part word.now number) }
 {
     match number {
-        Some(number) => write!(out, "{word}{number}"),
+        Some(number) => append_number(word, number as u64, out),
         None => Ok(()),
     }
 }
 
-fn push_payload(alloc: Global, payload: &Option<Bytes>, out: &mut String) -> Result<(), AllocError>
-    ensures { OnOk result (string_bytes out.new ≡ string_bytes out.old
+fn push_payload(payload: &Option<Bytes>, out: &mut Vec<u8>) -> Result<(), AllocError>
+    ensures { OnOk result (out.new.items ≡ out.old.items
         ++ text.payload payload.now) }
 {
     match payload {
         Some(bytes) => {
-            out.push_str(" payload ")?;
-            push_bytes(alloc, bytes.as_slice(), out)
+            append_word(" payload ", out)?;
+            push_bytes(bytes.as_slice(), out)
         }
         None => Ok(()),
     }
 }
 
 /// Bytes in lower-case hexadecimal, `-` for none.
-fn push_bytes(alloc: Global, bytes: &[u8], out: &mut String) -> Result<(), AllocError>
-    ensures { OnOk result (string_bytes out.new ≡ string_bytes out.old
+fn push_bytes(bytes: &[u8], out: &mut Vec<u8>) -> Result<(), AllocError>
+    ensures { OnOk result (out.new.items ≡ out.old.items
         ++ hexadecimal bytes.now) }
 {
     if bytes.is_empty() {
-        return out.push_str("-");
+        return append_word("-", out);
     }
-    out.push_str(hex::encode(alloc, bytes)?.as_str())
+    let start = out.len();
+    let size = bytes.len().checked_mul(DIGITS).ok_or(AllocError)?;
+    out.resize(start.checked_add(size).ok_or(AllocError)?, 0)?;
+    let Ok(()) = hex::encode_to_slice(bytes, &mut out[start..]) else {
+        unreachable!()
+    };
+    Ok(())
 }
 
 /// What an entry's line says of its reply.
-fn push_reply(reply: &Reply, out: &mut String) -> Result<(), AllocError>
-    ensures { OnOk result (string_bytes out.new ≡ string_bytes out.old ++ text.reply reply.now) }
+fn push_reply(reply: &Reply, out: &mut Vec<u8>) -> Result<(), AllocError>
+    ensures { OnOk result (out.new.items ≡ out.old.items ++ text.reply reply.now) }
 {
     match reply {
         Reply::Arrived { outcome } => push_outcome(*outcome, out),
         Reply::Answer { errno, taken } => {
-            let errno = *errno;
-            let taken = *taken;
-            write!(out, " = {errno} {taken}")
+            append_number(" = ", *errno as u64, out)?;
+            append_number(" ", *taken as u64, out)
         }
-        Reply::Flushed { taken } => {
-            let taken = *taken;
-            write!(out, " {taken}")
-        }
+        Reply::Flushed { taken } => append_number(" ", *taken as u64, out),
     }
 }
 
-fn push_outcome(outcome: Outcome, out: &mut String) -> Result<(), AllocError>
-    ensures { OnOk result (string_bytes out.new ≡ string_bytes out.old ++ text.outcome outcome) }
+fn push_outcome(outcome: Outcome, out: &mut Vec<u8>) -> Result<(), AllocError>
+    ensures { OnOk result (out.new.items ≡ out.old.items ++ text.outcome outcome) }
 {
     match outcome {
-        Outcome::Taken { id } => write!(out, "taken:{id}"),
-        Outcome::Overflow => out.push_str("overflow"),
-        Outcome::OverflowOpen => out.push_str("overflow-open"),
-        Outcome::UserFull { id } => write!(out, "userfull:{id}"),
-        Outcome::UserFullOpen { id } => write!(out, "userfull-open:{id}"),
-        Outcome::NoQueue => out.push_str("noqueue"),
-        Outcome::Bypassed => out.push_str("bypassed"),
-        Outcome::CopyNone => out.push_str("copynone"),
-        Outcome::Loop => out.push_str("loop"),
+        Outcome::Taken { id } => append_number("taken:", id as u64, out),
+        Outcome::Overflow => append_word("overflow", out),
+        Outcome::OverflowOpen => append_word("overflow-open", out),
+        Outcome::UserFull { id } => append_number("userfull:", id as u64, out),
+        Outcome::UserFullOpen { id } => append_number("userfull-open:", id as u64, out),
+        Outcome::NoQueue => append_word("noqueue", out),
+        Outcome::Bypassed => append_word("bypassed", out),
+        Outcome::CopyNone => append_word("copynone", out),
+        Outcome::Loop => append_word("loop", out),
     }
 }
 
-fn push_did(alloc: Global, did: &Did, out: &mut String) -> Result<(), AllocError>
-    ensures { OnOk result (string_bytes out.new ≡ string_bytes out.old ++ text.did did.now) }
+fn push_did(did: &Did, out: &mut Vec<u8>) -> Result<(), AllocError>
+    ensures { OnOk result (out.new.items ≡ out.old.items ++ text.did did.now) }
 {
-    push_did_line(alloc, did, out)?;
-    out.push_str("\n")
+    push_did_line(did, out)?;
+    append_word("\n", out)
 }
 
-fn push_did_line(alloc: Global, did: &Did, out: &mut String) -> Result<(), AllocError>
-    ensures { OnOk result (string_bytes out.new ≡ string_bytes out.old ++ text.did_line did.now) }
+fn push_did_line(did: &Did, out: &mut Vec<u8>) -> Result<(), AllocError>
+    ensures { OnOk result (out.new.items ≡ out.old.items ++ text.did_line did.now) }
 {
     match did {
         Did::Received {
@@ -317,41 +332,40 @@ fn push_did_line(alloc: Global, did: &Did, out: &mut String) -> Result<(), Alloc
             number,
             visit,
         } => {
-            let queue = *queue;
-            let number = *number;
-            let visit = *visit;
-            write!(out, "R {queue} {number} {visit}")
+            append_number("R ", *queue as u64, out)?;
+            append_number(" ", *number as u64, out)?;
+            append_number(" ", *visit as u64, out)
         }
         Did::Sent { call, ask, answer } => {
-            let call = *call;
-            write!(out, "S {call} ")?;
-            push_ask(alloc, ask, out)?;
+            append_number("S ", *call as u64, out)?;
+            append_word(" ", out)?;
+            push_ask(ask, out)?;
             push_answer(*answer, out)
         }
-        Did::Closed => out.push_str("X"),
+        Did::Closed => append_word("X", out),
     }
 }
 
 /// What a port sent: a request, or the bytes of another message.
-fn push_ask(alloc: Global, ask: &AskWords, out: &mut String) -> Result<(), AllocError>
-    ensures { OnOk result (string_bytes out.new ≡ string_bytes out.old ++ text.ask ask.now) }
+fn push_ask(ask: &AskWords, out: &mut Vec<u8>) -> Result<(), AllocError>
+    ensures { OnOk result (out.new.items ≡ out.old.items ++ text.ask ask.now) }
 {
     match ask {
-        AskWords::Plain { request } => push_request(alloc, request, out),
+        AskWords::Plain { request } => push_request(request, out),
         AskWords::Raw { bytes } => {
-            out.push_str("raw ")?;
-            push_bytes(alloc, bytes.as_slice(), out)
+            append_word("raw ", out)?;
+            push_bytes(bytes.as_slice(), out)
         }
     }
 }
 
 /// The errno of an acknowledgement, `-` where there was none.
-fn push_answer(answer: Option<u16>, out: &mut String) -> Result<(), AllocError>
-    ensures { OnOk result (string_bytes out.new ≡ string_bytes out.old ++ text.answer answer) }
+fn push_answer(answer: Option<u16>, out: &mut Vec<u8>) -> Result<(), AllocError>
+    ensures { OnOk result (out.new.items ≡ out.old.items ++ text.answer answer) }
 {
     match answer {
-        Some(answer) => write!(out, " = {answer}"),
-        None => out.push_str(" = -"),
+        Some(answer) => append_number(" = ", answer as u64, out),
+        None => append_word(" = -", out),
     }
 }
 

@@ -1,7 +1,7 @@
 -- How a command ends: facts by cases on why it stopped, and over a longer time.
 use Rattle.std.proofs.Common.{◌≡◌, ◌≤◌, ◌⊎◌, ◌∙◌, ℕ, List, Option, Some, None, Result, Ok, Err}
 use Rattle.std.proofs.Common.{OnOk, OnErr, refl, sym, ap, subst, inl, inr, arith, [], ◌∷◌, map}
-use Rattle.std.specs.Prelude.{IsErrAnd, IsSomeAnd}
+use Rattle.std.specs.Prelude.{IfOk, IsErrAnd, IsSomeAnd}
 use Rattle.host_io.specs.Host.{Rises, SameFiles}
 use Rattle.nfq_cli.specs.declared.refusal.Refusal.{Refusal}
 use Rattle.nfq_cli.specs.declared.refusal.Refusal.TheVariants as refusal
@@ -26,6 +26,11 @@ pub on_ok_both : {T E : Type 0} (A B : Type 0) (r : Result T E) → OnOk r A →
     OnOk r (A × B)
 on_ok_both A B (Ok x) a b = (a, b)
 on_ok_both A B (Err e) a b = tt
+
+pub if_ok_and : {T E : Type 0} (P R : T → Type 0) (B : Type 0) (r : Result T E) →
+    IfOk r P → OnOk r B → ((x : T) → P x → B → R x) → IfOk r R
+if_ok_and P R B (Ok x) p b f = f x p b
+if_ok_and P R B (Err e) p b f = tt
 
 pub on_err : {T E : Type 0} (P : Type 0) (r : Result T E) (e : E) → r ≡ Err e → OnErr r P → P
 on_err P (Ok x) e is h = absurd (ok_is_no_err x e is)

@@ -2,3 +2,4 @@ pub mod Numbering
 pub mod Digits
 pub mod Saying
 pub mod Endings
+pub mod Parts

@@ -7,6 +7,7 @@
 
 mod account;
 mod arguments;
+mod capture_file;
 mod command;
 mod generation;
 mod inputs;

@@ -8,17 +8,18 @@ ghost use Rattle.solo_run.specs.Numbers.{most_frames};
 ghost use Rattle.fate_ledger.specs.Released.{released};
 ghost use Rattle.nfq_cli.specs.Outputs as text;
 
+use crate::capture_file::CaptureFile;
 use fate_ledger::{FateLines, fates, journal_text, ledger_text, released_capture};
 use packet_entry::NoMemory;
-use pcap_io::{Capture, write_capture};
+use pcap_io::Capture;
 use place_history::Histories;
 use std::alloc::Global;
 
 /// The three files that a run writes.
 #[derive(Debug, Drop)]
 pub struct Outputs {
-    /// The frames that were released.
-    pub capture: Vec<u8>,
+    /// The frames that were released, which are written part by part.
+    pub capture: CaptureFile,
     pub ledger: Vec<u8>,
     pub journal: Vec<u8>,
 }
@@ -34,8 +35,7 @@ pub fn outputs_of(
     requires payloads { All (λ l. length l.payload ≤ longest_packet)
         (text.fates_of capture.now histories) }
     requires held { IsHeld (released capture.now (text.fates_of capture.now histories)) }
-    ensures output { IfOk result (λ o. o.capture.items
-        ≡ text.output_text capture.now histories) }
+    ensures output { IfOk result (λ o. o.capture ≡ text.output_text capture.now histories) }
     ensures ledger { IfOk result (λ o. o.ledger.items
         ≡ text.ledger_text capture.now histories) }
     ensures journal { IfOk result (λ o. o.journal.items ≡ text.journal_text histories) }
@@ -55,14 +55,16 @@ pub fn outputs_of(
 }
 
 /// The released frames as a capture file.
-fn released_file(alloc: Global, capture: &Capture, lines: &FateLines) -> Result<Vec<u8>, NoMemory>
+fn released_file(
+    alloc: Global,
+    capture: &Capture,
+    lines: &FateLines,
+) -> Result<CaptureFile, NoMemory>
     requires lines { length capture.now.frames ≡ length lines.now }
     requires payloads { All (λ l. length l.payload ≤ longest_packet) lines.now }
     requires held { IsHeld (released capture.now lines.now) }
-    ensures { IfOk result (λ file. file.items ≡ capture_text (released capture.now lines.now)) }
+    ensures { IfOk result (λ file. file ≡ capture_text (released capture.now lines.now)) }
 {
     let released = released_capture(alloc, capture, lines)?;
-    let mut file = Vec::new(alloc);
-    write_capture(&released, &mut file)?;
-    Ok(file)
+    CaptureFile::new(alloc, released)
 }

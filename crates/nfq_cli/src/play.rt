@@ -58,18 +58,18 @@ pub fn play_files<H: Host>(alloc: Global, files: &Play<'_>, host: &mut H) -> Res
     } = made;
     let histories = histories_of(alloc, &script, tables, &capture)?;
     let outputs = outputs_of(alloc, &capture, histories)?;
-    write_outputs(files, &outputs, host)
+    write_outputs(files, outputs, host)
 }
 
 /// Writes the outputs, one after the other, each whole.
-fn write_outputs<H: Host>(files: &Play<'_>, outputs: &Outputs, host: &mut H) -> Result<(), Stop>
+fn write_outputs<H: Host>(files: &Play<'_>, outputs: Outputs, host: &mut H) -> Result<(), Stop>
     requires apart { are_outputs_apart (files_of files.now) ≡ true }
     ensures output { OnOk result (IsTrue (H.tells host.old) →
-        H.content host.new files.now.output.now ≡ Some outputs.now.capture.items) }
+        H.content host.new files.now.output.now ≡ Some outputs.capture) }
     ensures ledger { OnOk result (IsTrue (H.tells host.old) →
-        H.content host.new files.now.ledger.now ≡ Some outputs.now.ledger.items) }
+        H.content host.new files.now.ledger.now ≡ Some outputs.ledger.items) }
     ensures journal { OnOk result (IsTrue (H.tells host.old) →
-        H.content host.new files.now.journal.now ≡ Some outputs.now.journal.items) }
+        H.content host.new files.now.journal.now ≡ Some outputs.journal.items) }
     ensures only { OnErr result (IsErrOf result Stop.WriteFault) }
     ensures write_fault { OnErr result (WriteFaultRose (play_outputs (files_of files.now))
         (H.write_faults host.old) (H.write_faults host.new)) }
@@ -77,16 +77,21 @@ fn write_outputs<H: Host>(files: &Play<'_>, outputs: &Outputs, host: &mut H) -> 
         (H.write_faults host.old) (H.write_faults host.new) (H.content host.old)
         (H.content host.new)) }
     ensures cut_short { OnErr result (IsTrue (H.tells host.old) →
-        IsStoppedAfter (texts_as (files_of files.now) outputs.now.capture.items
-        outputs.now.ledger.items outputs.now.journal.items)
+        IsStoppedAfter (texts_as (files_of files.now) outputs.capture
+        outputs.ledger.items outputs.journal.items)
         (H.write_faults host.old) (H.write_faults host.new) (H.content host.old)
         (H.content host.new)) }
     ensures others { OthersStay (play_outputs (files_of files.now))
         (H.content host.old) (H.content host.new) }
     ensures later { IsLater H.tells H.read_faults H.write_faults host.old host.new }
 {
-    write_whole(host, files.output, &outputs.capture)?;
-    write_whole(host, files.ledger, &outputs.ledger)?;
-    write_whole(host, files.journal, &outputs.journal)?;
+    let Outputs {
+        capture,
+        ledger,
+        journal,
+    } = outputs;
+    capture.write(host, files.output)?;
+    write_whole(host, files.ledger, &ledger)?;
+    write_whole(host, files.journal, &journal)?;
     Ok(())
 }

@@ -133,9 +133,9 @@ fn is_link_type(link: u32) -> bool
     link == LINK_ETHERNET || link == LINK_RAW || link == LINK_IPV4 || link == LINK_IPV6
 }
 
-/// Appends the header, for which there is room.
+/// Appends the header of a capture's file, 24 bytes, for which there is room. Takes no memory.
 #[tactic(auto, unfolding(crate::specs::Text::header_text))]
-pub(crate) fn put_header(capture: &Capture, out: &mut Vec<u8>)
+pub fn put_header(capture: &Capture, out: &mut Vec<u8>)
     requires { vec_len out.old + file_header_length ≤ vec_capacity out.old }
     ensures items { out.new.items ≡ out.old.items ++ header_text capture.now }
     ensures len { vec_len out.new ≡ vec_len out.old + file_header_length }

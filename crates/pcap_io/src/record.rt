@@ -97,9 +97,10 @@ fn cut_after(
     file.cut(at + start, at + end)
 }
 
-/// Appends the record of a frame, for which there is room.
+/// Appends the record of a frame, in big-endian order where `big` says so: a header of 16 bytes and
+/// the frame's bytes, for which there is room. Takes no memory.
 #[tactic(auto, unfolding(crate::specs::Text::record_text))]
-pub(crate) fn put_record(big: bool, frame: &Frame, out: &mut Vec<u8>)
+pub fn put_record(big: bool, frame: &Frame, out: &mut Vec<u8>)
     requires short { length frame.now.bytes ≤ longest_packet }
     requires room { vec_len out.old + (record_header_length + length frame.now.bytes)
         ≤ vec_capacity out.old }

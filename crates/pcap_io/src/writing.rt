@@ -34,8 +34,8 @@ pub fn write_capture(capture: &Capture, out: &mut Vec<u8>) -> Result<(), NoMemor
     Ok(())
 }
 
-/// How many bytes the file has; `None` where they are too many to be counted.
-fn file_size(capture: &Capture) -> Option<usize>
+/// How many bytes the file of a capture has; `None` where they are too many to be counted.
+pub fn file_size(capture: &Capture) -> Option<usize>
     ensures counted { IfSome result (λ size. size ≡ length (capture_text capture.now)) }
     ensures too_many { IfNone result (2 ^ 64 ≤ length (capture_text capture.now)) }
 {
