@@ -1,3 +1,4 @@
+pub mod Lengths
 pub mod Ahead
 pub mod EachText
 pub mod FirstRefused

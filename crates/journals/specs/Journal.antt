@@ -147,5 +147,13 @@ logs (l ∷ ls) = log l ++ logs ls
 abbrev pub histories : Histories → List ℕ
 histories h = entries h.entries ++ logs h.logs
 
+-- the first line
+abbrev pub heading : List ℕ
+heading = codes "nfq-journal 1\n"
+
 abbrev pub journal : Histories → List ℕ
-journal h = codes "nfq-journal 1\n" ++ histories h ++ codes "end\n"
+journal h = heading ++ histories h ++ codes "end\n"
+
+-- what stands behind the entries
+abbrev pub tail : List PortLog → List ℕ
+tail ls = logs ls ++ codes "end\n"

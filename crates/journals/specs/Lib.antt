@@ -1,3 +1,4 @@
+pub mod Appending
 pub mod Journal
 pub mod JournalFile
 pub mod Lines

@@ -1,6 +1,7 @@
 //! What the texts of journals and ledgers are appended by.
 
 ghost use Rattle.std.specs.Prelude.{◌≡◌, ◌++◌, OnOk, OnErr, decimal};
+ghost use Rattle.journals.specs.Appending.{Appends};
 
 use itoa::Buffer;
 use packet_entry::NoMemory;
@@ -23,7 +24,7 @@ pub fn append_text(mut text: Vec<u8>, out: &mut Vec<u8>) -> Result<(), NoMemory>
 /// Appends a word. Out of memory the text is as it was.
 #[inline(always)]
 pub fn append_word(word: &str, out: &mut Vec<u8>) -> Result<(), AllocError>
-    ensures { OnOk result (out.new.items ≡ out.old.items ++ word.now) }
+    ensures { Appends result out.old out.new word.now }
 {
     out.extend_from_slice(word.as_bytes())
 }
@@ -31,7 +32,7 @@ pub fn append_word(word: &str, out: &mut Vec<u8>) -> Result<(), AllocError>
 /// Appends a word and a number behind it, in decimal. Out of memory the word may stand there alone.
 #[inline(always)]
 pub fn append_number(word: &str, number: u64, out: &mut Vec<u8>) -> Result<(), AllocError>
-    ensures { OnOk result (out.new.items ≡ out.old.items ++ (word.now ++ decimal number)) }
+    ensures { Appends result out.old out.new (word.now ++ decimal number) }
 {
     append_word(word, out)?;
     append_word(Buffer::new().format(number), out)

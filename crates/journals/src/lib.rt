@@ -8,6 +8,7 @@ mod fields;
 mod laws;
 mod line;
 mod line_reading;
+mod line_room;
 mod reader;
 mod reading;
 mod request_reading;
@@ -21,8 +22,9 @@ pub use laws::{
     a_text_has_one_refused_line, a_text_has_one_value, each_text_is_read_or_refused,
     no_journal_begins_another, no_line_of_a_journal_is_refused, values_have_journals_of_their_own,
 };
+pub use line_room::entry_room;
 pub use reading::read_journal;
-pub use writing::journal_text;
+pub use writing::{append_entry, append_heading, journal_tail, journal_text};
 
 #[cfg(test)]
 mod tests;

@@ -2,7 +2,7 @@
 
 use nfqa_msgs::Request;
 use packet_entry::Bytes;
-use place_history::{AskWords, Did, Entry, Event, Histories, PortLog};
+use place_history::{AskWords, Did, Entry, Event, Histories, Logs, PortLog};
 
 /// More bytes than a line has beside its byte texts, with numbers of a usual length.
 const LINE: usize = 96;
@@ -16,7 +16,13 @@ pub fn room_for(histories: &Histories) -> usize {
     for entry in &histories.entries {
         room = room.saturating_add(of_entry(entry));
     }
-    for log in &histories.logs {
+    room.saturating_add(room_for_logs(&histories.logs))
+}
+
+/// The same for what stands behind the entries.
+pub fn room_for_logs(logs: &Logs) -> usize {
+    let mut room = LINE;
+    for log in logs {
         room = room.saturating_add(of_log(log));
     }
     room

@@ -1,7 +1,10 @@
 //! What no contract says: that a journal is written and read where there is memory, with each kind
 //! of line, as it was written out by hand, and where bad ones are refused.
 
-use crate::{JournalFault, journal_text, read_journal};
+use crate::{
+    JournalFault, append_entry, append_heading, entry_room, journal_tail, journal_text,
+    read_journal,
+};
 use nfqa_msgs::{Head, Params, Request};
 use packet_entry::{Bytes, Card, NoMemory, Sequence};
 use place_history::{AskWords, Did, Entry, Event, Histories, PortLog, Reply};
@@ -251,6 +254,29 @@ fn told_again(alloc: Global, text: &str) -> Result<Vec<u8>, Fail> {
     Ok(out)
 }
 
+/// The same, written part by part.
+fn told_in_parts(alloc: Global, text: &str) -> Result<Vec<u8>, Fail> {
+    if text.len() > 1_000_000 {
+        return Err(Fail::new("the text is too long"));
+    }
+    let mut out = Vec::new(alloc);
+    match read_journal(alloc, text.as_bytes()) {
+        Ok(histories) => append_parts(alloc, &histories, &mut out)?,
+        Err(fault) => return Err(Fail::new(fault)),
+    }
+    Ok(out)
+}
+
+fn append_parts(alloc: Global, histories: &Histories, out: &mut Vec<u8>) -> Result<(), NoMemory> {
+    append_heading(out)?;
+    for entry in &histories.entries {
+        out.reserve(entry_room(entry).ok_or(NoMemory)?)?;
+        append_entry(entry, out)?;
+    }
+    out.append(&mut journal_tail(alloc, &histories.logs)?)?;
+    Ok(())
+}
+
 /// How a text is answered: 0 where it is read, the line where one is refused, and else the largest
 /// number.
 fn refused_line(alloc: Global, text: &[u8]) -> u32 {
@@ -294,6 +320,13 @@ fn push_spelt(text: &str, out: &mut String) -> Result<(), Fail> {
 #[test]
 fn a_journal_is_read_and_written_again(rt: HostRuntime) -> Result<(), Fail> {
     let worked = told_again(rt.alloc(), WORKED)?;
+    assert_eq!(rt; &worked[..], WORKED.as_bytes());
+    Ok(())
+}
+
+#[test]
+fn a_journal_is_written_part_by_part(rt: HostRuntime) -> Result<(), Fail> {
+    let worked = told_in_parts(rt.alloc(), WORKED)?;
     assert_eq!(rt; &worked[..], WORKED.as_bytes());
     Ok(())
 }

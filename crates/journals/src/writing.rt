@@ -1,12 +1,13 @@
 //! From histories to a journal's text.
 
-ghost use Rattle.std.specs.Prelude.{◌≡◌, ◌∷◌, ◌++◌, [], OnOk, OnErr, IfOk, codes};
+ghost use Rattle.std.specs.Prelude.{◌≡◌, ◌∷◌, ◌++◌, [], OnOk, OnErr, IfOk, codes, length};
 ghost use Rattle.std.specs.Prelude.{decimal};
 ghost use Rattle.text_lines.specs.Hexadecimal.{hexadecimal};
+ghost use Rattle.journals.specs.Appending.{Appends};
 ghost use Rattle.journals.specs.Journal as text;
 
 use crate::appending::{append_number, append_text, append_word};
-use crate::room::room_for;
+use crate::room::{room_for, room_for_logs};
 use nfqa_msgs::{Head, Params, Request};
 use packet_entry::{Bytes, Card, NoMemory};
 use place_history::{AskWords, Did, Dids, Entries, Entry, Event, Histories, Logs, PortLog, Reply};
@@ -14,7 +15,7 @@ use queue_core::Outcome;
 use std::alloc::{AllocError, Global};
 
 /// How many digits a byte has.
-const DIGITS: usize = 2;
+pub(crate) const DIGITS: usize = 2;
 
 /// Appends the journal of these histories. Out of memory nothing has changed.
 ///
@@ -32,9 +33,27 @@ fn push_journal(histories: &Histories, out: &mut Vec<u8>) -> Result<(), AllocErr
     ensures { OnOk result (out.new.items ≡ out.old.items
         ++ text.journal histories.now) }
 {
-    append_word("nfq-journal 1\n", out)?;
+    append_heading(out)?;
     push_histories(histories, out)?;
     append_word("end\n", out)
+}
+
+/// Appends a journal's first line. So a journal can be written part by part: this line, each entry's
+/// ([`append_entry`]), and its tail ([`journal_tail`]).
+pub fn append_heading(out: &mut Vec<u8>) -> Result<(), AllocError>
+    ensures { Appends result out.old out.new text.heading }
+{
+    append_word("nfq-journal 1\n", out)
+}
+
+/// What stands behind the entries of a journal: the ports' logs, and the last line.
+pub fn journal_tail(alloc: Global, logs: &Logs) -> Result<Vec<u8>, NoMemory>
+    ensures { IfOk result (λ tail. tail.items ≡ text.tail logs.now) }
+{
+    let mut tail = Vec::with_capacity(alloc, room_for_logs(logs))?;
+    push_logs(logs, &mut tail)?;
+    append_word("end\n", &mut tail)?;
+    Ok(tail)
 }
 
 fn push_histories(histories: &Histories, out: &mut Vec<u8>) -> Result<(), AllocError>
@@ -50,7 +69,7 @@ fn push_entries(entries: &Entries, out: &mut Vec<u8>) -> Result<(), AllocError>
         ++ text.entries entries.now) }
 {
     for entry in entries {
-        push_entry(entry, out)?;
+        append_entry(entry, out)?;
     }
     Ok(())
 }
@@ -81,23 +100,32 @@ fn push_dids(dids: &Dids, out: &mut Vec<u8>) -> Result<(), AllocError>
     Ok(())
 }
 
-fn push_entry(entry: &Entry, out: &mut Vec<u8>) -> Result<(), AllocError>
-    ensures { OnOk result (out.new.items ≡ out.old.items ++ text.entry entry.now) }
+/// Appends the line of an entry, with its end. Takes no memory where there is room for the line, as
+/// [`entry_room`](crate::entry_room) bytes are. Out of memory a part of the line may stand there.
+pub fn append_entry(entry: &Entry, out: &mut Vec<u8>) -> Result<(), AllocError>
+    ensures { Appends result out.old out.new (text.entry entry.now) }
 {
     push_entry_line(entry, out)?;
     append_word("\n", out)
 }
 
 fn push_entry_line(entry: &Entry, out: &mut Vec<u8>) -> Result<(), AllocError>
-    ensures { OnOk result (out.new.items ≡ out.old.items
-        ++ text.entry_line entry.now) }
+    ensures { Appends result out.old out.new (text.entry_line entry.now) }
 {
-    let queue = entry.queue as u64;
-    match &entry.event {
+    push_event(entry.queue, &entry.event, out)?;
+    push_reply(&entry.reply, out)
+}
+
+/// What an entry's line says of its event.
+fn push_event(queue: u16, event: &Event, out: &mut Vec<u8>) -> Result<(), AllocError>
+    ensures { Appends result out.old out.new (text.event queue event.now) }
+{
+    let queue = queue as u64;
+    match event {
         Event::Arrive { card, bypass, room } => {
             append_number("A ", queue, out)?;
             append_word(" ", out)?;
-            push_card(card, yes_no(*bypass), yes_no(*room), out)?;
+            push_card(card, yes_no(*bypass), yes_no(*room), out)
         }
         Event::Ask {
             port,
@@ -108,25 +136,23 @@ fn push_entry_line(entry: &Entry, out: &mut Vec<u8>) -> Result<(), AllocError>
             append_number(" ", *port as u64, out)?;
             append_number(" ", *call as u64, out)?;
             append_word(" ", out)?;
-            push_request(request, out)?;
+            push_request(request, out)
         }
         Event::PortClosed { port } => {
             append_number("C ", queue, out)?;
-            append_number(" ", *port as u64, out)?;
+            append_number(" ", *port as u64, out)
         }
         Event::DeviceDown { device } => {
             append_number("D ", queue, out)?;
-            append_number(" ", *device as u64, out)?;
+            append_number(" ", *device as u64, out)
         }
     }
-    push_reply(&entry.reply, out)
 }
 
 /// What an arrival's line says of the packet, of the bypass and of the room, and the blank after
 /// it.
 fn push_card(card: &Card, bypass: &str, room: &str, out: &mut Vec<u8>) -> Result<(), AllocError>
-    ensures { OnOk result (out.new.items ≡ out.old.items
-        ++ text.card card.now bypass.now room.now) }
+    ensures { Appends result out.old out.new (text.card card.now bypass.now room.now) }
 {
     push_journey(card, out)?;
     push_ways(bypass, room, out)?;
@@ -139,8 +165,7 @@ fn push_card(card: &Card, bypass: &str, room: &str, out: &mut Vec<u8>) -> Result
 
 /// Whether the packet may go on without a queue, and whether the mailbox had room.
 fn push_ways(bypass: &str, room: &str, out: &mut Vec<u8>) -> Result<(), AllocError>
-    ensures { OnOk result (out.new.items ≡ out.old.items
-        ++ (bypass.now ++ codes " " ++ room.now ++ codes " ")) }
+    ensures { Appends result out.old out.new (bypass.now ++ codes " " ++ room.now ++ codes " ") }
 {
     append_word(bypass, out)?;
     append_word(" ", out)?;
@@ -150,7 +175,7 @@ fn push_ways(bypass: &str, room: &str, out: &mut Vec<u8>) -> Result<(), AllocErr
 
 /// Where the packet is on its way.
 fn push_journey(card: &Card, out: &mut Vec<u8>) -> Result<(), AllocError>
-    ensures { OnOk result (out.new.items ≡ out.old.items ++ text.journey card.now) }
+    ensures { Appends result out.old out.new (text.journey card.now) }
 {
     append_number("", card.number as u64, out)?;
     append_number(" ", card.visit as u64, out)?;
@@ -160,7 +185,7 @@ fn push_journey(card: &Card, out: &mut Vec<u8>) -> Result<(), AllocError>
 
 /// What else is known of the packet, but for its bytes.
 fn push_facts(card: &Card, out: &mut Vec<u8>) -> Result<(), AllocError>
-    ensures { OnOk result (out.new.items ≡ out.old.items ++ text.facts card.now) }
+    ensures { Appends result out.old out.new (text.facts card.now) }
 {
     append_number("", card.mark as u64, out)?;
     append_number(" ", card.seconds as u64, out)?;
@@ -170,8 +195,7 @@ fn push_facts(card: &Card, out: &mut Vec<u8>) -> Result<(), AllocError>
 }
 
 fn push_request(request: &Request, out: &mut Vec<u8>) -> Result<(), AllocError>
-    ensures { OnOk result (out.new.items ≡ out.old.items
-        ++ text.request request.now) }
+    ensures { Appends result out.old out.new (text.request request.now) }
 {
     match request {
         Request::Config {
@@ -211,8 +235,7 @@ fn push_request(request: &Request, out: &mut Vec<u8>) -> Result<(), AllocError>
 }
 
 fn push_command(command: Option<u8>, out: &mut Vec<u8>) -> Result<(), AllocError>
-    ensures { OnOk result (out.new.items ≡ out.old.items
-        ++ text.part (codes " cmd ") command) }
+    ensures { Appends result out.old out.new (text.part (codes " cmd ") command) }
 {
     match command {
         Some(command) => append_number(" cmd ", command as u64, out),
@@ -221,7 +244,7 @@ fn push_command(command: Option<u8>, out: &mut Vec<u8>) -> Result<(), AllocError
 }
 
 fn push_params(params: Option<Params>, out: &mut Vec<u8>) -> Result<(), AllocError>
-    ensures { OnOk result (out.new.items ≡ out.old.items ++ text.params params) }
+    ensures { Appends result out.old out.new (text.params params) }
 {
     match params {
         Some(Params { range, mode }) => {
@@ -234,7 +257,7 @@ fn push_params(params: Option<Params>, out: &mut Vec<u8>) -> Result<(), AllocErr
 
 /// The verdict and the id, of a batch the greatest; `-` where there is no verdict header.
 fn push_head(head: Option<Head>, out: &mut Vec<u8>) -> Result<(), AllocError>
-    ensures { OnOk result (out.new.items ≡ out.old.items ++ text.head head) }
+    ensures { Appends result out.old out.new (text.head head) }
 {
     match head {
         Some(Head { verdict, id }) => {
@@ -247,8 +270,7 @@ fn push_head(head: Option<Head>, out: &mut Vec<u8>) -> Result<(), AllocError>
 
 /// A word and its number, where there is one.
 fn push_number(word: &str, number: Option<u32>, out: &mut Vec<u8>) -> Result<(), AllocError>
-    ensures { OnOk result (out.new.items ≡ out.old.items
-        ++ text.part word.now number) }
+    ensures { Appends result out.old out.new (text.part word.now number) }
 {
     match number {
         Some(number) => append_number(word, number as u64, out),
@@ -257,8 +279,7 @@ fn push_number(word: &str, number: Option<u32>, out: &mut Vec<u8>) -> Result<(),
 }
 
 fn push_payload(payload: &Option<Bytes>, out: &mut Vec<u8>) -> Result<(), AllocError>
-    ensures { OnOk result (out.new.items ≡ out.old.items
-        ++ text.payload payload.now) }
+    ensures { Appends result out.old out.new (text.payload payload.now) }
 {
     match payload {
         Some(bytes) => {
@@ -271,15 +292,17 @@ fn push_payload(payload: &Option<Bytes>, out: &mut Vec<u8>) -> Result<(), AllocE
 
 /// Bytes in lower-case hexadecimal, `-` for none.
 fn push_bytes(bytes: &[u8], out: &mut Vec<u8>) -> Result<(), AllocError>
-    ensures { OnOk result (out.new.items ≡ out.old.items
-        ++ hexadecimal bytes.now) }
+    ensures { Appends result out.old out.new (hexadecimal bytes.now) }
 {
     if bytes.is_empty() {
         return append_word("-", out);
     }
+    let size = bytes.len() * DIGITS;
+    let Ok(()) = out.reserve(size) else {
+        return Err(AllocError);
+    };
     let start = out.len();
-    let size = bytes.len().checked_mul(DIGITS).ok_or(AllocError)?;
-    out.resize(start.checked_add(size).ok_or(AllocError)?, 0)?;
+    out.resize(start + size, 0)?;
     let Ok(()) = hex::encode_to_slice(bytes, &mut out[start..]) else {
         unreachable!()
     };
@@ -288,7 +311,7 @@ fn push_bytes(bytes: &[u8], out: &mut Vec<u8>) -> Result<(), AllocError>
 
 /// What an entry's line says of its reply.
 fn push_reply(reply: &Reply, out: &mut Vec<u8>) -> Result<(), AllocError>
-    ensures { OnOk result (out.new.items ≡ out.old.items ++ text.reply reply.now) }
+    ensures { Appends result out.old out.new (text.reply reply.now) }
 {
     match reply {
         Reply::Arrived { outcome } => push_outcome(*outcome, out),
@@ -301,7 +324,7 @@ fn push_reply(reply: &Reply, out: &mut Vec<u8>) -> Result<(), AllocError>
 }
 
 fn push_outcome(outcome: Outcome, out: &mut Vec<u8>) -> Result<(), AllocError>
-    ensures { OnOk result (out.new.items ≡ out.old.items ++ text.outcome outcome) }
+    ensures { Appends result out.old out.new (text.outcome outcome) }
 {
     match outcome {
         Outcome::Taken { id } => append_number("taken:", id as u64, out),
@@ -317,14 +340,14 @@ fn push_outcome(outcome: Outcome, out: &mut Vec<u8>) -> Result<(), AllocError>
 }
 
 fn push_did(did: &Did, out: &mut Vec<u8>) -> Result<(), AllocError>
-    ensures { OnOk result (out.new.items ≡ out.old.items ++ text.did did.now) }
+    ensures { Appends result out.old out.new (text.did did.now) }
 {
     push_did_line(did, out)?;
     append_word("\n", out)
 }
 
 fn push_did_line(did: &Did, out: &mut Vec<u8>) -> Result<(), AllocError>
-    ensures { OnOk result (out.new.items ≡ out.old.items ++ text.did_line did.now) }
+    ensures { Appends result out.old out.new (text.did_line did.now) }
 {
     match did {
         Did::Received {
@@ -348,7 +371,7 @@ fn push_did_line(did: &Did, out: &mut Vec<u8>) -> Result<(), AllocError>
 
 /// What a port sent: a request, or the bytes of another message.
 fn push_ask(ask: &AskWords, out: &mut Vec<u8>) -> Result<(), AllocError>
-    ensures { OnOk result (out.new.items ≡ out.old.items ++ text.ask ask.now) }
+    ensures { Appends result out.old out.new (text.ask ask.now) }
 {
     match ask {
         AskWords::Plain { request } => push_request(request, out),
@@ -361,7 +384,7 @@ fn push_ask(ask: &AskWords, out: &mut Vec<u8>) -> Result<(), AllocError>
 
 /// The errno of an acknowledgement, `-` where there was none.
 fn push_answer(answer: Option<u16>, out: &mut Vec<u8>) -> Result<(), AllocError>
-    ensures { OnOk result (out.new.items ≡ out.old.items ++ text.answer answer) }
+    ensures { Appends result out.old out.new (text.answer answer) }
 {
     match answer {
         Some(answer) => append_number(" = ", answer as u64, out),
@@ -369,8 +392,9 @@ fn push_answer(answer: Option<u16>, out: &mut Vec<u8>) -> Result<(), AllocError>
     }
 }
 
-fn yes_no(yes: bool) -> &'static str
-    ensures { result.now ≡ text.yes_no yes }
+pub(crate) fn yes_no(yes: bool) -> &'static str
+    ensures word { result.now ≡ text.yes_no yes }
+    ensures letter { length result.now ≡ 1 }
 {
     if yes { "y" } else { "n" }
 }

@@ -1,12 +1,12 @@
 -- A text that is written part by part: of its first `at` bytes a file has each, and the next part
 -- goes behind them.
-use Rattle.std.proofs.Common.{◌≡◌, ℕ, zero, suc, ◌+◌, ◌<◌, ◌≤◌, List, [], ◌++◌, length, take, drop}
+use Rattle.std.proofs.Common.{◌≡◌, ℕ, zero, suc, ◌+◌, ◌≤◌, List, [], ◌++◌, length, take, drop}
 use Rattle.std.proofs.Common.{arith, refl, sym, ap, ◌∙◌, Option, Some, inl, inr, length-append}
 use Rattle.std.proofs.Common.{length-drop}
 use Rattle.std.proofs.lemmas.List.{length-take-le, take_all, take-append-drop, drop-drop, append-nil}
 use Rattle.std.proofs.Math.Seq.{take-add, take-append_seam, drop-append_seam}
 use Rattle.host_io.specs.Host.{MayGoOn, bytes_of, written}
-use Rattle.nfq_cli.specs.CaptureFile.{Has, IsAhead}
+use Rattle.nfq_cli.specs.Parts.{Has, IsAhead}
 
 pub may_go_on : (text : List ℕ) (file : Option (List ℕ)) (at : ℕ) → at ≤ length text →
     Has file at text → MayGoOn file at
@@ -62,3 +62,23 @@ all_written text file at part ahead has =
     has_before text file at part ahead.within has
     ∙ ap (λ b. take at text ++ b) (sym (append-nil part) ∙ ahead.next)
     ∙ take-append-drop at text
+
+-- The tail of a text behind its last part: it comes at the next place, ..
+pub tail_ahead : (text : List ℕ) (at next : ℕ) (part tail : List ℕ) → IsAhead at part text tail →
+    next ≡ at + length part → IsAhead next tail text []
+tail_ahead text at next part tail ahead place =
+    let behind = next_ahead text at part tail ahead in
+    rw place (record {
+      within = behind.within;
+      next = append-nil tail ∙ behind.next;
+    })
+
+-- .. and ends the text.
+pub tail_written : (text : List ℕ) (before after : Option (List ℕ)) (at next : ℕ)
+    (part tail : List ℕ) → IsAhead at part text tail → Has before at text →
+    next ≡ at + length part → after ≡ Some (written before at part) →
+    written after next tail ≡ text
+tail_written text before after at next part tail ahead has place put =
+    all_written text after next tail (tail_ahead text at next part tail ahead place)
+    (λ some. put ∙ ap Some (part_written text before at part tail ahead has)
+    ∙ ap (λ n. Some (take n text)) (sym place))

@@ -7,6 +7,6 @@ pub mod Printed
 pub mod Outputs
 pub mod Account
 pub mod Files
-pub mod CaptureFile
+pub mod Parts
 pub mod Causes
 pub mod Headline

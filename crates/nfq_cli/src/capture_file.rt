@@ -1,13 +1,11 @@
 //! A capture that is to be written, with all the memory that its writing takes.
 
-ghost use Rattle.std.specs.Prelude.{◌≡◌, ◌+◌, ◌<◌, ◌≤◌, ◌^◌, [], length, vec_capacity, IsTrue, IfOk};
-ghost use Rattle.std.specs.Prelude.{OnOk, OnErr, Some, List, ℕ, vec_len};
-ghost use Rattle.packet_entry.specs.Numbers.{longest_packet};
-ghost use Rattle.host_io.specs.Host.{ChangesOnly, IsLater, MayGoOn, Rises, written};
-ghost use Rattle.pcap_io.specs.Numbers.{record_header_length};
+ghost use Rattle.std.specs.Prelude.{◌≡◌, IsTrue, IfOk, OnOk, OnErr, Some};
+ghost use Rattle.host_io.specs.Host.{ChangesOnly, IsLater, Rises};
 ghost use Rattle.pcap_io.specs.Text.{IsHeld, capture_text};
-ghost use Rattle.nfq_cli.specs.CaptureFile.{Has, IsAhead, IsReady};
+ghost use Rattle.nfq_cli.specs.Parts.{IsCaptureReady};
 
+use crate::part_writing::{PART, make_room};
 use host_io::{Host, WriteFault, write_on};
 use packet_entry::{MAX_FRAME, NoMemory};
 use pcap_io::{Capture, file_size, put_header, put_record};
@@ -16,8 +14,6 @@ use std::marker::Model;
 
 /// Bytes that hold any record: its header of 16 bytes, and the longest frame.
 const RECORD: usize = 16 + MAX_FRAME;
-/// A part of the file has more than so many bytes, 64 KiB, unless it is the last.
-const PART: usize = 1 << 16;
 
 /// A capture that can be written as a file, part by part, without taking memory. Contracts see the
 /// bytes of the file.
@@ -30,14 +26,14 @@ pub struct CaptureFile {
 
 impl Model for CaptureFile {
     ghost use Rattle.std.specs.Prelude.{List, ℕ};
-    ghost use Rattle.nfq_cli.specs.CaptureFile.{IsReady};
+    ghost use Rattle.nfq_cli.specs.Parts.{IsCaptureReady};
     ghost use Rattle.pcap_io.specs.Text.{capture_text};
 
     ghost Value = { List ℕ };
 
     ghost view = { λ f. capture_text f.capture };
 
-    ghost invariant = { λ f. IsReady f.capture f.part };
+    ghost invariant = { λ f. IsCaptureReady f.capture f.part };
 }
 
 impl CaptureFile {
@@ -77,7 +73,7 @@ fn write_parts<H: Host>(
     capture: &Capture,
     part: &mut Vec<u8>,
 ) -> Result<(), WriteFault>
-    requires { IsReady capture.now part.old }
+    requires { IsCaptureReady capture.now part.old }
     ensures bytes { OnOk result (IsTrue (H.tells host.old) →
         H.content host.new name.now ≡ Some (capture_text capture.now)) }
     ensures write_fault { OnErr result
@@ -88,64 +84,8 @@ fn write_parts<H: Host>(
     put_header(capture, part);
     let mut at = 0;
     for frame in &capture.frames {
-        at = make_room(host, name, at, part)?;
+        at = make_room(host, name, at, part, RECORD)?;
         put_record(capture.big, frame, part);
     }
     write_on(host, name, at, part)
-}
-
-/// Makes room for any record in the part that comes at this place of the file: where there isn't,
-/// the part is written, and the next one begins. Answers the place of the part that now is built.
-fn make_room<H: Host>(
-    host: &mut H,
-    name: &str,
-    at: u64,
-    part: &mut Vec<u8>,
-) -> Result<u64, WriteFault>
-    requires behind { IsTrue (H.tells host.old) → MayGoOn (H.content host.old name.now) at }
-    requires places { at + length part.old.items < 2 ^ 64 }
-    requires room { record_header_length + longest_packet ≤ vec_capacity part.old }
-    ensures ahead { IfOk result (λ next. (text rest : List ℕ) →
-        IsAhead at part.old.items text rest → IsAhead next part.new.items text rest) }
-    ensures has { IfOk result (λ next. (text rest : List ℕ) →
-        IsAhead at part.old.items text rest → IsTrue (H.tells host.old) →
-        Has (H.content host.old name.now) at text → Has (H.content host.new name.now) next text) }
-    ensures room { OnOk result (vec_len part.new + (record_header_length + longest_packet)
-        ≤ vec_capacity part.new) }
-    ensures write_fault { OnErr result
-        (Rises (H.write_faults host.old name.now) (H.write_faults host.new name.now)) }
-    ensures files { ChangesOnly name.now (H.content host.old) (H.content host.new) }
-    ensures later { IsLater H.tells H.read_faults H.write_faults host.old host.new }
-{
-    if part.len() + RECORD <= part.capacity() {
-        return Ok(at);
-    }
-    write_part(host, name, at, part)
-}
-
-/// Writes a part at its place in the file, and answers the next one's place. The part is then
-/// empty.
-fn write_part<H: Host>(
-    host: &mut H,
-    name: &str,
-    at: u64,
-    part: &mut Vec<u8>,
-) -> Result<u64, WriteFault>
-    requires behind { IsTrue (H.tells host.old) → MayGoOn (H.content host.old name.now) at }
-    requires places { at + length part.old.items < 2 ^ 64 }
-    ensures next { IfOk result (λ next. next ≡ at + length part.old.items) }
-    ensures bytes { OnOk result (IsTrue (H.tells host.old) → H.content host.new name.now ≡
-        Some (written (H.content host.old name.now) at part.old.items)) }
-    ensures empty { OnOk result (part.new.items ≡ []) }
-    ensures len { OnOk result (vec_len part.new ≡ 0) }
-    ensures capacity { OnOk result (vec_capacity part.new ≡ vec_capacity part.old) }
-    ensures write_fault { OnErr result
-        (Rises (H.write_faults host.old name.now) (H.write_faults host.new name.now)) }
-    ensures files { ChangesOnly name.now (H.content host.old) (H.content host.new) }
-    ensures later { IsLater H.tells H.read_faults H.write_faults host.old host.new }
-{
-    write_on(host, name, at, part)?;
-    let next = at + part.len() as u64;
-    part.clear();
-    Ok(next)
 }

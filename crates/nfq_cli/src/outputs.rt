@@ -9,7 +9,8 @@ ghost use Rattle.fate_ledger.specs.Released.{released};
 ghost use Rattle.nfq_cli.specs.Outputs as text;
 
 use crate::capture_file::CaptureFile;
-use fate_ledger::{FateLines, fates, journal_text, ledger_text, released_capture};
+use crate::journal_file::JournalFile;
+use fate_ledger::{FateLines, fates, ledger_text, released_capture};
 use packet_entry::NoMemory;
 use pcap_io::Capture;
 use place_history::Histories;
@@ -21,7 +22,8 @@ pub struct Outputs {
     /// The frames that were released, which are written part by part.
     pub capture: CaptureFile,
     pub ledger: Vec<u8>,
-    pub journal: Vec<u8>,
+    /// The histories, which are written part by part.
+    pub journal: JournalFile,
 }
 
 /// The texts of these histories.
@@ -38,19 +40,15 @@ pub fn outputs_of(
     ensures output { IfOk result (λ o. o.capture ≡ text.output_text capture.now histories) }
     ensures ledger { IfOk result (λ o. o.ledger.items
         ≡ text.ledger_text capture.now histories) }
-    ensures journal { IfOk result (λ o. o.journal.items ≡ text.journal_text histories) }
+    ensures journal { IfOk result (λ o. o.journal ≡ text.journal_text histories) }
 {
-    let mut journal = Vec::new(alloc);
-    journal_text(alloc, &histories, &mut journal)?;
     let lines = fates(alloc, capture, &histories)?;
-    // The histories aren't needed any more: they end here.
-    drop(histories);
     let mut ledger = Vec::new(alloc);
     ledger_text(alloc, &lines, &mut ledger)?;
     Ok(Outputs {
         capture: released_file(alloc, capture, &lines)?,
         ledger,
-        journal,
+        journal: JournalFile::new(alloc, histories)?,
     })
 }
 

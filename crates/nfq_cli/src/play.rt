@@ -69,7 +69,7 @@ fn write_outputs<H: Host>(files: &Play<'_>, outputs: Outputs, host: &mut H) -> R
     ensures ledger { OnOk result (IsTrue (H.tells host.old) →
         H.content host.new files.now.ledger.now ≡ Some outputs.ledger.items) }
     ensures journal { OnOk result (IsTrue (H.tells host.old) →
-        H.content host.new files.now.journal.now ≡ Some outputs.journal.items) }
+        H.content host.new files.now.journal.now ≡ Some outputs.journal) }
     ensures only { OnErr result (IsErrOf result Stop.WriteFault) }
     ensures write_fault { OnErr result (WriteFaultRose (play_outputs (files_of files.now))
         (H.write_faults host.old) (H.write_faults host.new)) }
@@ -78,7 +78,7 @@ fn write_outputs<H: Host>(files: &Play<'_>, outputs: Outputs, host: &mut H) -> R
         (H.content host.new)) }
     ensures cut_short { OnErr result (IsTrue (H.tells host.old) →
         IsStoppedAfter (texts_as (files_of files.now) outputs.capture
-        outputs.ledger.items outputs.journal.items)
+        outputs.ledger.items outputs.journal)
         (H.write_faults host.old) (H.write_faults host.new) (H.content host.old)
         (H.content host.new)) }
     ensures others { OthersStay (play_outputs (files_of files.now))
@@ -92,6 +92,6 @@ fn write_outputs<H: Host>(files: &Play<'_>, outputs: Outputs, host: &mut H) -> R
     } = outputs;
     capture.write(host, files.output)?;
     write_whole(host, files.ledger, &ledger)?;
-    write_whole(host, files.journal, &journal)?;
+    journal.write(host, files.journal)?;
     Ok(())
 }

@@ -6,4 +6,4 @@ use Rattle.journals.proofs.writing.push_dids.Goals as goal
 pub loop-did-preserved : goal.loop-did-preserved
 loop-did-preserved c =
     told_on text.dids c.in-Some.did.now _ _ (text.did c.in-Some.did.now) _ _ _
-    c.in-Some.ensures.steps refl c.in_ok-push_did.ensures c.loop-did.invariant
+    c.in-Some.ensures.steps refl c.in_ok-push_did.ensures.ok c.loop-did.invariant

@@ -6,4 +6,4 @@ use Rattle.journals.proofs.writing.push_entries.Goals as goal
 pub loop-entry-preserved : goal.loop-entry-preserved
 loop-entry-preserved c =
     told_on text.entries c.in-Some.entry.now _ _ (text.entry c.in-Some.entry.now) _ _ _
-    c.in-Some.ensures.steps refl c.in_ok-push_entry.ensures c.loop-entry.invariant
+    c.in-Some.ensures.steps refl c.in_ok-append_entry.ensures.ok c.loop-entry.invariant

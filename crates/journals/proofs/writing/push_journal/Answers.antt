@@ -5,6 +5,6 @@ use Rattle.journals.proofs.writing.push_journal.Goals as goal
 
 pub returns : goal.returns
 returns c =
-    framed c.append_word-2.result _ _ _ _ (codes "nfq-journal 1\n")
+    framed c.append_word.result _ _ _ _ (codes "nfq-journal 1\n")
     (text.histories c.args.histories.now) (codes "end\n")
-    c.in_ok-append_word.ensures c.in_ok-push_histories.ensures c.append_word-2.ensures
+    c.in_ok-append_heading.ensures.ok c.in_ok-push_histories.ensures c.append_word.ensures.ok

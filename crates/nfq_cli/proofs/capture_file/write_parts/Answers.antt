@@ -1,4 +1,4 @@
-use Rattle.std.proofs.Common.{◌≡◌, ◌≤◌, ◌++◌, List, ap, sym, ◌∙◌, subst, arith, IsTrue, length}
+use Rattle.std.proofs.Common.{◌≤◌, ◌++◌, List, ap, sym, ◌∙◌, subst, arith, length}
 use Rattle.std.proofs.Common.{append_assoc}
 use Rattle.std.specs.List.{flat_map, AllByRecursion}
 use Rattle.host_io.specs.Host.{later_still}

@@ -5,7 +5,7 @@ use Rattle.host_io.specs.Host.{IsLater, ChangesOnly}
 use Rattle.packet_entry.specs.Numbers.{longest_packet}
 use Rattle.pcap_io.specs.Numbers.{record_header_length}
 use Rattle.pcap_io.specs.Text.{capture_text, record_text}
-use Rattle.nfq_cli.specs.CaptureFile.{Has, IsAhead}
+use Rattle.nfq_cli.specs.Parts.{Has, IsAhead}
 use Rattle.nfq_cli.proofs.capture_file.write_parts.Given as goal
 
 abbrev pub invariant-loop-frame : goal.invariant-loop-frame

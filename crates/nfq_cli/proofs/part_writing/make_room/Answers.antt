@@ -1,7 +1,7 @@
 use Rattle.std.proofs.Common.{ap, ◌∙◌, Some}
 use Rattle.nfq_cli.proofs.Endings.{if_ok_and}
 use Rattle.nfq_cli.proofs.Parts.{next_ahead, part_written}
-use Rattle.nfq_cli.proofs.capture_file.make_room.Goals as goal
+use Rattle.nfq_cli.proofs.part_writing.make_room.Goals as goal
 
 pub returns-clause-ahead : goal.returns-clause-ahead
 returns-clause-ahead g c =

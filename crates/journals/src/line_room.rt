@@ -1,0 +1,237 @@
+//! How many bytes the line of an entry has at most.
+
+ghost use Rattle.std.specs.Prelude.{◌≡◌, ◌+◌, ◌≤◌, ◌++◌, ℕ, List, length, IfSome, decimal, codes};
+ghost use Rattle.text_lines.specs.Hexadecimal.{hexadecimal};
+ghost use Rattle.nfqa_msgs.specs.declared.request.Request.TheVariants.{Config};
+ghost use Rattle.journals.specs.Journal as text;
+
+use crate::writing::{DIGITS, yes_no};
+use nfqa_msgs::{Head, Params, Request};
+use packet_entry::{Bytes, Card};
+use place_history::{Entry, Event, Reply};
+use queue_core::Outcome;
+
+/// What an arrival's line says of the packet has at most so many bytes beside the packet's own.
+const CARD: usize = 160;
+/// A request has at most so many bytes beside its payload.
+const REQUEST: usize = 200;
+/// What an entry's line says of its event has at most so many bytes beside packet and request.
+const EVENT: usize = 70;
+/// What an entry's line says of its reply has at most so many bytes, with the line's end.
+const REPLY: usize = 50;
+
+/// So many bytes hold the line of an entry with its end; `None` where they are too many to be
+/// counted.
+pub fn entry_room(entry: &Entry) -> Option<usize>
+    ensures { IfSome result (λ room. length (text.entry entry.now) ≤ room) }
+{
+    reply_is_short(&entry.reply);
+    event_room(entry.queue, &entry.event)?.checked_add(REPLY)
+}
+
+fn event_room(queue: u16, event: &Event) -> Option<usize>
+    ensures { IfSome result (λ room. length (text.event queue event.now) ≤ room) }
+{
+    number_is_short(queue as u64);
+    match event {
+        Event::Arrive { card, bypass, room } => {
+            card_room(card, yes_no(*bypass), yes_no(*room))?.checked_add(EVENT)
+        }
+        Event::Ask {
+            port,
+            call,
+            request,
+        } => {
+            number_is_short(*port as u64);
+            number_is_short(*call as u64);
+            request_room(request)?.checked_add(EVENT)
+        }
+        Event::PortClosed { port } => {
+            number_is_short(*port as u64);
+            Some(EVENT)
+        }
+        Event::DeviceDown { device } => {
+            number_is_short(*device as u64);
+            Some(EVENT)
+        }
+    }
+}
+
+fn card_room(card: &Card, bypass: &str, room: &str) -> Option<usize>
+    requires bypass { length bypass.now ≡ 1 }
+    requires room { length room.now ≡ 1 }
+    ensures { IfSome result
+        (λ all. length (text.card card.now bypass.now room.now) ≤ all) }
+{
+    card_is_short(card, bypass, room);
+    let link = bytes_room(&card.link)?;
+    let bytes = bytes_room(&card.bytes)?;
+    link.checked_add(bytes)?.checked_add(CARD)
+}
+
+fn request_room(request: &Request) -> Option<usize>
+    ensures { IfSome result (λ room. length (text.request request.now) ≤ room) }
+{
+    match request {
+        Request::Config {
+            queue,
+            command,
+            params,
+            maxlen,
+            flags,
+            mask,
+        } => {
+            config_is_short(*queue, *command, *params, *maxlen, *flags, *mask);
+            Some(REQUEST)
+        }
+        Request::Verdict {
+            queue,
+            head,
+            mark,
+            payload,
+        } => {
+            number_is_short(*queue as u64);
+            head_is_short(*head);
+            value_is_short(*mark);
+            payload_room(payload)?.checked_add(REQUEST)
+        }
+        Request::Batch { queue, head, mark } => {
+            number_is_short(*queue as u64);
+            head_is_short(*head);
+            value_is_short(*mark);
+            Some(REQUEST)
+        }
+    }
+}
+
+fn payload_room(payload: &Option<Bytes>) -> Option<usize>
+    ensures { IfSome result (λ room. length (text.payload payload.now) ≤ room + 9) }
+{
+    match payload {
+        Some(bytes) => bytes_room(bytes),
+        None => Some(0),
+    }
+}
+
+/// So many bytes hold the digits of these, or the dash of none.
+#[tactic(auto, using(crate::proofs::Lengths::hexadecimal_within))]
+fn bytes_room(bytes: &Bytes) -> Option<usize>
+    ensures { IfSome result (λ room. length (hexadecimal bytes.now) ≤ room) }
+{
+    bytes.len().checked_mul(DIGITS)?.checked_add(1)
+}
+
+fn config_is_short(
+    queue: u16,
+    command: Option<u8>,
+    params: Option<Params>,
+    maxlen: Option<u32>,
+    flags: Option<u32>,
+    mask: Option<u32>,
+)
+    ensures { length (text.request (Config queue command params maxlen flags mask)) ≤ 182 }
+{
+    number_is_short(queue as u64);
+    command_is_short(command);
+    params_are_short(params);
+    value_is_short(maxlen);
+    value_is_short(flags);
+    value_is_short(mask);
+}
+
+fn card_is_short(card: &Card, bypass: &str, room: &str)
+    requires bypass { length bypass.now ≡ 1 }
+    requires room { length room.now ≡ 1 }
+    ensures { length (text.card card.now bypass.now room.now)
+        ≤ 153 + length (hexadecimal card.now.link) + length (hexadecimal card.now.bytes) }
+{
+    journey_is_short(card);
+    facts_are_short(card);
+    ways_are_short(bypass, room);
+}
+
+fn ways_are_short(bypass: &str, room: &str)
+    requires bypass { length bypass.now ≡ 1 }
+    requires room { length room.now ≡ 1 }
+    ensures { length (bypass.now ++ codes " " ++ room.now ++ codes " ") ≤ 4 }
+{}
+
+fn journey_is_short(card: &Card)
+    ensures { length (text.journey card.now) ≤ 63 }
+{
+    number_is_short(card.number as u64);
+    number_is_short(card.visit as u64);
+    number_is_short(card.table as u64);
+}
+
+fn facts_are_short(card: &Card)
+    ensures { length (text.facts card.now) ≤ 84 }
+{
+    number_is_short(card.mark as u64);
+    number_is_short(card.seconds as u64);
+    number_is_short(card.micros as u64);
+    number_is_short(card.protocol as u64);
+}
+
+fn reply_is_short(reply: &Reply)
+    ensures { length (text.reply reply.now) ≤ 44 }
+{
+    match reply {
+        Reply::Arrived { outcome } => outcome_is_short(*outcome),
+        Reply::Answer { errno, taken } => {
+            number_is_short(*errno as u64);
+            number_is_short(*taken as u64);
+        }
+        Reply::Flushed { taken } => number_is_short(*taken as u64),
+    }
+}
+
+fn outcome_is_short(outcome: Outcome)
+    ensures { length (text.outcome outcome) ≤ 34 }
+{
+    match outcome {
+        Outcome::Taken { id } | Outcome::UserFull { id } | Outcome::UserFullOpen { id } => {
+            number_is_short(id as u64)
+        }
+        _ => (),
+    }
+}
+
+fn head_is_short(head: Option<Head>)
+    ensures { length (text.head head) ≤ 41 }
+{
+    if let Some(Head { verdict, id }) = head {
+        number_is_short(verdict as u64);
+        number_is_short(id as u64);
+    }
+}
+
+fn params_are_short(params: Option<Params>)
+    ensures { length (text.params params) ≤ 49 }
+{
+    if let Some(Params { range, mode }) = params {
+        number_is_short(mode as u64);
+        number_is_short(range as u64);
+    }
+}
+
+fn command_is_short(command: Option<u8>)
+    ensures { (word : List ℕ) → length (text.part word command) ≤ length word + 20 }
+{
+    if let Some(command) = command {
+        number_is_short(command as u64);
+    }
+}
+
+fn value_is_short(value: Option<u32>)
+    ensures { (word : List ℕ) → length (text.part word value) ≤ length word + 20 }
+{
+    if let Some(value) = value {
+        number_is_short(value as u64);
+    }
+}
+
+/// A number of 64 bits has at most 20 digits.
+fn number_is_short(_number: u64)
+    ensures { length (decimal _number) ≤ 20 }
+{}
