@@ -37,7 +37,7 @@ impl Model for CaptureFile {
 }
 
 impl CaptureFile {
-    /// Takes the memory of the writing.
+    /// Takes all memory that the writing wants.
     pub fn new(alloc: Global, capture: Capture) -> Result<CaptureFile, NoMemory>
         requires { IsHeld capture }
         ensures { IfOk result (λ file. file ≡ capture_text capture) }

@@ -13,11 +13,11 @@ ghost use Rattle.nfq_cli.specs.Headline.{gen_texts, input_texts, IsGenerated};
 ghost use Rattle.nfq_cli.specs.Statuses.{IfRefused};
 
 use crate::arguments::{Generation, Inputs, Sample};
+use crate::capture_file::CaptureFile;
 use crate::stop::Stop;
 use generated::{rules_text, script_text};
 use host_io::{Host, write_whole};
 use packet_entry::NoMemory;
-use pcap_io::write_capture;
 use std::alloc::Global;
 
 /// Makes the inputs and writes them.
@@ -45,26 +45,24 @@ pub fn generate<H: Host>(alloc: Global, files: &Generation<'_>, host: &mut H) ->
     ensures later { IsLater H.tells H.read_faults H.write_faults host.old host.new }
 {
     let capture = capture_file(alloc, files.sample)?;
-    write_inputs(&files.files, &capture, host)
+    write_inputs(&files.files, capture, host)
 }
 
 /// The generated capture, as a file.
-fn capture_file(alloc: Global, sample: Sample) -> Result<Vec<u8>, NoMemory>
+fn capture_file(alloc: Global, sample: Sample) -> Result<CaptureFile, NoMemory>
     requires sample { IsSample (sample_of sample) }
-    ensures { IfOk result (λ file. file.items
+    ensures { IfOk result (λ file. file
         ≡ capture_text (generated_capture sample.number sample.count)) }
 {
     let capture = generated::capture(alloc, sample.number, sample.count)?;
-    let mut file = Vec::new(alloc);
-    write_capture(&capture, &mut file)?;
-    Ok(file)
+    CaptureFile::new(alloc, capture)
 }
 
 /// Writes the inputs, one after the other, each whole.
-fn write_inputs<H: Host>(names: &Inputs<'_>, capture: &[u8], host: &mut H) -> Result<(), Stop>
+fn write_inputs<H: Host>(names: &Inputs<'_>, capture: CaptureFile, host: &mut H) -> Result<(), Stop>
     requires apart { are_inputs_apart (inputs_of names.now) ≡ true }
     ensures written { OnOk result (IsTrue (H.tells host.old) →
-        AreWritten (input_texts (inputs_of names.now) capture.now) (H.content host.new)) }
+        AreWritten (input_texts (inputs_of names.now) capture) (H.content host.new)) }
     ensures only { OnErr result (IsErrOf result Stop.WriteFault) }
     ensures write_fault { OnErr result (WriteFaultRose (input_names (inputs_of names.now))
         (H.write_faults host.old) (H.write_faults host.new)) }
@@ -72,7 +70,7 @@ fn write_inputs<H: Host>(names: &Inputs<'_>, capture: &[u8], host: &mut H) -> Re
         (H.write_faults host.old) (H.write_faults host.new) (H.content host.old)
         (H.content host.new)) }
     ensures cut_short { OnErr result (IsTrue (H.tells host.old) →
-        IsStoppedAfter (input_texts (inputs_of names.now) capture.now)
+        IsStoppedAfter (input_texts (inputs_of names.now) capture)
         (H.write_faults host.old) (H.write_faults host.new) (H.content host.old)
         (H.content host.new)) }
     ensures others { OthersStay (input_names (inputs_of names.now))
@@ -81,6 +79,6 @@ fn write_inputs<H: Host>(names: &Inputs<'_>, capture: &[u8], host: &mut H) -> Re
 {
     write_whole(host, names.rules, rules_text())?;
     write_whole(host, names.script, script_text())?;
-    write_whole(host, names.capture, capture)?;
+    capture.write(host, names.capture)?;
     Ok(())
 }

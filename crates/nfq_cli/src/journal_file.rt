@@ -39,7 +39,7 @@ impl Model for JournalFile {
 }
 
 impl JournalFile {
-    /// Takes the memory of the writing. What of the histories isn't written by entries ends here.
+    /// Takes all memory that the writing wants. The logs are spelled here, and end.
     pub fn new(alloc: Global, histories: Histories) -> Result<JournalFile, NoMemory>
         ensures { IfOk result (λ file. file ≡ text.journal histories) }
     {

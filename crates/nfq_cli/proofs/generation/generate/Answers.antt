@@ -1,4 +1,4 @@
-use Rattle.std.proofs.Common.{◌∙◌, IsTrue, List, ℕ, OnOk, subst}
+use Rattle.std.proofs.Common.{IsTrue, List, ℕ, OnOk, subst}
 use Rattle.nfq_cli.specs.Arguments.{inputs_of}
 use Rattle.nfq_cli.specs.Files.{AreWritten, IsStoppedAfter}
 use Rattle.nfq_cli.specs.Headline.{input_texts}
@@ -11,7 +11,7 @@ returns-clause-generated g c =
     (IsTrue (g.H.Host.tells c.args.host.now) →
     AreWritten (input_texts (inputs_of c.args.files.now.files) bytes)
     (g.H.Host.content c.write_inputs.new.host)))
-    (c.deref.ensures.value ∙ c.in_ok-capture.ensures) c.write_inputs.ensures.written
+    c.in_ok-capture.ensures c.write_inputs.ensures.written
 
 pub returns-clause-cut_short : goal.returns-clause-cut_short
 returns-clause-cut_short g c = λ stopped t.
@@ -19,7 +19,7 @@ returns-clause-cut_short g c = λ stopped t.
     IsStoppedAfter (input_texts (inputs_of c.args.files.now.files) bytes)
     (g.H.Host.write_faults c.args.host.now) (g.H.Host.write_faults c.write_inputs.new.host)
     (g.H.Host.content c.args.host.now) (g.H.Host.content c.write_inputs.new.host))
-    (c.deref.ensures.value ∙ c.in_ok-capture.ensures)
+    c.in_ok-capture.ensures
     (on_err _ c.write_inputs.result _ stopped c.write_inputs.ensures.cut_short t)
 
 pub returns-clause-untouched : goal.returns-clause-untouched
