@@ -1,13 +1,12 @@
 //! How much memory a journal takes, so that it is taken at once.
 
+use crate::writing::DIGITS;
 use nfqa_msgs::Request;
 use packet_entry::Bytes;
 use place_history::{AskWords, Did, Entry, Event, Histories, Logs, PortLog};
 
 /// More bytes than a line has beside its byte texts, with numbers of a usual length.
 const LINE: usize = 96;
-/// The digits of a byte.
-const BYTE_DIGITS: usize = 2;
 
 /// More bytes than the journal mostly has: of small packets some three times as many. Where it has
 /// more after all, it grows.
@@ -66,5 +65,5 @@ fn of_request(request: &Request) -> usize {
 
 /// A line with these bytes.
 fn of_bytes(bytes: &Bytes) -> usize {
-    bytes.len().saturating_mul(BYTE_DIGITS).saturating_add(LINE)
+    bytes.len().saturating_mul(DIGITS).saturating_add(LINE)
 }

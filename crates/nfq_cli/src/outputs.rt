@@ -26,7 +26,7 @@ pub struct Outputs {
     pub journal: JournalFile,
 }
 
-/// The texts of these histories.
+/// The files of these histories, with all memory that their writing wants.
 pub fn outputs_of(
     alloc: Global,
     capture: &Capture,
