@@ -1,6 +1,6 @@
 -- What a frame's line says of the histories, in the words of packets and entries.
 use Rattle.std.specs.Prelude.{◌≡◌, ◌≢◌, ◌≤◌, ◌<◌, ◌⊎◌, ℕ, ◌+◌, List, [], ◌∷◌, ◌++◌, length}
-use Rattle.std.specs.Prelude.{Some, None, Bool, All, Contains, take, drop, ◌==◌, ◌&&◌, count_by}
+use Rattle.std.specs.Prelude.{Some, None, Bool, true, All, Contains, take, drop, ◌==◌, ◌&&◌, count_by}
 use Rattle.ip_fields.specs.declared.frame.LinkCut.{LinkCut}
 use Rattle.ip_fields.specs.Frame.{cut_of}
 use Rattle.packet_entry.specs.declared.packet.Card.{Card}
@@ -16,6 +16,8 @@ use Rattle.place_history.specs.declared.entry.Entry.{Entry}
 use Rattle.place_history.specs.declared.histories.Histories.{Histories}
 use Rattle.place_history.specs.History.{history, replay}
 use Rattle.place_history.specs.Stays.{arrivals}
+use Rattle.place_history.specs.Endings.{is_over}
+use Rattle.hook_chain.specs.declared.rule.Rule.{Rule}
 use Rattle.fate_ledger.specs.declared.happening.Happening.{Happening}
 use Rattle.fate_ledger.specs.declared.fate.Fate.{Fate}
 use Rattle.fate_ledger.specs.declared.fate.Fate.TheVariants as fate
@@ -143,3 +145,16 @@ pub record LeftThere (es : List Entry) (h : Happening) : Type 0 where
 -- no two of these packets have one number
 abbrev pub DifferInNumber : List Card → Type 0
 DifferInNumber entered = (number : ℕ) → count_by (λ (c : Card). c.number == number) entered ≤ 1
+
+-- the packet of an event left in that event's step, and goes nowhere from there
+pub record LeftForGood (tables : List (List Rule)) (key : ℕ) (es : List Entry) (h : Happening)
+    : Type 0 where
+  pub before : List Entry
+  pub entry : Entry
+  pub after : List Entry
+  pub split : es ≡ before ++ entry ∷ after
+  pub queue : h.queue ≡ entry.queue
+  pub at : h.at ≡ length (history entry.queue before) + 1
+  pub way : Way
+  pub leaves : Leaves (step_after before entry) h.card way
+  pub over : is_over tables key (h.card, way) ≡ true

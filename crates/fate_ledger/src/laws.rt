@@ -18,7 +18,9 @@ ghost use Rattle.place_history.specs.declared.entry.Entry.{Entry as AnEntry};
 ghost use Rattle.place_history.specs.declared.histories.Histories.{Histories as AllHistories};
 ghost use Rattle.fate_ledger.specs.Fates.{fates};
 ghost use Rattle.fate_ledger.specs.Laws.{AreApart, DifferInNumber, IsLastEvent, IsLineOf};
-ghost use Rattle.fate_ledger.specs.Laws.{IsWritten, LeftThere, Waits};
+ghost use Rattle.fate_ledger.specs.Laws.{IsWritten, LeftForGood, LeftThere, Waits};
+ghost use Rattle.fate_ledger.specs.Fates.{is_lost};
+ghost use Rattle.std.specs.Prelude.{false};
 ghost use Rattle.fate_ledger.specs.Ledger.{is_release};
 ghost use Rattle.fate_ledger.specs.Released as released;
 ghost use Rattle.fate_ledger.specs.declared.fate.Fate.TheVariants.{Waiting};
@@ -110,4 +112,13 @@ pub fn payloads_were_read_or_given()
         (h : AllHistories) (c : ACapture) → AreRead c.link c.frames entered →
         AreShort h.entries → AreSound tables key entered h.entries h.lost → IsHeld c →
         IsHeld (released.released c (fates h c.frames)) }
+{}
+
+/// What left last is over: in sound histories the packet of a last event that left there goes
+/// nowhere from there, unless it was lost.
+pub fn what_left_last_is_over()
+    ensures over { (tables : List (List ARule)) (key number : ℕ) (entered : List ACard)
+        (es : List AnEntry) (lost : List ALost) (h : AHappening) →
+        AreSound tables key entered es lost → is_lost lost number ≡ false →
+        IsLastEvent es number h → LeftThere es h → LeftForGood tables key es h }
 {}

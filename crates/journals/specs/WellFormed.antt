@@ -143,3 +143,29 @@ pub record IsWellFormed (h : Histories) : Type 0 where
   pub queues_ascend : AllPairs (λ a b. a.queue ≤ b.queue) h.entries
   pub logs : All IsLog h.logs
   pub ports_differ : AllPairs (λ a b. a ≢ b) (map (λ (l : PortLog). l.port) h.logs)
+
+-- ---- what types say: each value fits its field
+
+abbrev pub FitsEvent : Event → Type 0
+FitsEvent (Arrive card bypass room) = FitsCard card
+FitsEvent (Ask port call request) = IsWide port × IsWide call × FitsRequest request
+FitsEvent (PortClosed port) = IsWide port
+FitsEvent (DeviceDown device) = IsWide device
+
+abbrev pub FitsReply : Reply → Type 0
+FitsReply (Arrived outcome) = FitsOutcome outcome
+FitsReply (Answer errno taken) = IsHalf errno × IsWide taken
+FitsReply (Flushed taken) = IsWide taken
+
+pub record FitsEntry (e : Entry) : Type 0 where
+  pub queue : IsHalf e.queue
+  pub event : FitsEvent e.event
+  pub reply : FitsReply e.reply
+
+pub record FitsLog (l : PortLog) : Type 0 where
+  pub port : IsWide l.port
+  pub dids : All FitsDid l.dids
+
+pub record Fit (h : Histories) : Type 0 where
+  pub entries : All FitsEntry h.entries
+  pub logs : All FitsLog h.logs

@@ -5,6 +5,7 @@
 mod appending;
 mod fault;
 mod fields;
+mod fits;
 mod laws;
 mod line;
 mod line_reading;
@@ -18,6 +19,7 @@ mod writing;
 
 pub use appending::{append_number, append_text, append_word};
 pub use fault::JournalFault;
+pub use fits::histories_fit;
 pub use laws::{
     a_text_has_one_refused_line, a_text_has_one_value, each_text_is_read_or_refused,
     no_journal_begins_another, no_line_of_a_journal_is_refused, values_have_journals_of_their_own,

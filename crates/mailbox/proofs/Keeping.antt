@@ -58,6 +58,22 @@ view_empty p c c' t e i = record {
   full = (e i).0.full;
 }
 
+-- an attempt that took nothing shows nothing
+pub view_same : (p p' : Pass Post Line) (c : Seat ℕ Fill) → p'.table_id ≡ p.table_id
+    → view p' ≡ view p → receiver_of p' c ≡ receiver_of p c
+view_same p p' c q v i = record {
+  mailbox = record {
+    queue = q i;
+    gauge = c.table_id;
+    capacity = c.me.0.capacity;
+  };
+  received = (v i).got;
+  empty = c.me.0.empty;
+  joined = (v i).known;
+  made = (v i).role.made;
+  full = c.me.0.full;
+}
+
 pub view_got : (p p' : Pass Post Line) (c c' : Seat ℕ Fill) (post : Post) → p'.table_id ≡ p.table_id
     → c'.table_id ≡ c.table_id → view p' ≡ got_line (view p) post
     → c'.me ≡ (freeing c.me.0, c.me.1)

@@ -1,5 +1,6 @@
 -- Each kind of step keeps the rule of the queue, and tells what it says.
-use Rattle.std.proofs.Common.{◌≡◌, ℕ, ◌+◌, ◌≢◌, inl, inr, Bool, true, false}
+use Rattle.std.proofs.Common.{◌≡◌, ℕ, ◌+◌, ◌≢◌, ◌<◌, ◌≤◌, inl, inr, ⊎_elim, Bool, true, false}
+use Rattle.std.proofs.lemmas.Bool.{cases_lt}
 use Rattle.std.proofs.Common.{List, [], ◌∷◌, ◌++◌, length, set, refl, sym, ap, ◌∙◌, subst}
 use Rattle.std.proofs.Common.{arith, true≢false, append_assoc, append-nil, length-append, nat_eq}
 use Rattle.std.proofs.Common.{if◌then◌else◌}
@@ -13,7 +14,7 @@ use Rattle.mailbox.specs.declared.view.Role.{Role}
 use Rattle.mailbox.specs.declared.view.Line.{Line}
 use Rattle.mailbox.specs.declared.view.Post.{Post}
 use Rattle.mailbox.specs.Roles.{In, HasAll}
-use Rattle.mailbox.specs.Views.{letters_of, numbers, letters_in, All}
+use Rattle.mailbox.specs.Views.{letters_of, numbers, letters_in, All, AreOf}
 use Rattle.mailbox.specs.Lines.{Knows, InOrder, IsTold, weight, first_line, sending_line}
 use Rattle.mailbox.specs.Lines.{receiving_line, spent_line, parent_line, child_line, put_line}
 use Rattle.mailbox.specs.Lines.{got_line, joined_line}
@@ -102,6 +103,34 @@ weightless sent taken v k sends gets =
     let a : length v.put ≡ 0 = ap length (k.silent sends) in
     let b : letters_in v.known ≡ 0 = ap letters_in (k.blind gets) in omega arith
 
+-- a letter that is in a list is one of its sender's
+has_letter : (before after : List Post) (p : Post) →
+    letters_of p.from (before ++ p ∷ after) ≡ [] → ⊥
+has_letter before after p e =
+    let a = letters_append p.from before (p ∷ after) in
+    let b = letters_append p.from (p ∷ []) after in
+    let c : length (letters_of p.from before ++ letters_of p.from (p ∷ after)) ≡ 0 =
+    ap length (sym a ∙ e) in
+    let d = length-append (letters_of p.from before) (letters_of p.from (p ∷ after)) in
+    let f : length (letters_of p.from (p ∷ after))
+    ≡ length ((p.letter ∷ []) ++ letters_of p.from after) =
+    ap length (b ∙ ap (λ l. l ++ letters_of p.from after) (own_post p.from p refl)) in
+    omega arith
+
+-- where all senders are known, each letter is of one of them
+of_known : (sent : ℕ → List Letter) (made : ℕ) (known : List ℕ) (whole : List Post)
+    → ((k : ℕ) → letters_of k whole ≡ sent k)
+    → ((k : ℕ) → made ≤ k → sent k ≡ []) → ((k : ℕ) → k < made → In k known)
+    → (before got items : List Post) → whole ≡ before ++ (got ++ items) → AreOf got known
+of_known sent made known whole all unmade has before [] items e = tt
+of_known sent made known whole all unmade has before (p ∷ ps) items e =
+    (⊎_elim (λ (h : p.from < made). has p.from h)
+    (λ (h : made ≤ p.from). absurd (has_letter before (ps ++ items) p
+    (ap (letters_of p.from) (sym e) ∙ (all p.from ∙ unmade p.from h))))
+    (cases_lt p.from made),
+    of_known sent made known whole all unmade has (before ++ p ∷ []) ps items
+    (e ∙ sym (append_assoc before (p ∷ []) (ps ++ items))))
+
 -- ---- what the receiver is told
 pub tells : (items : List Post) (views : List Line) (r : InOrder items views) (port : ℕ) (v : Line)
     → get_elem? views port ≡ some v → v.role.sends ≡ false → v.role.gets ≡ true → IsTold v
@@ -113,6 +142,15 @@ tells items views r port v at sends gets =
     ∙ (sym (letters_append s.0 r.got items) ∙ (r.all s.0 ∙ sym e)) in record {
       prefix = all_map (λ s. s.1 ≡ r.sent s.0) (λ s. IsPrefix (letters_of s.0 v.got) s.1) v.known
           (λ s _ e. (letters_of s.0 items, split s e)) (k.known gets);
+      senders = λ has.
+          let has' : HasAll v.role.made v.role.joined =
+          subst (HasAll v.role.made) (sym (k.names gets)) has in
+          let zero_in = has'.0 in
+          let ended = ((r.ends.fits port v at).receiver gets).1 0 zero_in in
+          let made : v.role.made ≡ r.ends.made = (r.ends.fits port v at).all_made gets ended in
+          of_known r.sent v.role.made (numbers v.known) (r.got ++ items) r.all
+          (λ n h. r.unmade n (omega arith)) has.1 [] v.got items
+          (ap (λ (g : List Post). g ++ items) (sym (k.got gets)));
       whole = λ has same.
           let has' : HasAll v.role.made v.role.joined =
           subst (HasAll v.role.made) (sym (k.names gets)) has in

@@ -6,7 +6,7 @@ use Rattle.mailbox.specs.declared.view.Line.{Line}
 use Rattle.mailbox.specs.declared.view.Post.{Post}
 use Rattle.mailbox.specs.Roles.{HasAll, Manned, Each, total, first_role, sending_role}
 use Rattle.mailbox.specs.Roles.{receiving_role, spent_role, parent_role, child_role, joined_role}
-use Rattle.mailbox.specs.Views.{letters_of, numbers, letters_in, All, Prefixes, Wholes}
+use Rattle.mailbox.specs.Views.{letters_of, numbers, letters_in, All, Prefixes, Wholes, AreOf}
 
 -- an end that has put in and taken out nothing
 abbrev pub line_of : Role → Line
@@ -76,5 +76,6 @@ pub record InOrder (items : List Post) (views : List Line) : Type 0 where
 -- what the receiver is told of the senders joined into it
 pub record IsTold (v : Line) : Type 0 where
   pub prefix : Prefixes v.got v.known
+  pub senders : HasAll v.role.made (numbers v.known) → AreOf v.got (numbers v.known)
   pub whole : HasAll v.role.made (numbers v.known) → letters_in v.known ≡ length v.got
       → Wholes v.got v.known

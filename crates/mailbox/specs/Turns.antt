@@ -3,12 +3,13 @@ use Rattle.std.specs.Prelude.{◌≡◌, ℕ, length}
 use Rattle.mailbox.specs.declared.mailbox.Turn.{Turn}
 use Rattle.mailbox.specs.declared.mailbox.Turn.TheVariants.{Got, Empty, Again}
 use Rattle.mailbox.specs.Views.{ReceiverView, receiver_with, receiver_empty, HasAllSenders}
-use Rattle.mailbox.specs.Views.{ArePrefixes, AreWhole, letters_in}
+use Rattle.mailbox.specs.Views.{ArePrefixes, AreOfJoined, AreWhole, letters_in}
 
 -- of each sender that was joined, what was received is a prefix of what was sent; once all are
 -- joined, it is the same where as much was received as sent
 pub record IsFaithful (r : ReceiverView) : Type 0 where
   pub prefix : ArePrefixes r
+  pub senders : HasAllSenders r → AreOfJoined r
   pub whole : HasAllSenders r → letters_in r.joined ≡ length r.received → AreWhole r
 
 -- a letter was received; the mailbox was found empty; or nothing happened

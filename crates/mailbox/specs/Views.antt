@@ -5,7 +5,7 @@ use mathlib.Core.List.{IsPrefix}
 use Rattle.atomic_table.specs.Seated.{TableId}
 use Rattle.packet_entry.specs.declared.letter.Letter.{Letter}
 use Rattle.mailbox.specs.declared.view.Post.{Post}
-use Rattle.mailbox.specs.Roles.{HasAll, made_known}
+use Rattle.mailbox.specs.Roles.{HasAll, In, made_known}
 
 -- a mailbox: its two parts, by their own identities, and how many letters it holds at most
 pub record MailboxView : Type 0 where
@@ -115,6 +115,14 @@ Wholes received known = All (λ s. letters_of s.0 received ≡ s.1) known
 -- number 0 and every other sender made were joined
 abbrev pub HasAllSenders : ReceiverView → Type 0
 HasAllSenders r = HasAll r.made (numbers r.joined)
+
+-- each letter received is of one of these senders
+abbrev pub AreOf : List Post → List ℕ → Type 0
+AreOf [] senders = Unit {0}
+AreOf (p ∷ ps) senders = In p.from senders × AreOf ps senders
+
+abbrev pub AreOfJoined : ReceiverView → Type 0
+AreOfJoined r = AreOf r.received (numbers r.joined)
 
 abbrev pub ArePrefixes : ReceiverView → Type 0
 ArePrefixes r = Prefixes r.received r.joined

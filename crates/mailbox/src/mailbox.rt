@@ -53,7 +53,7 @@ impl Mailbox {
     ghost use Rattle.mailbox.specs.Views.{opening_sender, opening_receiver, letters_in};
     ghost use Rattle.mailbox.specs.Views.{sender_with, sender_back, parent_sender, child_sender};
     ghost use Rattle.mailbox.specs.Views.{receiver_with, receiver_empty, receiver_joined};
-    ghost use Rattle.mailbox.specs.Views.{HasAllSenders, ArePrefixes, AreWhole};
+    ghost use Rattle.mailbox.specs.Views.{HasAllSenders, ArePrefixes, AreOfJoined, AreWhole};
     ghost use Rattle.mailbox.specs.Fills.{claiming, full_look, freeing};
     ghost use Rattle.mailbox.specs.Lines.{put_line};
     ghost use Rattle.mailbox.specs.declared.mailbox.Turn.TheVariants.{Got, Empty, Again};
@@ -139,6 +139,7 @@ impl Mailbox {
         ensures received { MatchOption result (receiver.new ≡ receiver_empty receiver.old)
             (λ letter. (from : ℕ) × (receiver.new ≡ receiver_with receiver.old from letter)) }
         ensures prefix { ArePrefixes receiver.new }
+        ensures senders { HasAllSenders receiver.new → AreOfJoined receiver.new }
         ensures whole { HasAllSenders receiver.new
             → letters_in receiver.new.joined ≡ length receiver.new.received
             → AreWhole receiver.new }
@@ -162,6 +163,7 @@ impl Mailbox {
         requires mailbox { (receiver.old.mailbox ≡ self.now) × (sender.mailbox ≡ self.now) }
         ensures joined { receiver.new ≡ receiver_joined receiver.old sender }
         ensures prefix { ArePrefixes receiver.new }
+        ensures senders { HasAllSenders receiver.new → AreOfJoined receiver.new }
         ensures whole { HasAllSenders receiver.new
             → letters_in receiver.new.joined ≡ length receiver.new.received
             → AreWhole receiver.new }
@@ -231,6 +233,20 @@ impl Mailbox {
         requires mailbox { receiver.old.mailbox ≡ self.now }
         ensures { TurnTells receiver.old receiver.new result }
     {
+        match self.queue.try_pop_as::<Gets>(&mut receiver.pass) {
+            Some(Post { from: _, letter }) => {
+                self.free(rt, &mut receiver.chair);
+                Turn::Got(letter)
+            }
+            None => self.look(receiver),
+        }
+    }
+
+    /// A look for letters.
+    fn look(&self, receiver: &mut Receiver) -> Turn
+        requires mailbox { receiver.old.mailbox ≡ self.now }
+        ensures { TurnTells receiver.old receiver.new result }
+    {
         if self
             .gauge
             .shared
@@ -239,13 +255,7 @@ impl Mailbox {
         {
             return Turn::Empty;
         }
-        match self.queue.try_pop_as::<Gets>(&mut receiver.pass) {
-            Some(Post { from: _, letter }) => {
-                self.free(rt, &mut receiver.chair);
-                Turn::Got(letter)
-            }
-            None => Turn::Again,
-        }
+        Turn::Again
     }
 
     /// Frees the room of a letter that was taken.
@@ -255,17 +265,16 @@ impl Mailbox {
         ensures table { (chair.new.table_id ≡ chair.old.table_id) × (chair.new.id ≡ chair.old.id) }
         ensures freed { chair.new.me ≡ (freeing chair.old.me.0, chair.old.me.1) }
     {
+        let mut held = 1;
         for _ in rt.forever() {
-            let held = self.gauge.shared.peek(FILL);
-            if held > 0
-                && self
-                    .gauge
-                    .shared
-                    .compare_exchange::<Free>(chair, FILL, held, held - 1)
-                    == held
-            {
+            let found = self
+                .gauge
+                .shared
+                .compare_exchange::<Free>(chair, FILL, held, held - 1);
+            if found == held {
                 return;
             }
+            held = if found == 0 { 1 } else { found };
         }
         unreachable!()
     }

@@ -2,4 +2,5 @@ pub mod Numbering
 pub mod Digits
 pub mod Saying
 pub mod Endings
+pub mod Forming
 pub mod Parts

@@ -17,19 +17,21 @@ use Rattle.script_runs.specs.Schedule.{IsSolo}
 use Rattle.fate_ledger.specs.declared.fate.Fate.TheVariants.{Waiting}
 use Rattle.fate_ledger.specs.declared.fate.FateLine.{FateLine}
 use Rattle.fate_ledger.specs.declared.happening.Happening.{Happening}
-use Rattle.fate_ledger.specs.Laws.{AreApart, IsLastEvent, IsLineOf, LeftThere, Waits}
+use Rattle.fate_ledger.specs.Laws.{AreApart, IsLastEvent, IsLineOf, LeftForGood, Waits}
 use Rattle.fate_ledger.specs.Ledger.{is_release}
 use Rattle.fate_ledger.specs.Released as released
+use Rattle.journals.specs.WellFormed.{IsWellFormed}
 use Rattle.nfq_cli.specs.Outputs.{fates_of}
 
 -- Each frame's line is that of its packet's last event in these histories, or that of a frame whose
--- packet has none. Where the line doesn't say that the packet waits, it left in that event's step;
--- where it does, the packet still waits at that event's queue.
-pub record AreLinesOf (c : Capture) (h : Histories) : Type 0 where
+-- packet has none. Where the line doesn't say that the packet waits, it left in that event's step,
+-- for good; where it does, the packet still waits at that event's queue.
+pub record AreLinesOf (tables : List (List Rule)) (key : ℕ) (c : Capture) (h : Histories)
+    : Type 0 where
   pub named : (place : ℕ) (f : Frame) (l : FateLine) → slice_get c.frames place ≡ Some f →
       slice_get (fates_of c h) place ≡ Some l → IsLineOf h (place + 1) f l
   pub left : (number : ℕ) (last : Happening) → IsLastEvent h.entries number last →
-      last.fate ≢ Waiting → LeftThere h.entries last
+      last.fate ≢ Waiting → LeftForGood tables key h.entries last
   pub waits : (number : ℕ) (last : Happening) → IsLastEvent h.entries number last →
       last.fate ≡ Waiting → Waits h.entries last
 
@@ -63,8 +65,11 @@ pub record IsAccounted (tables : List (List Rule)) (script : ScriptValue) (c : C
   -- for it
   pub notes : ℕ → List Note
   pub made : IsMadeBy script (length c.frames) h notes (λ port. [])
+  -- a journal tells them in full, and is theirs alone: each value fits its field, entries stand by
+  -- queue, and a port did nothing behind its closing
+  pub formed : IsWellFormed h
   -- no packet came twice at one visit, and each is over or waits
   pub apart : AreApart h.entries
   pub once : IsEachOnce tables script c h
-  pub lines : AreLinesOf c h
+  pub lines : AreLinesOf tables script.key c h
   pub released : AreReleased c h

@@ -6,8 +6,6 @@ ghost use Rattle.inspector_script.specs.Scripts.{ScriptValue, IsScript};
 ghost use Rattle.packet_entry.specs.Numbers.{longest_packet};
 ghost use Rattle.pcap_io.specs.declared.capture.Capture.{Capture as ACapture};
 ghost use Rattle.pcap_io.specs.Text.{IsHeld};
-ghost use Rattle.place_history.specs.Numbers.{queue_count};
-ghost use Rattle.place_history.specs.declared.entry.Entry.{Entry};
 ghost use Rattle.place_history.specs.declared.histories.Histories.{Histories as AHistories};
 ghost use Rattle.place_history.specs.History.{AreLegal};
 ghost use Rattle.place_history.specs.Journeys.{AreSound};
@@ -17,17 +15,20 @@ ghost use Rattle.fate_ledger.specs.Released.{released};
 ghost use Rattle.solo_run.specs.Numbers.{most_frames};
 ghost use Rattle.nfq_cli.specs.Account.{IsAccounted};
 ghost use Rattle.nfq_cli.specs.Outputs.{fates_of};
+ghost use Rattle.journals.specs.WellFormed.{Fit};
 
-use crate::numbered::queues_have_16_bits;
 use fate_ledger::{
     each_line_names_the_last_event, no_visit_arrives_twice, payloads_were_read_or_given,
     released_frames_are_those_let_go, the_last_event_is_where_it_left_or_waits,
+    what_left_last_is_over,
 };
 use hook_chain::Tables;
 use inspector_script::Script;
+use journals::histories_fit;
 use packet_entry::NoMemory;
 use pcap_io::Capture;
 use place_history::{Histories, each_packet_waits_is_lost_or_is_over};
+use queue_core::replies_tell_how_many_left;
 use script_runs::{
     no_notice_is_left, packets_and_payloads_are_within_bounds, packets_are_read_with_their_frames,
 };
@@ -52,19 +53,19 @@ pub fn histories_of(
 {
     each_packet_is_accounted_for();
     let histories = solo(alloc, script, tables, capture)?;
-    queues_have_16_bits(&histories.entries);
+    histories_fit(&histories);
     Ok(histories)
 }
 
 /// Over every script, rules and capture, each packet of the schedule's histories is accounted for,
-/// where they are legal and sound and their queues' numbers have 16 bits: and those that
-/// `solo_run::solo` answers are. What is released of a capture that the format can hold can be
+/// where they are legal and sound and each value fits its field: and those that
+/// `solo_run::solo` answers are and do. What is released of a capture that the format can hold can be
 /// written again.
 fn each_packet_is_accounted_for()
     ensures account { (tables : List (List Rule)) (script : ScriptValue) (c : ACapture)
         (h : AHistories) → IsScript script → IsSolo script tables c h → AreLegal h.entries →
-        All (λ (e : Entry). e.queue < queue_count) h.entries →
-        AreSound tables script.key (cards c) h.entries h.lost → IsAccounted tables script c h }
+        Fit h → AreSound tables script.key (cards c) h.entries h.lost →
+        IsAccounted tables script c h }
     ensures fit { (tables : List (List Rule)) (script : ScriptValue) (c : ACapture)
         (h : AHistories) → IsScript script → IsHeld c → IsSolo script tables c h →
         AreSound tables script.key (cards c) h.entries h.lost →
@@ -79,8 +80,10 @@ fn each_packet_is_accounted_for()
     packets_are_read_with_their_frames();
     each_line_names_the_last_event();
     the_last_event_is_where_it_left_or_waits();
+    what_left_last_is_over();
     no_visit_arrives_twice();
     each_packet_waits_is_lost_or_is_over();
     released_frames_are_those_let_go();
     payloads_were_read_or_given();
+    replies_tell_how_many_left();
 }

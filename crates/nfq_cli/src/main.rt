@@ -13,7 +13,6 @@ mod generation;
 mod inputs;
 mod journal_file;
 mod list;
-mod numbered;
 mod numerals;
 mod outputs;
 mod part_writing;

@@ -23,6 +23,8 @@ pub mod Ordered
 pub mod Made
 pub mod Written
 pub mod FedByHand
+pub mod HeardByHand
+pub mod OneRun
 pub mod Small
 pub mod Bounded
 pub mod Datagrams

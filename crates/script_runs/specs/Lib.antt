@@ -16,3 +16,4 @@ pub mod Run
 pub mod Bounds
 pub mod Examples
 pub mod FedExamples
+pub mod HeardExamples

@@ -31,6 +31,13 @@ ghost use Rattle.script_runs.specs.Entering.{cards};
 ghost use Rattle.script_runs.specs.Bounds.{AreRead, AreShort, AreSmall};
 ghost use Rattle.script_runs.specs.LettersLeft.{left_in};
 ghost use Rattle.script_runs.specs.Run.{IsMadeBy};
+ghost use Rattle.script_runs.specs.Log.{Got, Spoke};
+ghost use Rattle.script_runs.specs.Notices.{AreNotices};
+ghost use Rattle.script_runs.specs.Room.{AreRoomy};
+ghost use Rattle.script_runs.specs.HeardExamples.{binding, bound, taken, turned};
+ghost use Rattle.netlink_codec.specs.Messages.{NetlinkMessage};
+ghost use Rattle.nfqa_msgs.specs.RequestReading.{decoded};
+ghost use Rattle.nfqa_msgs.specs.declared.request.Decoded.TheVariants.{Asked};
 
 use netlink_codec::{written_attributes_are_walked, written_message_is_in_front};
 use place_history::{
@@ -160,3 +167,19 @@ pub fn no_notice_is_left()
     what_goes_on_is_in_time();
     ports_do_what_the_script_says();
 }
+
+/// Histories of one queue with what its port received and sent, which aren't told so.
+pub fn hearing_by_hand()
+    ensures unheard { AreNotices (bound 0 ∷ taken 1 ∷ []) 7 [] [] → ⊥ }
+    ensures roomless { AreRoomy 1 (bound 0 ∷ turned 1 ∷ []) 7 [] [] → ⊥ }
+    ensures errno { (m : NetlinkMessage) → decoded m ≡ Asked binding →
+        AreRequests (bound 16 ∷ []) 7 (Spoke 1 m 0 ∷ []) → ⊥ }
+    ensures unasked { (m : NetlinkMessage) → decoded m ≡ Asked binding →
+        AreRequests [] 7 (Spoke 1 m 0 ∷ []) → ⊥ }
+{}
+
+/// A schedule has one run: no two values of histories are its.
+pub fn a_schedule_has_one_run()
+    ensures entries { (script : ScriptValue) (tables : List (List Rule)) (c : Capture)
+        (h g : Histories) → IsSolo script tables c h → IsSolo script tables c g → h ≡ g }
+{}

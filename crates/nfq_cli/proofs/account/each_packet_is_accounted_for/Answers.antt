@@ -1,13 +1,19 @@
 use Rattle.std.proofs.Common.{arith, ap, List}
-use Rattle.std.specs.Prelude.{count_by, ◌==◌}
+use Rattle.std.specs.Prelude.{count_by, ◌==◌, ◌<◌, All, length, []}
+use Rattle.place_history.specs.Numbers.{queue_count}
+use Rattle.place_history.specs.declared.entry.Entry.{Entry}
+use Rattle.nfq_cli.proofs.Forming.{well_formed}
 use Rattle.place_history.specs.declared.histories.Lost.{Lost}
 use Rattle.script_runs.specs.Entering.{cards}
 use Rattle.nfq_cli.specs.Outputs.{fates_of}
+use Rattle.fate_ledger.specs.Fates.{is_lost}
 use Rattle.nfq_cli.proofs.Numbering.{cards_differ, one_line_each}
 use Rattle.nfq_cli.proofs.account.each_packet_is_accounted_for.Goals as goal
 
 pub returns-clause-account : goal.returns-clause-account
-returns-clause-account c = λ tables script capture h is solo legal numbered sound.
+returns-clause-account c = λ tables script capture h is solo legal fit sound.
+    let numbered : All (λ (e : Entry). e.queue < queue_count) h.entries =
+    λ k d within. (fit.entries k d within).queue in
     let made = c.no_notice_is_left.ensures.made script tables capture h is solo numbered in
     let apart = c.no_visit_arrives_twice.ensures tables script.key (cards capture) h.entries h.lost
     (cards_differ capture) sound in
@@ -17,6 +23,8 @@ returns-clause-account c = λ tables script capture h is solo legal numbered sou
       sound = sound;
       notes = made.0;
       made = made.1;
+      formed = well_formed c.replies_tell_how_many_left.ensures script (length capture.frames) h
+          made.0 (λ port. []) is fit solo.lost _ solo.entries legal made.1;
       apart = apart;
       once = λ number queues are.
           let each = c.each_packet_waits_is_lost_or_is_over.ensures tables script.key number queues
@@ -31,8 +39,11 @@ returns-clause-account c = λ tables script capture h is solo legal numbered sou
             named = λ place f l is_f is_l.
                 c.each_line_names_the_last_event.ensures h capture.frames place f l legal is_f is_l;
             left = λ number last is_last other.
-                c.the_last_event_is_where_it_left_or_waits.ensures.left h.entries number last legal
-                is_last other;
+                c.what_left_last_is_over.ensures.over tables script.key number (cards capture)
+                h.entries h.lost last sound (ap (λ (ls : List Lost). is_lost ls number) solo.lost)
+                is_last
+                (c.the_last_event_is_where_it_left_or_waits.ensures.left h.entries number last legal
+                is_last other);
             waits = λ number last is_last waiting.
                 c.the_last_event_is_where_it_left_or_waits.ensures.waits h.entries number last legal
                 apart is_last waiting;

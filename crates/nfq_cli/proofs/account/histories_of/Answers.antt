@@ -4,7 +4,7 @@ pub returns-clause-account : goal.returns-clause-account
 returns-clause-account c =
     c.each_packet_is_accounted_for.ensures.account c.args.tables c.args.script.now
     c.args.capture.now c.in_ok-histories.histories c.requires.script c.in_ok-histories.ensures.run
-    c.in_ok-histories.ensures.legal c.queues_have_16_bits.ensures
+    c.in_ok-histories.ensures.legal c.histories_fit.ensures
     c.in_ok-histories.ensures.sound
 
 pub returns-clause-fit : goal.returns-clause-fit

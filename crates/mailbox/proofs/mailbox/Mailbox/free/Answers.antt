@@ -2,8 +2,8 @@ use Rattle.std.proofs.Common.{ap, ◌∙◌, rules}
 use Rattle.mailbox.proofs.Gauging.{frees}
 use Rattle.mailbox.proofs.mailbox.Mailbox.free.Goals as goal
 
-pub compare_exchange-requires : goal.compare_exchange-requires
-compare_exchange-requires g c =
+pub compare_exchange-found-requires : goal.compare_exchange-found-requires
+compare_exchange-found-requires g c =
     let i = c.loop.invariant in (
       search rules,
       search rules,

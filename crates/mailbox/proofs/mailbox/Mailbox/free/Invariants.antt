@@ -1,6 +1,7 @@
-use Rattle.std.proofs.Common.{◌≡◌}
+use Rattle.std.proofs.Common.{◌≡◌, ◌≤◌}
 use Rattle.mailbox.proofs.mailbox.Mailbox.free.Given as goal
 
 abbrev pub invariant-loop : goal.invariant-loop
 invariant-loop g l = (l.chair.table_id ≡ l.initial.chair.table_id)
     × (l.chair.id ≡ l.initial.chair.id) × (l.chair.me ≡ l.initial.chair.me)
+    × (1 ≤ l.held)

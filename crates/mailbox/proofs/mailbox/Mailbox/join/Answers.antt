@@ -55,3 +55,6 @@ returns-clause-full c =
     full_when_joined _ _ _ (invariant_of-receiver c) (search rules)
     (subst (λ m. HasAll m.0.role.made m.0.role.joined → 0 < m.0.full → m.0.capacity ≤ m.0.claims)
     (sym e) c.load.ensures.2.1)
+
+pub returns-clause-senders : goal.returns-clause-senders
+returns-clause-senders c = (invariant_of-receiver c).told.senders
