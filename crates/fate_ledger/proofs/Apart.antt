@@ -17,13 +17,13 @@ use Rattle.queue_core.specs.declared.event.Event.{Event}
 use Rattle.queue_core.specs.declared.event.Event.TheVariants.{Arrive, Ask, PortClosed, DeviceDown}
 use Rattle.queue_core.specs.Step.{Way, Gone, Open, Decided, step}
 use Rattle.queue_core.specs.Laws.{times, waiting_in, arriving, leaving_in}
-use Rattle.place_history.specs.declared.entry.Entry.{Entry}
-use Rattle.place_history.specs.declared.histories.Lost.{Lost}
-use Rattle.place_history.specs.History.{history, replay, is_of}
-use Rattle.place_history.specs.Stays.{arrivals, departures, departures_from}
-use Rattle.place_history.specs.Moves.{Move, moves, moves_after, move_after}
-use Rattle.place_history.specs.Journeys.{Arrival, asked_by, asked_by_some, entering, going_on, asks}
-use Rattle.place_history.specs.Journeys.{arrival_of, came, times_came, AreSound}
+use Rattle.histories.specs.declared.entry.Entry.{Entry}
+use Rattle.histories.specs.declared.histories.Lost.{Lost}
+use Rattle.histories.specs.History.{history, replay, is_of}
+use Rattle.histories.specs.Stays.{arrivals, departures, departures_from}
+use Rattle.histories.specs.Moves.{Move, moves, moves_after, move_after}
+use Rattle.histories.specs.Journeys.{Arrival, asked_by, asked_by_some, entering, going_on, asks}
+use Rattle.histories.specs.Journeys.{arrival_of, came, times_came, AreSound}
 use Rattle.fate_ledger.specs.Laws.{step_after, is_visit, AreApart, DifferInNumber}
 use Rattle.fate_ledger.proofs.Underway.{history_on, own_on, other_on, replay_on}
 use Rattle.fate_ledger.proofs.Waiting.{once, times_on, times_first, fewer_at}

@@ -28,8 +28,8 @@ use Rattle.queue_core.specs.Step.{has_refused_flags, is_bound_elsewhere, set_up,
 use Rattle.queue_core.specs.Step.{batch_under, carried_out, shared_out, card_under}
 use Rattle.queue_core.specs.Step.{leaving, marking}
 use Rattle.queue_core.specs.Step.{Ruling, Refused, Allowed, refusal, ask, is_full}
-use Rattle.place_history.specs.declared.entry.Entry.{Entry}
-use Rattle.place_history.specs.History.{history, is_of, replay, replay_from}
+use Rattle.histories.specs.declared.entry.Entry.{Entry}
+use Rattle.histories.specs.History.{history, is_of, replay, replay_from}
 use Rattle.fate_ledger.proofs.Tables.{either, configured_waiting}
 
 -- something that is known of packets

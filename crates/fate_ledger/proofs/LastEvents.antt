@@ -12,10 +12,10 @@ use Rattle.std.proofs.lemmas.List.{append-nil}
 use Rattle.std.proofs.lemmas.List.Elements.{All-from_recursion, Contains-append_right}
 use Rattle.packet_entry.specs.declared.packet.Card.{Card}
 use Rattle.pcap_io.specs.declared.capture.Frame.{Frame}
-use Rattle.place_history.specs.declared.entry.Entry.{Entry}
-use Rattle.place_history.specs.declared.histories.Histories.{Histories}
-use Rattle.place_history.specs.declared.histories.Lost.{Lost}
-use Rattle.place_history.specs.History.{history, replay, IsStep, AreLegal}
+use Rattle.histories.specs.declared.entry.Entry.{Entry}
+use Rattle.histories.specs.declared.histories.Histories.{Histories}
+use Rattle.histories.specs.declared.histories.Lost.{Lost}
+use Rattle.histories.specs.History.{history, replay, IsStep, AreLegal}
 use Rattle.queue_core.specs.declared.event.Event.{Event}
 use Rattle.queue_core.specs.declared.event.Event.TheVariants.{Arrive, Ask, PortClosed, DeviceDown}
 use Rattle.queue_core.specs.declared.event.Reply.{Reply}

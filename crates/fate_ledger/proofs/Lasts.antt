@@ -13,7 +13,7 @@ use Rattle.std.specs.BTreeSet.{BTreeSet, contains}
 use Rattle.std.proofs.lemmas.Bool.{eq-eqb, ne_eqb, cases_lt}
 use Rattle.fate_ledger.specs.declared.happening.Happening.{Happening}
 use Rattle.pcap_io.specs.declared.capture.Frame.{Frame}
-use Rattle.place_history.specs.declared.histories.Lost.{Lost}
+use Rattle.histories.specs.declared.histories.Lost.{Lost}
 use Rattle.fate_ledger.specs.Fates.{last_of, later_of, is_later, fate_line, is_lost, fates_from}
 use Rattle.fate_ledger.specs.Following.{lasts, noted, noted_at, noted_all, lines_with}
 

@@ -22,9 +22,9 @@ use Rattle.ip_fields.specs.Numbers.{link_ethernet, link_raw, link_ipv4, link_ipv
 use Rattle.ip_fields.specs.Numbers.{ipv4_version, ipv6_version}
 use Rattle.ip_fields.specs.Packet.{version_of}
 use Rattle.hook_chain.specs.declared.rule.Rule.{Rule}
-use Rattle.place_history.specs.declared.histories.Lost.{Lost}
-use Rattle.place_history.specs.declared.histories.Histories.{Histories}
-use Rattle.place_history.specs.Journeys.{AreSound}
+use Rattle.histories.specs.declared.histories.Lost.{Lost}
+use Rattle.histories.specs.declared.histories.Histories.{Histories}
+use Rattle.histories.specs.Journeys.{AreSound}
 use Rattle.fate_ledger.specs.declared.happening.Happening.{Happening}
 use Rattle.fate_ledger.specs.declared.fate.Fate.TheVariants.{Unhooked}
 use Rattle.fate_ledger.specs.declared.fate.FateLine.{FateLine}

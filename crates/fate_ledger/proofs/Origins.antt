@@ -17,12 +17,12 @@ use Rattle.nfqa_msgs.specs.RequestReading.{PayloadFits}
 use Rattle.queue_core.specs.declared.event.Event.{Event}
 use Rattle.queue_core.specs.declared.event.Event.TheVariants.{Arrive, Ask, PortClosed, DeviceDown}
 use Rattle.queue_core.specs.Step.{Way, Gone, Open, Decided, Stepped, step}
-use Rattle.place_history.specs.declared.entry.Entry.{Entry}
-use Rattle.place_history.specs.declared.histories.Lost.{Lost}
-use Rattle.place_history.specs.History.{history, replay}
-use Rattle.place_history.specs.Moves.{Move, moves_after, move_after}
-use Rattle.place_history.specs.Journeys.{Arrival, asked_by, asked_by_some, entering, going_on, asks}
-use Rattle.place_history.specs.Journeys.{came, arrival_of, times_came, AreSound}
+use Rattle.histories.specs.declared.entry.Entry.{Entry}
+use Rattle.histories.specs.declared.histories.Lost.{Lost}
+use Rattle.histories.specs.History.{history, replay}
+use Rattle.histories.specs.Moves.{Move, moves_after, move_after}
+use Rattle.histories.specs.Journeys.{Arrival, asked_by, asked_by_some, entering, going_on, asks}
+use Rattle.histories.specs.Journeys.{came, arrival_of, times_came, AreSound}
 use Rattle.fate_ledger.specs.declared.happening.Happening.{Happening}
 use Rattle.fate_ledger.specs.declared.fate.Fate.{Fate}
 use Rattle.fate_ledger.specs.Fates.{happens, happens_after, happenings_after, departing}

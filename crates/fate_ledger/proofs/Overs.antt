@@ -18,12 +18,12 @@ use Rattle.hook_chain.specs.Route.{onward_of}
 use Rattle.queue_core.specs.declared.event.Event.{Event}
 use Rattle.queue_core.specs.declared.event.Event.TheVariants.{Arrive, Ask, PortClosed, DeviceDown}
 use Rattle.queue_core.specs.Step.{Way, Gone, Open, Decided}
-use Rattle.place_history.specs.declared.entry.Entry.{Entry}
-use Rattle.place_history.specs.declared.histories.Lost.{Lost}
-use Rattle.place_history.specs.Moves.{Move, moves, moves_after, move_after}
-use Rattle.place_history.specs.Journeys.{Arrival, asked_by_some, going_on, asks, arrival_of, came}
-use Rattle.place_history.specs.Journeys.{visit_of, AreSound}
-use Rattle.place_history.specs.Endings.{is_over, is_nothing}
+use Rattle.histories.specs.declared.entry.Entry.{Entry}
+use Rattle.histories.specs.declared.histories.Lost.{Lost}
+use Rattle.histories.specs.Moves.{Move, moves, moves_after, move_after}
+use Rattle.histories.specs.Journeys.{Arrival, asked_by_some, going_on, asks, arrival_of, came}
+use Rattle.histories.specs.Journeys.{visit_of, AreSound}
+use Rattle.histories.specs.Endings.{is_over, is_nothing}
 use Rattle.fate_ledger.specs.declared.happening.Happening.{Happening}
 use Rattle.queue_core.specs.declared.event.Reply.{Reply}
 use Rattle.queue_core.specs.Step.{Stepped}

@@ -10,9 +10,9 @@ use Rattle.nfqa_msgs.specs.declared.request.Request.{Request}
 use Rattle.nfqa_msgs.specs.RequestReading.{PayloadFits}
 use Rattle.queue_core.specs.declared.event.Event.{Event}
 use Rattle.queue_core.specs.declared.event.Event.TheVariants.{Arrive, Ask, PortClosed, DeviceDown}
-use Rattle.place_history.specs.declared.entry.Entry.{Entry}
-use Rattle.place_history.specs.declared.histories.Lost.{Lost}
-use Rattle.place_history.specs.Journeys.{AreSound}
+use Rattle.histories.specs.declared.entry.Entry.{Entry}
+use Rattle.histories.specs.declared.histories.Lost.{Lost}
+use Rattle.histories.specs.Journeys.{AreSound}
 use Rattle.fate_ledger.specs.declared.happening.Happening.{Happening}
 use Rattle.fate_ledger.specs.Fates.{happenings}
 use Rattle.fate_ledger.specs.Payloads.{AreShort}

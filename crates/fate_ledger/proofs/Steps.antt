@@ -27,8 +27,8 @@ use Rattle.queue_core.specs.Step.{has_refused_flags, is_bound_elsewhere, set_up,
 use Rattle.queue_core.specs.Step.{verdict_under, batch_under, carried_out, shared_out, card_under}
 use Rattle.queue_core.specs.Step.{leaving, marking, port_closed, device_down, is_full}
 use Rattle.queue_core.specs.Step.{Refused, Allowed, unchanged}
-use Rattle.place_history.specs.declared.entry.Entry.{Entry}
-use Rattle.place_history.specs.History.{IsStep}
+use Rattle.histories.specs.declared.entry.Entry.{Entry}
+use Rattle.histories.specs.History.{IsStep}
 use Rattle.fate_ledger.specs.declared.fate.Fate.{Fate}
 use Rattle.fate_ledger.specs.Fates.{happens, departing, fate_by_verdict}
 use Rattle.fate_ledger.specs.Following.{Waiting, waiting_of, told, waiting_after, first_leave}

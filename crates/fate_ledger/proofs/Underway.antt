@@ -13,9 +13,9 @@ use Rattle.std.proofs.lemmas.List.{length-append, append-nil}
 use Rattle.std.proofs.lemmas.Map.Lookups.{exact_unsigned}
 use Rattle.queue_core.specs.State.{Bound}
 use Rattle.queue_core.specs.Step.{step}
-use Rattle.place_history.specs.declared.entry.Entry.{Entry}
-use Rattle.place_history.specs.History.{replay, replay_from, history, is_of, IsStep, IsLegal}
-use Rattle.place_history.specs.History.{IsLegalFrom, AreLegal}
+use Rattle.histories.specs.declared.entry.Entry.{Entry}
+use Rattle.histories.specs.History.{replay, replay_from, history, is_of, IsStep, IsLegal}
+use Rattle.histories.specs.History.{IsLegalFrom, AreLegal}
 use Rattle.fate_ledger.specs.declared.happening.Happening.{Happening}
 use Rattle.fate_ledger.specs.Fates.{happens_after, happenings_after, happenings}
 use Rattle.fate_ledger.specs.Following.{FollowedQueues, Follows, IsFollowed, AreFollowed, told_by}

@@ -25,9 +25,9 @@ use Rattle.queue_core.specs.Step.{Way, Gone, Open, Decided, Stepped, step, arriv
 use Rattle.queue_core.specs.Step.{arrive_in_time, is_full}
 use Rattle.queue_core.specs.Laws.{times, waiting_in, arriving, leaving_in, TellsArrival, stays_in}
 use Rattle.queue_core.specs.Laws.{Tells as CountsLeft}
-use Rattle.place_history.specs.declared.entry.Entry.{Entry}
-use Rattle.place_history.specs.History.{history, replay, replay_from, is_of, IsStep, AreLegal}
-use Rattle.place_history.specs.Stays.{arrivals, departures, departures_from}
+use Rattle.histories.specs.declared.entry.Entry.{Entry}
+use Rattle.histories.specs.History.{history, replay, replay_from, is_of, IsStep, AreLegal}
+use Rattle.histories.specs.Stays.{arrivals, departures, departures_from}
 use Rattle.fate_ledger.specs.declared.happening.Happening.{Happening}
 use Rattle.fate_ledger.specs.declared.fate.Fate.{Fate}
 use Rattle.fate_ledger.specs.declared.fate.Fate.TheVariants as fate

@@ -14,10 +14,10 @@ use Rattle.queue_core.specs.declared.event.Event.TheVariants as event
 use Rattle.queue_core.specs.declared.event.Reply.{Reply}
 use Rattle.queue_core.specs.declared.event.Reply.TheVariants as reply
 use Rattle.queue_core.specs.Step.{Way, Gone, Open, Decided, Stepped, step}
-use Rattle.place_history.specs.declared.entry.Entry.{Entry}
-use Rattle.place_history.specs.declared.histories.Lost.{Lost}
-use Rattle.place_history.specs.declared.histories.Histories.{Histories}
-use Rattle.place_history.specs.History.{history, replay}
+use Rattle.histories.specs.declared.entry.Entry.{Entry}
+use Rattle.histories.specs.declared.histories.Lost.{Lost}
+use Rattle.histories.specs.declared.histories.Histories.{Histories}
+use Rattle.histories.specs.History.{history, replay}
 use Rattle.fate_ledger.specs.declared.happening.Happening.{Happening}
 use Rattle.fate_ledger.specs.declared.fate.Fate.{Fate}
 use Rattle.fate_ledger.specs.declared.fate.Fate.TheVariants as fate

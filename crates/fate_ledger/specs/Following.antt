@@ -21,8 +21,8 @@ use Rattle.queue_core.specs.Ids.{is_id}
 use Rattle.queue_core.specs.Decision.{decision_of}
 use Rattle.queue_core.specs.State.{Bound}
 use Rattle.queue_core.specs.Step.{way_of}
-use Rattle.place_history.specs.declared.entry.Entry.{Entry}
-use Rattle.place_history.specs.History.{history, replay}
+use Rattle.histories.specs.declared.entry.Entry.{Entry}
+use Rattle.histories.specs.History.{history, replay}
 use Rattle.fate_ledger.specs.declared.happening.Happening.{Happening}
 use Rattle.fate_ledger.specs.declared.happening.How.{How}
 use Rattle.fate_ledger.specs.declared.following.Followed.{Followed}

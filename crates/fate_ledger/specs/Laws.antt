@@ -12,11 +12,11 @@ use Rattle.queue_core.specs.declared.event.Reply.TheVariants.{Arrived}
 use Rattle.queue_core.specs.declared.offers.Outcome.{Outcome}
 use Rattle.queue_core.specs.Laws.{times, waiting_in}
 use Rattle.queue_core.specs.Step.{Way, Stepped, step}
-use Rattle.place_history.specs.declared.entry.Entry.{Entry}
-use Rattle.place_history.specs.declared.histories.Histories.{Histories}
-use Rattle.place_history.specs.History.{history, replay}
-use Rattle.place_history.specs.Stays.{arrivals}
-use Rattle.place_history.specs.Endings.{is_over}
+use Rattle.histories.specs.declared.entry.Entry.{Entry}
+use Rattle.histories.specs.declared.histories.Histories.{Histories}
+use Rattle.histories.specs.History.{history, replay}
+use Rattle.histories.specs.Stays.{arrivals}
+use Rattle.histories.specs.Endings.{is_over}
 use Rattle.hook_chain.specs.declared.rule.Rule.{Rule}
 use Rattle.fate_ledger.specs.declared.happening.Happening.{Happening}
 use Rattle.fate_ledger.specs.declared.fate.Fate.{Fate}

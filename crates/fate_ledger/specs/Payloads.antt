@@ -9,7 +9,7 @@ use Rattle.ip_fields.specs.Frame.{cut_of}
 use Rattle.nfqa_msgs.specs.declared.request.Request.{Request}
 use Rattle.nfqa_msgs.specs.RequestReading.{PayloadFits}
 use Rattle.queue_core.specs.declared.event.Event.TheVariants.{Ask}
-use Rattle.place_history.specs.declared.entry.Entry.{Entry}
+use Rattle.histories.specs.declared.entry.Entry.{Entry}
 use Rattle.fate_ledger.specs.declared.fate.Fate.TheVariants.{Unhooked}
 use Rattle.fate_ledger.specs.declared.fate.FateLine.{FateLine}
 use Rattle.fate_ledger.specs.Ledger.{is_release}

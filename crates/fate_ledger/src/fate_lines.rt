@@ -4,7 +4,7 @@ ghost use Rattle.std.specs.Prelude.{◌≡◌, ◌<◌, ◌+◌, ◌^◌, [], �
 ghost use Rattle.std.specs.Prelude.{None, replicate};
 ghost use Rattle.std.specs.Ordering.{nat_cmp};
 ghost use Rattle.std.specs.BTreeSet.{contains};
-ghost use Rattle.place_history.specs.History.{AreLegal};
+ghost use Rattle.histories.specs.History.{AreLegal};
 ghost use Rattle.fate_ledger.specs.Fates as fates;
 ghost use Rattle.fate_ledger.specs.Following as following;
 
@@ -13,7 +13,7 @@ use crate::happening::{Happening, Lasts};
 use crate::{Fate, FateLine, FateLines};
 use packet_entry::NoMemory;
 use pcap_io::{Capture, Frame, Frames};
-use place_history::{Entries, Entry, Histories, Losts};
+use histories::{Entries, Entry, Histories, Losts};
 use std::alloc::Global;
 use std::collections::{BTreeMap, BTreeSet};
 

@@ -12,7 +12,7 @@ use crate::happening::{Happening, How, Lasts, note};
 use crate::waiting_list::WaitingList;
 use nfqa_msgs::{Head, Request};
 use packet_entry::{Bytes, Card, NoMemory};
-use place_history::{Entry, Event, Reply};
+use histories::{Entry, Event, Reply};
 use queue_core::{ACCEPT, DROP, Outcome, QUEUE, REPEAT, VERDICT_MASK};
 use std::alloc::Global;
 

@@ -10,12 +10,12 @@ ghost use Rattle.fate_ledger.specs.Payloads.{AreRead, AreShort, IsPayload};
 ghost use Rattle.std.specs.List.{zip};
 ghost use Rattle.packet_entry.specs.declared.packet.Card.{Card as ACard};
 ghost use Rattle.hook_chain.specs.declared.rule.Rule.{Rule as ARule};
-ghost use Rattle.place_history.specs.declared.histories.Lost.{Lost as ALost};
-ghost use Rattle.place_history.specs.Journeys.{AreSound};
+ghost use Rattle.histories.specs.declared.histories.Lost.{Lost as ALost};
+ghost use Rattle.histories.specs.Journeys.{AreSound};
 ghost use Rattle.pcap_io.specs.declared.capture.Frame.{Frame as AFrame};
-ghost use Rattle.place_history.specs.History.{AreLegal};
-ghost use Rattle.place_history.specs.declared.entry.Entry.{Entry as AnEntry};
-ghost use Rattle.place_history.specs.declared.histories.Histories.{Histories as AllHistories};
+ghost use Rattle.histories.specs.History.{AreLegal};
+ghost use Rattle.histories.specs.declared.entry.Entry.{Entry as AnEntry};
+ghost use Rattle.histories.specs.declared.histories.Histories.{Histories as AllHistories};
 ghost use Rattle.fate_ledger.specs.Fates.{fates};
 ghost use Rattle.fate_ledger.specs.Laws.{AreApart, DifferInNumber, IsLastEvent, IsLineOf};
 ghost use Rattle.fate_ledger.specs.Laws.{IsWritten, LeftForGood, LeftThere, Waits};
@@ -27,7 +27,7 @@ ghost use Rattle.fate_ledger.specs.declared.fate.Fate.TheVariants.{Waiting};
 ghost use Rattle.fate_ledger.specs.declared.fate.FateLine.{FateLine as ALine};
 ghost use Rattle.fate_ledger.specs.declared.happening.Happening.{Happening as AHappening};
 
-use place_history::each_stay_ends_once;
+use histories::each_stay_ends_once;
 use queue_core::replies_tell_how_many_left;
 
 /// Each line is that of the last event of its frame's packet: of an entry whose arrival is the
@@ -45,7 +45,7 @@ pub fn each_line_names_the_last_event()
 
 /// The packet of a last event left in that event's step, unless the event's fate is that it waits.
 /// Then it waits at the end of that queue's history, provided that no two arrivals are of one
-/// packet at one visit. Each stay ends once (`place_history::each_stay_ends_once`), so a packet
+/// packet at one visit. Each stay ends once (`histories::each_stay_ends_once`), so a packet
 /// that left didn't leave again at that visit.
 pub fn the_last_event_is_where_it_left_or_waits()
     ensures left { (es : List AnEntry) (number : ℕ) (h : AHappening) → AreLegal es →

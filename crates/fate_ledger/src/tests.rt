@@ -3,7 +3,7 @@
 
 ghost use Rattle.std.specs.Prelude.{◌≡◌, ◌≤◌, All, IsTrue, IfOk, length};
 ghost use Rattle.packet_entry.specs.Numbers.{longest_packet};
-ghost use Rattle.place_history.specs.History.{AreLegal};
+ghost use Rattle.histories.specs.History.{AreLegal};
 
 mod happenings;
 
@@ -11,7 +11,7 @@ use crate::{Fate, FateLine, FateLines, counts_text, fates, ledger_text, released
 use happenings::{Happens, Words, happen_all, only};
 use packet_entry::{Bytes, MAX_FRAME, NoMemory, Sequence};
 use pcap_io::{Capture, Frame, Frames};
-use place_history::{Histories, Lost};
+use histories::{Histories, Lost};
 use std::alloc::Global;
 use std::test::Fail;
 

@@ -5,8 +5,8 @@ use Rattle.hook_chain.specs.Numbers.{udp}
 use Rattle.hook_chain.specs.declared.rule.Rule.{Rule}
 use Rattle.hook_chain.specs.declared.rule.Pick.TheVariants.{Balance}
 use Rattle.queue_core.specs.Numbers.{verdict_accept, verdict_drop}
-use Rattle.place_history.specs.declared.log.AskWords.{AskWords}
-use Rattle.place_history.specs.declared.log.AskWords.TheVariants.{Plain}
+use Rattle.histories.specs.declared.log.AskWords.{AskWords}
+use Rattle.histories.specs.declared.log.AskWords.TheVariants.{Plain}
 use Rattle.script_lines.specs.declared.answering.OnLine.{OnLine}
 use Rattle.script_lines.specs.declared.condition.Condition.{Condition}
 use Rattle.script_lines.specs.declared.condition.Condition.TheVariants.{Any, Protocol}

@@ -7,7 +7,7 @@ use Rattle.std.specs.Prelude.{unwrap_or, option_to_list}
 use Rattle.std.specs.List.{AllZip, list_any}
 use Rattle.std.specs.Str.Lines.{lines}
 use Rattle.text_lines.specs.Refusals as refusals
-use Rattle.place_history.specs.declared.log.AskWords.{AskWords}
+use Rattle.histories.specs.declared.log.AskWords.{AskWords}
 use Rattle.script_lines.specs.declared.answering.OnLine.{OnLine}
 use Rattle.script_lines.specs.declared.line.Line.{Line}
 use Rattle.script_lines.specs.declared.line.Line.TheVariants.{Nothing, Mail, Pace, Key, Down, Port}

@@ -5,7 +5,7 @@ ghost use Rattle.inspector_script.specs.Blocks.{answer, closing, line_for, openi
 
 use nfqa_msgs::Notice;
 use packet_entry::{NoMemory, Sequence};
-use place_history::AskWords;
+use histories::AskWords;
 use script_lines::{Ask, Asks, OnLine, put_words};
 use std::alloc::Global;
 

@@ -6,7 +6,7 @@ ghost use Rattle.std.specs.Prelude.{◌<◌, ◌≡◌, length, IfOk};
 use super::*;
 use nfqa_msgs::{Head, Notice, Request};
 use packet_entry::{Bytes, NoMemory};
-use place_history::AskWords;
+use histories::AskWords;
 use std::alloc::Global;
 use std::test::Fail;
 

@@ -5,7 +5,7 @@ use Rattle.std.proofs.Common.{arith, codes, Ok, Err, append_assoc}
 use Rattle.std.specs.Prelude.{bytes_eq}
 use Rattle.std.proofs.lemmas.Option.{none-some}
 use Rattle.text_lines.specs.Words.{cut_at}
-use Rattle.place_history.specs.declared.histories.Histories.{Histories}
+use Rattle.histories.specs.declared.histories.Histories.{Histories}
 use Rattle.journals.specs.declared.fault.JournalFault.TheVariants.{Bad}
 use Rattle.journals.specs.declared.line.Line.{Line}
 use Rattle.journals.specs.declared.stop.Stop.TheVariants.{Refused}

@@ -9,8 +9,8 @@ use Rattle.std.proofs.lemmas.Bool.{false≢true}
 use Rattle.std.proofs.lemmas.List.Elements.{filter-append}
 use Rattle.std.proofs.lemmas.Option.{none-some, same_Some}
 use Rattle.text_lines.specs.Words.{cut_at}
-use Rattle.place_history.specs.declared.histories.Histories.{Histories}
-use Rattle.place_history.specs.declared.log.PortLog.{PortLog}
+use Rattle.histories.specs.declared.histories.Histories.{Histories}
+use Rattle.histories.specs.declared.log.PortLog.{PortLog}
 use Rattle.journals.specs.declared.fault.JournalFault.{JournalFault}
 use Rattle.journals.specs.declared.fault.JournalFault.TheVariants.{Bad}
 use Rattle.journals.specs.declared.fault.JournalFault.TheVariants as fault
@@ -22,7 +22,7 @@ use Rattle.journals.specs.Journal as text
 use Rattle.journals.specs.Lines.{IsLine}
 use Rattle.journals.specs.Reading.{line_in}
 use Rattle.journals.specs.WellFormed.{IsWellFormed}
-use Rattle.place_history.specs.declared.entry.Entry.{Entry}
+use Rattle.histories.specs.declared.entry.Entry.{Entry}
 use Rattle.journals.specs.JournalFile.{Answers, BeginsJournal, Closes, FollowsText}
 use Rattle.journals.specs.JournalFile.{IsAnswer, IsFirstRefused, IsJournal, IsSound}
 use Rattle.journals.specs.JournalFile.{Place, after, fault_of, histories_of, line_ends, so_far}

@@ -5,9 +5,9 @@ use Rattle.std.proofs.Common.{subst, append_assoc, append-nil, inl, inr}
 use Rattle.std.specs.Prelude.{codes, option_to_list}
 use Rattle.std.specs.List.{list_any}
 use Rattle.std.proofs.lemmas.Option.{none-some, same_Some}
-use Rattle.place_history.specs.declared.entry.Entry.{Entry}
-use Rattle.place_history.specs.declared.log.Did.{Did}
-use Rattle.place_history.specs.declared.log.PortLog.{PortLog}
+use Rattle.histories.specs.declared.entry.Entry.{Entry}
+use Rattle.histories.specs.declared.log.Did.{Did}
+use Rattle.histories.specs.declared.log.PortLog.{PortLog}
 use Rattle.journals.specs.declared.line.Line.{Line}
 use Rattle.journals.specs.declared.line.Line.TheVariants.{Heading, EntryLine, PortLine, DidLine}
 use Rattle.journals.specs.declared.line.Line.TheVariants.{End}

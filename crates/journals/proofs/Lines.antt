@@ -13,8 +13,8 @@ use Rattle.nfqa_msgs.specs.declared.request.Params.{Params}
 use Rattle.nfqa_msgs.specs.declared.request.Head.{Head}
 use Rattle.nfqa_msgs.specs.declared.request.Request.{Request}
 use Rattle.nfqa_msgs.specs.declared.request.Request.TheVariants.{Config, Verdict, Batch}
-use Rattle.place_history.specs.declared.log.AskWords.{AskWords}
-use Rattle.place_history.specs.declared.log.AskWords.TheVariants.{Plain, Raw}
+use Rattle.histories.specs.declared.log.AskWords.{AskWords}
+use Rattle.histories.specs.declared.log.AskWords.TheVariants.{Plain, Raw}
 use Rattle.journals.specs.Journal as text
 use Rattle.journals.specs.WellFormed.{FitsAsk, FitsCard}
 use Rattle.journals.specs.WellFormed.{IsHalf, IsWide}

@@ -6,7 +6,7 @@ use Rattle.std.specs.Prelude.{filter}
 use Rattle.std.proofs.lemmas.Bool.{ltb-false, ltb-true}
 use Rattle.std.proofs.lemmas.Option.{none-some}
 use Rattle.text_lines.specs.Words.{cut_at}
-use Rattle.place_history.specs.declared.histories.Histories.{Histories}
+use Rattle.histories.specs.declared.histories.Histories.{Histories}
 use Rattle.journals.specs.declared.fault.JournalFault.{JournalFault}
 use Rattle.journals.specs.declared.fault.JournalFault.TheVariants.{Bad}
 use Rattle.journals.specs.declared.fault.JournalFault.TheVariants as fault

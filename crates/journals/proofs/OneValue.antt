@@ -4,7 +4,7 @@ use Rattle.std.proofs.Common.{Some, None, ◌∙◌, refl, sym, ap, subst, arith
 use Rattle.std.proofs.Common.{append_assoc, append-nil}
 use Rattle.std.proofs.lemmas.Option.{none-some, same_Some}
 use Rattle.text_lines.specs.Words.{cut_at}
-use Rattle.place_history.specs.declared.histories.Histories.{Histories}
+use Rattle.histories.specs.declared.histories.Histories.{Histories}
 use Rattle.journals.specs.declared.line.Line.{Line}
 use Rattle.journals.specs.Journal as text
 use Rattle.journals.specs.Lines.{IsLine}

@@ -16,13 +16,13 @@ use Rattle.queue_core.specs.declared.event.Event.{Event}
 use Rattle.queue_core.specs.declared.event.Event.TheVariants.{Arrive, Ask, PortClosed, DeviceDown}
 use Rattle.queue_core.specs.declared.event.Reply.{Reply}
 use Rattle.queue_core.specs.declared.event.Reply.TheVariants.{Arrived, Answer, Flushed}
-use Rattle.place_history.specs.declared.entry.Entry.{Entry}
-use Rattle.place_history.specs.declared.log.Did.{Did}
-use Rattle.place_history.specs.declared.log.Did.TheVariants.{Received, Sent, Closed}
-use Rattle.place_history.specs.declared.log.AskWords.{AskWords}
-use Rattle.place_history.specs.declared.log.AskWords.TheVariants.{Plain, Raw}
-use Rattle.place_history.specs.declared.log.PortLog.{PortLog}
-use Rattle.place_history.specs.declared.histories.Histories.{Histories}
+use Rattle.histories.specs.declared.entry.Entry.{Entry}
+use Rattle.histories.specs.declared.log.Did.{Did}
+use Rattle.histories.specs.declared.log.Did.TheVariants.{Received, Sent, Closed}
+use Rattle.histories.specs.declared.log.AskWords.{AskWords}
+use Rattle.histories.specs.declared.log.AskWords.TheVariants.{Plain, Raw}
+use Rattle.histories.specs.declared.log.PortLog.{PortLog}
+use Rattle.histories.specs.declared.histories.Histories.{Histories}
 
 abbrev pub yes_no : Bool → List ℕ
 yes_no true = codes "y"

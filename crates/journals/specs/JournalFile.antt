@@ -8,11 +8,11 @@ use Rattle.std.specs.List.{list_any}
 use Rattle.std.specs.BTreeSet.{contains}
 use Rattle.std.specs.Ordering.{nat_cmp}
 use Rattle.text_lines.specs.Words.{byte, cut_at}
-use Rattle.place_history.specs.declared.entry.Entry.{Entry}
-use Rattle.place_history.specs.declared.log.Did.{Did}
-use Rattle.place_history.specs.declared.log.Did.TheVariants.{Received, Sent, Closed}
-use Rattle.place_history.specs.declared.log.PortLog.{PortLog}
-use Rattle.place_history.specs.declared.histories.Histories.{Histories}
+use Rattle.histories.specs.declared.entry.Entry.{Entry}
+use Rattle.histories.specs.declared.log.Did.{Did}
+use Rattle.histories.specs.declared.log.Did.TheVariants.{Received, Sent, Closed}
+use Rattle.histories.specs.declared.log.PortLog.{PortLog}
+use Rattle.histories.specs.declared.histories.Histories.{Histories}
 use Rattle.journals.specs.declared.fault.JournalFault.{JournalFault}
 use Rattle.journals.specs.declared.fault.JournalFault.TheVariants.{Bad}
 use Rattle.journals.specs.declared.fault.JournalFault.TheVariants as fault

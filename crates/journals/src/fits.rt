@@ -8,7 +8,7 @@ ghost use Rattle.journals.specs.WellFormed.{FitsRequest, IsHalf, IsSmall, IsWide
 
 use nfqa_msgs::{Head, Params, Request};
 use packet_entry::{Bytes, Card};
-use place_history::{AskWords, Did, Dids, Entries, Entry, Event, Histories, Logs, PortLog, Reply};
+use histories::{AskWords, Did, Dids, Entries, Entry, Event, Histories, Logs, PortLog, Reply};
 use queue_core::Outcome;
 
 /// Each value fits its field.

@@ -1,7 +1,7 @@
 //! Laws of journals and of their lines, each the contract of a function that does nothing.
 
 ghost use Rattle.std.specs.Prelude.{◌≡◌, ◌⊎◌, ◌↔◌, ◌++◌, ℕ, List, [], Some};
-ghost use Rattle.place_history.specs.declared.histories.Histories.{Histories};
+ghost use Rattle.histories.specs.declared.histories.Histories.{Histories};
 ghost use Rattle.journals.specs.declared.line.Line.{Line};
 ghost use Rattle.journals.specs.Journal.{journal};
 ghost use Rattle.journals.specs.JournalFile.{IsFirstRefused, IsJournal};

@@ -1,6 +1,6 @@
 //! What one line of a journal says.
 
-use place_history::{Did, Entry};
+use histories::{Did, Entry};
 
 /// What one line of a journal says.
 #[derive(Drop)]

@@ -10,7 +10,7 @@ use crate::line::Line;
 use crate::request_reading::{asked, request};
 use nfqa_msgs::Request;
 use packet_entry::{Card, NoMemory};
-use place_history::{Did, Entry};
+use histories::{Did, Entry};
 use queue_core::{Event, Outcome, Reply};
 use std::alloc::Global;
 use text_lines::{cut, decimal, decimal_16, is_word};

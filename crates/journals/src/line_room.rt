@@ -8,7 +8,7 @@ ghost use Rattle.journals.specs.Journal as text;
 use crate::writing::{DIGITS, yes_no};
 use nfqa_msgs::{Head, Params, Request};
 use packet_entry::{Bytes, Card};
-use place_history::{Entry, Event, Reply};
+use histories::{Entry, Event, Reply};
 use queue_core::Outcome;
 
 /// What an arrival's line says of the packet has at most so many bytes beside the packet's own.

@@ -12,7 +12,7 @@ use crate::line::Line;
 use crate::line_reading::read_line;
 use crate::stop::Stop;
 use packet_entry::{NoMemory, Sequence};
-use place_history::{Did, Entries, Entry, Histories, Logs, PortLog};
+use histories::{Did, Entries, Entry, Histories, Logs, PortLog};
 use std::alloc::Global;
 use std::collections::BTreeSet;
 

@@ -1,7 +1,7 @@
 //! From a journal's text to histories.
 
 ghost use Rattle.std.specs.Prelude.{◌≡◌, ◌++◌, ◌<◌, ◌-◌, ◌^◌, ℕ, Err, IfOk, codes, length};
-ghost use Rattle.place_history.specs.declared.histories.Histories as value;
+ghost use Rattle.histories.specs.declared.histories.Histories as value;
 ghost use Rattle.journals.specs.declared.fault.JournalFault.TheVariants as fault;
 ghost use Rattle.journals.specs.JournalFile.{Answers, Closes, IsAnswer, IsFirstRefused, IsJournal};
 ghost use Rattle.journals.specs.JournalFile.{IsRefusedAt, place_of};
@@ -9,7 +9,7 @@ ghost use Rattle.journals.specs.JournalFile.{IsRefusedAt, place_of};
 use crate::fault::JournalFault;
 use crate::reader::Reader;
 use packet_entry::NoMemory;
-use place_history::Histories;
+use histories::Histories;
 use std::alloc::Global;
 use text_lines::{bytes_are_spelled, cut, is_word, numbers_are_spelled};
 

@@ -9,7 +9,7 @@ ghost use Rattle.journals.specs.Reading.{small, verdict_in};
 use crate::fields::{behind, bytes, half, small, wide, word};
 use nfqa_msgs::{Head, Params, Request};
 use packet_entry::{Bytes, NoMemory};
-use place_history::AskWords;
+use histories::AskWords;
 use std::alloc::Global;
 use text_lines::is_word;
 

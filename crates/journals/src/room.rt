@@ -3,7 +3,7 @@
 use crate::writing::DIGITS;
 use nfqa_msgs::Request;
 use packet_entry::Bytes;
-use place_history::{AskWords, Did, Entry, Event, Histories, Logs, PortLog};
+use histories::{AskWords, Did, Entry, Event, Histories, Logs, PortLog};
 
 /// More bytes than a line has beside its byte texts, with numbers of a usual length.
 const LINE: usize = 96;

@@ -7,7 +7,7 @@ use crate::{
 };
 use nfqa_msgs::{Head, Params, Request};
 use packet_entry::{Bytes, Card, NoMemory, Sequence};
-use place_history::{AskWords, Did, Entry, Event, Histories, PortLog, Reply};
+use histories::{AskWords, Did, Entry, Event, Histories, PortLog, Reply};
 use queue_core::Outcome;
 use std::alloc::Global;
 use std::test::Fail;

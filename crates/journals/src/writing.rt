@@ -10,7 +10,7 @@ use crate::appending::{append_number, append_text, append_word};
 use crate::room::{room_for, room_for_logs};
 use nfqa_msgs::{Head, Params, Request};
 use packet_entry::{Bytes, Card, NoMemory};
-use place_history::{AskWords, Did, Dids, Entries, Entry, Event, Histories, Logs, PortLog, Reply};
+use histories::{AskWords, Did, Dids, Entries, Entry, Event, Histories, Logs, PortLog, Reply};
 use queue_core::Outcome;
 use std::alloc::{AllocError, Global};
 

@@ -21,13 +21,13 @@ use Rattle.queue_core.specs.declared.event.Reply.TheVariants.{Arrived, Answer, F
 use Rattle.queue_core.specs.State.{Bound}
 use Rattle.queue_core.specs.Step.{step}
 use Rattle.queue_core.specs.Laws.{Tells}
-use Rattle.place_history.specs.declared.entry.Entry.{Entry}
-use Rattle.place_history.specs.declared.log.Did.{Did}
-use Rattle.place_history.specs.declared.log.Did.TheVariants.{Received, Closed}
-use Rattle.place_history.specs.declared.log.PortLog.{PortLog}
-use Rattle.place_history.specs.declared.histories.Histories.{Histories}
-use Rattle.place_history.specs.History.{history, is_of, AreLegal, IsLegalFrom}
-use Rattle.place_history.specs.Happenings as place
+use Rattle.histories.specs.declared.entry.Entry.{Entry}
+use Rattle.histories.specs.declared.log.Did.{Did}
+use Rattle.histories.specs.declared.log.Did.TheVariants.{Received, Closed}
+use Rattle.histories.specs.declared.log.PortLog.{PortLog}
+use Rattle.histories.specs.declared.histories.Histories.{Histories}
+use Rattle.histories.specs.History.{history, is_of, AreLegal, IsLegalFrom}
+use Rattle.histories.specs.Happenings as place
 use Rattle.packet_entry.specs.declared.letter.Letter.{Letter}
 use Rattle.inspector_script.specs.Scripts.{ScriptValue, IsScript}
 use Rattle.script_runs.specs.Log.{Note, Got, Begun, Spoke, Shut, Standing, AreNextFrom}

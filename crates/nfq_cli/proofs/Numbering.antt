@@ -12,8 +12,8 @@ use Rattle.pcap_io.specs.declared.capture.Capture.{Capture}
 use Rattle.pcap_io.specs.declared.capture.Frame.{Frame}
 use Rattle.script_runs.specs.Entering.{card_at, cards, cards_from}
 use Rattle.std.specs.Prelude.{◌++◌, option_map, option_to_list}
-use Rattle.place_history.specs.declared.histories.Histories.{Histories}
-use Rattle.place_history.specs.declared.histories.Lost.{Lost}
+use Rattle.histories.specs.declared.histories.Histories.{Histories}
+use Rattle.histories.specs.declared.histories.Lost.{Lost}
 use Rattle.fate_ledger.specs.declared.happening.Happening.{Happening}
 use Rattle.fate_ledger.specs.Fates.{fates, fates_from, happenings}
 use Rattle.fate_ledger.specs.Laws.{DifferInNumber}

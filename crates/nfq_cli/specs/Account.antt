@@ -4,11 +4,11 @@ use Rattle.std.specs.List.{zip}
 use Rattle.pcap_io.specs.declared.capture.Capture.{Capture}
 use Rattle.pcap_io.specs.declared.capture.Frame.{Frame}
 use Rattle.hook_chain.specs.declared.rule.Rule.{Rule}
-use Rattle.place_history.specs.declared.histories.Histories.{Histories}
-use Rattle.place_history.specs.History.{AreLegal}
-use Rattle.place_history.specs.Moves.{moves}
-use Rattle.place_history.specs.Journeys.{AreSound}
-use Rattle.place_history.specs.Endings.{AreQueuesOf, times_waiting, times_over, times_entered}
+use Rattle.histories.specs.declared.histories.Histories.{Histories}
+use Rattle.histories.specs.History.{AreLegal}
+use Rattle.histories.specs.Moves.{moves}
+use Rattle.histories.specs.Journeys.{AreSound}
+use Rattle.histories.specs.Endings.{AreQueuesOf, times_waiting, times_over, times_entered}
 use Rattle.inspector_script.specs.Scripts.{ScriptValue}
 use Rattle.script_runs.specs.Entering.{cards}
 use Rattle.script_runs.specs.Log.{Note}

@@ -6,8 +6,8 @@ use Rattle.inspector_script.specs.Grammar.{IsScriptFile}
 use Rattle.inspector_script.specs.Scripts.{ScriptValue}
 use Rattle.pcap_io.specs.declared.capture.Capture.{Capture}
 use Rattle.pcap_io.specs.Text.{capture_text}
-use Rattle.place_history.specs.declared.histories.Histories.{Histories}
-use Rattle.place_history.specs.Listing.{listing}
+use Rattle.histories.specs.declared.histories.Histories.{Histories}
+use Rattle.histories.specs.Listing.{listing}
 use Rattle.script_runs.specs.Schedule.{before_ends}
 use Rattle.generated.specs.Captures.{generated_capture}
 use Rattle.generated.specs.Texts.{rules_text, script_text}

@@ -7,7 +7,7 @@ use Rattle.packet_entry.specs.Numbers.{longest_packet}
 use Rattle.pcap_io.specs.declared.capture.Capture.{Capture}
 use Rattle.pcap_io.specs.Numbers.{record_header_length}
 use Rattle.pcap_io.specs.Text.{IsHeld, capture_text}
-use Rattle.place_history.specs.declared.entry.Entry.{Entry}
+use Rattle.histories.specs.declared.entry.Entry.{Entry}
 use Rattle.journals.specs.Journal as text
 
 -- a text is written up to this place: there the part comes, and behind it the rest

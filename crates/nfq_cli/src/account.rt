@@ -6,9 +6,9 @@ ghost use Rattle.inspector_script.specs.Scripts.{ScriptValue, IsScript};
 ghost use Rattle.packet_entry.specs.Numbers.{longest_packet};
 ghost use Rattle.pcap_io.specs.declared.capture.Capture.{Capture as ACapture};
 ghost use Rattle.pcap_io.specs.Text.{IsHeld};
-ghost use Rattle.place_history.specs.declared.histories.Histories.{Histories as AHistories};
-ghost use Rattle.place_history.specs.History.{AreLegal};
-ghost use Rattle.place_history.specs.Journeys.{AreSound};
+ghost use Rattle.histories.specs.declared.histories.Histories.{Histories as AHistories};
+ghost use Rattle.histories.specs.History.{AreLegal};
+ghost use Rattle.histories.specs.Journeys.{AreSound};
 ghost use Rattle.script_runs.specs.Entering.{cards};
 ghost use Rattle.script_runs.specs.Schedule.{IsSolo};
 ghost use Rattle.fate_ledger.specs.Released.{released};
@@ -27,7 +27,7 @@ use inspector_script::Script;
 use journals::histories_fit;
 use packet_entry::NoMemory;
 use pcap_io::Capture;
-use place_history::{Histories, each_packet_waits_is_lost_or_is_over};
+use histories::{Histories, each_packet_waits_is_lost_or_is_over};
 use queue_core::replies_tell_how_many_left;
 use script_runs::{
     no_notice_is_left, packets_and_payloads_are_within_bounds, packets_are_read_with_their_frames,

@@ -10,7 +10,7 @@ use crate::part_writing::{PART, make_room, write_part};
 use host_io::{Host, WriteFault, write_on};
 use journals::{append_entry, append_heading, entry_room, journal_tail};
 use packet_entry::NoMemory;
-use place_history::{Entries, Histories};
+use histories::{Entries, Histories};
 use std::alloc::Global;
 use std::marker::Model;
 

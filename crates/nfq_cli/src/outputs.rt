@@ -3,7 +3,7 @@
 ghost use Rattle.std.specs.Prelude.{◌≡◌, ◌≤◌, length, IfOk, All};
 ghost use Rattle.packet_entry.specs.Numbers.{longest_packet};
 ghost use Rattle.pcap_io.specs.Text.{IsHeld, capture_text};
-ghost use Rattle.place_history.specs.History.{AreLegal};
+ghost use Rattle.histories.specs.History.{AreLegal};
 ghost use Rattle.solo_run.specs.Numbers.{most_frames};
 ghost use Rattle.fate_ledger.specs.Released.{released};
 ghost use Rattle.nfq_cli.specs.Outputs as text;
@@ -13,7 +13,7 @@ use crate::journal_file::JournalFile;
 use fate_ledger::{FateLines, fates, ledger_text, released_capture};
 use packet_entry::NoMemory;
 use pcap_io::Capture;
-use place_history::Histories;
+use histories::Histories;
 use std::alloc::Global;
 
 /// The three files that a run writes.

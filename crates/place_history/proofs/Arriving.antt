@@ -14,13 +14,13 @@ use Rattle.queue_core.specs.Step.{Stepped, Way, step, is_decided_early, next_id}
 use Rattle.queue_core.specs.State.{Bound}
 use Rattle.queue_core.specs.Calls.{BeginsArrival, ArrivesAs}
 use Rattle.queue_core.specs.WithOffer.{WithOffer}
-use Rattle.place_history.specs.declared.entry.Entry.{Entry}
+use Rattle.histories.specs.declared.entry.Entry.{Entry}
 use Rattle.place_history.specs.declared.place.held.Held.{Held}
 use Rattle.place_history.specs.declared.place.held.Offer.{Offer}
-use Rattle.place_history.specs.Numbers.{queue_count}
+use Rattle.histories.specs.Numbers.{queue_count}
 use Rattle.place_history.specs.Changes.{Queues, queue_at, Changes}
-use Rattle.place_history.specs.PlaceState.{state_of, entry_of}
-use Rattle.place_history.specs.Happenings.{IsTurnedAway}
+use Rattle.histories.specs.States.{state_of, entry_of}
+use Rattle.place_history.specs.Calls.{IsTurnedAway}
 use Rattle.place_history.specs.PlaceInvariant.{IsReplayed, IsOffer, as_arrival, held_as}
 use Rattle.place_history.proofs.Stepping.{Makes, state_before}
 

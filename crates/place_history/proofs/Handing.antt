@@ -15,7 +15,7 @@ use Rattle.queue_core.specs.Calls.{ways_of, batch_handed, handed_as}
 use Rattle.queue_core.specs.WithOffer.{WithOffer}
 use Rattle.queue_core.specs.State.{Bound}
 use Rattle.queue_core.specs.Step.{Gone, all_gone, way_of}
-use Rattle.place_history.specs.Happenings.{handed_of, all_handed}
+use Rattle.histories.specs.Happenings.{handed_of, all_handed}
 use Rattle.place_history.specs.Changes.{Queues, Changes}
 
 -- nothing of what is destroyed

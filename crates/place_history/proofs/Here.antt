@@ -13,14 +13,14 @@ use Rattle.queue_core.specs.declared.offers.Begun.{Begun}
 use Rattle.queue_core.specs.declared.offers.Begun.TheVariants as begun
 use Rattle.queue_core.specs.State.{Bound}
 use Rattle.queue_core.specs.declared.event.Event.TheVariants.{PortClosed, DeviceDown}
-use Rattle.place_history.specs.declared.entry.Entry.{Entry}
+use Rattle.histories.specs.declared.entry.Entry.{Entry}
 use Rattle.place_history.specs.declared.place.held.Held.{Held}
 use Rattle.place_history.specs.declared.place.held.Offer.{Offer}
 use Rattle.place_history.specs.PlaceInvariant.{IsBegun}
-use Rattle.place_history.specs.History.{is_of}
-use Rattle.place_history.specs.PlaceState.{state_of, entry_in, every_number}
-use Rattle.place_history.specs.Happenings.{closing_of, down_of, closings, downs}
-use Rattle.place_history.proofs.Sweeping.{asked_at}
+use Rattle.histories.specs.History.{is_of}
+use Rattle.histories.specs.States.{state_of, entry_in, every_number}
+use Rattle.histories.specs.Happenings.{closing_of, down_of, closings, downs}
+use Rattle.histories.specs.Sweeps.{asked_at}
 
 abbrev pub AllAt : (ℕ → Type 0) → List Entry → Type 0
 AllAt P es = All (λ (e : Entry). P e.queue) es

@@ -1,7 +1,3 @@
-pub mod Legal
-pub mod Staying
-pub mod Journeying
-pub mod Ending
 pub mod Replaying
 pub mod Stepping
 pub mod Arriving
@@ -9,4 +5,3 @@ pub mod Handing
 pub mod Requesting
 pub mod Sweeping
 pub mod Here
-pub mod Swept

@@ -1,7 +1,7 @@
 -- One entry more, and what the queues of a place are then.
 use Rattle.std.proofs.Common.{◌≡◌, ◌≤◌, ◌<◌, ℕ, suc, zero, ◌+◌, List, [], ◌∷◌, ◌++◌, Option, None}
 use Rattle.std.proofs.Common.{Some, true, false, refl, sym, ap, ◌∙◌, subst, arith, inl, inr}
-use Rattle.std.proofs.Common.{length}
+use Rattle.std.proofs.Common.{length, Bool, cond}
 use Rattle.std.proofs.lemmas.List.{length_push, length-map}
 use Rattle.std.specs.Prelude.{sum_by, count_by, ◌==◌}
 use Rattle.std.specs.List.{range_with_len}
@@ -22,17 +22,31 @@ use Rattle.queue_core.specs.declared.offers.Outcome.TheVariants.{Taken}
 use Rattle.queue_core.specs.declared.event.Event.TheVariants.{Arrive, Ask, PortClosed, DeviceDown}
 use Rattle.queue_core.specs.declared.event.Reply.{Reply}
 use Rattle.queue_core.specs.declared.event.Reply.TheVariants.{Arrived, Answer, Flushed}
-use Rattle.place_history.specs.Numbers.{queue_count}
-use Rattle.place_history.specs.declared.entry.Entry.{Entry}
+use Rattle.histories.specs.Numbers.{queue_count}
+use Rattle.histories.specs.declared.entry.Entry.{Entry}
 use Rattle.place_history.specs.declared.place.held.Held.{Held}
 use Rattle.queue_core.specs.State.{Bound}
-use Rattle.place_history.specs.History.{replay, history}
-use Rattle.place_history.specs.PlaceState.{state_of, step_of, waiting_at, one_if_bound}
-use Rattle.place_history.specs.PlaceState.{every_number, waiting_in_all, taken_by}
+use Rattle.histories.specs.History.{replay, history}
+use Rattle.histories.specs.States.{state_of, step_of, waiting_at, one_if_bound}
+use Rattle.histories.specs.States.{every_number, waiting_in_all, taken_by}
 use Rattle.place_history.specs.PlaceInvariant.{IsReplayed, IsAhead, held_as, waiting_after}
 use Rattle.place_history.specs.Changes.{queue_at}
-use Rattle.place_history.proofs.Journeying.{once}
-use Rattle.place_history.proofs.Legal.{own_on, others_on, state_on, all_on}
+use Rattle.histories.specs.History.{AreLegal, IsStep}
+
+-- the laws of histories that are used here: how a history goes on with an entry more
+pub record GoesOn : Type 0 where
+  pub own : (es : List Entry) (e : Entry) →
+      history e.queue (es ++ e ∷ []) ≡ history e.queue es ++ e ∷ []
+  pub others : (es : List Entry) (e : Entry) (queue : ℕ) → (e.queue == queue) ≡ false →
+      history queue (es ++ e ∷ []) ≡ history queue es
+  pub state : (es : List Entry) (e : Entry) →
+      replay (es ++ e ∷ []) ≡ (step (replay es) e.event).state
+  pub all : (es : List Entry) (e : Entry) → AreLegal es → IsStep (replay (history e.queue es)) e →
+      AreLegal (es ++ e ∷ [])
+
+-- a test as a number
+abbrev once : Bool → ℕ
+once b = cond b 1 0
 
 -- ---- numbers
 
@@ -93,48 +107,48 @@ sum_changed f g k a (suc n) others from below = elim (cases_Bool (k == a)) [
 
 -- ---- one entry more
 
-pub state_own : (es : List Entry) (e : Entry) →
+pub state_own : GoesOn → (es : List Entry) (e : Entry) →
     state_of (es ++ e ∷ []) e.queue ≡ (step_of es e.queue e.event).state
-state_own es e =
-    ap replay (own_on es e e.queue (eq-eqb e.queue e.queue refl))
-    ∙ state_on (history e.queue es) e
+state_own go es e = ap replay (go.own es e) ∙ go.state (history e.queue es) e
 
-pub state_other : (es : List Entry) (e : Entry) (queue : ℕ) → (e.queue == queue) ≡ false →
-    state_of (es ++ e ∷ []) queue ≡ state_of es queue
-state_other es e queue other = ap replay (others_on es e queue other)
+pub state_other : GoesOn → (es : List Entry) (e : Entry) (queue : ℕ) →
+    (e.queue == queue) ≡ false → state_of (es ++ e ∷ []) queue ≡ state_of es queue
+state_other go es e queue other = ap replay (go.others es e queue other)
 
 -- what is counted of each queue's state changes with one queue
-total_below : (count : Option Bound → ℕ) (es : List Entry) (e : Entry) (n : ℕ) → e.queue < n →
+total_below : GoesOn → (count : Option Bound → ℕ) (es : List Entry) (e : Entry) (n : ℕ) →
+    e.queue < n →
     sum_by (λ q. count (state_of (es ++ e ∷ []) q)) (range_with_len 0 n)
     + count (state_of es e.queue)
     ≡ sum_by (λ q. count (state_of es q)) (range_with_len 0 n)
     + count (step_of es e.queue e.event).state
-total_below count es e n number =
+total_below go count es e n number =
     let changed = sum_changed (λ q. count (state_of es q))
     (λ q. count (state_of (es ++ e ∷ []) q)) e.queue 0 n
-    (λ q other. ap count (state_other es e q other)) (omega arith) (omega (arith, number)) in
-    omega (arith, changed, ap count (state_own es e))
+    (λ q other. ap count (state_other go es e q other)) (omega arith) (omega (arith, number)) in
+    omega (arith, changed, ap count (state_own go es e))
 
-total_on : (count : Option Bound → ℕ) (es : List Entry) (e : Entry) → e.queue < queue_count →
+total_on : GoesOn → (count : Option Bound → ℕ) (es : List Entry) (e : Entry) →
+    e.queue < queue_count →
     sum_by (λ q. count (state_of (es ++ e ∷ []) q)) every_number
     + count (state_of es e.queue)
     ≡ sum_by (λ q. count (state_of es q)) every_number
     + count (step_of es e.queue e.event).state
 unfolding every_number
-total_on count es e number = total_below count es e queue_count number
+total_on go count es e number = total_below go count es e queue_count number
 
-states_on : (h : Held) (es : List Entry) (e : Entry) (queue : ℕ) →
+states_on : GoesOn → (h : Held) (es : List Entry) (e : Entry) (queue : ℕ) →
     queue_at h.queues e.queue ≡ held_as None e.queue (step_of es e.queue e.event).state →
     (is_at (nat_cmp e.queue) queue ≡ false →
     queue_at h.queues queue ≡ held_as None queue (state_of es queue)) →
     queue_at h.queues queue ≡ held_as None queue (state_of (es ++ e ∷ []) queue)
-states_on h es e queue own others = elim (cases_Bool (is_at (nat_cmp e.queue) queue)) [
+states_on go h es e queue own others = elim (cases_Bool (is_at (nat_cmp e.queue) queue)) [
   | inl here ↦ subst
       (λ n. queue_at h.queues n ≡ held_as None n (state_of (es ++ e ∷ []) n))
       (at_own e.queue queue here)
-      (own ∙ ap (held_as None e.queue) (sym (state_own es e)))
+      (own ∙ ap (held_as None e.queue) (sym (state_own go es e)))
   | inr other ↦ others other
-      ∙ ap (held_as None queue) (sym (state_other es e queue (not_of e.queue queue other)))
+      ∙ ap (held_as None queue) (sym (state_other go es e queue (not_of e.queue queue other)))
 ]
 
 -- ---- how many wait
@@ -194,14 +208,14 @@ abbrev pub Lawful : Option Bound → Event → Type 0
 Lawful q e = IsConserving q e × Tells e (step q e).reply (length (step q e).left)
 
 -- how many wait once the entry is appended
-waits_then : (h : Held) (e : Entry) → IsAhead e h →
+waits_then : GoesOn → (h : Held) (e : Entry) → IsAhead e h →
     Lawful (state_of h.entries.items e.queue) e.event →
     (waiting_in_all (h.entries.items ++ e ∷ []) ≡ waiting_after h.waiting e.reply)
     × (taken_by e.reply ≤ h.waiting)
-waits_then h e ahead lawful =
+waits_then go h e ahead lawful =
     let es = h.entries.items in
     let so = counted (state_of es e.queue) e.event (waiting_in_all es)
-    (waiting_in_all (es ++ e ∷ [])) lawful.1 (total_on waiting_at es e ahead.number)
+    (waiting_in_all (es ++ e ∷ [])) lawful.1 (total_on go waiting_at es e ahead.number)
     (as_many (state_of es e.queue) e.event lawful.0) in (
       so.0 ∙ ap (waiting_after (waiting_in_all es)) (sym ahead.one.reply)
           ∙ ap (λ n. waiting_after n e.reply) (sym ahead.waiting),
@@ -209,26 +223,26 @@ waits_then h e ahead lawful =
     )
 
 -- no more leave than wait
-pub enough : (h : Held) (e : Entry) → IsAhead e h →
+pub enough : GoesOn → (h : Held) (e : Entry) → IsAhead e h →
     Lawful (state_of h.entries.items e.queue) e.event → taken_by e.reply ≤ h.waiting
-enough h e ahead lawful = (waits_then h e ahead lawful).1
+enough go h e ahead lawful = (waits_then go h e ahead lawful).1
 
 -- once the entry is appended, the queues are its replay
-pub replayed : (h : Held) (e : Entry) (room : ℕ) → IsAhead e h →
+pub replayed : GoesOn → (h : Held) (e : Entry) (room : ℕ) → IsAhead e h →
     Lawful (state_of h.entries.items e.queue) e.event →
     IsReplayed (record h {
       entries = record { items = h.entries.items ++ e ∷ []; room = room };
       waiting = waiting_after h.waiting e.reply;
     })
-replayed h e room ahead lawful =
+replayed go h e room ahead lawful =
     let es = h.entries.items in
     record {
       states = λ queue. rw ahead.no_offer
-          (states_on h es e queue ahead.own (ahead.others queue));
-      legal = all_on es e ahead.legal ahead.one;
+          (states_on go h es e queue ahead.own (ahead.others queue));
+      legal = go.all es e ahead.legal ahead.one;
       offered = rw ahead.no_offer tt;
-      waiting = sym (waits_then h e ahead lawful).0;
-      bound = omega (arith, total_on one_if_bound es e ahead.number, ahead.bound);
+      waiting = sym (waits_then go h e ahead lawful).0;
+      bound = omega (arith, total_on go one_if_bound es e ahead.number, ahead.bound);
       few = omega (arith, ahead.few, length_push es e, at_most h.waiting e.reply);
     }
   where

@@ -16,12 +16,12 @@ use Rattle.queue_core.specs.State.{Bound}
 use Rattle.queue_core.specs.Step.{Stepped, step, way_of}
 use Rattle.queue_core.specs.Calls.{hands_out, ways_of}
 use Rattle.queue_core.specs.WithOffer.{WithOffer}
-use Rattle.place_history.specs.declared.entry.Entry.{Entry}
+use Rattle.histories.specs.declared.entry.Entry.{Entry}
 use Rattle.place_history.specs.declared.place.held.Held.{Held}
 use Rattle.place_history.specs.declared.place.requests.Asker.{Asker}
-use Rattle.place_history.specs.PlaceState.{step_of, state_of}
+use Rattle.histories.specs.States.{step_of, state_of}
 use Rattle.place_history.specs.Changes.{queue_at}
-use Rattle.place_history.specs.Happenings.{all_handed}
+use Rattle.histories.specs.Happenings.{all_handed}
 use Rattle.place_history.specs.PlaceInvariant.{IsReplayed, Enters}
 use Rattle.place_history.proofs.Stepping.{Makes, state_before}
 

@@ -7,12 +7,12 @@ use Rattle.std.specs.Ordering.{nat_cmp}
 use Rattle.queue_core.specs.State.{Bound}
 use Rattle.queue_core.specs.Step.{step}
 use Rattle.queue_core.specs.WithOffer.{WithOffer}
-use Rattle.place_history.specs.Numbers.{queue_count}
-use Rattle.place_history.specs.declared.entry.Entry.{Entry}
+use Rattle.histories.specs.Numbers.{queue_count}
+use Rattle.histories.specs.declared.entry.Entry.{Entry}
 use Rattle.place_history.specs.declared.place.held.Held.{Held}
 use Rattle.place_history.specs.declared.place.held.Offer.{Offer}
-use Rattle.place_history.specs.History.{IsAllowed}
-use Rattle.place_history.specs.PlaceState.{state_of}
+use Rattle.histories.specs.History.{IsAllowed}
+use Rattle.histories.specs.States.{state_of}
 use Rattle.place_history.specs.PlaceInvariant.{IsReplayed, IsAhead, held_as}
 use Rattle.place_history.specs.Changes.{Queues, queue_at, Changes}
 use Rattle.place_history.proofs.Replaying.{not_of}

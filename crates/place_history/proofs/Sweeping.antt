@@ -9,14 +9,15 @@ use Rattle.std.proofs.lemmas.List.Elements.{filter-append}
 use Rattle.std.proofs.lemmas.List.Sums.{sum_by-append, sum_by-cons}
 use Rattle.std.proofs.lemmas.Bool.{ne_eqb}
 use Rattle.queue_core.specs.State.{Bound}
-use Rattle.place_history.specs.Numbers.{queue_count}
-use Rattle.place_history.specs.declared.entry.Entry.{Entry}
-use Rattle.place_history.specs.History.{replay, history, is_of}
+use Rattle.histories.specs.Numbers.{queue_count}
+use Rattle.histories.specs.declared.entry.Entry.{Entry}
+use Rattle.histories.specs.History.{replay, history, is_of}
 use Rattle.queue_core.specs.declared.event.Event.{Event}
 use Rattle.queue_core.specs.declared.event.Event.TheVariants.{PortClosed, DeviceDown}
-use Rattle.place_history.specs.PlaceState.{state_of, every_number, told, taken_in, taken_by}
-use Rattle.place_history.specs.PlaceState.{entry_in, one_if_bound, bound_in_all}
-use Rattle.place_history.specs.Happenings.{closing_of, down_of}
+use Rattle.histories.specs.States.{state_of, every_number, told, taken_in, taken_by}
+use Rattle.histories.specs.States.{entry_in, one_if_bound, bound_in_all}
+use Rattle.histories.specs.Happenings.{down_of}
+use Rattle.histories.specs.Sweeps.{OnlyAt, AsksAtOne, asked_at}
 
 -- ---- numbers from one on
 
@@ -64,10 +65,6 @@ flat_next f n =
     (append-nil (f (0 + n)) ∙ ap f here)
 
 -- ---- entries of one queue after the other
-
--- these entries are of one queue
-abbrev pub OnlyAt : ℕ → List Entry → Type 0
-OnlyAt n es = (q : ℕ) → (n == q) ≡ false → history q es ≡ []
 
 pub record Sweeps (at : ℕ → List Entry) (before es : List Entry) (from taken : ℕ) : Type 0 where
   pub within : from ≤ queue_count
@@ -118,15 +115,6 @@ sweeps_all at before es from taken is none =
 
 -- ---- entries that each queue's state asks for
 
--- what one queue's state asks for: nothing where the queue is absent, and entries of it alone
-pub record AsksAtOne (one : ℕ → Option Bound → List Entry) : Type 0 where
-  pub absent : (q : ℕ) → one q None ≡ []
-  pub only : (q : ℕ) (s : Option Bound) → OnlyAt q (one q s)
-
--- what the states at first ask for
-abbrev pub asked_at : (ℕ → Option Bound → List Entry) → List Entry → ℕ → List Entry
-asked_at one before q = one q (state_of before q)
-
 -- a queue that wasn't reached is as it was
 same_state : (at : ℕ → List Entry) (before es : List Entry) (from taken q : ℕ) →
     Sweeps at before es from taken → from ≤ q → state_of before q ≡ state_of es q
@@ -161,38 +149,6 @@ pub all_swept : (one : ℕ → Option Bound → List Entry) (before es : List En
 all_swept one before es from taken asks is none =
     sweeps_all (asked_at one before) before es from taken is
     (λ q low below. absent_asks one before es from taken q asks is low (none q low below))
-
--- one entry is of its queue alone
-one_only : (n q : ℕ) (s : Option Bound) (event : Event) → (n == q) ≡ false →
-    history q (entry_in n s event ∷ []) ≡ []
-one_only n q s event other = rw other refl
-
-pub closing_asks : (port : ℕ) → AsksAtOne (closing_of port)
-closing_asks port = record {
-  absent = λ q. refl;
-  only = only;
-}
-  where
-    either : (b : Bool) (xs : List Entry) (q : ℕ) → history q xs ≡ [] →
-        history q (cond b xs []) ≡ []
-    either true xs q none = none
-    either false xs q none = refl
-
-    only : (n : ℕ) (s : Option Bound) → OnlyAt n (closing_of port n s)
-    only n None = λ q other. refl
-    only n (Some b) = λ q other. either (b.port == port)
-        (entry_in n (Some b) (PortClosed port) ∷ []) q
-        (one_only n q (Some b) (PortClosed port) other)
-
-pub down_asks : (device : ℕ) → AsksAtOne (down_of device)
-down_asks device = record {
-  absent = λ q. refl;
-  only = only;
-}
-  where
-    only : (n : ℕ) (s : Option Bound) → OnlyAt n (down_of device n s)
-    only n None = λ q other. refl
-    only n (Some b) = λ q other. one_only n q (Some b) (DeviceDown device) other
 
 -- ---- how many entries
 

@@ -1,13 +1,6 @@
 pub mod Numbers
-pub mod History
-pub mod Stays
-pub mod Moves
-pub mod Journeys
-pub mod Endings
-pub mod Examples
 pub mod PlaceState
-pub mod Happenings
+pub mod Calls
 pub mod Changes
 pub mod PlaceInvariant
 pub mod Lines
-pub mod Listing

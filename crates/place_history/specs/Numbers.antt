@@ -1,15 +1,7 @@
--- The numbers of queues, of their places and of totals, each once.
+-- The number of places.
 use Rattle.std.specs.Prelude.{ℕ}
 use Rattle.packet_entry.specs.Numbers as shared
-
--- the number of queue numbers: they are of 16 bits, `res_id` of nfgenmsg (uapi nfnetlink.h)
-abbrev pub queue_count : ℕ
-queue_count = 65536
 
 -- the most places that queues are divided among
 abbrev pub most_places : ℕ
 most_places = shared.most_places
-
--- the last value of a number of packets that is told of several queues: it is of 32 bits
-abbrev pub largest_total : ℕ
-largest_total = 4294967295

@@ -17,16 +17,18 @@ use Rattle.queue_core.specs.State.{Bound}
 use Rattle.queue_core.specs.Step.{is_decided_early, next_id}
 use Rattle.queue_core.specs.Laws.{stays_in}
 use Rattle.queue_core.specs.WithOffer.{WithOffer}
-use Rattle.place_history.specs.Numbers.{queue_count, most_places}
-use Rattle.place_history.specs.declared.entry.Entry.{Entry}
+use Rattle.histories.specs.Numbers.{queue_count}
+use Rattle.place_history.specs.Numbers.{most_places}
+use Rattle.histories.specs.declared.entry.Entry.{Entry}
 use Rattle.place_history.specs.declared.place.held.Held.{Held}
 use Rattle.place_history.specs.declared.place.held.Offer.{Offer}
-use Rattle.place_history.specs.History.{IsStep, AreLegal}
-use Rattle.place_history.specs.Journeys.{Arrival}
-use Rattle.place_history.specs.PlaceState.{state_of, step_of, waiting_in_all, one_if_bound}
-use Rattle.place_history.specs.PlaceState.{bound_in_all, entry_of, AreHere}
+use Rattle.histories.specs.History.{IsStep, AreLegal}
+use Rattle.histories.specs.Journeys.{Arrival}
+use Rattle.histories.specs.States.{state_of, step_of, waiting_in_all, one_if_bound}
+use Rattle.histories.specs.States.{bound_in_all, entry_of}
+use Rattle.place_history.specs.PlaceState.{AreHere}
 use Rattle.place_history.specs.Changes.{queue_at}
-use Rattle.place_history.specs.Happenings.{all_handed}
+use Rattle.histories.specs.Happenings.{all_handed}
 
 -- an arrival that was begun
 abbrev pub as_arrival : Offer → Arrival

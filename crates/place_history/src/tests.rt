@@ -1,14 +1,15 @@
-//! The definitions on a history that was written out by hand, and what no contract says of a place:
-//! that its calls succeed where there is memory, on each kind of input.
+//! What no contract says of a place: that its calls succeed where there is memory, on each kind of
+//! input.
 
 ghost use Rattle.std.specs.Prelude.{◌≡◌, ◌≤◌, ◌<◌, None, false, map, [], ◌∷◌, IfOk};
-ghost use Rattle.place_history.specs.History.{replay, IsLegal};
-ghost use Rattle.place_history.specs.Stays.{departures};
-ghost use Rattle.place_history.specs.Examples.{legal_history, altered_history, one_rule};
-ghost use Rattle.place_history.specs.Examples.{three_packets, four_packets, IsOnly};
+ghost use Rattle.histories.specs.History.{replay, IsLegal};
+ghost use Rattle.histories.specs.Stays.{departures};
+ghost use Rattle.histories.specs.Examples.{legal_history, altered_history, one_rule};
+ghost use Rattle.histories.specs.Examples.{three_packets, four_packets};
+ghost use Rattle.place_history.specs.Calls.{IsOnly};
 ghost use Rattle.place_history.specs.PlaceState.{IsAt};
-ghost use Rattle.place_history.specs.Happenings.{payload_of, queue_of};
-ghost use Rattle.place_history.specs.Journeys.{AreSound};
+ghost use Rattle.histories.specs.Happenings.{payload_of, queue_of};
+ghost use Rattle.histories.specs.Journeys.{AreSound};
 
 use crate::{Entries, Entry, Event, Place, Reply};
 use hook_chain::Decision;
@@ -17,29 +18,6 @@ use packet_entry::{Bytes, IPV4, NoMemory, Packet};
 use queue_core::{Begun, Handed, NoRoom, Outcome, Settled};
 use std::alloc::Global;
 use std::test::Fail;
-
-/// The history is legal, leads to an absent queue, and its packets leave in their order. It isn't
-/// legal any more where one reply is another.
-fn read_by_hand()
-    ensures legal { IsLegal legal_history }
-    ensures state { replay legal_history ≡ None }
-    ensures left { map (λ card. card.number) (departures legal_history) ≡ 1 ∷ 2 ∷ 3 ∷ [] }
-    ensures altered { IsLegal altered_history → ⊥ }
-{}
-
-/// The three packets' journeys are sound with nothing lost, and aren't with a fourth packet that
-/// never arrived.
-fn journeys_by_hand()
-    ensures sound { AreSound one_rule 0 three_packets legal_history [] }
-    ensures missing { AreSound one_rule 0 four_packets legal_history [] → ⊥ }
-{}
-
-#[test]
-fn a_history_is_read_as_it_was_written(_rt: HostRuntime) -> Result<(), Fail> {
-    read_by_hand();
-    journeys_by_hand();
-    Ok(())
-}
 
 /// What happens at a place that is the only one.
 #[derive(Clone, Copy)]

@@ -10,7 +10,7 @@ use Rattle.std.proofs.lemmas.Option.{cond_some, none-some, same_Some}
 use Rattle.text_lines.specs.Words.{◌>>=◌, byte, cut_at_word, first_said, first_word, is_printable}
 use Rattle.text_lines.specs.Words.{words_after, words_of}
 use Rattle.text_lines.specs.Digits.{decimal}
-use Rattle.place_history.specs.declared.log.AskWords.{AskWords}
+use Rattle.histories.specs.declared.log.AskWords.{AskWords}
 use Rattle.script_lines.specs.declared.answering.OnLine.{OnLine}
 use Rattle.script_lines.specs.declared.line.Line.{Line}
 use Rattle.script_lines.specs.declared.line.Line.TheVariants.{Nothing, Mail, Pace, Key, Down, Port}

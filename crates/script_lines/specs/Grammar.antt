@@ -10,7 +10,7 @@ use Rattle.text_lines.specs.Hexadecimal.{IsSpelled}
 use Rattle.nfqa_msgs.specs.declared.request.Params.{Params}
 use Rattle.nfqa_msgs.specs.Numbers.{command_bind, command_unbind, command_pf_bind}
 use Rattle.nfqa_msgs.specs.Numbers.{command_pf_unbind, copy_none, copy_meta, copy_packet}
-use Rattle.place_history.specs.declared.log.AskWords.{AskWords}
+use Rattle.histories.specs.declared.log.AskWords.{AskWords}
 use Rattle.queue_core.specs.Numbers.{verdict_drop, verdict_accept, verdict_repeat, verdict_stop}
 use Rattle.queue_core.specs.Numbers.{verdict_queue, bypass_bit, queue_number_place}
 use Rattle.script_lines.specs.declared.template.OrThis.{OrThis}

@@ -6,7 +6,7 @@ use Rattle.std.specs.Option.{option_map_or}
 use Rattle.text_lines.specs.Words.{◌>>=◌, first_word, first_said, words_after, words_of}
 use Rattle.text_lines.specs.Words.{cut_at_word, is_printable}
 use Rattle.text_lines.specs.Digits.{decimal}
-use Rattle.place_history.specs.declared.log.AskWords.{AskWords}
+use Rattle.histories.specs.declared.log.AskWords.{AskWords}
 use Rattle.script_lines.specs.declared.answering.OnLine.{OnLine}
 use Rattle.script_lines.specs.declared.condition.Condition.{Condition}
 use Rattle.script_lines.specs.declared.template.Template.{Template}

@@ -4,7 +4,7 @@ ghost use Rattle.std.specs.Prelude.{◌≡◌, ◌++◌, map, IfOk, OnOk};
 ghost use Rattle.script_lines.specs.declared.ask.Ask.TheVariants.{Words};
 
 use packet_entry::{NoMemory, Sequence};
-use place_history::AskWords;
+use histories::AskWords;
 
 /// One thing that an inspector asks for.
 #[derive(Debug, Drop)]

@@ -10,7 +10,7 @@ use crate::answering::OnLine;
 use crate::ask_line::{only_word, read_ask};
 use crate::on_line::read_on;
 use packet_entry::NoMemory;
-use place_history::AskWords;
+use histories::AskWords;
 use std::alloc::Global;
 use text_lines::{are_printable, decimal, first_said, is_word, next_word, rest_after};
 

@@ -8,7 +8,7 @@ ghost use Rattle.script_lines.specs.Limits.{IsTemplate, IsWords};
 use crate::ask::Ask;
 use nfqa_msgs::{Head, Notice, Params, Request, share_payload};
 use packet_entry::{Bytes, NoMemory};
-use place_history::AskWords;
+use histories::AskWords;
 
 /// A number that an ask names: a queue's, or a packet's id.
 #[derive(Clone, Copy, Debug, PartialEq, Eq)]

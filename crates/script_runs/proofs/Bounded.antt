@@ -27,13 +27,13 @@ use Rattle.nfqa_msgs.specs.RequestReading.{AskedFits, decoded}
 use Rattle.queue_core.specs.State.{Bound}
 use Rattle.queue_core.specs.Step.{Way, Gone, Open, Decided}
 use Rattle.queue_core.specs.declared.event.Event.TheVariants.{Ask}
-use Rattle.place_history.specs.declared.entry.Entry.{Entry}
-use Rattle.place_history.specs.declared.log.AskWords.{AskWords}
-use Rattle.place_history.specs.Journeys.{Arrival}
-use Rattle.place_history.specs.PlaceState.{state_of, every_number}
-use Rattle.place_history.specs.Happenings.{all_handed, closing_of, closings, down_of}
-use Rattle.place_history.specs.Happenings.{downs, queue_of}
-use Rattle.place_history.specs.Happenings.{arrive}
+use Rattle.histories.specs.declared.entry.Entry.{Entry}
+use Rattle.histories.specs.declared.log.AskWords.{AskWords}
+use Rattle.histories.specs.Journeys.{Arrival}
+use Rattle.histories.specs.States.{state_of, every_number}
+use Rattle.histories.specs.Happenings.{all_handed, closing_of, closings, down_of}
+use Rattle.histories.specs.Happenings.{downs, queue_of}
+use Rattle.histories.specs.Happenings.{arrive}
 use Rattle.script_lines.specs.declared.ask.Ask as lines
 use Rattle.script_lines.specs.declared.ask.Ask.TheVariants.{Words, Close}
 use Rattle.script_lines.specs.declared.line.Down.{Down}

@@ -6,8 +6,8 @@ use Rattle.hook_chain.specs.declared.chain.Next.{Next}
 use Rattle.hook_chain.specs.declared.chain.Next.TheVariants.{Released, To}
 use Rattle.hook_chain.specs.Route.{onward_of}
 use Rattle.queue_core.specs.Step.{Way}
-use Rattle.place_history.specs.declared.entry.Entry.{Entry}
-use Rattle.place_history.specs.Journeys.{Arrival}
+use Rattle.histories.specs.declared.entry.Entry.{Entry}
+use Rattle.histories.specs.Journeys.{Arrival}
 use Rattle.solo_plane.specs.declared.setting.Setting.{Setting}
 use Rattle.solo_plane.specs.World.{World, Port}
 use Rattle.solo_plane.specs.Moving.{Carried, arrival_to, arrived, turned_away, settled, carry}

@@ -9,11 +9,11 @@ use Rattle.std.proofs.lemmas.List.Folds.{list_any-append}
 use Rattle.queue_core.specs.State.{Bound}
 use Rattle.queue_core.specs.Step.{step}
 use Rattle.queue_core.specs.declared.event.Event.TheVariants.{PortClosed}
-use Rattle.place_history.specs.declared.entry.Entry.{Entry}
-use Rattle.place_history.specs.Numbers.{queue_count}
-use Rattle.place_history.specs.History.{history, is_of, replay, replay_from}
-use Rattle.place_history.specs.PlaceState.{entry_in, state_of}
-use Rattle.place_history.specs.Happenings as happening
+use Rattle.histories.specs.declared.entry.Entry.{Entry}
+use Rattle.histories.specs.Numbers.{queue_count}
+use Rattle.histories.specs.History.{history, is_of, replay, replay_from}
+use Rattle.histories.specs.States.{entry_in, state_of}
+use Rattle.histories.specs.Happenings as happening
 use Rattle.script_runs.specs.Closing.{is_closing_of, is_of_port, behind_first, is_bound_to}
 use Rattle.script_runs.specs.Closing.{IsClosing}
 use Rattle.script_runs.proofs.Shutting.{step_frees}

@@ -28,8 +28,8 @@ use Rattle.nfqa_msgs.specs.RequestReading.{config_in, verdict_in, batch_in}
 use Rattle.nfqa_msgs.specs.RequestWriting.{part, value_part, head_part, parts_of, queue_for}
 use Rattle.nfqa_msgs.specs.RequestWriting.{number_for, flags_for, request_body, spelling}
 use Rattle.nfqa_msgs.specs.Kinds.{queue_kind, number_of}
-use Rattle.place_history.specs.declared.log.AskWords.{AskWords}
-use Rattle.place_history.specs.declared.log.AskWords.TheVariants.{Plain, Raw}
+use Rattle.histories.specs.declared.log.AskWords.{AskWords}
+use Rattle.histories.specs.declared.log.AskWords.TheVariants.{Plain, Raw}
 use Rattle.script_lines.specs.Limits.{IsWords, IsRequest}
 use Rattle.script_lines.specs.Numbers.{most_payload_bytes}
 use Rattle.script_runs.specs.Sending.{bytes_of, cut_in, with_those_behind}

@@ -18,10 +18,10 @@ use Rattle.hook_chain.specs.declared.rule.Rule.{Rule}
 use Rattle.hook_chain.specs.Route.{next}
 use Rattle.pcap_io.specs.declared.capture.Capture.{Capture}
 use Rattle.pcap_io.specs.declared.capture.Frame.{Frame}
-use Rattle.place_history.specs.declared.entry.Entry.{Entry}
-use Rattle.place_history.specs.declared.histories.Histories.{Histories}
-use Rattle.place_history.specs.declared.log.AskWords.{AskWords}
-use Rattle.place_history.specs.Numbers.{queue_count}
+use Rattle.histories.specs.declared.entry.Entry.{Entry}
+use Rattle.histories.specs.declared.histories.Histories.{Histories}
+use Rattle.histories.specs.declared.log.AskWords.{AskWords}
+use Rattle.histories.specs.Numbers.{queue_count}
 use Rattle.script_lines.specs.declared.ask.Ask.{Ask}
 use Rattle.script_lines.specs.declared.ask.Ask.TheVariants.{Words, Close}
 use Rattle.script_lines.specs.declared.line.Down.{Down}

@@ -25,13 +25,13 @@ use Rattle.queue_core.specs.State.{Bound}
 use Rattle.queue_core.specs.Step.{Way, Gone, Open, step}
 use Rattle.queue_core.specs.Laws.{times, arriving, leaving_in}
 use Rattle.queue_core.specs.declared.event.Event.TheVariants.{Arrive, Ask}
-use Rattle.place_history.specs.declared.entry.Entry.{Entry}
-use Rattle.place_history.specs.declared.log.Did.TheVariants.{Sent}
-use Rattle.place_history.specs.Numbers.{queue_count}
-use Rattle.place_history.specs.History.{history, is_of, replay}
-use Rattle.place_history.specs.Journeys.{Arrival}
-use Rattle.place_history.specs.PlaceState.{state_of, entry_of, every_number}
-use Rattle.place_history.specs.Happenings as happening
+use Rattle.histories.specs.declared.entry.Entry.{Entry}
+use Rattle.histories.specs.declared.log.Did.TheVariants.{Sent}
+use Rattle.histories.specs.Numbers.{queue_count}
+use Rattle.histories.specs.History.{history, is_of, replay}
+use Rattle.histories.specs.Journeys.{Arrival}
+use Rattle.histories.specs.States.{state_of, entry_of, every_number}
+use Rattle.histories.specs.Happenings as happening
 use Rattle.solo_plane.specs.declared.setting.Setting.{Setting}
 use Rattle.solo_plane.specs.World.{World, Port, at_port, changed_at, delivered, having_done, closed}
 use Rattle.solo_plane.specs.World.{received}

@@ -7,9 +7,9 @@ use Rattle.nfqa_msgs.specs.declared.request.Request.{Request}
 use Rattle.nfqa_msgs.specs.declared.request.Request.TheVariants.{Config}
 use Rattle.queue_core.specs.State.{Bound}
 use Rattle.queue_core.specs.declared.event.Event.TheVariants.{Arrive, Ask, DeviceDown}
-use Rattle.place_history.specs.declared.entry.Entry.{Entry}
-use Rattle.place_history.specs.History.{replay_from}
-use Rattle.place_history.specs.Examples.{packet}
+use Rattle.histories.specs.declared.entry.Entry.{Entry}
+use Rattle.histories.specs.History.{replay_from}
+use Rattle.histories.specs.Examples.{packet}
 use Rattle.script_lines.specs.declared.line.Down.{Down}
 use Rattle.script_runs.specs.Requests.{Plea}
 use Rattle.script_runs.specs.Ascending.{Ascend, AscendFrom}

@@ -7,11 +7,11 @@ use Rattle.std.proofs.lemmas.List.Concat.{flat_map-append}
 use Rattle.std.proofs.lemmas.List.Elements.{filter-append}
 use Rattle.queue_core.specs.State.{Bound}
 use Rattle.queue_core.specs.declared.event.Event.TheVariants.{PortClosed, DeviceDown}
-use Rattle.place_history.specs.declared.entry.Entry.{Entry}
-use Rattle.place_history.specs.Numbers.{queue_count}
-use Rattle.place_history.specs.History.{history, is_of, replay, replay_from}
-use Rattle.place_history.specs.PlaceState.{entry_in, state_of}
-use Rattle.place_history.specs.Happenings as happening
+use Rattle.histories.specs.declared.entry.Entry.{Entry}
+use Rattle.histories.specs.Numbers.{queue_count}
+use Rattle.histories.specs.History.{history, is_of, replay, replay_from}
+use Rattle.histories.specs.States.{entry_in, state_of}
+use Rattle.histories.specs.Happenings as happening
 use Rattle.script_lines.specs.declared.line.Down.{Down}
 use Rattle.script_runs.specs.Feeder.{Item, Was, Fell, Passed}
 use Rattle.script_runs.specs.Feeder.{entries_of, lines_of, IsItem, IsNoDown}

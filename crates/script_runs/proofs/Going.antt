@@ -7,11 +7,11 @@ use Rattle.packet_entry.specs.declared.packet.Card.{Card}
 use Rattle.hook_chain.specs.declared.chain.Decision.{Decision}
 use Rattle.nfqa_msgs.specs.declared.request.Request.{Request}
 use Rattle.nfqa_msgs.specs.declared.request.Decoded.TheVariants.{Asked}
-use Rattle.place_history.specs.declared.entry.Entry.{Entry}
+use Rattle.histories.specs.declared.entry.Entry.{Entry}
 use Rattle.queue_core.specs.Laws.{times}
-use Rattle.place_history.specs.PlaceState.{entry_of, state_of, every_number}
-use Rattle.place_history.specs.Journeys.{Arrival}
-use Rattle.place_history.specs.Happenings as happening
+use Rattle.histories.specs.States.{entry_of, state_of, every_number}
+use Rattle.histories.specs.Journeys.{Arrival}
+use Rattle.histories.specs.Happenings as happening
 use Rattle.inspector_script.specs.Scripts.{ScriptValue}
 use Rattle.solo_plane.specs.declared.setting.Setting.{Setting}
 use Rattle.solo_plane.specs.World.{World}

@@ -4,16 +4,16 @@ use Rattle.std.proofs.Common.{[], ◌∷◌, Option, true, false, refl, sym, ap}
 use Rattle.std.proofs.Common.{subst, Bool, Some, None, ◌++◌, arith}
 use Rattle.std.specs.Prelude.{length, map, filter, AllPairs, nat_eq, if◌then◌else◌}
 use Rattle.std.specs.List.{list_any}
-use Rattle.place_history.specs.declared.entry.Entry.{Entry}
+use Rattle.histories.specs.declared.entry.Entry.{Entry}
 use Rattle.pcap_io.specs.declared.capture.Capture.{Capture}
 use Rattle.hook_chain.specs.declared.rule.Rule.{Rule}
-use Rattle.place_history.specs.History.{history}
+use Rattle.histories.specs.History.{history}
 use Rattle.inspector_script.specs.Scripts.{ScriptValue}
 use Rattle.solo_plane.specs.World.{Port, opened}
 use Rattle.script_runs.specs.Schedule.{run, setting_of, IsSolo, letters_at}
 use Rattle.solo_plane.specs.Closing.{dids_of, log_of}
-use Rattle.place_history.specs.declared.histories.Histories.{Histories}
-use Rattle.place_history.specs.declared.log.PortLog.{PortLog}
+use Rattle.histories.specs.declared.histories.Histories.{Histories}
+use Rattle.histories.specs.declared.log.PortLog.{PortLog}
 use Rattle.solo_plane.specs.Planes.{opened_ports}
 use Rattle.script_runs.specs.Closing.{IsClosing}
 use Rattle.script_runs.proofs.Shut.{AreShut, is_shut, shut_kept}

@@ -5,11 +5,11 @@ use Rattle.std.proofs.Common.{refl, arith, sym, ◌∙◌, ap, subst, get_or, in
 use Rattle.std.proofs.lemmas.Bool.{eq-eqb, eqb-true, ne_eqb, cases_lt, cases_Bool}
 use Rattle.std.proofs.lemmas.List.Sorted.{IsNonDecreasingBy-from_sort, IsNonDecreasingBy-drop}
 use Rattle.std.specs.List.Sorted.{IsNonDecreasingBy}
-use Rattle.place_history.specs.declared.entry.Entry.{Entry}
-use Rattle.place_history.specs.declared.histories.Histories.{Histories}
-use Rattle.place_history.specs.declared.histories.Lost.{Lost}
-use Rattle.place_history.specs.declared.log.PortLog.{PortLog}
-use Rattle.place_history.specs.History.{history}
+use Rattle.histories.specs.declared.entry.Entry.{Entry}
+use Rattle.histories.specs.declared.histories.Histories.{Histories}
+use Rattle.histories.specs.declared.histories.Lost.{Lost}
+use Rattle.histories.specs.declared.log.PortLog.{PortLog}
+use Rattle.histories.specs.History.{history}
 use Rattle.solo_plane.specs.Closing.{IsGrouped}
 
 abbrev Rises : List Entry → Type 0

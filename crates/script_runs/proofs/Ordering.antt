@@ -8,11 +8,11 @@ use Rattle.std.proofs.lemmas.List.Concat.{flat_map-append}
 use Rattle.std.proofs.lemmas.List.Elements.{filter-append}
 use Rattle.queue_core.specs.State.{Bound}
 use Rattle.queue_core.specs.declared.event.Event.TheVariants.{PortClosed, DeviceDown}
-use Rattle.place_history.specs.declared.entry.Entry.{Entry}
-use Rattle.place_history.specs.Numbers.{queue_count}
-use Rattle.place_history.specs.History.{history, is_of}
-use Rattle.place_history.specs.PlaceState.{entry_in, state_of}
-use Rattle.place_history.specs.Happenings as happening
+use Rattle.histories.specs.declared.entry.Entry.{Entry}
+use Rattle.histories.specs.Numbers.{queue_count}
+use Rattle.histories.specs.History.{history, is_of}
+use Rattle.histories.specs.States.{entry_in, state_of}
+use Rattle.histories.specs.Happenings as happening
 use Rattle.script_runs.specs.Order.{Kind, Answers, Marked}
 use Rattle.script_runs.specs.Order.{kinds_of, early_rank, late_ranks, place_in}
 use Rattle.script_runs.proofs.Feeding.{ClosingLaw, DownLaw}

@@ -12,10 +12,10 @@ use Rattle.packet_entry.specs.declared.packet.Card.{Card}
 use Rattle.hook_chain.specs.declared.chain.Decision.{Decision}
 use Rattle.queue_core.specs.Step.{Way, Gone, Open, Decided, step}
 use Rattle.queue_core.specs.Laws.{times, waiting_in, arriving, leaving_in}
-use Rattle.place_history.specs.declared.entry.Entry.{Entry}
-use Rattle.place_history.specs.History.{history, is_of, replay, replay_from}
-use Rattle.place_history.specs.PlaceState.{state_of}
-use Rattle.place_history.specs.Happenings as happening
+use Rattle.histories.specs.declared.entry.Entry.{Entry}
+use Rattle.histories.specs.History.{history, is_of, replay, replay_from}
+use Rattle.histories.specs.States.{state_of}
+use Rattle.histories.specs.Happenings as happening
 use Rattle.script_runs.proofs.Closings.{replay_on}
 use Rattle.script_runs.proofs.Later.{MayGo}
 use Rattle.script_runs.proofs.Zeros.{Conserve}

@@ -1,7 +1,7 @@
 -- The logs of a run, one for each port.
 use Rattle.std.specs.Prelude.{◌≡◌, ℕ, List, [], ◌∷◌, map, refl}
 use Rattle.std.proofs.Common.{ap}
-use Rattle.place_history.specs.declared.log.PortLog.{PortLog}
+use Rattle.histories.specs.declared.log.PortLog.{PortLog}
 use Rattle.solo_plane.specs.World.{World}
 use Rattle.solo_plane.specs.Closing.{logs_in}
 

@@ -9,7 +9,7 @@ use Rattle.packet_entry.specs.declared.packet.Card.{Card}
 use Rattle.packet_entry.specs.declared.letter.Letter.{Letter}
 use Rattle.queue_core.specs.State.{Bound}
 use Rattle.queue_core.specs.Step.{Way}
-use Rattle.place_history.specs.Journeys.{Arrival}
+use Rattle.histories.specs.Journeys.{Arrival}
 use Rattle.inspector_script.specs.Scripts.{ScriptValue}
 use Rattle.solo_plane.specs.World.{Port, changed_at, delivered}
 use Rattle.solo_plane.specs.Moving.{with_notice}

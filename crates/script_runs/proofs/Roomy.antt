@@ -15,12 +15,12 @@ use Rattle.nfqa_msgs.specs.RequestReading.{decoded}
 use Rattle.queue_core.specs.State.{Bound}
 use Rattle.queue_core.specs.Step.{Way, step, is_decided_early}
 use Rattle.queue_core.specs.declared.event.Event.TheVariants.{Ask, PortClosed}
-use Rattle.place_history.specs.declared.entry.Entry.{Entry}
-use Rattle.place_history.specs.declared.log.Did.TheVariants.{Sent}
-use Rattle.place_history.specs.History.{history, is_of, replay_from}
-use Rattle.place_history.specs.Journeys.{Arrival}
-use Rattle.place_history.specs.PlaceState.{entry_of, entry_in, state_of, every_number}
-use Rattle.place_history.specs.Happenings as happening
+use Rattle.histories.specs.declared.entry.Entry.{Entry}
+use Rattle.histories.specs.declared.log.Did.TheVariants.{Sent}
+use Rattle.histories.specs.History.{history, is_of, replay_from}
+use Rattle.histories.specs.Journeys.{Arrival}
+use Rattle.histories.specs.States.{entry_of, entry_in, state_of, every_number}
+use Rattle.histories.specs.Happenings as happening
 use Rattle.solo_plane.specs.declared.setting.Setting.{Setting}
 use Rattle.solo_plane.specs.World.{World, Port, received, received_from, having_done, closed}
 use Rattle.solo_plane.specs.World.{changed_at, delivered}

@@ -14,7 +14,7 @@ use Rattle.nfqa_msgs.specs.declared.notice.Notice.{Notice}
 use Rattle.nfqa_msgs.specs.NoticeWriting.{Told}
 use Rattle.script_runs.specs.NoticeTexts.{told_exactly}
 use Rattle.nfqa_msgs.specs.NoticeMeaning.{notice_of}
-use Rattle.place_history.specs.declared.log.AskWords.{AskWords}
+use Rattle.histories.specs.declared.log.AskWords.{AskWords}
 use Rattle.script_lines.specs.declared.ask.Ask.{Ask}
 use Rattle.script_lines.specs.declared.ask.Ask.TheVariants.{Words, Close}
 use Rattle.script_lines.specs.declared.line.Down.{Down}
@@ -30,7 +30,7 @@ use Rattle.solo_plane.specs.declared.setting.Setting.{Setting}
 use Rattle.solo_plane.specs.World.{World, Port, at_port, received, received_from}
 use Rattle.solo_plane.specs.Planes.{entered, without_device}
 use Rattle.solo_plane.specs.Moving.{arrival_to, arrived, left_at_once, room_for}
-use Rattle.place_history.specs.PlaceState.{state_of}
+use Rattle.histories.specs.States.{state_of}
 use Rattle.script_runs.specs.Numbers.{enough_arrivals}
 use Rattle.script_runs.specs.Entering.{card_of}
 use Rattle.script_runs.specs.Sending.{all_done, done}

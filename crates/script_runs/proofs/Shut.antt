@@ -11,13 +11,13 @@ use Rattle.nfqa_msgs.specs.RequestReading.{decoded}
 use Rattle.queue_core.specs.State.{Bound}
 use Rattle.queue_core.specs.Step.{Way}
 use Rattle.queue_core.specs.declared.event.Event.TheVariants.{Ask}
-use Rattle.place_history.specs.declared.entry.Entry.{Entry}
-use Rattle.place_history.specs.declared.log.Did.TheVariants.{Sent}
-use Rattle.place_history.specs.Numbers.{queue_count}
-use Rattle.place_history.specs.History.{history}
-use Rattle.place_history.specs.Journeys.{Arrival}
-use Rattle.place_history.specs.PlaceState.{entry_of, state_of, every_number}
-use Rattle.place_history.specs.Happenings as happening
+use Rattle.histories.specs.declared.entry.Entry.{Entry}
+use Rattle.histories.specs.declared.log.Did.TheVariants.{Sent}
+use Rattle.histories.specs.Numbers.{queue_count}
+use Rattle.histories.specs.History.{history}
+use Rattle.histories.specs.Journeys.{Arrival}
+use Rattle.histories.specs.States.{entry_of, state_of, every_number}
+use Rattle.histories.specs.Happenings as happening
 use Rattle.solo_plane.specs.declared.setting.Setting.{Setting}
 use Rattle.solo_plane.specs.World.{World, Port, received, received_from, having_done, closed}
 use Rattle.solo_plane.specs.World.{changed_at, delivered}

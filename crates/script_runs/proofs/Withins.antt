@@ -16,9 +16,9 @@ use Rattle.queue_core.specs.declared.event.Event.TheVariants.{Arrive, Ask}
 use Rattle.packet_entry.specs.declared.packet.Card.{Card}
 use Rattle.nfqa_msgs.specs.declared.request.Request.{Request}
 use Rattle.hook_chain.specs.declared.rule.Rule.{Rule}
-use Rattle.place_history.specs.declared.entry.Entry.{Entry}
-use Rattle.place_history.specs.declared.histories.Histories.{Histories}
-use Rattle.place_history.specs.History.{history, is_of}
+use Rattle.histories.specs.declared.entry.Entry.{Entry}
+use Rattle.histories.specs.declared.histories.Histories.{Histories}
+use Rattle.histories.specs.History.{history, is_of}
 use Rattle.inspector_script.specs.Scripts.{ScriptValue, IsScript, IsBlock}
 use Rattle.script_runs.specs.Schedule.{IsSolo, run, setting_of}
 use Rattle.script_runs.specs.Entering.{card_at, card_of, cards, cards_from}

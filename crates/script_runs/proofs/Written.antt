@@ -11,8 +11,8 @@ use Rattle.script_runs.specs.Log.{logged}
 use Rattle.script_runs.specs.Examples.{run_of_7, silence_of_7, notes_of_7}
 use Rattle.std.proofs.Common.{ℕ, ◌≡◌, List, [], ◌∷◌, true, refl, ◌++◌, false}
 use Rattle.nfqa_msgs.specs.declared.request.Request.{Request}
-use Rattle.place_history.specs.declared.log.Did.{Did}
-use Rattle.place_history.specs.declared.log.Did.TheVariants.{Closed}
+use Rattle.histories.specs.declared.log.Did.{Did}
+use Rattle.histories.specs.declared.log.Did.TheVariants.{Closed}
 use Rattle.script_runs.specs.Log.{Note, Got, Begun, Spoke, Shut, IsLog}
 use Rattle.script_runs.specs.Requests.{AreRequests}
 use Rattle.script_runs.specs.Closing.{IsClosing}

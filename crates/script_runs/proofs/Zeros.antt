@@ -15,10 +15,10 @@ use Rattle.queue_core.specs.Step.{Way, Gone, Open, Decided, step}
 use Rattle.queue_core.specs.Laws.{IsConserving, times, waiting_in, arriving}
 use Rattle.queue_core.specs.declared.event.Event.{Event}
 use Rattle.queue_core.specs.declared.event.Event.TheVariants.{Ask, PortClosed}
-use Rattle.place_history.specs.declared.entry.Entry.{Entry}
-use Rattle.place_history.specs.History.{history, is_of, replay, replay_from}
-use Rattle.place_history.specs.PlaceState.{state_of, entry_in}
-use Rattle.place_history.specs.Happenings as happening
+use Rattle.histories.specs.declared.entry.Entry.{Entry}
+use Rattle.histories.specs.History.{history, is_of, replay, replay_from}
+use Rattle.histories.specs.States.{state_of, entry_in}
+use Rattle.histories.specs.Happenings as happening
 use Rattle.script_runs.proofs.Closings.{replay_on}
 use Rattle.script_runs.proofs.Later.{MayGo}
 

@@ -8,7 +8,7 @@ use Rattle.ip_fields.specs.Frame.{cut_of}
 use Rattle.nfqa_msgs.specs.declared.request.Request.{Request}
 use Rattle.nfqa_msgs.specs.RequestReading.{PayloadFits}
 use Rattle.queue_core.specs.declared.event.Event.TheVariants.{Arrive, Ask}
-use Rattle.place_history.specs.declared.entry.Entry.{Entry}
+use Rattle.histories.specs.declared.entry.Entry.{Entry}
 
 -- no packet that arrives is longer than a frame may be
 abbrev pub AreSmall : List Entry → Type 0

@@ -5,11 +5,11 @@ use Rattle.std.specs.List.{list_any}
 use Rattle.queue_core.specs.State.{Bound}
 use Rattle.queue_core.specs.declared.event.Event.{Event}
 use Rattle.queue_core.specs.declared.event.Event.TheVariants.{Arrive, Ask, PortClosed, DeviceDown}
-use Rattle.place_history.specs.Numbers.{queue_count}
-use Rattle.place_history.specs.declared.entry.Entry.{Entry}
-use Rattle.place_history.specs.declared.log.Did.{Did}
-use Rattle.place_history.specs.declared.log.Did.TheVariants.{Received, Sent, Closed}
-use Rattle.place_history.specs.History.{history, replay}
+use Rattle.histories.specs.Numbers.{queue_count}
+use Rattle.histories.specs.declared.entry.Entry.{Entry}
+use Rattle.histories.specs.declared.log.Did.{Did}
+use Rattle.histories.specs.declared.log.Did.TheVariants.{Received, Sent, Closed}
+use Rattle.histories.specs.History.{history, replay}
 
 -- a closing of this port
 abbrev pub closes : ℕ → Event → Bool

@@ -3,10 +3,10 @@ use Rattle.std.specs.Prelude.{ℕ, true, List, [], ◌∷◌, ◌==◌, if◌the
 use Rattle.nfqa_msgs.specs.declared.request.Request.{Request}
 use Rattle.queue_core.specs.declared.event.Event.TheVariants.{Ask, PortClosed}
 use Rattle.queue_core.specs.declared.event.Reply.TheVariants.{Answer, Flushed}
-use Rattle.place_history.specs.declared.entry.Entry.{Entry}
-use Rattle.place_history.specs.declared.log.Did.{Did}
-use Rattle.place_history.specs.declared.log.Did.TheVariants.{Closed}
-use Rattle.place_history.specs.declared.histories.Histories.{Histories}
+use Rattle.histories.specs.declared.entry.Entry.{Entry}
+use Rattle.histories.specs.declared.log.Did.{Did}
+use Rattle.histories.specs.declared.log.Did.TheVariants.{Closed}
+use Rattle.histories.specs.declared.histories.Histories.{Histories}
 use Rattle.inspector_script.specs.Scripts.{ScriptValue, held}
 use Rattle.script_runs.specs.Log.{Note, Shut}
 

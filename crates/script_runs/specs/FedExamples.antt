@@ -7,8 +7,8 @@ use Rattle.queue_core.specs.declared.event.Event.TheVariants.{Arrive, Ask, PortC
 use Rattle.queue_core.specs.declared.event.Reply.{Reply}
 use Rattle.queue_core.specs.declared.event.Reply.TheVariants.{Arrived, Answer, Flushed}
 use Rattle.queue_core.specs.declared.offers.Outcome.TheVariants.{CopyNone}
-use Rattle.place_history.specs.declared.entry.Entry.{Entry}
-use Rattle.place_history.specs.Examples.{packet}
+use Rattle.histories.specs.declared.entry.Entry.{Entry}
+use Rattle.histories.specs.Examples.{packet}
 use Rattle.script_lines.specs.declared.line.Down.{Down}
 use Rattle.script_runs.specs.Order.{Kind, Opens, Ends}
 

@@ -6,8 +6,8 @@ use Rattle.nfqa_msgs.specs.declared.request.Request.TheVariants.{Config}
 use Rattle.queue_core.specs.declared.event.Event.TheVariants.{Arrive, Ask}
 use Rattle.queue_core.specs.declared.event.Reply.TheVariants.{Arrived, Answer}
 use Rattle.queue_core.specs.declared.offers.Outcome.TheVariants.{Taken, UserFull}
-use Rattle.place_history.specs.declared.entry.Entry.{Entry}
-use Rattle.place_history.specs.Examples.{packet}
+use Rattle.histories.specs.declared.entry.Entry.{Entry}
+use Rattle.histories.specs.Examples.{packet}
 
 -- port 7 binds queue 3, whose notices tell no bytes, and is answered with this errno
 abbrev pub binding : Request

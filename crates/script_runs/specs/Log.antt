@@ -12,8 +12,8 @@ use Rattle.nfqa_msgs.specs.NoticeWriting.{Told}
 use Rattle.script_runs.specs.NoticeTexts.{told_exactly}
 use Rattle.nfqa_msgs.specs.NoticeMeaning.{notice_of}
 use Rattle.queue_core.specs.Numbers.{largest_count}
-use Rattle.place_history.specs.declared.log.Did.{Did}
-use Rattle.place_history.specs.declared.log.Did.TheVariants.{Received, Sent, Closed}
+use Rattle.histories.specs.declared.log.Did.{Did}
+use Rattle.histories.specs.declared.log.Did.TheVariants.{Received, Sent, Closed}
 use Rattle.script_lines.specs.declared.ask.Ask.{Ask}
 use Rattle.script_lines.specs.declared.ask.Ask.TheVariants.{Words, Close}
 use Rattle.inspector_script.specs.Scripts.{ScriptValue, opening, answer, closing}

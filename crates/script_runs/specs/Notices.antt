@@ -12,8 +12,8 @@ use Rattle.queue_core.specs.declared.event.Reply.{Reply}
 use Rattle.queue_core.specs.declared.event.Reply.TheVariants.{Arrived, Answer, Flushed}
 use Rattle.queue_core.specs.declared.offers.Outcome.{Outcome}
 use Rattle.queue_core.specs.declared.offers.Outcome.TheVariants.{Taken}
-use Rattle.place_history.specs.declared.entry.Entry.{Entry}
-use Rattle.place_history.specs.History.{history}
+use Rattle.histories.specs.declared.entry.Entry.{Entry}
+use Rattle.histories.specs.History.{history}
 use Rattle.script_runs.specs.Log.{Note, Got, Begun, Spoke, Shut}
 
 -- the notices that a port received

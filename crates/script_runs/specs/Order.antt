@@ -5,9 +5,9 @@ use Rattle.std.specs.Prelude.{flat_map, length, ◌==◌, if◌then◌else◌}
 use Rattle.std.specs.List.{list_any}
 use Rattle.queue_core.specs.declared.event.Event.{Event}
 use Rattle.queue_core.specs.declared.event.Event.TheVariants.{Arrive, Ask, PortClosed, DeviceDown}
-use Rattle.place_history.specs.declared.entry.Entry.{Entry}
-use Rattle.place_history.specs.Numbers.{queue_count}
-use Rattle.place_history.specs.History.{history}
+use Rattle.histories.specs.declared.entry.Entry.{Entry}
+use Rattle.histories.specs.Numbers.{queue_count}
+use Rattle.histories.specs.History.{history}
 use Rattle.inspector_script.specs.Scripts.{ScriptValue}
 use Rattle.script_runs.specs.Schedule.{is_received}
 use Rattle.script_runs.specs.Log.{Note, Due, Standing, start, after}

@@ -7,9 +7,9 @@ use Rattle.nfqa_msgs.specs.RequestReading.{decoded}
 use Rattle.queue_core.specs.declared.event.Event.{Event}
 use Rattle.queue_core.specs.declared.event.Event.TheVariants.{Arrive, Ask, PortClosed, DeviceDown}
 use Rattle.queue_core.specs.declared.event.Reply.{Reply}
-use Rattle.place_history.specs.declared.entry.Entry.{Entry}
-use Rattle.place_history.specs.History.{history}
-use Rattle.place_history.specs.Happenings.{queue_of}
+use Rattle.histories.specs.declared.entry.Entry.{Entry}
+use Rattle.histories.specs.History.{history}
+use Rattle.histories.specs.Happenings.{queue_of}
 use Rattle.script_runs.specs.Sending.{errno_in}
 use Rattle.script_runs.specs.Log.{Note, Got, Begun, Spoke, Shut}
 

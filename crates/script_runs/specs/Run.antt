@@ -2,8 +2,8 @@
 use Rattle.std.specs.Prelude.{◌≡◌, ℕ, ◌+◌, true, false, List, [], ◌∷◌, map, nat_eq}
 use Rattle.std.specs.List.{list_any}
 use Rattle.packet_entry.specs.declared.letter.Letter.{Letter}
-use Rattle.place_history.specs.declared.log.PortLog.{PortLog}
-use Rattle.place_history.specs.declared.histories.Histories.{Histories}
+use Rattle.histories.specs.declared.log.PortLog.{PortLog}
+use Rattle.histories.specs.declared.histories.Histories.{Histories}
 use Rattle.inspector_script.specs.Scripts.{ScriptValue}
 use Rattle.script_runs.specs.Log.{Note, IsLog, logged}
 use Rattle.script_runs.specs.Requests.{AreRequests}

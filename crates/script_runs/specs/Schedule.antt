@@ -12,9 +12,9 @@ use Rattle.hook_chain.specs.Route.{next}
 use Rattle.nfqa_msgs.specs.NoticeMeaning.{notice_of}
 use Rattle.nfqa_msgs.specs.NoticeWriting.{Told}
 use Rattle.queue_core.specs.Numbers.{largest_count}
-use Rattle.place_history.specs.declared.log.Did.{Did}
-use Rattle.place_history.specs.declared.log.Did.TheVariants.{Received, Sent, Closed}
-use Rattle.place_history.specs.declared.histories.Histories.{Histories}
+use Rattle.histories.specs.declared.log.Did.{Did}
+use Rattle.histories.specs.declared.log.Did.TheVariants.{Received, Sent, Closed}
+use Rattle.histories.specs.declared.histories.Histories.{Histories}
 use Rattle.script_lines.specs.declared.ask.Ask.{Ask}
 use Rattle.script_lines.specs.declared.line.Down.{Down}
 use Rattle.inspector_script.specs.Scripts.{ScriptValue, opening, answer, closing}

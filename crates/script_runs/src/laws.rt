@@ -4,15 +4,15 @@ ghost use Rattle.std.specs.Prelude.{◌≡◌, ◌≤◌, ℕ, true, List, [], �
 ghost use Rattle.std.specs.Prelude.{◌+◌, ◌<◌, All, length};
 ghost use Rattle.hook_chain.specs.declared.rule.Rule.{Rule};
 ghost use Rattle.pcap_io.specs.declared.capture.Capture.{Capture};
-ghost use Rattle.place_history.specs.Numbers.{queue_count};
-ghost use Rattle.place_history.specs.declared.entry.Entry.{Entry};
-ghost use Rattle.place_history.specs.declared.histories.Histories.{Histories};
-ghost use Rattle.place_history.specs.declared.log.PortLog.{PortLog};
+ghost use Rattle.histories.specs.Numbers.{queue_count};
+ghost use Rattle.histories.specs.declared.entry.Entry.{Entry};
+ghost use Rattle.histories.specs.declared.histories.Histories.{Histories};
+ghost use Rattle.histories.specs.declared.log.PortLog.{PortLog};
 ghost use Rattle.inspector_script.specs.Scripts.{ScriptValue, IsScript};
 ghost use Rattle.script_runs.specs.Schedule.{IsSolo, is_open_port, run};
 ghost use Rattle.nfqa_msgs.specs.declared.request.Request.{Request};
-ghost use Rattle.place_history.specs.declared.log.Did.{Did};
-ghost use Rattle.place_history.specs.declared.log.Did.TheVariants.{Closed};
+ghost use Rattle.histories.specs.declared.log.Did.{Did};
+ghost use Rattle.histories.specs.declared.log.Did.TheVariants.{Closed};
 ghost use Rattle.script_runs.specs.Log.{Note, Shut, IsLog};
 ghost use Rattle.script_runs.specs.Requests.{AreRequests};
 ghost use Rattle.script_runs.specs.Closing.{IsClosing};
@@ -24,7 +24,7 @@ ghost use Rattle.script_runs.specs.Feeder.{IsFed};
 ghost use Rattle.script_runs.specs.Order.{IsOrdered};
 ghost use Rattle.packet_entry.specs.declared.letter.Letter.{Letter};
 ghost use Rattle.packet_entry.specs.Numbers.{longest_packet, longest_payload};
-ghost use Rattle.place_history.specs.declared.log.AskWords.{AskWords};
+ghost use Rattle.histories.specs.declared.log.AskWords.{AskWords};
 ghost use Rattle.script_lines.specs.Limits.{IsWords};
 ghost use Rattle.script_runs.specs.Sending.{bytes_of};
 ghost use Rattle.script_runs.specs.Entering.{cards};
@@ -40,7 +40,7 @@ ghost use Rattle.nfqa_msgs.specs.RequestReading.{decoded};
 ghost use Rattle.nfqa_msgs.specs.declared.request.Decoded.TheVariants.{Asked};
 
 use netlink_codec::{written_attributes_are_walked, written_message_is_in_front};
-use place_history::{
+use histories::{
     a_closed_port_has_no_queues, a_device_that_packets_pass_leaves_nothing_waiting,
 };
 use queue_core::each_packet_stays_or_leaves;

@@ -7,10 +7,10 @@ use Rattle.nfqa_msgs.specs.declared.request.Decoded.{Decoded}
 use Rattle.nfqa_msgs.specs.declared.request.Decoded.TheVariants.{Nothing, Refused, Asked}
 use Rattle.nfqa_msgs.specs.RequestReading.{decoded}
 use Rattle.queue_core.specs.declared.event.Event.TheVariants.{Ask}
-use Rattle.place_history.specs.PlaceState.{state_of}
-use Rattle.place_history.specs.Happenings.{queue_of}
-use Rattle.place_history.specs.Journeys.{Arrival, asked_by}
-use Rattle.place_history.specs.Moves.{moves}
+use Rattle.histories.specs.States.{state_of}
+use Rattle.histories.specs.Happenings.{queue_of}
+use Rattle.histories.specs.Journeys.{Arrival, asked_by}
+use Rattle.histories.specs.Moves.{moves}
 use Rattle.hook_chain.specs.Route.{next}
 use Rattle.solo_plane.specs.declared.fed.Fed.{Fed}
 use Rattle.solo_plane.specs.declared.setting.Setting.{Setting}

@@ -12,7 +12,7 @@ use Rattle.hook_chain.specs.declared.chain.Decision.{Decision}
 use Rattle.hook_chain.specs.declared.chain.Next.{Next}
 use Rattle.hook_chain.specs.declared.chain.Next.TheVariants.{Released, To}
 use Rattle.queue_core.specs.Step.{Way}
-use Rattle.place_history.specs.Happenings.{all_handed}
+use Rattle.histories.specs.Happenings.{all_handed}
 use Rattle.solo_plane.specs.declared.fed.Fed.{Fed}
 use Rattle.solo_plane.specs.declared.setting.Setting.{Setting}
 use Rattle.solo_plane.specs.World.{World}

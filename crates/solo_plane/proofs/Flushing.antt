@@ -8,13 +8,13 @@ use Rattle.packet_entry.specs.declared.packet.Card.{Card}
 use Rattle.queue_core.specs.declared.event.Event.TheVariants.{PortClosed}
 use Rattle.queue_core.specs.State.{Bound}
 use Rattle.queue_core.specs.Step.{Way, Gone, step}
-use Rattle.place_history.specs.declared.histories.Lost.{Lost}
-use Rattle.place_history.specs.declared.entry.Entry.{Entry}
-use Rattle.place_history.specs.History.{AreLegal}
-use Rattle.place_history.specs.Moves.{moves, move_after}
-use Rattle.place_history.specs.Journeys.{Arrival, IsSoundBut, asks, came, arrival_of, going_on}
-use Rattle.place_history.specs.PlaceState.{state_of, entry_in, every_number}
-use Rattle.place_history.specs.Happenings.{closing_of, closings, down_of, downs}
+use Rattle.histories.specs.declared.histories.Lost.{Lost}
+use Rattle.histories.specs.declared.entry.Entry.{Entry}
+use Rattle.histories.specs.History.{AreLegal}
+use Rattle.histories.specs.Moves.{moves, move_after}
+use Rattle.histories.specs.Journeys.{Arrival, IsSoundBut, asks, came, arrival_of, going_on}
+use Rattle.histories.specs.States.{state_of, entry_in, every_number}
+use Rattle.histories.specs.Happenings.{closing_of, closings, down_of, downs}
 use Rattle.solo_plane.specs.declared.setting.Setting.{Setting}
 use Rattle.solo_plane.specs.World.{World}
 use Rattle.solo_plane.specs.Soundness.{IsSound}

@@ -8,7 +8,7 @@ use Rattle.std.specs.Ordering.{nat_cmp, is_lt, is_le, is_some_and}
 use Rattle.std.proofs.lemmas.Bool.Decides.{nat_tests}
 use Rattle.queue_core.specs.declared.event.Event.TheVariants.{DeviceDown}
 use Rattle.queue_core.specs.declared.event.Reply.TheVariants.{Flushed}
-use Rattle.place_history.specs.declared.entry.Entry.{Entry}
+use Rattle.histories.specs.declared.entry.Entry.{Entry}
 use Rattle.std.specs.List.{IsDistinct, AllAdjacentBelow}
 use Rattle.std.proofs.Common.{get_or}
 use Rattle.std.proofs.lemmas.Bool.{eq-eqb}

@@ -6,11 +6,11 @@ use Rattle.queue_core.specs.declared.event.Event.{Event}
 use Rattle.queue_core.specs.State.{Bound}
 use Rattle.queue_core.specs.Step.{ConfigAsk, config, port_closed, device_down}
 use Rattle.queue_core.specs.Laws.{IsConserving, AllAreGone}
-use Rattle.place_history.specs.declared.histories.Lost.{Lost}
-use Rattle.place_history.specs.declared.entry.Entry.{Entry}
-use Rattle.place_history.specs.History.{AreLegal, IsStep, replay, history}
-use Rattle.place_history.specs.Moves.{Move, moves, move_after}
-use Rattle.place_history.specs.Journeys.{Arrival, IsSoundBut, entering, asks, came, visit_of}
+use Rattle.histories.specs.declared.histories.Lost.{Lost}
+use Rattle.histories.specs.declared.entry.Entry.{Entry}
+use Rattle.histories.specs.History.{AreLegal, IsStep, replay, history}
+use Rattle.histories.specs.Moves.{Move, moves, move_after}
+use Rattle.histories.specs.Journeys.{Arrival, IsSoundBut, entering, asks, came, visit_of}
 
 pub record Laws : Type 0 where
   pub conserves : (q : Option Bound) (e : Event) → IsConserving q e

@@ -11,8 +11,8 @@ use Rattle.queue_core.specs.declared.event.Event.TheVariants.{Ask}
 use Rattle.queue_core.specs.State.{Bound}
 use Rattle.queue_core.specs.Step.{Way, Gone, Open, Decided, step}
 use Rattle.queue_core.specs.Laws.{IsConserving, times, waiting_in}
-use Rattle.place_history.specs.PlaceState.{waiting_at}
-use Rattle.place_history.specs.Happenings.{all_handed}
+use Rattle.histories.specs.States.{waiting_at}
+use Rattle.histories.specs.Happenings.{all_handed}
 use Rattle.solo_plane.specs.HandedOn.{is_out_of_time, AreInTime}
 
 -- 1 where the test passes

@@ -8,11 +8,11 @@ use Rattle.std.proofs.lemmas.List.Sums.{sum_by-cons}
 use Rattle.packet_entry.specs.declared.packet.Card.{Card}
 use Rattle.hook_chain.specs.declared.rule.Rule.{Rule}
 use Rattle.queue_core.specs.Step.{step}
-use Rattle.place_history.specs.declared.histories.Lost.{Lost}
-use Rattle.place_history.specs.declared.entry.Entry.{Entry}
-use Rattle.place_history.specs.History.{history, is_of, replay}
-use Rattle.place_history.specs.Moves.{Move, moves, moves_after, move_after}
-use Rattle.place_history.specs.Journeys.{AreSound, asks, came, visit_of}
+use Rattle.histories.specs.declared.histories.Lost.{Lost}
+use Rattle.histories.specs.declared.entry.Entry.{Entry}
+use Rattle.histories.specs.History.{history, is_of, replay}
+use Rattle.histories.specs.Moves.{Move, moves, moves_after, move_after}
+use Rattle.histories.specs.Journeys.{AreSound, asks, came, visit_of}
 use Rattle.solo_plane.specs.Closing.{IsGrouped}
 
 -- ---- the moves of one queue

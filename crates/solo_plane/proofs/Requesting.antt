@@ -19,9 +19,9 @@ use Rattle.queue_core.specs.State.{Bound}
 use Rattle.queue_core.specs.Step.{Stepped, Way, Gone, Open, Decided, ask, way_of, leaving}
 use Rattle.queue_core.specs.Step.{Ruling, Refused, Allowed, refusal, verdict_under, carried_out}
 use Rattle.queue_core.specs.Step.{card_under, batch_under, shared_out, marking}
-use Rattle.place_history.specs.Journeys.{Arrival, going_on, asked_by_some}
-use Rattle.place_history.specs.PlaceState.{entry_of, state_of}
-use Rattle.place_history.specs.Happenings.{all_handed, queue_of}
+use Rattle.histories.specs.Journeys.{Arrival, going_on, asked_by_some}
+use Rattle.histories.specs.States.{entry_of, state_of}
+use Rattle.histories.specs.Happenings.{all_handed, queue_of}
 use Rattle.hook_chain.specs.Route.{onward_of}
 use Rattle.solo_plane.specs.declared.setting.Setting.{Setting}
 use Rattle.solo_plane.specs.World.{World}

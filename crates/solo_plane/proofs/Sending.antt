@@ -4,8 +4,8 @@ use Rattle.netlink_codec.specs.Messages.{NetlinkMessage}
 use Rattle.netlink_codec.specs.Acknowledgements.{answer}
 use Rattle.nfqa_msgs.specs.declared.request.Decoded.{Decoded}
 use Rattle.nfqa_msgs.specs.RequestReading.{decoded}
-use Rattle.place_history.specs.declared.log.AskWords.{AskWords}
-use Rattle.place_history.specs.declared.log.Did.TheVariants.{Sent}
+use Rattle.histories.specs.declared.log.AskWords.{AskWords}
+use Rattle.histories.specs.declared.log.Did.TheVariants.{Sent}
 use Rattle.solo_plane.specs.declared.setting.Setting.{Setting}
 use Rattle.solo_plane.specs.World.{World, at_port, having_done}
 use Rattle.solo_plane.specs.Messages.{CarriesOut, IsSent, answered, call_at, words_of}

@@ -16,10 +16,10 @@ use Rattle.queue_core.specs.declared.offers.Outcome.{Outcome}
 use Rattle.queue_core.specs.State.{Bound, fails_open}
 use Rattle.queue_core.specs.Step.{Stepped, Way, arrive, arrive_in_time, arrive_bound}
 use Rattle.queue_core.specs.Step.{is_decided_early, is_full}
-use Rattle.place_history.specs.Journeys.{Arrival}
-use Rattle.place_history.specs.PlaceState.{state_of, entry_of}
-use Rattle.place_history.specs.Happenings as happening
-use Rattle.place_history.specs.Happenings.{IsTurnedAway, IsTaken, IsOffered}
+use Rattle.histories.specs.Journeys.{Arrival}
+use Rattle.histories.specs.States.{state_of, entry_of}
+use Rattle.histories.specs.Happenings as happening
+use Rattle.place_history.specs.Calls.{IsTurnedAway, IsTaken, IsOffered}
 use Rattle.solo_plane.specs.declared.fed.Fed.TheVariants.{Waiting}
 use Rattle.solo_plane.specs.declared.arrivals.Came.TheVariants.{Ended}
 use Rattle.solo_plane.specs.declared.port.PortState.{PortState}

@@ -12,13 +12,13 @@ use Rattle.hook_chain.specs.declared.chain.Next.TheVariants.{Released, To}
 use Rattle.queue_core.specs.State.{Bound, fails_open}
 use Rattle.queue_core.specs.Step.{Stepped, Way, Gone, Open, Decided, arrive, arrive_in_time}
 use Rattle.queue_core.specs.Step.{arrive_bound, is_full}
-use Rattle.place_history.specs.declared.entry.Entry.{Entry}
-use Rattle.place_history.specs.History.{AreLegal}
-use Rattle.place_history.specs.Moves.{moves, move_after}
-use Rattle.place_history.specs.Journeys.{Arrival, IsSoundBut, asked_by, asked_by_some, going_on}
-use Rattle.place_history.specs.Journeys.{asks, came}
-use Rattle.place_history.specs.PlaceState.{entry_of, state_of}
-use Rattle.place_history.specs.Happenings as happening
+use Rattle.histories.specs.declared.entry.Entry.{Entry}
+use Rattle.histories.specs.History.{AreLegal}
+use Rattle.histories.specs.Moves.{moves, move_after}
+use Rattle.histories.specs.Journeys.{Arrival, IsSoundBut, asked_by, asked_by_some, going_on}
+use Rattle.histories.specs.Journeys.{asks, came}
+use Rattle.histories.specs.States.{entry_of, state_of}
+use Rattle.histories.specs.Happenings as happening
 use Rattle.solo_plane.specs.declared.setting.Setting.{Setting}
 use Rattle.solo_plane.specs.World.{World}
 use Rattle.solo_plane.specs.Moving.{arrival_to, arrived, turned_away, room_for, route_after}

@@ -10,8 +10,8 @@ use Rattle.queue_core.specs.declared.event.Event.TheVariants.{Arrive, Ask, PortC
 use Rattle.queue_core.specs.State.{Bound}
 use Rattle.queue_core.specs.Step.{step}
 use Rattle.queue_core.specs.Laws.{times, waiting_in}
-use Rattle.place_history.specs.declared.entry.Entry.{Entry}
-use Rattle.place_history.specs.History.{IsAllowed, IsLegalFrom, AreLegal, history, replay_from}
+use Rattle.histories.specs.declared.entry.Entry.{Entry}
+use Rattle.histories.specs.History.{IsAllowed, IsLegalFrom, AreLegal, history, replay_from}
 use Rattle.solo_plane.specs.HandedOn.{is_out_of_time, WaitInTime}
 use Rattle.solo_plane.proofs.Known.{Laws}
 use Rattle.solo_plane.proofs.Leaving.{once, out_of_time}

@@ -11,8 +11,8 @@ use Rattle.nfqa_msgs.specs.declared.request.Decoded.{Decoded}
 use Rattle.nfqa_msgs.specs.declared.request.Decoded.TheVariants.{Nothing, Refused, Asked}
 use Rattle.nfqa_msgs.specs.RequestReading.{decoded}
 use Rattle.nfqa_msgs.specs.RequestWriting.{spelling, spelled, FitsRequest}
-use Rattle.place_history.specs.declared.log.AskWords.{AskWords}
-use Rattle.place_history.specs.declared.log.AskWords.TheVariants.{Plain, Raw}
+use Rattle.histories.specs.declared.log.AskWords.{AskWords}
+use Rattle.histories.specs.declared.log.AskWords.TheVariants.{Plain, Raw}
 use Rattle.solo_plane.specs.Messages.{words_of}
 
 pub words_spell : (port call : ℕ) (whole : List ℕ) (d : Decoded) (request : Request) →

@@ -4,10 +4,10 @@ use Rattle.std.specs.Prelude.{None}
 use Rattle.std.specs.List.Sorted.{IsSortedByKey}
 use Rattle.std.specs.Ordering.{nat_cmp}
 use Rattle.std.specs.BTreeMap.{BTreeMap}
-use Rattle.place_history.specs.declared.entry.Entry.{Entry}
-use Rattle.place_history.specs.declared.log.Did.{Did}
-use Rattle.place_history.specs.declared.log.PortLog.{PortLog}
-use Rattle.place_history.specs.History.{history}
+use Rattle.histories.specs.declared.entry.Entry.{Entry}
+use Rattle.histories.specs.declared.log.Did.{Did}
+use Rattle.histories.specs.declared.log.PortLog.{PortLog}
+use Rattle.histories.specs.History.{history}
 use Rattle.solo_plane.specs.declared.port.PortState.{PortState}
 use Rattle.solo_plane.specs.World.{World, Port}
 use Rattle.solo_plane.specs.PortView.{ports_of}

@@ -5,8 +5,8 @@ use Rattle.packet_entry.specs.Numbers.{last_visit}
 use Rattle.hook_chain.specs.declared.chain.Decision.{Decision}
 use Rattle.queue_core.specs.Laws.{times, waiting_in}
 use Rattle.queue_core.specs.Step.{Stepped, Way, Gone, Open}
-use Rattle.place_history.specs.declared.entry.Entry.{Entry}
-use Rattle.place_history.specs.PlaceState.{state_of}
+use Rattle.histories.specs.declared.entry.Entry.{Entry}
+use Rattle.histories.specs.States.{state_of}
 
 -- a visit that no waiting packet has: it isn't one of the first 32
 abbrev pub is_out_of_time : ℕ → Bool

@@ -12,11 +12,11 @@ use Rattle.nfqa_msgs.specs.RequestWriting.{spelling}
 use Rattle.queue_core.specs.declared.event.Event.TheVariants.{Ask}
 use Rattle.queue_core.specs.declared.event.Reply.TheVariants.{Answer}
 use Rattle.queue_core.specs.Step.{Stepped}
-use Rattle.place_history.specs.declared.log.AskWords.{AskWords}
-use Rattle.place_history.specs.declared.log.AskWords.TheVariants.{Plain, Raw}
-use Rattle.place_history.specs.declared.log.Did.TheVariants.{Sent}
-use Rattle.place_history.specs.PlaceState.{step_of, entry_of}
-use Rattle.place_history.specs.Happenings.{queue_of, all_handed}
+use Rattle.histories.specs.declared.log.AskWords.{AskWords}
+use Rattle.histories.specs.declared.log.AskWords.TheVariants.{Plain, Raw}
+use Rattle.histories.specs.declared.log.Did.TheVariants.{Sent}
+use Rattle.histories.specs.States.{step_of, entry_of}
+use Rattle.histories.specs.Happenings.{queue_of, all_handed}
 use Rattle.solo_plane.specs.declared.setting.Setting.{Setting}
 use Rattle.solo_plane.specs.Calls.{next_call}
 use Rattle.solo_plane.specs.World.{World, Port, at_port, having_done}

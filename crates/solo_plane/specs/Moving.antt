@@ -10,9 +10,9 @@ use Rattle.hook_chain.specs.Route.{onward_of}
 use Rattle.queue_core.specs.State.{Bound}
 use Rattle.queue_core.specs.Step.{Way, Gone, Open, Decided, is_decided_early, next_id}
 use Rattle.queue_core.specs.WithOffer.{letter_of}
-use Rattle.place_history.specs.Journeys.{Arrival}
-use Rattle.place_history.specs.PlaceState.{state_of, step_of, entry_of}
-use Rattle.place_history.specs.Happenings.{arrive}
+use Rattle.histories.specs.Journeys.{Arrival}
+use Rattle.histories.specs.States.{state_of, step_of, entry_of}
+use Rattle.histories.specs.Happenings.{arrive}
 use Rattle.solo_plane.specs.declared.fed.Fed.{Fed}
 use Rattle.solo_plane.specs.declared.fed.Fed.TheVariants as fed
 use Rattle.solo_plane.specs.declared.setting.Setting.{Setting}

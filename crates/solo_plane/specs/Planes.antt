@@ -4,7 +4,7 @@ use Rattle.std.specs.Prelude.{if◌then◌else◌, nat_eq, ◌==◌}
 use Rattle.std.specs.List.{list_any}
 use Rattle.packet_entry.specs.declared.packet.Card.{Card}
 use Rattle.hook_chain.specs.Route.{next}
-use Rattle.place_history.specs.Happenings.{closings, downs}
+use Rattle.histories.specs.Happenings.{closings, downs}
 use Rattle.solo_plane.specs.declared.fed.Fed.{Fed}
 use Rattle.solo_plane.specs.declared.setting.Setting.{Setting}
 use Rattle.solo_plane.specs.World.{World, Port, opened, at_port, closed}

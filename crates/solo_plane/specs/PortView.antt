@@ -3,10 +3,10 @@ use Rattle.std.specs.Prelude.{◌≡◌, ℕ, [], Option, None, Bool, option_map
 use Rattle.std.specs.BTreeMap.{BTreeMap, get}
 use Rattle.std.specs.Ordering.{nat_cmp}
 use Rattle.packet_entry.specs.ListWithRoom.{ListWithRoom}
-use Rattle.place_history.specs.declared.log.Did.{Did}
+use Rattle.histories.specs.declared.log.Did.{Did}
 use Rattle.place_history.specs.PlaceState.{PlaceState}
-use Rattle.place_history.specs.Moves.{moves}
-use Rattle.place_history.specs.Journeys.{IsSoundBut}
+use Rattle.histories.specs.Moves.{moves}
+use Rattle.histories.specs.Journeys.{IsSoundBut}
 use Rattle.solo_plane.specs.declared.port.PortState.{PortState}
 use Rattle.solo_plane.specs.declared.setting.Setting.{Setting}
 use Rattle.solo_plane.specs.declared.held.Held.{Held}

@@ -1,8 +1,8 @@
 -- Worlds whose histories are legal and sound.
 use Rattle.std.specs.Prelude.{List}
-use Rattle.place_history.specs.History.{AreLegal}
-use Rattle.place_history.specs.Moves.{moves}
-use Rattle.place_history.specs.Journeys.{Arrival, IsSoundBut}
+use Rattle.histories.specs.History.{AreLegal}
+use Rattle.histories.specs.Moves.{moves}
+use Rattle.histories.specs.Journeys.{Arrival, IsSoundBut}
 use Rattle.solo_plane.specs.declared.setting.Setting.{Setting}
 use Rattle.solo_plane.specs.World.{World}
 

@@ -5,10 +5,10 @@ use Rattle.std.specs.Prelude.{option_map}
 use Rattle.std.specs.Prelude.{if◌then◌else◌, ◌==◌}
 use Rattle.packet_entry.specs.declared.packet.Card.{Card}
 use Rattle.packet_entry.specs.declared.letter.Letter.{Letter}
-use Rattle.place_history.specs.declared.entry.Entry.{Entry}
-use Rattle.place_history.specs.declared.histories.Lost.{Lost}
-use Rattle.place_history.specs.declared.log.Did.{Did}
-use Rattle.place_history.specs.declared.log.Did.TheVariants.{Received, Closed}
+use Rattle.histories.specs.declared.entry.Entry.{Entry}
+use Rattle.histories.specs.declared.histories.Lost.{Lost}
+use Rattle.histories.specs.declared.log.Did.{Did}
+use Rattle.histories.specs.declared.log.Did.TheVariants.{Received, Closed}
 
 -- a port: the notices in its mailbox, oldest first, and what it did
 pub record Port : Type 0 where

@@ -8,7 +8,7 @@ ghost use Rattle.packet_entry.specs.declared.packet.Card.{Card};
 ghost use Rattle.packet_entry.specs.Numbers.{last_visit};
 ghost use Rattle.hook_chain.specs.declared.chain.Next.{Next};
 ghost use Rattle.queue_core.specs.Step.{Open};
-ghost use Rattle.place_history.specs.PlaceState.{state_of};
+ghost use Rattle.histories.specs.States.{state_of};
 ghost use Rattle.solo_plane.specs.World.{World};
 ghost use Rattle.solo_plane.specs.Moving.{Carried, arrived, turned_away, goes_on, route_after};
 ghost use Rattle.solo_plane.specs.Moving.{carry};
@@ -25,7 +25,7 @@ use crate::ports;
 use crate::setting::Setting;
 use hook_chain::{Decision, Next, onward};
 use packet_entry::{NoMemory, Packet};
-use place_history::Lost;
+use histories::Lost;
 use queue_core::{Begun, NoRoom, Outcome, Settled};
 use std::alloc::Global;
 

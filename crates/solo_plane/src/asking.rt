@@ -2,7 +2,7 @@
 
 ghost use Rattle.std.specs.Prelude.{◌≡◌, ◌≤◌, length, IfOk, OnOk, OnErr};
 ghost use Rattle.nfqa_msgs.specs.RequestReading.{PayloadFits};
-ghost use Rattle.place_history.specs.Happenings.{all_handed};
+ghost use Rattle.histories.specs.Happenings.{all_handed};
 ghost use Rattle.solo_plane.specs.Moving.{CarriesAll};
 ghost use Rattle.solo_plane.specs.PortView.{world_of, logs_of, IsReady};
 ghost use Rattle.solo_plane.specs.Messages.{IsAsked, asking};

@@ -3,8 +3,8 @@
 ghost use Rattle.std.specs.Prelude.{◌≡◌, ◌≢◌, ℕ, IfOk, map};
 ghost use Rattle.std.specs.BTreeMap.{get};
 ghost use Rattle.std.specs.Ordering.{nat_cmp};
-ghost use Rattle.place_history.specs.History.{AreLegal};
-ghost use Rattle.place_history.specs.Journeys.{AreSound};
+ghost use Rattle.histories.specs.History.{AreLegal};
+ghost use Rattle.histories.specs.Journeys.{AreSound};
 ghost use Rattle.solo_plane.specs.declared.setting.Setting.{Setting};
 ghost use Rattle.solo_plane.specs.PortView.{ports_of, IsReady, HasSound};
 ghost use Rattle.solo_plane.specs.Closing.{IsGrouped, AreApart, dids_of, log_at};
@@ -12,7 +12,7 @@ ghost use Rattle.solo_plane.specs.Closing.{IsGrouped, AreApart, dids_of, log_at}
 use crate::held::Held;
 use crate::ports::Ports;
 use packet_entry::{NoMemory, Sequence};
-use place_history::{Dids, Entries, Histories, Logs, PortLog};
+use histories::{Dids, Entries, Histories, Logs, PortLog};
 use std::alloc::Global;
 
 /// What a plane gives as it ends: its entries by ascending queue number, the logs of its ports in

@@ -1,9 +1,9 @@
 //! Ports that close, and devices that go down.
 
 ghost use Rattle.std.specs.Prelude.{◌≡◌, IfOk, OnOk, OnErr, false};
-ghost use Rattle.place_history.specs.History.{AreLegal};
-ghost use Rattle.place_history.specs.PlaceState.{told, taken_in};
-ghost use Rattle.place_history.specs.Happenings.{downs};
+ghost use Rattle.histories.specs.History.{AreLegal};
+ghost use Rattle.histories.specs.States.{told, taken_in};
+ghost use Rattle.histories.specs.Happenings.{downs};
 ghost use Rattle.solo_plane.specs.declared.setting.Setting.{Setting};
 ghost use Rattle.solo_plane.specs.PortView.{world_of, OnPort, IsReady, HasSound};
 ghost use Rattle.solo_plane.specs.Planes.{with_closed, without_device};

@@ -2,7 +2,8 @@
 
 use crate::ports::Ports;
 use packet_entry::{Card, Stock};
-use place_history::{Lost, Place};
+use histories::Lost;
+use place_history::Place;
 
 /// What a plane holds.
 pub(crate) struct Held {

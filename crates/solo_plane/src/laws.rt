@@ -6,10 +6,10 @@ ghost use Rattle.netlink_codec.specs.Messages.{NetlinkMessage, Front};
 ghost use Rattle.nfqa_msgs.specs.declared.request.Request.{Request};
 ghost use Rattle.nfqa_msgs.specs.RequestReading.{decoded};
 ghost use Rattle.nfqa_msgs.specs.RequestWriting.{spelling, FitsRequest};
-ghost use Rattle.place_history.specs.declared.log.AskWords.TheVariants.{Plain, Raw};
-ghost use Rattle.place_history.specs.declared.entry.Entry.{Entry};
-ghost use Rattle.place_history.specs.History.{AreLegal};
-ghost use Rattle.place_history.specs.Happenings.{all_handed, closings, downs};
+ghost use Rattle.histories.specs.declared.log.AskWords.TheVariants.{Plain, Raw};
+ghost use Rattle.histories.specs.declared.entry.Entry.{Entry};
+ghost use Rattle.histories.specs.History.{AreLegal};
+ghost use Rattle.histories.specs.Happenings.{all_handed, closings, downs};
 ghost use Rattle.queue_core.specs.State.{Bound};
 ghost use Rattle.queue_core.specs.declared.event.Event.TheVariants.{Arrive, Ask};
 ghost use Rattle.queue_core.specs.Laws.{times, waiting_in};
@@ -24,7 +24,7 @@ ghost use Rattle.solo_plane.specs.Soundness.{IsSound};
 
 use netlink_codec::one_message_in_front;
 use nfqa_msgs::spelling_decodes_to_its_request;
-use place_history::{a_legal_history_goes_on, an_entry_is_a_move, soundness_is_kept_move_by_move};
+use histories::{a_legal_history_goes_on, an_entry_is_a_move, soundness_is_kept_move_by_move};
 use queue_core::{each_packet_stays_or_leaves, what_is_flushed_is_destroyed};
 
 /// The histories of a plane stay sound for the packets that were fed and those that were lost, and

@@ -5,11 +5,11 @@ ghost use Rattle.std.specs.Prelude.{[], OnErr, IsSomeAnd, All, nat_eq, false};
 ghost use Rattle.std.specs.List.{IsDistinct};
 ghost use Rattle.netlink_codec.specs.Messages.{first_message};
 ghost use Rattle.hook_chain.specs.Route.{next};
-ghost use Rattle.place_history.specs.History.{AreLegal};
-ghost use Rattle.place_history.specs.Journeys.{AreSound};
-ghost use Rattle.place_history.specs.PlaceState.{told, taken_in};
-ghost use Rattle.place_history.specs.Happenings.{downs};
-ghost use Rattle.place_history.specs.Listing as text;
+ghost use Rattle.histories.specs.History.{AreLegal};
+ghost use Rattle.histories.specs.Journeys.{AreSound};
+ghost use Rattle.histories.specs.States.{told, taken_in};
+ghost use Rattle.histories.specs.Happenings.{downs};
+ghost use Rattle.histories.specs.Listing as text;
 ghost use Rattle.solo_plane.specs.Numbers.{most_fed, most_mail, most_ports};
 ghost use Rattle.solo_plane.specs.Invariant.{IsPlane};
 
@@ -21,7 +21,8 @@ use crate::setting::Setting;
 use crate::{closing, endings, feeding, histories_stay_sound, messages, ports};
 use hook_chain::Tables;
 use packet_entry::{Letter, NoMemory, Packet, Stock};
-use place_history::{Histories, Place};
+use histories::Histories;
+use place_history::Place;
 use std::alloc::Global;
 
 /// A plane: packets are fed to it, its ports send messages to its queues and receive notices, and

@@ -1,12 +1,12 @@
 //! One port.
 
 ghost use Rattle.std.specs.Prelude.{◌≡◌, ◌<◌, ◌≤◌, [], IfOk, OnOk, OnErr, false};
-ghost use Rattle.place_history.specs.declared.log.Did.TheVariants.{Sent};
+ghost use Rattle.histories.specs.declared.log.Did.TheVariants.{Sent};
 ghost use Rattle.solo_plane.specs.Calls.{sent_in};
 
 use crate::mailbox::Mailbox;
 use packet_entry::{Letter, NoMemory, Stock};
-use place_history::{AskWords, Did};
+use histories::{AskWords, Did};
 use std::alloc::Global;
 
 /// A port: its mailbox, and what it did.

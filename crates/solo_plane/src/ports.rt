@@ -3,7 +3,7 @@
 ghost use Rattle.std.specs.Prelude.{◌≡◌, ◌<◌, ◌≤◌, IfOk, OnOk, OnErr, IsSome, IsSomeAnd, false};
 ghost use Rattle.std.specs.BTreeMap.{get};
 ghost use Rattle.std.specs.Ordering.{nat_cmp};
-ghost use Rattle.place_history.specs.declared.log.Did.TheVariants.{Sent};
+ghost use Rattle.histories.specs.declared.log.Did.TheVariants.{Sent};
 ghost use Rattle.solo_plane.specs.World.{changed_at, delivered, first_of, received, having_done};
 ghost use Rattle.solo_plane.specs.World.{closed};
 ghost use Rattle.solo_plane.specs.Moving.{takes_one};
@@ -12,7 +12,7 @@ ghost use Rattle.solo_plane.specs.Messages.{call_at};
 
 use crate::port::PortState;
 use packet_entry::{Letter, NoMemory};
-use place_history::AskWords;
+use histories::AskWords;
 use std::collections::BTreeMap;
 
 /// The ports by number.

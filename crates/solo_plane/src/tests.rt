@@ -12,7 +12,7 @@ use crate::{Fed, Refused, SoloPlane, only_feeding_feeds};
 use hook_chain::read_tables;
 use nfqa_msgs::{BIND, Head, PACKET, Params, Request, encode_request};
 use packet_entry::{IPV4, Packet};
-use place_history::Histories;
+use histories::Histories;
 use std::alloc::Global;
 use std::test::Fail;
 

@@ -19,10 +19,10 @@ use Rattle.nfqa_msgs.specs.declared.request.Request.{Request}
 use Rattle.queue_core.specs.declared.event.Event.TheVariants.{Arrive, Ask}
 use Rattle.queue_core.specs.Step.{Way, Gone, Open, step}
 use Rattle.queue_core.specs.Laws.{times, waiting_in}
-use Rattle.place_history.specs.declared.histories.Lost.{Lost}
-use Rattle.place_history.specs.declared.log.Did.TheVariants.{Sent}
-use Rattle.place_history.specs.PlaceState.{state_of}
-use Rattle.place_history.specs.Happenings.{all_handed, queue_of}
+use Rattle.histories.specs.declared.histories.Lost.{Lost}
+use Rattle.histories.specs.declared.log.Did.TheVariants.{Sent}
+use Rattle.histories.specs.States.{state_of}
+use Rattle.histories.specs.Happenings.{all_handed, queue_of}
 use Rattle.solo_plane.specs.declared.setting.Setting.{Setting}
 use Rattle.solo_plane.specs.World.{World, at_port, having_done}
 use Rattle.solo_plane.specs.Moving.{Carried, carry, carry_on, settled, goes_on, route_after}

@@ -19,12 +19,12 @@ use Rattle.queue_core.specs.State.{Bound}
 use Rattle.queue_core.specs.Step.{Way, next_id}
 use Rattle.queue_core.specs.WithOffer.{letter_of}
 use Rattle.queue_core.specs.Numbers.{largest_count}
-use Rattle.place_history.specs.declared.log.Did.{Did}
-use Rattle.place_history.specs.declared.log.Did.TheVariants.{Sent}
-use Rattle.place_history.specs.declared.log.AskWords.{AskWords}
-use Rattle.place_history.specs.Journeys.{Arrival}
-use Rattle.place_history.specs.PlaceState.{state_of}
-use Rattle.place_history.specs.Happenings.{all_handed}
+use Rattle.histories.specs.declared.log.Did.{Did}
+use Rattle.histories.specs.declared.log.Did.TheVariants.{Sent}
+use Rattle.histories.specs.declared.log.AskWords.{AskWords}
+use Rattle.histories.specs.Journeys.{Arrival}
+use Rattle.histories.specs.States.{state_of}
+use Rattle.histories.specs.Happenings.{all_handed}
 use Rattle.solo_plane.specs.declared.setting.Setting.{Setting}
 use Rattle.solo_plane.specs.World.{World, Port, delivered, having_done}
 use Rattle.solo_plane.specs.Calls.{is_sent, after_this, next_call}

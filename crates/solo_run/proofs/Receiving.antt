@@ -8,8 +8,8 @@ use Rattle.std.proofs.lemmas.Bool.Decides.{eqb_tells}
 use Rattle.std.proofs.lemmas.List.Sums.{sum_by-append}
 use Rattle.packet_entry.specs.declared.letter.Letter.{Letter}
 use Rattle.queue_core.specs.Numbers.{largest_count}
-use Rattle.place_history.specs.declared.log.Did.{Did}
-use Rattle.place_history.specs.declared.log.Did.TheVariants.{Received}
+use Rattle.histories.specs.declared.log.Did.{Did}
+use Rattle.histories.specs.declared.log.Did.TheVariants.{Received}
 use Rattle.script_lines.specs.declared.ask.Ask.{Ask}
 use Rattle.inspector_script.specs.Scripts.{ScriptValue, next_count}
 use Rattle.solo_plane.specs.declared.setting.Setting.{Setting}

@@ -6,7 +6,7 @@ use Rattle.std.proofs.lemmas.Bool.{cases_Bool}
 use Rattle.std.proofs.lemmas.Bool.Decides.{eqb_tells, nat_tests}
 use Rattle.netlink_codec.specs.Messages.{NetlinkMessage, first_message, has_message, told_length}
 use Rattle.netlink_codec.specs.Messages.{told_message, pad}
-use Rattle.place_history.specs.declared.histories.Lost.{Lost}
+use Rattle.histories.specs.declared.histories.Lost.{Lost}
 use Rattle.inspector_script.specs.Scripts.{ScriptValue}
 use Rattle.solo_plane.specs.declared.setting.Setting.{Setting}
 use Rattle.solo_plane.specs.World.{World}

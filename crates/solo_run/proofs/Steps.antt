@@ -7,8 +7,8 @@ use Rattle.std.proofs.lemmas.List.Sums.{sum_by-append}
 use Rattle.packet_entry.specs.declared.packet.Card.{Card}
 use Rattle.hook_chain.specs.Route.{next}
 use Rattle.queue_core.specs.Numbers.{largest_count}
-use Rattle.place_history.specs.declared.log.Did.{Did}
-use Rattle.place_history.specs.declared.log.Did.TheVariants.{Closed}
+use Rattle.histories.specs.declared.log.Did.{Did}
+use Rattle.histories.specs.declared.log.Did.TheVariants.{Closed}
 use Rattle.inspector_script.specs.Scripts.{ScriptValue}
 use Rattle.solo_plane.specs.declared.fed.Fed.{Fed}
 use Rattle.solo_plane.specs.declared.setting.Setting.{Setting}

@@ -7,7 +7,7 @@ use Rattle.packet_entry.specs.declared.letter.Letter.{Letter}
 use Rattle.nfqa_msgs.specs.declared.notice.Notice.{Notice}
 use Rattle.nfqa_msgs.specs.NoticeWriting.{Told}
 use Rattle.nfqa_msgs.specs.NoticeMeaning.{notice_of}
-use Rattle.place_history.specs.declared.log.AskWords.{AskWords}
+use Rattle.histories.specs.declared.log.AskWords.{AskWords}
 use Rattle.script_lines.specs.declared.ask.Ask.{Ask}
 use Rattle.script_lines.specs.declared.ask.Ask.TheVariants.{Words, Close}
 use Rattle.script_lines.specs.declared.answering.OnLine.{OnLine}

@@ -2,9 +2,9 @@
 
 ghost use Rattle.std.specs.Prelude.{◌≡◌, ◌≤◌, ◌++◌, length, All, IfOk, OnErr, OnOk};
 ghost use Rattle.packet_entry.specs.Numbers.{longest_packet};
-ghost use Rattle.place_history.specs.History.{AreLegal};
-ghost use Rattle.place_history.specs.Journeys.{AreSound};
-ghost use Rattle.place_history.specs.Listing.{listing};
+ghost use Rattle.histories.specs.History.{AreLegal};
+ghost use Rattle.histories.specs.Journeys.{AreSound};
+ghost use Rattle.histories.specs.Listing.{listing};
 ghost use Rattle.solo_plane.specs.Planes.{beginning};
 ghost use Rattle.script_runs.specs.Entering.{cards};
 ghost use Rattle.script_runs.specs.Schedule.{IsSolo, before_ends, until_end, until_ends};
@@ -20,7 +20,7 @@ use hook_chain::Tables;
 use inspector_script::Script;
 use packet_entry::NoMemory;
 use pcap_io::Capture;
-use place_history::Histories;
+use histories::Histories;
 use std::alloc::Global;
 
 /// Runs a script over the packets of a capture, of at most 200,000 frames: the histories of the

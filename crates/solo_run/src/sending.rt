@@ -15,7 +15,7 @@ use crate::run::Run;
 use inspector_script::Script;
 use nfqa_msgs::{Request, encode_request};
 use packet_entry::NoMemory;
-use place_history::AskWords;
+use histories::AskWords;
 use script_lines::{Ask, Asks};
 use script_runs::datagrams_are_short;
 use std::alloc::Global;

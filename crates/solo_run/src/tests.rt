@@ -10,7 +10,7 @@ use hook_chain::{Tables, read_tables};
 use inspector_script::{Script, read_script};
 use packet_entry::{Bytes, MAX_FRAME, NoMemory};
 use pcap_io::{Capture, Frame, Frames};
-use place_history::Histories;
+use histories::Histories;
 use std::alloc::Global;
 use std::test::Fail;
 

@@ -3,8 +3,8 @@
 
 ghost use Rattle.std.specs.Prelude.{◌≤◌, IfOk, IfSome, length};
 ghost use Rattle.packet_entry.specs.Numbers.{longest_packet, longest_payload};
-ghost use Rattle.place_history.specs.Examples.{IsOnly};
-ghost use Rattle.place_history.specs.Happenings.{payload_of};
+ghost use Rattle.place_history.specs.Calls.{IsOnly};
+ghost use Rattle.histories.specs.Happenings.{payload_of};
 
 use super::{BYTES, OTHER_BYTES};
 use nfqa_msgs::{BIND, Head, PACKET, Params, Request, UNBIND};

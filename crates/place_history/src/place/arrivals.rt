@@ -6,14 +6,15 @@ ghost use Rattle.packet_entry.specs.Numbers.{last_visit};
 ghost use Rattle.queue_core.specs.declared.event.Event.TheVariants.{Arrive};
 ghost use Rattle.queue_core.specs.declared.event.Reply.TheVariants.{Arrived};
 ghost use Rattle.queue_core.specs.Step.{Way, is_decided_early};
-ghost use Rattle.place_history.specs.PlaceState.{state_of, step_of, entry_of};
+ghost use Rattle.histories.specs.States.{state_of, step_of, entry_of};
 ghost use Rattle.place_history.specs.Changes.{queue_at};
-ghost use Rattle.place_history.specs.Happenings.{BeginsAs, SettlesAs};
+ghost use Rattle.place_history.specs.Calls.{BeginsAs, SettlesAs};
 ghost use Rattle.place_history.specs.PlaceInvariant.{IsReplayed, HasRoom, as_arrival, IsBegun};
 
 use super::bound;
 use super::held::{Held, Offer, append, note};
-use crate::{Entry, Event, Reply};
+use histories::Entry;
+use queue_core::{Event, Reply};
 use packet_entry::{MAX_VISITS, Packet};
 use queue_core::{Begun, NoRoom, Outcome, Settled};
 use std::alloc::Global;

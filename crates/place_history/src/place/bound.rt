@@ -13,7 +13,7 @@ ghost use Rattle.queue_core.specs.Calls.{BeginsArrival, SettlesArrival, hands_ou
 ghost use Rattle.queue_core.specs.Decision.{IsVerdict};
 ghost use Rattle.queue_core.specs.State.{configured};
 ghost use Rattle.queue_core.specs.Step.{are_flags_refused, all_gone, step};
-ghost use Rattle.place_history.specs.Numbers.{queue_count};
+ghost use Rattle.histories.specs.Numbers.{queue_count};
 ghost use Rattle.place_history.specs.Changes.{queue_at, OthersStay, Changes, AreSame};
 
 use hook_chain::Decision;

@@ -3,14 +3,15 @@
 ghost use Rattle.std.specs.Prelude.{◌≡◌, ◌≤◌, ◌<◌, ◌+◌, ◌++◌, ℕ, None, IsSome, IfSome, IfNone};
 ghost use Rattle.std.specs.BTreeMap.{btree_map_len};
 ghost use Rattle.queue_core.specs.declared.event.Reply.TheVariants as reply;
-ghost use Rattle.place_history.specs.Numbers.{queue_count};
-ghost use Rattle.place_history.specs.PlaceState.{state_of, told, taken_in};
-ghost use Rattle.place_history.specs.Happenings.{closing_of, down_of, closings, downs};
+ghost use Rattle.histories.specs.Numbers.{queue_count};
+ghost use Rattle.histories.specs.States.{state_of, told, taken_in};
+ghost use Rattle.histories.specs.Happenings.{closing_of, down_of, closings, downs};
 ghost use Rattle.place_history.specs.PlaceInvariant.{IsReplayed, HasRoom};
 
 use super::bound;
 use super::held::{Held, append, port_of};
-use crate::{Entry, Event, Reply};
+use histories::{Entry, ports_and_devices_reach_bound_queues};
+use queue_core::{Event, Reply};
 
 /// The first bound queue from this number on.
 pub(super) fn next_bound(held: &Held, from: u32) -> Option<u16>
@@ -93,6 +94,7 @@ pub(super) fn close_port(held: &mut Held, port: u32) -> u32
         ++ closings port held.old.entries.items }
     ensures taken { result ≡ told (taken_in (closings port held.old.entries.items)) }
 {
+    ports_and_devices_reach_bound_queues();
     let mut taken = 0u32;
     let mut from = 0u32;
     while let Some(number) = next_bound(held, from) {
@@ -115,6 +117,7 @@ pub(super) fn device_down(held: &mut Held, device: u32) -> u32
         ++ downs device held.old.entries.items }
     ensures taken { result ≡ told (taken_in (downs device held.old.entries.items)) }
 {
+    ports_and_devices_reach_bound_queues();
     let mut taken = 0u32;
     let mut from = 0u32;
     while let Some(number) = next_bound(held, from) {

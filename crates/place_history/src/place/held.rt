@@ -3,16 +3,16 @@
 ghost use Rattle.std.specs.Prelude.{◌≡◌, ◌<◌, ◌≤◌, ◌+◌, ◌^◌, ◌++◌, ◌∷◌, [], None, OnOk};
 ghost use Rattle.std.specs.Prelude.{option_map};
 ghost use Rattle.queue_core.specs.State.{Bound};
-ghost use Rattle.place_history.specs.PlaceState.{state_of, step_of, taken_by, waiting_at};
-ghost use Rattle.place_history.specs.History.{IsStep};
-ghost use Rattle.place_history.specs.Numbers.{queue_count};
+ghost use Rattle.histories.specs.States.{state_of, step_of, taken_by, waiting_at};
+ghost use Rattle.histories.specs.History.{IsStep};
+ghost use Rattle.histories.specs.Numbers.{queue_count};
 ghost use Rattle.place_history.specs.PlaceInvariant as replayed;
 ghost use Rattle.place_history.specs.PlaceInvariant.{IsReplayed, IsAhead, HasRoom};
 
 use super::bound::Queues;
-use crate::{Entry, Reply};
+use histories::{Entry, a_legal_history_goes_on, an_entry_is_of_its_queue_alone};
 use packet_entry::{Card, NoMemory, Stock};
-use queue_core::{Outcome, each_packet_stays_or_leaves, replies_tell_how_many_left};
+use queue_core::{Outcome, Reply, each_packet_stays_or_leaves, replies_tell_how_many_left};
 use std::alloc::Global;
 use std::collections::BTreeMap;
 
@@ -118,6 +118,8 @@ pub(super) fn append(held: &mut Held, entry: Entry)
 {
     each_packet_stays_or_leaves();
     replies_tell_how_many_left();
+    a_legal_history_goes_on();
+    an_entry_is_of_its_queue_alone();
     let reply = entry.reply;
     held.entries.push(entry);
     let count = held.entries.len();

@@ -1,7 +1,7 @@
 //! The listing of the bound queues.
 
 ghost use Rattle.std.specs.Prelude.{◌≡◌, ◌++◌, IfOk, OnOk, OnErr, string_bytes, option_map};
-ghost use Rattle.place_history.specs.Listing as text;
+ghost use Rattle.histories.specs.Listing as text;
 ghost use Rattle.place_history.specs.PlaceInvariant.{IsReplayed};
 ghost use Rattle.place_history.specs.Changes.{queue_at};
 

@@ -1,6 +1,6 @@
 use Rattle.std.proofs.Common.{List, subst, sym}
 use Rattle.std.specs.List.{AllByRecursion}
-use Rattle.place_history.specs.declared.log.Did.{Did}
+use Rattle.histories.specs.declared.log.Did.{Did}
 use Rattle.journals.specs.WellFormed.{FitsDid}
 use Rattle.journals.proofs.fits.dids_fit.Goals as goal
 

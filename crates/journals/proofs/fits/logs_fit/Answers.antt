@@ -1,6 +1,6 @@
 use Rattle.std.proofs.Common.{List, subst, sym}
 use Rattle.std.specs.List.{AllByRecursion}
-use Rattle.place_history.specs.declared.log.PortLog.{PortLog}
+use Rattle.histories.specs.declared.log.PortLog.{PortLog}
 use Rattle.journals.specs.WellFormed.{FitsLog}
 use Rattle.journals.proofs.fits.logs_fit.Goals as goal
 

@@ -1,9 +1,9 @@
 use Rattle.std.proofs.Common.{arith, ap, List}
 use Rattle.std.specs.Prelude.{count_by, ◌==◌, ◌<◌, All, length, []}
-use Rattle.place_history.specs.Numbers.{queue_count}
-use Rattle.place_history.specs.declared.entry.Entry.{Entry}
+use Rattle.histories.specs.Numbers.{queue_count}
+use Rattle.histories.specs.declared.entry.Entry.{Entry}
 use Rattle.nfq_cli.proofs.Forming.{well_formed}
-use Rattle.place_history.specs.declared.histories.Lost.{Lost}
+use Rattle.histories.specs.declared.histories.Lost.{Lost}
 use Rattle.script_runs.specs.Entering.{cards}
 use Rattle.nfq_cli.specs.Outputs.{fates_of}
 use Rattle.fate_ledger.specs.Fates.{is_lost}

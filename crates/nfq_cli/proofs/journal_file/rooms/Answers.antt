@@ -1,6 +1,6 @@
 use Rattle.std.proofs.Common.{◌≤◌, List, ap, sym, subst, arith, length, length-append}
 use Rattle.std.specs.List.{AllByRecursion}
-use Rattle.place_history.specs.declared.entry.Entry.{Entry}
+use Rattle.histories.specs.declared.entry.Entry.{Entry}
 use Rattle.journals.specs.Journal as text
 use Rattle.nfq_cli.proofs.journal_file.rooms.Goals as goal
 

@@ -2,7 +2,7 @@ use Rattle.std.proofs.Common.{◌≤◌, ◌++◌, List, ap, sym, ◌∙◌, sub
 use Rattle.std.proofs.Common.{append_assoc, Some}
 use Rattle.std.specs.List.{AllByRecursion}
 use Rattle.host_io.specs.Host.{later_still}
-use Rattle.place_history.specs.declared.entry.Entry.{Entry}
+use Rattle.histories.specs.declared.entry.Entry.{Entry}
 use Rattle.journals.specs.Journal as text
 use Rattle.nfq_cli.specs.Parts.{IsAhead, journal_of}
 use Rattle.nfq_cli.proofs.Endings.{on_ok}

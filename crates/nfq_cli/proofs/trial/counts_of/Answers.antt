@@ -2,7 +2,7 @@ use Rattle.std.proofs.Common.{◌≡◌, ◌++◌, ◌∙◌, ap, List, [], ℕ,
 use Rattle.fate_ledger.specs.Counts.{counts}
 use Rattle.fate_ledger.specs.declared.fate.FateLine.{FateLine}
 use Rattle.pcap_io.specs.declared.capture.Capture.{Capture}
-use Rattle.place_history.specs.declared.histories.Histories.{Histories}
+use Rattle.histories.specs.declared.histories.Histories.{Histories}
 use Rattle.nfq_cli.specs.Account.{IsAccounted}
 use Rattle.nfq_cli.specs.Outputs.{counts_text, fates_of}
 use Rattle.nfq_cli.proofs.trial.counts_of.Goals as goal

@@ -3,8 +3,8 @@ use Rattle.std.specs.Prelude.{IfSome, IsSome}
 use Rattle.std.specs.BTreeMap.{get}
 use Rattle.std.specs.Ordering.{nat_cmp}
 use Rattle.queue_core.specs.State.{Bound}
-use Rattle.place_history.specs.Journeys.{Arrival}
-use Rattle.place_history.specs.PlaceState.{state_of}
+use Rattle.histories.specs.Journeys.{Arrival}
+use Rattle.histories.specs.States.{state_of}
 use Rattle.solo_plane.specs.PortView.{world_of, OnPort}
 use Rattle.solo_plane.proofs.Settling.{came_back, room_early, room_is, world_posted, world_back}
 use Rattle.solo_plane.proofs.Settling.{came_as_waiting, on_ok, taken_had_room, port_is_there}

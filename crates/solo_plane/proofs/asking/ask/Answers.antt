@@ -1,7 +1,7 @@
 use Rattle.std.proofs.Common.{◌≡◌, arith}
 use Rattle.queue_core.specs.declared.event.Event.TheVariants.{Ask}
-use Rattle.place_history.specs.PlaceState.{state_of, waiting_at}
-use Rattle.place_history.specs.Happenings.{queue_of}
+use Rattle.histories.specs.States.{state_of, waiting_at}
+use Rattle.histories.specs.Happenings.{queue_of}
 use Rattle.solo_plane.proofs.Leaving.{no_more_than_waited, handed_in_time}
 use Rattle.solo_plane.proofs.asking.ask.Goals as goal
 

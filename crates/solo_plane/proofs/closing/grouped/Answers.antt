@@ -1,6 +1,6 @@
 use Rattle.std.proofs.Common.{rules, List, subst, sym}
 use Rattle.std.proofs.lemmas.List.Sorted.{answers_always}
-use Rattle.place_history.specs.declared.entry.Entry.{Entry}
+use Rattle.histories.specs.declared.entry.Entry.{Entry}
 use Rattle.solo_plane.specs.Closing.{IsGrouped}
 use Rattle.solo_plane.proofs.Grouping.{Ascends, grouped_so, grouped_already, number_of}
 use Rattle.solo_plane.proofs.closing.grouped.Goals as goal

@@ -1,6 +1,6 @@
 use Rattle.std.proofs.Common.{◌≡◌, ◌<◌, ◌^◌, ◌++◌, length, arith}
 use Rattle.nfqa_msgs.specs.RequestWriting.{spelling}
-use Rattle.place_history.specs.declared.log.AskWords.TheVariants.{Plain}
+use Rattle.histories.specs.declared.log.AskWords.TheVariants.{Plain}
 use Rattle.solo_run.proofs.Keeping.{on_ok}
 use Rattle.solo_run.proofs.sending.put_text.Goals as goal
 

@@ -2,7 +2,7 @@ use Rattle.std.proofs.Common.{ap, ◌∙◌, [], ◌∷◌, ◌++◌, ◌≤◌,
 use Rattle.packet_entry.specs.Numbers.{last_visit}
 use Rattle.queue_core.specs.Calls.{BeginsArrival}
 use Rattle.queue_core.specs.declared.offers.Begun.TheVariants as begun
-use Rattle.place_history.specs.Numbers.{queue_count}
+use Rattle.histories.specs.Numbers.{queue_count}
 use Rattle.place_history.specs.Changes.{Changes}
 use Rattle.place_history.proofs.Stepping.{ahead}
 use Rattle.place_history.proofs.Arriving.{turned_away, tells_back}

@@ -1,7 +1,7 @@
 use Rattle.std.proofs.Common.{◌<◌, arith}
-use Rattle.place_history.specs.Numbers.{queue_count}
-use Rattle.place_history.specs.Happenings.{closing_of}
-use Rattle.place_history.proofs.Sweeping.{next_swept, all_swept, closing_asks}
+use Rattle.histories.specs.Numbers.{queue_count}
+use Rattle.histories.specs.Happenings.{closing_of}
+use Rattle.place_history.proofs.Sweeping.{next_swept, all_swept}
 use Rattle.place_history.proofs.place.endings.close_port.Goals as goal
 
 pub loop-number-preserved : goal.loop-number-preserved
@@ -13,7 +13,7 @@ loop-number-preserved c =
       room = c.close_at.ensures.room;
       sweeps = next_swept (closing_of c.args.port) c.args.held.now.entries.items
           c.loop-number.held.entries.items c.close_at.new.held.entries.items c.loop-number.from
-          c.in-Some.number c.loop-number.taken _ (closing_asks c.args.port)
+          c.in-Some.number c.loop-number.taken _ (c.ports_and_devices_reach_bound_queues.ensures.ports c.args.port)
           c.loop-number.invariant.sweeps c.in-Some.ensures.found.0 number c.in-Some.ensures.first
           c.close_at.ensures.entries
           (omega (arith, c.saturating_add-taken.ensures, c.close_at.ensures.taken));
@@ -23,10 +23,10 @@ pub returns-clause-entries : goal.returns-clause-entries
 returns-clause-entries c =
     (all_swept (closing_of c.args.port) c.args.held.now.entries.items
     c.loop-number.held.entries.items c.loop-number.from c.loop-number.taken
-    (closing_asks c.args.port) c.loop-number.invariant.sweeps c.in_default.ensures.none).0
+    (c.ports_and_devices_reach_bound_queues.ensures.ports c.args.port) c.loop-number.invariant.sweeps c.in_default.ensures.none).0
 
 pub returns-clause-taken : goal.returns-clause-taken
 returns-clause-taken c =
     (all_swept (closing_of c.args.port) c.args.held.now.entries.items
     c.loop-number.held.entries.items c.loop-number.from c.loop-number.taken
-    (closing_asks c.args.port) c.loop-number.invariant.sweeps c.in_default.ensures.none).1
+    (c.ports_and_devices_reach_bound_queues.ensures.ports c.args.port) c.loop-number.invariant.sweeps c.in_default.ensures.none).1

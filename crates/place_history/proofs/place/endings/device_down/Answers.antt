@@ -1,9 +1,9 @@
 use Rattle.std.proofs.Common.{◌<◌, ap, ◌∙◌, arith, length, length-append}
 use Rattle.std.specs.BTreeMap.{btree_map_len}
-use Rattle.place_history.specs.Numbers.{queue_count}
-use Rattle.place_history.specs.PlaceState.{state_of}
-use Rattle.place_history.specs.Happenings.{down_of}
-use Rattle.place_history.proofs.Sweeping.{next_swept, all_swept, down_asks, down_length}
+use Rattle.histories.specs.Numbers.{queue_count}
+use Rattle.histories.specs.States.{state_of}
+use Rattle.histories.specs.Happenings.{down_of}
+use Rattle.place_history.proofs.Sweeping.{next_swept, all_swept, down_length}
 use Rattle.place_history.proofs.Sweeping.{room_to_go, room_at_end}
 use Rattle.place_history.proofs.place.endings.device_down.Goals as goal
 
@@ -28,7 +28,7 @@ loop-number-preserved c =
       );
       sweeps = next_swept (down_of c.args.device) c.args.held.now.entries.items
           c.loop-number.held.entries.items c.down_at.new.held.entries.items c.loop-number.from
-          c.in-Some.number c.loop-number.taken _ (down_asks c.args.device)
+          c.in-Some.number c.loop-number.taken _ (c.ports_and_devices_reach_bound_queues.ensures.devices c.args.device)
           c.loop-number.invariant.sweeps c.in-Some.ensures.found.0 number c.in-Some.ensures.first
           c.down_at.ensures.entries
           (omega (arith, c.saturating_add-taken.ensures, c.down_at.ensures.taken));
@@ -38,13 +38,13 @@ pub returns-clause-entries : goal.returns-clause-entries
 returns-clause-entries c =
     (all_swept (down_of c.args.device) c.args.held.now.entries.items
     c.loop-number.held.entries.items c.loop-number.from c.loop-number.taken
-    (down_asks c.args.device) c.loop-number.invariant.sweeps c.in_default.ensures.none).0
+    (c.ports_and_devices_reach_bound_queues.ensures.devices c.args.device) c.loop-number.invariant.sweeps c.in_default.ensures.none).0
 
 pub returns-clause-taken : goal.returns-clause-taken
 returns-clause-taken c =
     (all_swept (down_of c.args.device) c.args.held.now.entries.items
     c.loop-number.held.entries.items c.loop-number.from c.loop-number.taken
-    (down_asks c.args.device) c.loop-number.invariant.sweeps c.in_default.ensures.none).1
+    (c.ports_and_devices_reach_bound_queues.ensures.devices c.args.device) c.loop-number.invariant.sweeps c.in_default.ensures.none).1
 
 pub down_at-requires-clause-room : goal.down_at-requires-clause-room
 down_at-requires-clause-room c =

@@ -1,8 +1,8 @@
 use Rattle.std.proofs.Common.{◌≡◌, ◌+◌, None, ◌-◌, length}
 use Rattle.std.specs.BTreeMap.{btree_map_len}
-use Rattle.place_history.specs.Numbers.{queue_count}
-use Rattle.place_history.specs.PlaceState.{state_of}
-use Rattle.place_history.specs.Happenings.{down_of}
+use Rattle.histories.specs.Numbers.{queue_count}
+use Rattle.histories.specs.States.{state_of}
+use Rattle.histories.specs.Happenings.{down_of}
 use Rattle.place_history.specs.PlaceInvariant.{IsReplayed}
 use Rattle.place_history.proofs.Sweeping.{Sweeps}
 use Rattle.place_history.proofs.place.endings.device_down.Given as goal

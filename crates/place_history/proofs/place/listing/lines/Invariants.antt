@@ -1,8 +1,8 @@
 use Rattle.std.proofs.Common.{◌≡◌, ◌≤◌, ◌-◌, flat_map}
 use Rattle.std.specs.List.{range_with_len}
-use Rattle.place_history.specs.Numbers.{queue_count}
-use Rattle.place_history.specs.PlaceState.{state_of}
-use Rattle.place_history.specs.Listing.{line_of}
+use Rattle.histories.specs.Numbers.{queue_count}
+use Rattle.histories.specs.States.{state_of}
+use Rattle.histories.specs.Listing.{line_of}
 use Rattle.place_history.proofs.place.listing.lines.Given as goal
 
 abbrev pub invariant-loop-number : goal.invariant-loop-number

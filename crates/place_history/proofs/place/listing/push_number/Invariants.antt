@@ -1,5 +1,5 @@
 use Rattle.std.proofs.Common.{◌≡◌, ◌++◌, string_bytes, replicate}
-use Rattle.place_history.specs.Listing.{blank}
+use Rattle.histories.specs.Listing.{blank}
 use Rattle.place_history.proofs.place.listing.push_number.Given as goal
 
 abbrev pub invariant-loop : goal.invariant-loop

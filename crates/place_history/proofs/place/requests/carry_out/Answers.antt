@@ -2,8 +2,8 @@ use Rattle.std.proofs.Common.{◌<◌, [], ◌∷◌, Some, sym, append-nil}
 use Rattle.nfqa_msgs.specs.declared.request.Request.TheVariants.{Verdict}
 use Rattle.queue_core.specs.Calls.{hands_out}
 use Rattle.queue_core.specs.Step.{way_of}
-use Rattle.place_history.specs.Numbers.{queue_count}
-use Rattle.place_history.specs.Happenings.{handed_of}
+use Rattle.histories.specs.Numbers.{queue_count}
+use Rattle.histories.specs.Happenings.{handed_of}
 use Rattle.place_history.proofs.Stepping.{ahead}
 use Rattle.place_history.proofs.Requesting.{served_makes, served_enters, asked_step}
 use Rattle.place_history.proofs.place.requests.carry_out.Goals as goal

@@ -1,5 +1,5 @@
 use Rattle.std.proofs.Common.{sym}
-use Rattle.place_history.specs.PlaceState.{state_of}
+use Rattle.histories.specs.States.{state_of}
 use Rattle.place_history.proofs.place.requests.config.Goals as goal
 
 pub bind-requires-clause-line : goal.bind-requires-clause-line

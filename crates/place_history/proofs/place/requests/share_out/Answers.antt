@@ -1,8 +1,8 @@
 use Rattle.std.proofs.Common.{◌<◌, Some}
 use Rattle.nfqa_msgs.specs.declared.request.Request.TheVariants.{Batch}
 use Rattle.queue_core.specs.Calls.{hands_out, batch_handed, ways_of}
-use Rattle.place_history.specs.Numbers.{queue_count}
-use Rattle.place_history.specs.Happenings.{all_handed}
+use Rattle.histories.specs.Numbers.{queue_count}
+use Rattle.histories.specs.Happenings.{all_handed}
 use Rattle.place_history.proofs.Stepping.{ahead}
 use Rattle.place_history.proofs.Requesting.{served_makes, served_enters, asked_step}
 use Rattle.place_history.proofs.place.requests.share_out.Goals as goal

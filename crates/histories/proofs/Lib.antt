@@ -1,0 +1,6 @@
+pub mod Legal
+pub mod Staying
+pub mod Journeying
+pub mod Ending
+pub mod Asking
+pub mod Swept

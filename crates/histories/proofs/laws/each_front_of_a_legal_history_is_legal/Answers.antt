@@ -1,0 +1,5 @@
+use Rattle.histories.proofs.Legal.{front}
+use Rattle.histories.proofs.laws.each_front_of_a_legal_history_is_legal.Goals as goal
+
+pub returns : goal.returns
+returns c = front

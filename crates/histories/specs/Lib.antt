@@ -1,0 +1,11 @@
+pub mod Numbers
+pub mod History
+pub mod Stays
+pub mod Moves
+pub mod Journeys
+pub mod Endings
+pub mod States
+pub mod Happenings
+pub mod Listing
+pub mod Examples
+pub mod Sweeps

@@ -1,5 +1,0 @@
-use Rattle.place_history.proofs.Journeying.{moves_on}
-use Rattle.place_history.proofs.journeys.an_entry_is_a_move.Goals as goal
-
-pub returns : goal.returns
-returns c = moves_on

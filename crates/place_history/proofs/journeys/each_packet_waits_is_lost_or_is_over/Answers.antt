@@ -1,5 +1,0 @@
-use Rattle.place_history.proofs.Ending.{once_each}
-use Rattle.place_history.proofs.journeys.each_packet_waits_is_lost_or_is_over.Goals as goal
-
-pub returns : goal.returns
-returns c = once_each c.each_stay_ends_once.ensures
