@@ -4,3 +4,5 @@ pub mod Journeying
 pub mod Ending
 pub mod Asking
 pub mod Swept
+pub mod Ascending
+pub mod Regrouping

@@ -9,3 +9,4 @@ pub mod Happenings
 pub mod Listing
 pub mod Examples
 pub mod Sweeps
+pub mod Grouping

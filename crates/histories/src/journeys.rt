@@ -10,6 +10,7 @@ ghost use Rattle.histories.specs.Journeys.{Arrival, IsSoundBut, AreSound, enteri
 ghost use Rattle.histories.specs.Journeys.{visit_of};
 ghost use Rattle.histories.specs.Endings.{AreQueuesOf, times_waiting, times_over};
 ghost use Rattle.histories.specs.Endings.{times_entered};
+ghost use Rattle.histories.specs.History.{history};
 
 use crate::each_stay_ends_once;
 
@@ -50,3 +51,11 @@ pub fn each_packet_waits_is_lost_or_is_over()
 {
     each_stay_ends_once();
 }
+
+/// Soundness is a matter of each queue's history: it doesn't depend on how the entries of several
+/// queues interleave.
+pub fn soundness_is_of_each_queue()
+    ensures { (tables : List (List Rule)) (key : ℕ) (entered : List Card) (es gs : List Entry)
+        (lost : List Lost) → ((queue : ℕ) → history queue gs ≡ history queue es) →
+        AreSound tables key entered es lost → AreSound tables key entered gs lost }
+{}

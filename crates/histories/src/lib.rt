@@ -3,15 +3,18 @@
 #![tactic(auto)]
 
 mod entry;
+mod grouping;
 mod histories;
 mod journeys;
 mod laws;
 mod log;
 
 pub use entry::{Entries, Entry};
+pub use grouping::grouped;
 pub use histories::{Histories, Logs, Lost, Losts};
 pub use journeys::{
     an_entry_is_a_move, each_packet_waits_is_lost_or_is_over, soundness_is_kept_move_by_move,
+    soundness_is_of_each_queue,
 };
 pub use laws::{
     a_closed_port_has_no_queues, a_device_that_packets_pass_leaves_nothing_waiting,

@@ -35,7 +35,7 @@ use Rattle.script_runs.specs.Log.{after, logged, start}
 use Rattle.script_runs.specs.Requests.{Plea, pleas_of, pleas_in, pleas_told, plea_of}
 use Rattle.script_runs.specs.Run.{AreLogs, IsMadeBy}
 use Rattle.script_runs.specs.Sending.{errno_in}
-use Rattle.solo_plane.specs.Closing.{IsGrouped}
+use Rattle.histories.specs.Grouping.{IsGrouped}
 use Rattle.journals.specs.WellFormed as formed
 use Rattle.journals.specs.WellFormed.{Fit, FitsDid, FitsEntry, FitsEvent, FitsLog, FitsReply}
 use Rattle.journals.specs.WellFormed.{IsEntry, IsEventAt, IsReplyTo, IsWellFormed}

@@ -17,12 +17,12 @@ use Rattle.histories.specs.Happenings.{all_handed}
 use Rattle.script_lines.specs.declared.ask.Ask.TheVariants.{Words, Close}
 use Rattle.script_lines.specs.declared.line.Down.{Down}
 use Rattle.inspector_script.specs.Scripts.{ScriptValue}
-use Rattle.solo_plane.specs.declared.setting.Setting.{Setting}
-use Rattle.solo_plane.specs.World.{World, Port, at_port, changed_at, having_done, received, closed}
-use Rattle.solo_plane.specs.Calls.{next_call}
-use Rattle.solo_plane.specs.Moving.{arrived, left_at_once, room_for}
-use Rattle.solo_plane.specs.Messages.{words_of, answered, call_at, asking, with_ask}
-use Rattle.solo_plane.specs.Planes.{with_closed, without_device}
+use Rattle.packet_moves.specs.declared.setting.Setting.{Setting}
+use Rattle.packet_moves.specs.World.{World, Port, at_port, changed_at, having_done, received, closed}
+use Rattle.packet_moves.specs.Calls.{next_call}
+use Rattle.packet_moves.specs.Moving.{arrived, left_at_once, room_for}
+use Rattle.packet_moves.specs.Messages.{words_of, answered, call_at, asking, with_ask}
+use Rattle.packet_moves.specs.Planes.{with_closed, without_device}
 use Rattle.script_runs.specs.Sending.{carried_out, errno_of, sent, sent_as, messages_in, bytes_of}
 use Rattle.script_runs.specs.Sending.{all_sent, done, all_done}
 use Rattle.script_runs.specs.Schedule.{is_open_port}

@@ -46,12 +46,12 @@ use Rattle.script_lines.specs.Limits.{IsAsk, IsWords, IsTemplate, IsOnLine}
 use Rattle.inspector_script.specs.declared.block.Block.{Block}
 use Rattle.inspector_script.specs.Blocks as block
 use Rattle.inspector_script.specs.Scripts.{ScriptValue, IsBlock, opening, closing}
-use Rattle.solo_plane.specs.declared.setting.Setting.{Setting}
-use Rattle.solo_plane.specs.World.{World, at_port, received}
-use Rattle.solo_plane.specs.Moving.{Carried, arrival_to, arrived, turned_away, settled, carry}
-use Rattle.solo_plane.specs.Moving.{carry_on, goes_on, route_after, room_for}
-use Rattle.solo_plane.specs.Messages.{asking, with_ask, call_at}
-use Rattle.solo_plane.specs.Planes.{entered, with_closed, without_device, beginning}
+use Rattle.packet_moves.specs.declared.setting.Setting.{Setting}
+use Rattle.packet_moves.specs.World.{World, at_port, received}
+use Rattle.packet_moves.specs.Moving.{Carried, arrival_to, arrived, turned_away, settled, carry}
+use Rattle.packet_moves.specs.Moving.{carry_on, goes_on, route_after, room_for}
+use Rattle.packet_moves.specs.Messages.{asking, with_ask, call_at}
+use Rattle.packet_moves.specs.Planes.{entered, with_closed, without_device, beginning}
 use Rattle.script_runs.specs.Numbers.{enough_arrivals}
 use Rattle.script_runs.specs.Entering.{card_of, card_at}
 use Rattle.script_runs.specs.NoticeTexts.{told_exactly}

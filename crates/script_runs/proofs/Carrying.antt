@@ -8,10 +8,10 @@ use Rattle.hook_chain.specs.Route.{onward_of}
 use Rattle.queue_core.specs.Step.{Way}
 use Rattle.histories.specs.declared.entry.Entry.{Entry}
 use Rattle.histories.specs.Journeys.{Arrival}
-use Rattle.solo_plane.specs.declared.setting.Setting.{Setting}
-use Rattle.solo_plane.specs.World.{World, Port}
-use Rattle.solo_plane.specs.Moving.{Carried, arrival_to, arrived, turned_away, settled, carry}
-use Rattle.solo_plane.specs.Moving.{carry_on, goes_on, route_after}
+use Rattle.packet_moves.specs.declared.setting.Setting.{Setting}
+use Rattle.packet_moves.specs.World.{World, Port}
+use Rattle.packet_moves.specs.Moving.{Carried, arrival_to, arrived, turned_away, settled, carry}
+use Rattle.packet_moves.specs.Moving.{carry_on, goes_on, route_after}
 use Rattle.script_runs.specs.Numbers.{enough_arrivals}
 use Rattle.script_runs.specs.Sending.{all_moved}
 

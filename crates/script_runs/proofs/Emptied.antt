@@ -26,10 +26,10 @@ use Rattle.script_lines.specs.declared.ask.Ask.{Ask}
 use Rattle.script_lines.specs.declared.ask.Ask.TheVariants.{Words, Close}
 use Rattle.script_lines.specs.declared.line.Down.{Down}
 use Rattle.inspector_script.specs.Scripts.{ScriptValue, opening, closing}
-use Rattle.solo_plane.specs.declared.setting.Setting.{Setting}
-use Rattle.solo_plane.specs.World.{World, Port, at_port, received, opened, closed}
-use Rattle.solo_plane.specs.Messages.{call_at}
-use Rattle.solo_plane.specs.Planes.{beginning, opened_ports, entered, without_device}
+use Rattle.packet_moves.specs.declared.setting.Setting.{Setting}
+use Rattle.packet_moves.specs.World.{World, Port, at_port, received, opened, closed}
+use Rattle.packet_moves.specs.Messages.{call_at}
+use Rattle.packet_moves.specs.Planes.{beginning, opened_ports, entered, without_device}
 use Rattle.script_runs.specs.Numbers.{enough_arrivals}
 use Rattle.script_runs.specs.Entering.{card_of}
 use Rattle.script_runs.specs.NoticeTexts.{told_exactly}

@@ -32,15 +32,15 @@ use Rattle.histories.specs.History.{history, is_of, replay}
 use Rattle.histories.specs.Journeys.{Arrival}
 use Rattle.histories.specs.States.{state_of, entry_of, every_number}
 use Rattle.histories.specs.Happenings as happening
-use Rattle.solo_plane.specs.declared.setting.Setting.{Setting}
-use Rattle.solo_plane.specs.World.{World, Port, at_port, changed_at, delivered, having_done, closed}
-use Rattle.solo_plane.specs.World.{received}
-use Rattle.solo_plane.specs.HandedOn.{LeavesAlone}
-use Rattle.solo_plane.specs.Moving.{arrived, arrival_to, left_at_once, room_for, turned_away}
-use Rattle.solo_plane.specs.Moving.{with_notice, carry, carry_on, settled, goes_on}
-use Rattle.solo_plane.specs.Moving.{Carried}
-use Rattle.solo_plane.specs.Messages.{asking, with_ask, words_of, answered}
-use Rattle.solo_plane.specs.Planes.{with_closed, without_device}
+use Rattle.packet_moves.specs.declared.setting.Setting.{Setting}
+use Rattle.packet_moves.specs.World.{World, Port, at_port, changed_at, delivered, having_done, closed}
+use Rattle.packet_moves.specs.World.{received}
+use Rattle.packet_moves.specs.HandedOn.{LeavesAlone}
+use Rattle.packet_moves.specs.Moving.{arrived, arrival_to, left_at_once, room_for, turned_away}
+use Rattle.packet_moves.specs.Moving.{with_notice, carry, carry_on, settled, goes_on}
+use Rattle.packet_moves.specs.Moving.{Carried}
+use Rattle.packet_moves.specs.Messages.{asking, with_ask, words_of, answered}
+use Rattle.packet_moves.specs.Planes.{with_closed, without_device}
 use Rattle.script_runs.specs.Numbers.{enough_arrivals}
 use Rattle.script_runs.specs.Closing.{IsClosing, is_bound_to}
 use Rattle.script_runs.specs.Schedule.{is_open_port, letters_at}

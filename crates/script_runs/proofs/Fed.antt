@@ -13,9 +13,9 @@ use Rattle.histories.specs.States.{entry_of}
 use Rattle.histories.specs.Journeys.{Arrival}
 use Rattle.histories.specs.Happenings as happening
 use Rattle.inspector_script.specs.Scripts.{ScriptValue}
-use Rattle.solo_plane.specs.declared.setting.Setting.{Setting}
-use Rattle.solo_plane.specs.World.{World}
-use Rattle.solo_plane.specs.Moving.{arrived, room_for}
+use Rattle.packet_moves.specs.declared.setting.Setting.{Setting}
+use Rattle.packet_moves.specs.World.{World}
+use Rattle.packet_moves.specs.Moving.{arrived, room_for}
 use Rattle.script_runs.specs.Sending.{carried_out}
 use Rattle.script_runs.specs.Feeder.{times_of_event}
 use Rattle.script_runs.proofs.Asking.{Stage, IsOver, MayArrive, Goes, MayEnter, with_fed}

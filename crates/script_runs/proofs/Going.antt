@@ -13,10 +13,10 @@ use Rattle.histories.specs.States.{entry_of, state_of, every_number}
 use Rattle.histories.specs.Journeys.{Arrival}
 use Rattle.histories.specs.Happenings as happening
 use Rattle.inspector_script.specs.Scripts.{ScriptValue}
-use Rattle.solo_plane.specs.declared.setting.Setting.{Setting}
-use Rattle.solo_plane.specs.World.{World}
-use Rattle.solo_plane.specs.Moving.{arrived, room_for}
-use Rattle.solo_plane.specs.Messages.{asking, with_ask}
+use Rattle.packet_moves.specs.declared.setting.Setting.{Setting}
+use Rattle.packet_moves.specs.World.{World}
+use Rattle.packet_moves.specs.Moving.{arrived, room_for}
+use Rattle.packet_moves.specs.Messages.{asking, with_ask}
 use Rattle.queue_core.specs.declared.event.Event.TheVariants.{Ask}
 use Rattle.script_runs.specs.Sending.{carried_out, all_moved}
 use Rattle.script_runs.proofs.Carrying.{Known, Of}

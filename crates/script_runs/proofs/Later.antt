@@ -16,11 +16,11 @@ use Rattle.queue_core.specs.State.{Bound}
 use Rattle.queue_core.specs.Step.{Way, step}
 use Rattle.queue_core.specs.declared.event.Event.TheVariants.{Arrive}
 use Rattle.histories.specs.Journeys.{Arrival}
-use Rattle.solo_plane.specs.declared.setting.Setting.{Setting}
-use Rattle.solo_plane.specs.World.{World}
-use Rattle.solo_plane.specs.HandedOn.{LeavesAlone}
-use Rattle.solo_plane.specs.Moving.{arrival_to, arrived, turned_away, settled, carry, carry_on}
-use Rattle.solo_plane.specs.Moving.{goes_on, route_after, Carried, left_at_once, room_for}
+use Rattle.packet_moves.specs.declared.setting.Setting.{Setting}
+use Rattle.packet_moves.specs.World.{World}
+use Rattle.packet_moves.specs.HandedOn.{LeavesAlone}
+use Rattle.packet_moves.specs.Moving.{arrival_to, arrived, turned_away, settled, carry, carry_on}
+use Rattle.packet_moves.specs.Moving.{goes_on, route_after, Carried, left_at_once, room_for}
 use Rattle.histories.specs.States.{state_of}
 use Rattle.script_runs.specs.Numbers.{enough_arrivals}
 use Rattle.script_runs.specs.Entering.{card_of, card_at}

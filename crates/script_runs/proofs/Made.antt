@@ -9,12 +9,12 @@ use Rattle.pcap_io.specs.declared.capture.Capture.{Capture}
 use Rattle.hook_chain.specs.declared.rule.Rule.{Rule}
 use Rattle.histories.specs.History.{history}
 use Rattle.inspector_script.specs.Scripts.{ScriptValue}
-use Rattle.solo_plane.specs.World.{Port, opened}
+use Rattle.packet_moves.specs.World.{Port, opened}
 use Rattle.script_runs.specs.Schedule.{run, setting_of, IsSolo, letters_at}
-use Rattle.solo_plane.specs.Closing.{dids_of, log_of}
+use Rattle.packet_moves.specs.Logs.{dids_of, log_of}
 use Rattle.histories.specs.declared.histories.Histories.{Histories}
 use Rattle.histories.specs.declared.log.PortLog.{PortLog}
-use Rattle.solo_plane.specs.Planes.{opened_ports}
+use Rattle.packet_moves.specs.Planes.{opened_ports}
 use Rattle.script_runs.specs.Closing.{IsClosing}
 use Rattle.script_runs.proofs.Shut.{AreShut, is_shut, shut_kept}
 use Rattle.script_runs.proofs.Closings.{Laws}

@@ -6,7 +6,7 @@ use Rattle.std.specs.Prelude.{◌==◌, nat_eq, option_map}
 use Rattle.std.specs.List.{list_any}
 use Rattle.std.proofs.lemmas.Bool.{cases_Bool, eq-eqb, eqb-true, ne_eqb}
 use Rattle.packet_entry.specs.declared.letter.Letter.{Letter}
-use Rattle.solo_plane.specs.World.{Port, changed_at, delivered, received, received_from}
+use Rattle.packet_moves.specs.World.{Port, changed_at, delivered, received, received_from}
 use Rattle.script_runs.specs.Schedule.{letters_at}
 use Rattle.script_runs.proofs.Placing.{AreApart}
 

@@ -10,7 +10,7 @@ use Rattle.histories.specs.declared.histories.Histories.{Histories}
 use Rattle.histories.specs.declared.histories.Lost.{Lost}
 use Rattle.histories.specs.declared.log.PortLog.{PortLog}
 use Rattle.histories.specs.History.{history}
-use Rattle.solo_plane.specs.Closing.{IsGrouped}
+use Rattle.histories.specs.Grouping.{IsGrouped}
 
 abbrev Rises : List Entry → Type 0
 Rises es = IsNonDecreasingBy (λ (e : Entry). e.queue) es

@@ -17,9 +17,9 @@ use Rattle.histories.specs.States.{entry_of}
 use Rattle.histories.specs.Journeys.{Arrival}
 use Rattle.histories.specs.Happenings as happening
 use Rattle.inspector_script.specs.Scripts.{ScriptValue}
-use Rattle.solo_plane.specs.declared.setting.Setting.{Setting}
-use Rattle.solo_plane.specs.World.{World}
-use Rattle.solo_plane.specs.Moving.{arrived, room_for}
+use Rattle.packet_moves.specs.declared.setting.Setting.{Setting}
+use Rattle.packet_moves.specs.World.{World}
+use Rattle.packet_moves.specs.Moving.{arrived, room_for}
 use Rattle.script_runs.specs.Sending.{carried_out, errno_of}
 use Rattle.script_runs.specs.Log.{Note, Got, Begun, Spoke, Shut}
 use Rattle.script_runs.specs.Log.{Due, Standing, start, after, standing}

@@ -15,10 +15,10 @@ use Rattle.histories.specs.History.{history, is_of}
 use Rattle.histories.specs.Journeys.{Arrival}
 use Rattle.histories.specs.States.{entry_of, entry_in, state_of, every_number}
 use Rattle.histories.specs.Happenings as happening
-use Rattle.solo_plane.specs.declared.setting.Setting.{Setting}
-use Rattle.solo_plane.specs.World.{World}
-use Rattle.solo_plane.specs.Moving.{arrived, room_for}
-use Rattle.solo_plane.specs.Messages.{asking, with_ask}
+use Rattle.packet_moves.specs.declared.setting.Setting.{Setting}
+use Rattle.packet_moves.specs.World.{World}
+use Rattle.packet_moves.specs.Moving.{arrived, room_for}
+use Rattle.packet_moves.specs.Messages.{asking, with_ask}
 use Rattle.script_runs.specs.Sending.{carried_out, errno_of}
 use Rattle.script_runs.specs.Log.{Note, Got, Begun, Spoke, Shut}
 use Rattle.script_runs.specs.Requests.{Plea, pleas_of, pleas_in, plea_of, pleas_told}

@@ -2,8 +2,8 @@
 use Rattle.std.specs.Prelude.{◌≡◌, ℕ, List, [], ◌∷◌, map, refl}
 use Rattle.std.proofs.Common.{ap}
 use Rattle.histories.specs.declared.log.PortLog.{PortLog}
-use Rattle.solo_plane.specs.World.{World}
-use Rattle.solo_plane.specs.Closing.{logs_in}
+use Rattle.packet_moves.specs.World.{World}
+use Rattle.packet_moves.specs.Logs.{logs_in}
 
 -- the ports of the logs are those that the logs were made for
 pub ports_of_logs : (w : World) (order : List ℕ) →

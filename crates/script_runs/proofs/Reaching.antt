@@ -11,8 +11,8 @@ use Rattle.queue_core.specs.State.{Bound}
 use Rattle.queue_core.specs.Step.{Way}
 use Rattle.histories.specs.Journeys.{Arrival}
 use Rattle.inspector_script.specs.Scripts.{ScriptValue}
-use Rattle.solo_plane.specs.World.{Port, changed_at, delivered}
-use Rattle.solo_plane.specs.Moving.{with_notice}
+use Rattle.packet_moves.specs.World.{Port, changed_at, delivered}
+use Rattle.packet_moves.specs.Moving.{with_notice}
 use Rattle.script_runs.specs.Log.{Note, Due, Standing}
 use Rattle.script_runs.specs.Log.{start, after}
 use Rattle.script_runs.specs.Log.{IsNext, AreNextFrom, standing_from, standing}

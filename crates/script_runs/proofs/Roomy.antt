@@ -21,12 +21,12 @@ use Rattle.histories.specs.History.{history, is_of, replay_from}
 use Rattle.histories.specs.Journeys.{Arrival}
 use Rattle.histories.specs.States.{entry_of, entry_in, state_of, every_number}
 use Rattle.histories.specs.Happenings as happening
-use Rattle.solo_plane.specs.declared.setting.Setting.{Setting}
-use Rattle.solo_plane.specs.World.{World, Port, received, received_from, having_done, closed}
-use Rattle.solo_plane.specs.World.{changed_at, delivered}
-use Rattle.solo_plane.specs.Moving.{arrived, room_for, has_room}
-use Rattle.solo_plane.specs.Moving.{takes_one, with_notice, left_at_once}
-use Rattle.solo_plane.specs.Messages.{asking, with_ask, words_of, answered}
+use Rattle.packet_moves.specs.declared.setting.Setting.{Setting}
+use Rattle.packet_moves.specs.World.{World, Port, received, received_from, having_done, closed}
+use Rattle.packet_moves.specs.World.{changed_at, delivered}
+use Rattle.packet_moves.specs.Moving.{arrived, room_for, has_room}
+use Rattle.packet_moves.specs.Moving.{takes_one, with_notice, left_at_once}
+use Rattle.packet_moves.specs.Messages.{asking, with_ask, words_of, answered}
 use Rattle.script_runs.specs.Sending.{carried_out, errno_of}
 use Rattle.script_runs.specs.Log.{Note, Got, Begun, Spoke, Shut}
 use Rattle.script_runs.specs.Notices.{heard, heard_by}

@@ -26,10 +26,10 @@ use Rattle.script_lines.specs.Asking.{asked}
 use Rattle.inspector_script.specs.declared.block.Block.{Block}
 use Rattle.inspector_script.specs.Blocks as block
 use Rattle.inspector_script.specs.Scripts.{ScriptValue, answer}
-use Rattle.solo_plane.specs.declared.setting.Setting.{Setting}
-use Rattle.solo_plane.specs.World.{World, Port, at_port, received, received_from}
-use Rattle.solo_plane.specs.Planes.{entered, without_device}
-use Rattle.solo_plane.specs.Moving.{arrival_to, arrived, left_at_once, room_for}
+use Rattle.packet_moves.specs.declared.setting.Setting.{Setting}
+use Rattle.packet_moves.specs.World.{World, Port, at_port, received, received_from}
+use Rattle.packet_moves.specs.Planes.{entered, without_device}
+use Rattle.packet_moves.specs.Moving.{arrival_to, arrived, left_at_once, room_for}
 use Rattle.histories.specs.States.{state_of}
 use Rattle.script_runs.specs.Numbers.{enough_arrivals}
 use Rattle.script_runs.specs.Entering.{card_of}

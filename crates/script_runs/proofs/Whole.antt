@@ -13,13 +13,13 @@ use Rattle.script_lines.specs.declared.ask.Ask.{Ask}
 use Rattle.script_lines.specs.declared.ask.Ask.TheVariants.{Words, Close}
 use Rattle.inspector_script.specs.declared.block.Block.{Block}
 use Rattle.inspector_script.specs.Scripts.{ScriptValue, opening, closing}
-use Rattle.solo_plane.specs.declared.setting.Setting.{Setting}
-use Rattle.solo_plane.specs.World.{World, Port, opened}
-use Rattle.solo_plane.specs.Planes.{beginning, opened_ports}
+use Rattle.packet_moves.specs.declared.setting.Setting.{Setting}
+use Rattle.packet_moves.specs.World.{World, Port, opened}
+use Rattle.packet_moves.specs.Planes.{beginning, opened_ports}
 use Rattle.script_runs.specs.Sending.{all_done}
 use Rattle.script_runs.specs.Schedule.{emptied_in, opened_all, all_down, frames_passed, ended_all}
 use Rattle.script_runs.specs.Schedule.{downs_after, before_ends, run, setting_of, rounds_for}
-use Rattle.solo_plane.specs.Closing.{dids_of}
+use Rattle.packet_moves.specs.Logs.{dids_of}
 use Rattle.script_runs.specs.Log.{Note, Due, Still, Standing}
 use Rattle.script_runs.specs.Log.{all_due, start, logged, dids_by, after}
 use Rattle.script_runs.specs.Log.{standing_from, IsLog, Got, Begun, Spoke, Shut}

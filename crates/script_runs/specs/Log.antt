@@ -17,8 +17,8 @@ use Rattle.histories.specs.declared.log.Did.TheVariants.{Received, Sent, Closed}
 use Rattle.script_lines.specs.declared.ask.Ask.{Ask}
 use Rattle.script_lines.specs.declared.ask.Ask.TheVariants.{Words, Close}
 use Rattle.inspector_script.specs.Scripts.{ScriptValue, opening, answer, closing}
-use Rattle.solo_plane.specs.Calls.{next_call}
-use Rattle.solo_plane.specs.Messages.{words_of, answered}
+use Rattle.packet_moves.specs.Calls.{next_call}
+use Rattle.packet_moves.specs.Messages.{words_of, answered}
 use Rattle.script_runs.specs.Sending.{messages_in, bytes_of}
 use Rattle.script_runs.specs.Schedule.{is_received}
 

@@ -18,11 +18,12 @@ use Rattle.histories.specs.declared.histories.Histories.{Histories}
 use Rattle.script_lines.specs.declared.ask.Ask.{Ask}
 use Rattle.script_lines.specs.declared.line.Down.{Down}
 use Rattle.inspector_script.specs.Scripts.{ScriptValue, opening, answer, closing}
-use Rattle.solo_plane.specs.declared.setting.Setting.{Setting}
-use Rattle.solo_plane.specs.World.{World, Port, at_port, received}
-use Rattle.solo_plane.specs.Moving.{carry}
-use Rattle.solo_plane.specs.Planes.{beginning, entered, without_device}
-use Rattle.solo_plane.specs.Closing.{IsGrouped, logs_in}
+use Rattle.packet_moves.specs.declared.setting.Setting.{Setting}
+use Rattle.packet_moves.specs.World.{World, Port, at_port, received}
+use Rattle.packet_moves.specs.Moving.{carry}
+use Rattle.packet_moves.specs.Planes.{beginning, entered, without_device}
+use Rattle.histories.specs.Grouping.{IsGrouped}
+use Rattle.packet_moves.specs.Logs.{logs_in}
 use Rattle.script_runs.specs.Numbers.{enough_arrivals, rounds_per_frame}
 use Rattle.script_runs.specs.Entering.{card_of}
 use Rattle.script_runs.specs.NoticeTexts.{told_exactly}

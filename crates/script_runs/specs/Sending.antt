@@ -17,11 +17,11 @@ use Rattle.histories.specs.declared.log.Did.TheVariants.{Sent}
 use Rattle.histories.specs.Happenings.{all_handed}
 use Rattle.script_lines.specs.declared.ask.Ask.{Ask}
 use Rattle.script_lines.specs.declared.ask.Ask.TheVariants.{Words, Close}
-use Rattle.solo_plane.specs.declared.setting.Setting.{Setting}
-use Rattle.solo_plane.specs.World.{World, at_port, having_done}
-use Rattle.solo_plane.specs.Moving.{carry_on}
-use Rattle.solo_plane.specs.Messages.{words_of, answered, call_at, asking, with_ask}
-use Rattle.solo_plane.specs.Planes.{with_closed}
+use Rattle.packet_moves.specs.declared.setting.Setting.{Setting}
+use Rattle.packet_moves.specs.World.{World, at_port, having_done}
+use Rattle.packet_moves.specs.Moving.{carry_on}
+use Rattle.packet_moves.specs.Messages.{words_of, answered, call_at, asking, with_ask}
+use Rattle.packet_moves.specs.Planes.{with_closed}
 use Rattle.script_runs.specs.Numbers.{enough_arrivals}
 
 -- ---- one message

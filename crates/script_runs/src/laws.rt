@@ -44,7 +44,7 @@ use histories::{
     a_closed_port_has_no_queues, a_device_that_packets_pass_leaves_nothing_waiting,
 };
 use queue_core::each_packet_stays_or_leaves;
-use solo_plane::what_goes_on_is_in_time;
+use packet_moves::what_goes_on_is_in_time;
 
 /// There is one log for each port of the script, in the script's order, and no other.
 pub fn each_port_has_its_log()

@@ -6,7 +6,7 @@ use Rattle.netlink_codec.specs.Messages.{NetlinkMessage, message_text}
 use Rattle.netlink_codec.specs.Numbers.{message_header_length, error_kind}
 use Rattle.netlink_codec.specs.Acknowledgements.{answer, is_unanswered, acknowledgement}
 use Rattle.netlink_codec.specs.Acknowledgements.{negated_errno, quoted}
-use Rattle.solo_plane.specs.Messages.{answered}
+use Rattle.packet_moves.specs.Messages.{answered}
 
 abbrev pub none : Option ℕ
 none = None

@@ -7,10 +7,10 @@ use Rattle.std.specs.BTreeMap.{BTreeMap, get}
 use Rattle.std.specs.Ordering.{nat_cmp}
 use Rattle.solo_plane.specs.declared.port.PortState.{PortState}
 use Rattle.packet_entry.specs.declared.letter.Letter.{Letter}
-use Rattle.solo_plane.specs.World.{Port, changed_at, received, received_from}
+use Rattle.packet_moves.specs.World.{Port, changed_at, received, received_from}
 use Rattle.solo_plane.specs.PortView.{Log, log_in, port_of, ports_of, logs_of, OnPort}
-use Rattle.solo_plane.specs.Messages.{call_at}
-use Rattle.solo_plane.specs.Calls.{next_call}
+use Rattle.packet_moves.specs.Messages.{call_at}
+use Rattle.packet_moves.specs.Calls.{next_call}
 
 -- the room for what a port did
 pub room_stays : (old new : BTreeMap ℕ PortState) (port : ℕ) → logs_of new ≡ logs_of old →

@@ -6,8 +6,8 @@ use Rattle.std.proofs.Math.Path.{fun_ext}
 use Rattle.std.specs.Prelude.{nat_eq, ◌||◌, if◌then◌else◌}
 use Rattle.std.specs.List.{list_any}
 use Rattle.std.proofs.lemmas.List.Folds.{list_any_more}
-use Rattle.solo_plane.specs.World.{Port, opened}
-use Rattle.solo_plane.specs.Planes.{opened_ports, with_opened}
+use Rattle.packet_moves.specs.World.{Port, opened}
+use Rattle.packet_moves.specs.Planes.{opened_ports, with_opened}
 
 pub one_more_opened : (order : List ℕ) (i port : ℕ) (old new : ℕ → Option Port) →
     i < length order → port ≡ get_or order i 0 → old ≡ opened_ports (take i order) →

@@ -6,9 +6,9 @@ use Rattle.nfqa_msgs.specs.declared.request.Decoded.{Decoded}
 use Rattle.nfqa_msgs.specs.RequestReading.{decoded}
 use Rattle.histories.specs.declared.log.AskWords.{AskWords}
 use Rattle.histories.specs.declared.log.Did.TheVariants.{Sent}
-use Rattle.solo_plane.specs.declared.setting.Setting.{Setting}
-use Rattle.solo_plane.specs.World.{World, at_port, having_done}
-use Rattle.solo_plane.specs.Messages.{CarriesOut, IsSent, answered, call_at, words_of}
+use Rattle.packet_moves.specs.declared.setting.Setting.{Setting}
+use Rattle.packet_moves.specs.World.{World, at_port, having_done}
+use Rattle.packet_moves.specs.Messages.{CarriesOut, IsSent, answered, call_at, words_of}
 
 pub sent_so : (s : Setting) (port : ℕ) (m : NetlinkMessage) (old mid between new : World)
     (before after : List ℕ) (errno call : ℕ) (d : Decoded) (words : AskWords)

@@ -20,15 +20,15 @@ use Rattle.histories.specs.Journeys.{Arrival}
 use Rattle.histories.specs.States.{state_of, entry_of}
 use Rattle.histories.specs.Happenings as happening
 use Rattle.place_history.specs.Calls.{IsTurnedAway, IsTaken, IsOffered}
-use Rattle.solo_plane.specs.declared.fed.Fed.TheVariants.{Waiting}
+use Rattle.packet_moves.specs.declared.fed.Fed.TheVariants.{Waiting}
 use Rattle.solo_plane.specs.declared.arrivals.Came.TheVariants.{Ended}
 use Rattle.solo_plane.specs.declared.port.PortState.{PortState}
-use Rattle.solo_plane.specs.declared.setting.Setting.{Setting}
+use Rattle.packet_moves.specs.declared.setting.Setting.{Setting}
 use Rattle.solo_plane.specs.declared.arrivals.Came.{Came}
-use Rattle.solo_plane.specs.World.{World, Port, changed_at, delivered}
-use Rattle.solo_plane.specs.Moving.{Carried, arrived, turned_away, room_for, has_room, with_notice}
-use Rattle.solo_plane.specs.Moving.{left_at_once, happened}
-use Rattle.solo_plane.specs.Moving.{settled, goes_on, route_after, takes_one}
+use Rattle.packet_moves.specs.World.{World, Port, changed_at, delivered}
+use Rattle.packet_moves.specs.Moving.{Carried, arrived, turned_away, room_for, has_room, with_notice}
+use Rattle.packet_moves.specs.Moving.{left_at_once, happened}
+use Rattle.packet_moves.specs.Moving.{settled, goes_on, route_after, takes_one}
 use Rattle.solo_plane.specs.PortView.{port_of, ports_of}
 use Rattle.solo_plane.specs.OnTheWay.{CameAs, came_to, way_by}
 

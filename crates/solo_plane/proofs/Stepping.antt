@@ -4,13 +4,13 @@ use Rattle.std.proofs.Common.{arith, List}
 use Rattle.packet_entry.specs.declared.packet.Card.{Card}
 use Rattle.packet_entry.specs.Numbers.{last_visit}
 use Rattle.hook_chain.specs.declared.chain.Next.{Next}
-use Rattle.solo_plane.specs.declared.fed.Fed.{Fed}
-use Rattle.solo_plane.specs.declared.fed.Fed.TheVariants as fed
-use Rattle.solo_plane.specs.declared.setting.Setting.{Setting}
+use Rattle.packet_moves.specs.declared.fed.Fed.{Fed}
+use Rattle.packet_moves.specs.declared.fed.Fed.TheVariants as fed
+use Rattle.packet_moves.specs.declared.setting.Setting.{Setting}
 use Rattle.solo_plane.specs.declared.arrivals.Came.{Came}
 use Rattle.solo_plane.specs.declared.arrivals.Came.TheVariants.{Ended, GoesOn}
-use Rattle.solo_plane.specs.World.{World}
-use Rattle.solo_plane.specs.Moving.{carry}
+use Rattle.packet_moves.specs.World.{World}
+use Rattle.packet_moves.specs.Moving.{carry}
 use Rattle.solo_plane.specs.OnTheWay.{StepsTo, IsCarried, HasVisit, arrivals_left}
 use Rattle.solo_plane.specs.OnTheWay.{came_to}
 

@@ -1,6 +1,6 @@
 -- What each plane keeps.
 use Rattle.std.specs.Prelude.{ℕ, List}
-use Rattle.solo_plane.specs.declared.setting.Setting.{Setting}
+use Rattle.packet_moves.specs.declared.setting.Setting.{Setting}
 use Rattle.solo_plane.specs.declared.held.Held.{Held}
 use Rattle.solo_plane.specs.PortView.{IsReady, HasSound}
 use Rattle.solo_plane.specs.Closing.{AreApart}

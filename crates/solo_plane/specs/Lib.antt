@@ -1,14 +1,7 @@
 pub mod Numbers
-pub mod Calls
-pub mod World
-pub mod Moving
 pub mod PortView
 pub mod OnTheWay
-pub mod Planes
 pub mod Invariant
 pub mod PlaneView
-pub mod Messages
-pub mod HandedOn
-pub mod Soundness
 pub mod Closing
 pub mod Examples

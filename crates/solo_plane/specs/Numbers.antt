@@ -13,7 +13,3 @@ most_mail = shared.most_mail
 -- how many packets are fed at most
 abbrev pub most_fed : ℕ
 most_fed = 16777215
-
--- the numbers of a port's messages count on modulo this one: they are of 32 bits
-abbrev pub call_count : ℕ
-call_count = 4294967296

@@ -8,13 +8,13 @@ use Rattle.queue_core.specs.declared.offers.Outcome.{Outcome}
 use Rattle.queue_core.specs.declared.offers.Outcome.TheVariants.{Bypassed, OverflowOpen}
 use Rattle.queue_core.specs.declared.offers.Outcome.TheVariants.{UserFullOpen}
 use Rattle.queue_core.specs.Step.{Way, Gone, Open}
-use Rattle.solo_plane.specs.declared.fed.Fed.{Fed}
-use Rattle.solo_plane.specs.declared.setting.Setting.{Setting}
+use Rattle.packet_moves.specs.declared.fed.Fed.{Fed}
+use Rattle.packet_moves.specs.declared.setting.Setting.{Setting}
 use Rattle.solo_plane.specs.declared.arrivals.Came.{Came}
 use Rattle.solo_plane.specs.declared.arrivals.Came.TheVariants.{Ended, GoesOn}
-use Rattle.solo_plane.specs.World.{World}
-use Rattle.solo_plane.specs.Moving.{Carried, ending, goes_on, settled, carry}
-use Rattle.solo_plane.specs.Moving.{carry_on}
+use Rattle.packet_moves.specs.World.{World}
+use Rattle.packet_moves.specs.Moving.{Carried, ending, goes_on, settled, carry}
+use Rattle.packet_moves.specs.Moving.{carry_on}
 
 -- how it goes on from there
 abbrev pub came_to : (World → Card → Next → Carried) → World → Came → Carried

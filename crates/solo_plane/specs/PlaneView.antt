@@ -1,8 +1,8 @@
 -- What a plane shows: what it was made with, and its world.
 use Rattle.std.specs.Prelude.{◌≡◌, ℕ, List}
 use Rattle.solo_plane.specs.declared.plane.SoloPlane.{SoloPlane}
-use Rattle.solo_plane.specs.declared.setting.Setting.{Setting}
-use Rattle.solo_plane.specs.World.{World}
+use Rattle.packet_moves.specs.declared.setting.Setting.{Setting}
+use Rattle.packet_moves.specs.World.{World}
 use Rattle.solo_plane.specs.PortView.{world_of}
 
 -- the tables, the key of the flow hash, and how many notices a mailbox holds

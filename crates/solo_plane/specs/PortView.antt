@@ -8,9 +8,9 @@ use Rattle.place_history.specs.PlaceState.{PlaceState}
 use Rattle.histories.specs.Moves.{moves}
 use Rattle.histories.specs.Journeys.{IsSoundBut}
 use Rattle.solo_plane.specs.declared.port.PortState.{PortState}
-use Rattle.solo_plane.specs.declared.setting.Setting.{Setting}
+use Rattle.packet_moves.specs.declared.setting.Setting.{Setting}
 use Rattle.solo_plane.specs.declared.held.Held.{Held}
-use Rattle.solo_plane.specs.World.{World, Port}
+use Rattle.packet_moves.specs.World.{World, Port}
 
 -- the port that a state stands for
 abbrev pub port_of : PortState → Port

@@ -3,19 +3,18 @@
 ghost use Rattle.std.specs.Prelude.{◌≡◌, ◌≤◌, length, IfOk, OnOk, OnErr};
 ghost use Rattle.nfqa_msgs.specs.RequestReading.{PayloadFits};
 ghost use Rattle.histories.specs.Happenings.{all_handed};
-ghost use Rattle.solo_plane.specs.Moving.{CarriesAll};
+ghost use Rattle.packet_moves.specs.Moving.{CarriesAll};
 ghost use Rattle.solo_plane.specs.PortView.{world_of, logs_of, IsReady};
-ghost use Rattle.solo_plane.specs.Messages.{IsAsked, asking};
-ghost use Rattle.solo_plane.specs.HandedOn.{AreInTime, WaitInTime};
+ghost use Rattle.packet_moves.specs.Messages.{IsAsked, asking};
+ghost use Rattle.packet_moves.specs.HandedOn.{AreInTime, WaitInTime};
 
 use crate::arrivals::{Came, carry};
 use crate::held::Held;
-use crate::setting::Setting;
-use crate::words::queue_of;
 use hook_chain::onward;
 use nfqa_msgs::Request;
 use packet_entry::NoMemory;
-use queue_core::{Handed, each_packet_stays_or_leaves};
+use packet_moves::{Setting, queue_of, what_goes_on_is_in_time};
+use queue_core::Handed;
 use std::alloc::Global;
 
 /// Moves packets on that a request let go on, one after the other, each to its rest or its end.
@@ -60,7 +59,7 @@ pub(crate) fn ask(
     match held.place.ask(alloc, port, call, request, &mut handed) {
         Ok(errno) => {
             // No more packets leave than waited, and each has the visit with which it waited.
-            each_packet_stays_or_leaves();
+            what_goes_on_is_in_time();
             hand_on(held, alloc, setting, handed);
             Ok(errno)
         }

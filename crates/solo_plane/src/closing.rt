@@ -5,14 +5,16 @@ ghost use Rattle.std.specs.BTreeMap.{get};
 ghost use Rattle.std.specs.Ordering.{nat_cmp};
 ghost use Rattle.histories.specs.History.{AreLegal};
 ghost use Rattle.histories.specs.Journeys.{AreSound};
-ghost use Rattle.solo_plane.specs.declared.setting.Setting.{Setting};
+ghost use Rattle.packet_moves.specs.declared.setting.Setting.{Setting};
 ghost use Rattle.solo_plane.specs.PortView.{ports_of, IsReady, HasSound};
-ghost use Rattle.solo_plane.specs.Closing.{IsGrouped, AreApart, dids_of, log_at};
+ghost use Rattle.histories.specs.Grouping.{IsGrouped};
+ghost use Rattle.solo_plane.specs.Closing.{AreApart, log_at};
+ghost use Rattle.packet_moves.specs.Logs.{dids_of};
 
 use crate::held::Held;
 use crate::ports::Ports;
 use packet_entry::{NoMemory, Sequence};
-use histories::{Dids, Entries, Histories, Logs, PortLog};
+use histories::{Dids, Histories, Logs, PortLog, grouped, soundness_is_of_each_queue};
 use std::alloc::Global;
 
 /// What a plane gives as it ends: its entries by ascending queue number, the logs of its ports in
@@ -33,6 +35,7 @@ pub(crate) fn histories(alloc: Global, order: &[u32], held: Held) -> Result<Hist
         fed: _fed,
         lost,
     } = held;
+    soundness_is_of_each_queue();
     place.leave_waiting();
     let entries = grouped(place.into_entries())?;
     let logs = logs(alloc, order, ports)?;
@@ -41,19 +44,6 @@ pub(crate) fn histories(alloc: Global, order: &[u32], held: Held) -> Result<Hist
         logs,
         lost: lost.into_sequence(),
     })
-}
-
-/// Entries by ascending queue number, each queue's in their order.
-pub(crate) fn grouped(entries: Entries) -> Result<Entries, NoMemory>
-    ensures { IfOk result (IsGrouped entries) }
-{
-    let mut list = entries.into_vec();
-    // They often ascend as they stand, as those of one queue do.
-    if list.is_sorted_by_key(|entry| entry.queue) {
-        return Ok(Sequence::from_vec(list));
-    }
-    list.sort_by_cached_key(|entry| entry.queue)?;
-    Ok(Sequence::from_vec(list))
 }
 
 /// The logs of these ports, in their order.

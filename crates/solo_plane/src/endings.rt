@@ -4,12 +4,13 @@ ghost use Rattle.std.specs.Prelude.{◌≡◌, IfOk, OnOk, OnErr, false};
 ghost use Rattle.histories.specs.History.{AreLegal};
 ghost use Rattle.histories.specs.States.{told, taken_in};
 ghost use Rattle.histories.specs.Happenings.{downs};
-ghost use Rattle.solo_plane.specs.declared.setting.Setting.{Setting};
+ghost use Rattle.packet_moves.specs.declared.setting.Setting.{Setting};
 ghost use Rattle.solo_plane.specs.PortView.{world_of, OnPort, IsReady, HasSound};
-ghost use Rattle.solo_plane.specs.Planes.{with_closed, without_device};
+ghost use Rattle.packet_moves.specs.Planes.{with_closed, without_device};
 
 use crate::held::Held;
-use crate::{histories_stay_sound, ports};
+use crate::ports;
+use packet_moves::histories_stay_sound;
 use packet_entry::NoMemory;
 use place_history::Place;
 

@@ -4,12 +4,11 @@ ghost use Rattle.std.specs.Prelude.{◌≡◌, ◌<◌, IfOk, OnOk, IfErr, OnErr
 ghost use Rattle.hook_chain.specs.Route.{next};
 ghost use Rattle.solo_plane.specs.PortView.{world_of, logs_of, IsReady};
 ghost use Rattle.solo_plane.specs.OnTheWay.{HandsBack};
-ghost use Rattle.solo_plane.specs.Planes.{IsFed};
+ghost use Rattle.packet_moves.specs.Planes.{IsFed};
 
 use crate::arrivals::{attempt, carry};
-use crate::fed::{Fed, Refused};
 use crate::held::Held;
-use crate::setting::Setting;
+use packet_moves::{Fed, Refused, Setting};
 use hook_chain::route;
 use packet_entry::{NoMemory, Packet};
 use queue_core::NoRoom;

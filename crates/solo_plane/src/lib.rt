@@ -6,22 +6,18 @@ mod arrivals;
 mod asking;
 mod closing;
 mod endings;
-mod fed;
 mod feeding;
 mod held;
-mod laws;
 mod mailbox;
 mod messages;
 mod opening;
 mod plane;
 mod port;
 mod ports;
-mod setting;
-mod words;
 
-pub use fed::{Fed, Refused};
-pub use laws::{
-    histories_stay_sound, only_feeding_feeds, what_goes_on_is_in_time, words_are_the_one_spelling,
+pub use packet_moves::{
+    Fed, Refused, histories_stay_sound, only_feeding_feeds, what_goes_on_is_in_time,
+    words_are_the_one_spelling,
 };
 pub use plane::SoloPlane;
 

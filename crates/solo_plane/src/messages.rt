@@ -9,16 +9,15 @@ ghost use Rattle.netlink_codec.specs.Numbers.{message_header_length, errno_lengt
 ghost use Rattle.netlink_codec.specs.Acknowledgements.{answer};
 ghost use Rattle.netlink_codec.specs.Messages.{message_of, first_message};
 ghost use Rattle.nfqa_msgs.specs.RequestReading.{AskedFits};
-ghost use Rattle.solo_plane.specs.World.{closed_ports};
+ghost use Rattle.packet_moves.specs.World.{closed_ports};
 ghost use Rattle.solo_plane.specs.PortView.{world_of, logs_of, IsReady};
-ghost use Rattle.solo_plane.specs.Messages.{CarriesOut, IsSent, Sends, answered};
-ghost use Rattle.solo_plane.specs.HandedOn.{WaitInTime};
+ghost use Rattle.packet_moves.specs.Messages.{CarriesOut, IsSent, Sends, answered};
+ghost use Rattle.packet_moves.specs.HandedOn.{WaitInTime};
 
 use crate::asking::ask;
 use crate::held::Held;
 use crate::ports;
-use crate::setting::Setting;
-use crate::words::words_of;
+use packet_moves::{Setting, words_of};
 use netlink_codec::{Message, ack, next_message, written_message_is_in_front};
 use nfqa_msgs::{Decoded, decode_request};
 use packet_entry::NoMemory;

@@ -2,7 +2,7 @@
 
 ghost use Rattle.std.specs.Prelude.{◌≡◌, IfOk, OnOk};
 ghost use Rattle.solo_plane.specs.PortView.{ports_of};
-ghost use Rattle.solo_plane.specs.Planes.{opened_ports, with_opened};
+ghost use Rattle.packet_moves.specs.Planes.{opened_ports, with_opened};
 
 use crate::port::PortState;
 use crate::ports::Ports;

@@ -14,11 +14,10 @@ ghost use Rattle.solo_plane.specs.Numbers.{most_fed, most_mail, most_ports};
 ghost use Rattle.solo_plane.specs.Invariant.{IsPlane};
 
 use crate::endings::legal_at;
-use crate::fed::{Fed, Refused};
 use crate::held::Held;
 use crate::opening::open_ports;
-use crate::setting::Setting;
-use crate::{closing, endings, feeding, histories_stay_sound, messages, ports};
+use packet_moves::{Fed, Refused, Setting, histories_stay_sound};
+use crate::{closing, endings, feeding, messages, ports};
 use hook_chain::Tables;
 use packet_entry::{Letter, NoMemory, Packet, Stock};
 use histories::Histories;
@@ -36,12 +35,13 @@ pub struct SoloPlane {
 }
 
 impl SoloPlane {
-    ghost use Rattle.solo_plane.specs.World.{at_port, received, first_of, closed_ports};
+    ghost use Rattle.packet_moves.specs.World.{at_port, received, first_of, closed_ports};
     ghost use Rattle.solo_plane.specs.OnTheWay.{HandsBack};
-    ghost use Rattle.solo_plane.specs.Messages.{Sends};
-    ghost use Rattle.solo_plane.specs.Planes.{IsFed, beginning, with_closed, without_device};
-    ghost use Rattle.solo_plane.specs.Closing.{IsGrouped, logs_in};
-    ghost use Rattle.solo_plane.specs.Soundness.{IsSound};
+    ghost use Rattle.packet_moves.specs.Messages.{Sends};
+    ghost use Rattle.packet_moves.specs.Planes.{IsFed, beginning, with_closed, without_device};
+    ghost use Rattle.histories.specs.Grouping.{IsGrouped};
+    ghost use Rattle.packet_moves.specs.Logs.{logs_in};
+    ghost use Rattle.packet_moves.specs.Soundness.{IsSound};
     ghost use Rattle.solo_plane.specs.PlaneView.{setting_of, order_of, world_in, IsWith};
 
     /// A plane with these ports, 1 to 32 of them, none twice and none of them 0. Packets go through

@@ -2,7 +2,7 @@
 
 ghost use Rattle.std.specs.Prelude.{◌≡◌, ◌<◌, ◌≤◌, [], IfOk, OnOk, OnErr, false};
 ghost use Rattle.histories.specs.declared.log.Did.TheVariants.{Sent};
-ghost use Rattle.solo_plane.specs.Calls.{sent_in};
+ghost use Rattle.packet_moves.specs.Calls.{sent_in};
 
 use crate::mailbox::Mailbox;
 use packet_entry::{Letter, NoMemory, Stock};
@@ -25,8 +25,8 @@ pub(crate) struct PortState {
 }
 
 impl PortState {
-    ghost use Rattle.solo_plane.specs.Calls.{next_call};
-    ghost use Rattle.solo_plane.specs.World.{first_of, received, having_done, closed};
+    ghost use Rattle.packet_moves.specs.Calls.{next_call};
+    ghost use Rattle.packet_moves.specs.World.{first_of, received, having_done, closed};
     ghost use Rattle.solo_plane.specs.PortView.{port_of};
 
     /// A port that did nothing yet.

@@ -4,11 +4,11 @@ ghost use Rattle.std.specs.Prelude.{◌≡◌, ◌<◌, ◌≤◌, IfOk, OnOk, O
 ghost use Rattle.std.specs.BTreeMap.{get};
 ghost use Rattle.std.specs.Ordering.{nat_cmp};
 ghost use Rattle.histories.specs.declared.log.Did.TheVariants.{Sent};
-ghost use Rattle.solo_plane.specs.World.{changed_at, delivered, first_of, received, having_done};
-ghost use Rattle.solo_plane.specs.World.{closed};
-ghost use Rattle.solo_plane.specs.Moving.{takes_one};
+ghost use Rattle.packet_moves.specs.World.{changed_at, delivered, first_of, received, having_done};
+ghost use Rattle.packet_moves.specs.World.{closed};
+ghost use Rattle.packet_moves.specs.Moving.{takes_one};
 ghost use Rattle.solo_plane.specs.PortView.{ports_of, logs_of, OnPort};
-ghost use Rattle.solo_plane.specs.Messages.{call_at};
+ghost use Rattle.packet_moves.specs.Messages.{call_at};
 
 use crate::port::PortState;
 use packet_entry::{Letter, NoMemory};

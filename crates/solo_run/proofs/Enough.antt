@@ -23,13 +23,13 @@ use Rattle.histories.specs.declared.histories.Lost.{Lost}
 use Rattle.histories.specs.declared.log.Did.TheVariants.{Sent}
 use Rattle.histories.specs.States.{state_of}
 use Rattle.histories.specs.Happenings.{all_handed, queue_of}
-use Rattle.solo_plane.specs.declared.setting.Setting.{Setting}
-use Rattle.solo_plane.specs.World.{World, at_port, having_done}
-use Rattle.solo_plane.specs.Moving.{Carried, carry, carry_on, settled, goes_on, route_after}
-use Rattle.solo_plane.specs.Moving.{arrival_to, arrived, turned_away, room_for, CarriesAll}
-use Rattle.solo_plane.specs.Messages.{CarriesOut, IsSent, Sends, call_at, words_of, answered}
-use Rattle.solo_plane.specs.Messages.{asking, with_ask}
-use Rattle.solo_plane.specs.HandedOn.{is_out_of_time, AreInTime, LeavesAlone, WaitInTime}
+use Rattle.packet_moves.specs.declared.setting.Setting.{Setting}
+use Rattle.packet_moves.specs.World.{World, at_port, having_done}
+use Rattle.packet_moves.specs.Moving.{Carried, carry, carry_on, settled, goes_on, route_after}
+use Rattle.packet_moves.specs.Moving.{arrival_to, arrived, turned_away, room_for, CarriesAll}
+use Rattle.packet_moves.specs.Messages.{CarriesOut, IsSent, Sends, call_at, words_of, answered}
+use Rattle.packet_moves.specs.Messages.{asking, with_ask}
+use Rattle.packet_moves.specs.HandedOn.{is_out_of_time, AreInTime, LeavesAlone, WaitInTime}
 use Rattle.script_runs.specs.Numbers.{enough_arrivals}
 use Rattle.script_runs.specs.Sending.{all_moved, carried_out, errno_of, errno_in, sent}
 use Rattle.solo_run.specs.RunState.{SendsFirst}

@@ -8,14 +8,14 @@ use Rattle.std.proofs.lemmas.Map.Made.{IsDistinct-from_AllPairs}
 use Rattle.std.specs.List.{IsDistinct}
 use Rattle.std.specs.Cmp.{nat_eq_equiv}
 use Rattle.std.specs.Prelude.{nat_eq}
-use Rattle.solo_plane.specs.World.{opened}
-use Rattle.solo_plane.specs.Planes.{beginning, opened_ports}
+use Rattle.packet_moves.specs.World.{opened}
+use Rattle.packet_moves.specs.Planes.{beginning, opened_ports}
 use Rattle.std.specs.Prelude.{slice_index_or, slice_index, AllPairs, Some}
 use Rattle.std.proofs.lemmas.Bool.Decides.{eqb_tells}
 use Rattle.inspector_script.specs.Scripts.{ScriptValue}
-use Rattle.solo_plane.specs.declared.setting.Setting.{Setting}
-use Rattle.solo_plane.specs.World.{World}
-use Rattle.solo_plane.specs.Soundness.{IsSound}
+use Rattle.packet_moves.specs.declared.setting.Setting.{Setting}
+use Rattle.packet_moves.specs.World.{World}
+use Rattle.packet_moves.specs.Soundness.{IsSound}
 use Rattle.solo_run.specs.RunState.{AreOpen, IsGoing, mind_of, mind_at, port_at}
 use Rattle.script_runs.specs.Schedule.{is_open_port}
 use Rattle.solo_run.specs.declared.inspector.Inspector.{Inspector}

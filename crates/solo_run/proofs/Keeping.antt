@@ -1,7 +1,7 @@
 -- Steps one after the other.
 use Rattle.std.proofs.Common.{◌∙◌, ℕ}
 use Rattle.std.specs.Prelude.{Result, Ok, Err, OnOk}
-use Rattle.solo_plane.specs.World.{World}
+use Rattle.packet_moves.specs.World.{World}
 use Rattle.solo_run.specs.RunState.{AreOpen, IsWith, Keeps, SameOpen, port_at}
 use Rattle.inspector_script.specs.Scripts.{ScriptValue}
 use Rattle.solo_run.specs.declared.run.Run.{Run}

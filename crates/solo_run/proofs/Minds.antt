@@ -25,13 +25,13 @@ use Rattle.histories.specs.declared.log.AskWords.{AskWords}
 use Rattle.histories.specs.Journeys.{Arrival}
 use Rattle.histories.specs.States.{state_of}
 use Rattle.histories.specs.Happenings.{all_handed}
-use Rattle.solo_plane.specs.declared.setting.Setting.{Setting}
-use Rattle.solo_plane.specs.World.{World, Port, delivered, having_done}
-use Rattle.solo_plane.specs.Calls.{is_sent, after_this, next_call}
-use Rattle.solo_plane.specs.Moving.{Carried, carry, carry_on, settled, goes_on, route_after}
-use Rattle.solo_plane.specs.Moving.{arrival_to, arrived, turned_away, left_at_once, room_for}
-use Rattle.solo_plane.specs.Moving.{with_notice}
-use Rattle.solo_plane.specs.Messages.{asking, with_ask, call_at}
+use Rattle.packet_moves.specs.declared.setting.Setting.{Setting}
+use Rattle.packet_moves.specs.World.{World, Port, delivered, having_done}
+use Rattle.packet_moves.specs.Calls.{is_sent, after_this, next_call}
+use Rattle.packet_moves.specs.Moving.{Carried, carry, carry_on, settled, goes_on, route_after}
+use Rattle.packet_moves.specs.Moving.{arrival_to, arrived, turned_away, left_at_once, room_for}
+use Rattle.packet_moves.specs.Moving.{with_notice}
+use Rattle.packet_moves.specs.Messages.{asking, with_ask, call_at}
 use Rattle.script_runs.specs.Numbers.{enough_arrivals}
 use Rattle.script_runs.specs.Schedule.{is_received, is_open_port}
 use Rattle.script_runs.specs.Sending.{all_moved, carried_out, sent}

@@ -9,8 +9,8 @@ use Rattle.pcap_io.specs.declared.capture.Capture.{Capture}
 use Rattle.pcap_io.specs.declared.capture.Frame.{Frame}
 use Rattle.script_lines.specs.declared.ask.Ask.{Ask}
 use Rattle.inspector_script.specs.Scripts.{ScriptValue, opening, closing}
-use Rattle.solo_plane.specs.declared.setting.Setting.{Setting}
-use Rattle.solo_plane.specs.World.{World}
+use Rattle.packet_moves.specs.declared.setting.Setting.{Setting}
+use Rattle.packet_moves.specs.World.{World}
 use Rattle.script_runs.specs.Entering.{card_of, cards_from}
 use Rattle.script_runs.specs.Schedule.{opened_all, ended_all, emptied_in}
 use Rattle.script_runs.specs.Sending.{all_done}

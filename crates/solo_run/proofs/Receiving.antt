@@ -12,11 +12,11 @@ use Rattle.histories.specs.declared.log.Did.{Did}
 use Rattle.histories.specs.declared.log.Did.TheVariants.{Received}
 use Rattle.script_lines.specs.declared.ask.Ask.{Ask}
 use Rattle.inspector_script.specs.Scripts.{ScriptValue, next_count}
-use Rattle.solo_plane.specs.declared.setting.Setting.{Setting}
-use Rattle.solo_plane.specs.World.{World, Port, at_port, changed_at}
-use Rattle.solo_plane.specs.World.{received, received_from, first_of}
-use Rattle.solo_plane.specs.Calls.{is_sent, next_call}
-use Rattle.solo_plane.specs.Soundness.{IsSound}
+use Rattle.packet_moves.specs.declared.setting.Setting.{Setting}
+use Rattle.packet_moves.specs.World.{World, Port, at_port, changed_at}
+use Rattle.packet_moves.specs.World.{received, received_from, first_of}
+use Rattle.packet_moves.specs.Calls.{is_sent, next_call}
+use Rattle.packet_moves.specs.Soundness.{IsSound}
 use Rattle.script_runs.specs.NoticeTexts.{told_exactly}
 use Rattle.script_runs.specs.Schedule.{is_received, letters_at, received_in, asks_for}
 use Rattle.solo_run.specs.RunState.{IsGoing, Keeps, ReceivesFirst, mind_of}

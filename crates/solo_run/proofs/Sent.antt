@@ -8,9 +8,9 @@ use Rattle.netlink_codec.specs.Messages.{NetlinkMessage, first_message, has_mess
 use Rattle.netlink_codec.specs.Messages.{told_message, pad}
 use Rattle.histories.specs.declared.histories.Lost.{Lost}
 use Rattle.inspector_script.specs.Scripts.{ScriptValue}
-use Rattle.solo_plane.specs.declared.setting.Setting.{Setting}
-use Rattle.solo_plane.specs.World.{World}
-use Rattle.solo_plane.specs.Soundness.{IsSound}
+use Rattle.packet_moves.specs.declared.setting.Setting.{Setting}
+use Rattle.packet_moves.specs.World.{World}
+use Rattle.packet_moves.specs.Soundness.{IsSound}
 use Rattle.script_runs.specs.Schedule.{is_open_port}
 use Rattle.solo_run.specs.RunState.{IsGoing, Keeps, SendsFirst, mind_of, mind_at, port_at}
 use Rattle.solo_run.specs.declared.inspector.Inspector.{Inspector}

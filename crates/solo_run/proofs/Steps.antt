@@ -10,13 +10,13 @@ use Rattle.queue_core.specs.Numbers.{largest_count}
 use Rattle.histories.specs.declared.log.Did.{Did}
 use Rattle.histories.specs.declared.log.Did.TheVariants.{Closed}
 use Rattle.inspector_script.specs.Scripts.{ScriptValue}
-use Rattle.solo_plane.specs.declared.fed.Fed.{Fed}
-use Rattle.solo_plane.specs.declared.setting.Setting.{Setting}
-use Rattle.solo_plane.specs.World.{World, Port, closed}
-use Rattle.solo_plane.specs.Calls.{is_sent, next_call}
-use Rattle.solo_plane.specs.Moving.{Carried}
-use Rattle.solo_plane.specs.Planes.{IsFed, entered, with_closed, without_device}
-use Rattle.solo_plane.specs.Soundness.{IsSound}
+use Rattle.packet_moves.specs.declared.fed.Fed.{Fed}
+use Rattle.packet_moves.specs.declared.setting.Setting.{Setting}
+use Rattle.packet_moves.specs.World.{World, Port, closed}
+use Rattle.packet_moves.specs.Calls.{is_sent, next_call}
+use Rattle.packet_moves.specs.Moving.{Carried}
+use Rattle.packet_moves.specs.Planes.{IsFed, entered, with_closed, without_device}
+use Rattle.packet_moves.specs.Soundness.{IsSound}
 use Rattle.script_runs.specs.Numbers.{enough_arrivals}
 use Rattle.script_runs.specs.Schedule.{is_received, fed}
 use Rattle.solo_run.specs.RunState.{IsGoing, Keeps, KeepsBut, mind_of, mind_at, port_at}

@@ -18,7 +18,7 @@ use Rattle.script_lines.specs.Answering.{asks_of}
 use Rattle.inspector_script.specs.Scripts.{ScriptValue, opening, answer, closing}
 use Rattle.inspector_script.specs.Blocks as block
 use Rattle.inspector_script.specs.declared.block.Block.{Block}
-use Rattle.solo_plane.specs.World.{World}
+use Rattle.packet_moves.specs.World.{World}
 use Rattle.script_runs.specs.Schedule.{asks_for, received_in}
 use Rattle.script_runs.specs.NoticeTexts.{told_exactly}
 use Rattle.solo_run.specs.RunState.{AreWords, ClosesLast, ReceivesFirst}

@@ -7,10 +7,10 @@ use Rattle.netlink_codec.specs.Messages.{NetlinkMessage}
 use Rattle.script_lines.specs.declared.ask.Ask.{Ask}
 use Rattle.script_lines.specs.declared.ask.Ask.TheVariants.{Words, Close}
 use Rattle.inspector_script.specs.Scripts.{ScriptValue, next_count}
-use Rattle.solo_plane.specs.declared.setting.Setting.{Setting}
-use Rattle.solo_plane.specs.World.{World, Port, at_port, received}
-use Rattle.solo_plane.specs.Messages.{call_at}
-use Rattle.solo_plane.specs.Soundness.{IsSound}
+use Rattle.packet_moves.specs.declared.setting.Setting.{Setting}
+use Rattle.packet_moves.specs.World.{World, Port, at_port, received}
+use Rattle.packet_moves.specs.Messages.{call_at}
+use Rattle.packet_moves.specs.Soundness.{IsSound}
 use Rattle.solo_plane.specs.PlaneView as plane
 use Rattle.script_runs.specs.Sending.{sent}
 use Rattle.script_runs.specs.Schedule.{asks_for, received_in, is_open_port}

@@ -2,8 +2,8 @@
 
 ghost use Rattle.std.specs.Prelude.{◌≡◌, OnOk};
 ghost use Rattle.inspector_script.specs.Scripts.{ScriptValue};
-ghost use Rattle.solo_plane.specs.declared.setting.Setting.{Setting};
-ghost use Rattle.solo_plane.specs.World.{World};
+ghost use Rattle.packet_moves.specs.declared.setting.Setting.{Setting};
+ghost use Rattle.packet_moves.specs.World.{World};
 
 use crate::run::Run;
 use inspector_script::Script;

@@ -8,8 +8,8 @@ ghost use Rattle.script_lines.specs.Limits.{IsAsk};
 ghost use Rattle.inspector_script.specs.Scripts.{next_count};
 ghost use Rattle.script_runs.specs.NoticeTexts.{told_exactly};
 ghost use Rattle.script_runs.specs.Schedule.{asks_for};
-ghost use Rattle.solo_plane.specs.World.{opened};
-ghost use Rattle.solo_plane.specs.Calls.{after_this};
+ghost use Rattle.packet_moves.specs.World.{opened};
+ghost use Rattle.packet_moves.specs.Calls.{after_this};
 ghost use Rattle.solo_run.specs.RunState.{mind_of, one_notice};
 ghost use Rattle.solo_run.specs.declared.inspector.Inspector.{Inspector};
 

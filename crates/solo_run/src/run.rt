@@ -5,13 +5,14 @@ ghost use Rattle.std.specs.Prelude.{length, All, IfOk, OnOk, IfSome, Some, true}
 ghost use Rattle.script_lines.specs.Limits.{IsAsk};
 ghost use Rattle.inspector_script.specs.Scripts.{opening, closing};
 ghost use Rattle.solo_run.specs.Numbers.{most_frames};
-ghost use Rattle.solo_plane.specs.Soundness.{IsSound};
+ghost use Rattle.packet_moves.specs.Soundness.{IsSound};
 ghost use Rattle.script_runs.specs.Schedule.{is_open_port, letters_at};
 ghost use Rattle.netlink_codec.specs.Messages.{first_message};
 ghost use Rattle.histories.specs.History.{AreLegal};
 ghost use Rattle.histories.specs.Journeys.{AreSound};
-ghost use Rattle.solo_plane.specs.Closing.{IsGrouped, logs_in};
-ghost use Rattle.solo_plane.specs.Planes.{beginning, with_closed, without_device};
+ghost use Rattle.histories.specs.Grouping.{IsGrouped};
+ghost use Rattle.packet_moves.specs.Logs.{logs_in};
+ghost use Rattle.packet_moves.specs.Planes.{beginning, with_closed, without_device};
 ghost use Rattle.script_runs.specs.Schedule as schedule;
 
 use crate::inspector::{Inspector, asked, count_call, count_closing, inspectors};
@@ -19,7 +20,8 @@ use hook_chain::Tables;
 use inspector_script::{Asks, Script};
 use packet_entry::{NoMemory, Packet};
 use histories::Histories;
-use solo_plane::{Refused, SoloPlane, histories_stay_sound, what_goes_on_is_in_time};
+use packet_moves::{Refused, histories_stay_sound, what_goes_on_is_in_time};
+use solo_plane::SoloPlane;
 use std::alloc::Global;
 
 /// A run: the plane, and an inspector for each port of the script, in the script's order.

@@ -4,7 +4,7 @@ ghost use Rattle.std.specs.Prelude.{◌≡◌, ◌<◌, ◌≤◌, ◌^◌, drop
 ghost use Rattle.nfqa_msgs.specs.RequestWriting.{spelling};
 ghost use Rattle.script_lines.specs.Limits.{IsAsk, IsRequest, IsWords};
 ghost use Rattle.script_lines.specs.declared.ask.Ask.TheVariants.{Words};
-ghost use Rattle.solo_plane.specs.Messages.{call_at};
+ghost use Rattle.packet_moves.specs.Messages.{call_at};
 ghost use Rattle.script_runs.specs.Sending.{all_done, all_sent, done, messages_in};
 ghost use Rattle.solo_run.specs.RunState.{AreWords, ClosesLast, Goes, IsWith, Keeps, KeepsBut};
 ghost use Rattle.solo_run.specs.RunState.{LeavesBy};

@@ -1,8 +1,6 @@
 use Rattle.std.proofs.Common.{◌≡◌, arith}
-use Rattle.queue_core.specs.declared.event.Event.TheVariants.{Ask}
 use Rattle.histories.specs.States.{state_of, waiting_at}
 use Rattle.histories.specs.Happenings.{queue_of}
-use Rattle.solo_plane.proofs.Leaving.{no_more_than_waited, handed_in_time}
 use Rattle.solo_plane.proofs.asking.ask.Goals as goal
 
 pub hand_on-requires-clause-room : goal.hand_on-requires-clause-room
@@ -14,8 +12,7 @@ hand_on-requires-clause-room c =
     rw handed
     (omega (
       arith,
-      no_more_than_waited q c.args.port c.args.call c.args.request
-          (c.each_packet_stays_or_leaves.ensures q (Ask c.args.port c.args.call c.args.request)),
+      c.what_goes_on_is_in_time.ensures.few q c.args.port c.args.call c.args.request,
       waiting,
       c.in_ok-make_room.ensures.ok,
     ))
@@ -25,6 +22,5 @@ hand_on-requires-clause-in_time c =
     let q = state_of c.args.held.now.place.entries (queue_of c.args.request) in
     let handed = rw c.new-handed.ensures at c.in-Ok.ensures.handed in
     rw handed
-    (handed_in_time q c.args.port c.args.call c.args.request
-    (c.each_packet_stays_or_leaves.ensures q (Ask c.args.port c.args.call c.args.request))
+    (c.what_goes_on_is_in_time.ensures.request q c.args.port c.args.call c.args.request
     (c.requires.in_time (queue_of c.args.request)))

@@ -1,8 +1,8 @@
 use Rattle.std.proofs.Common.{◌≡◌, length, ◌≤◌}
-use Rattle.solo_plane.specs.Moving.{CarriesAll}
-use Rattle.solo_plane.specs.World.{World}
+use Rattle.packet_moves.specs.Moving.{CarriesAll}
+use Rattle.packet_moves.specs.World.{World}
 use Rattle.solo_plane.specs.PortView.{world_of, logs_of, IsReady}
-use Rattle.solo_plane.specs.HandedOn.{AreInTime}
+use Rattle.packet_moves.specs.HandedOn.{AreInTime}
 use Rattle.solo_plane.proofs.asking.hand_on.Given as goal
 
 abbrev pub invariant-loop-packet : goal.invariant-loop-packet

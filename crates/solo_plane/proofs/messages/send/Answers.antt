@@ -1,6 +1,6 @@
 use Rattle.std.proofs.Common.{◌≡◌, ℕ, Option, ap, refl, ◌∙◌}
 use Rattle.netlink_codec.specs.Messages.{message_of}
-use Rattle.solo_plane.specs.World.{World, Port}
+use Rattle.packet_moves.specs.World.{World, Port}
 use Rattle.solo_plane.specs.PortView.{world_of, ports_of}
 use Rattle.solo_plane.proofs.Logging.{room_stays, call_stays, open_stays, open_same, open_changed}
 use Rattle.solo_plane.proofs.Sending.{sent_so}

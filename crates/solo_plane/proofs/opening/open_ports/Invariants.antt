@@ -1,6 +1,6 @@
 use Rattle.std.proofs.Common.{◌≡◌, take}
 use Rattle.solo_plane.specs.PortView.{ports_of}
-use Rattle.solo_plane.specs.Planes.{opened_ports}
+use Rattle.packet_moves.specs.Planes.{opened_ports}
 use Rattle.solo_plane.proofs.opening.open_ports.Given as goal
 
 abbrev pub invariant-loop-port : goal.invariant-loop-port

@@ -1,7 +1,7 @@
 use Rattle.std.proofs.Common.{◌≡◌, ◌≤◌, [], ◌∷◌, nat_eq, arith, refl, sym, subst, length, false}
 use Rattle.std.specs.Prelude.{IsSomeAnd}
 use Rattle.std.proofs.lemmas.Map.Keys.{IsDistinct-from_apart}
-use Rattle.solo_plane.specs.World.{World}
+use Rattle.packet_moves.specs.World.{World}
 use Rattle.solo_plane.proofs.tests.plane.Goals as goal
 
 pub new-requires-2-clause-apart : goal.new-requires-2-clause-apart

@@ -1,5 +1,5 @@
 use Rattle.std.proofs.Common.{◌≡◌, ◌<◌, ℕ, length, slice_index_or, Some}
-use Rattle.solo_plane.specs.World.{opened}
+use Rattle.packet_moves.specs.World.{opened}
 use Rattle.solo_run.specs.RunState.{mind_of}
 use Rattle.solo_run.specs.declared.inspector.Inspector.{Inspector}
 use Rattle.solo_run.proofs.inspector.inspectors.Given as goal

@@ -1,5 +1,5 @@
 use Rattle.std.proofs.Common.{◌≡◌, ◌∙◌, subst}
-use Rattle.solo_plane.specs.declared.setting.Setting.{Setting}
+use Rattle.packet_moves.specs.declared.setting.Setting.{Setting}
 use Rattle.script_runs.specs.Schedule.{emptied_in}
 use Rattle.script_runs.specs.Sending.{all_done}
 use Rattle.solo_run.specs.RunState.{port_at, setting_of, world_of}

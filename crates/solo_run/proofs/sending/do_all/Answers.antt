@@ -2,7 +2,7 @@ use Rattle.std.proofs.Common.{◌≡◌, subst, List}
 use Rattle.std.proofs.lemmas.List.Elements.{All-head, All-tail}
 use Rattle.script_lines.specs.declared.ask.Ask.{Ask}
 use Rattle.script_lines.specs.Limits.{IsAsk}
-use Rattle.solo_plane.specs.declared.setting.Setting.{Setting}
+use Rattle.packet_moves.specs.declared.setting.Setting.{Setting}
 use Rattle.script_runs.specs.Sending.{done}
 use Rattle.solo_run.specs.RunState.{port_at, setting_of, world_of}
 use Rattle.solo_run.proofs.Doing.{IsDoing, does_next}

@@ -1,5 +1,5 @@
 use Rattle.std.proofs.Common.{◌∙◌, arith, ap, subst, length}
-use Rattle.solo_plane.specs.declared.setting.Setting.{Setting}
+use Rattle.packet_moves.specs.declared.setting.Setting.{Setting}
 use Rattle.netlink_codec.specs.Messages.{first_message}
 use Rattle.solo_run.specs.RunState.{SendsFirst, port_at, setting_of, world_of}
 use Rattle.solo_run.proofs.Cutting.{sent_on, sent_all, used_within}

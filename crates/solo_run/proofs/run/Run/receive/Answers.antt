@@ -2,7 +2,7 @@ use Rattle.std.proofs.Common.{◌≡◌, Option, Some, None, subst, refl}
 use Rattle.std.specs.Prelude.{IsSomeAnd}
 use Rattle.packet_entry.specs.declared.letter.Letter.{Letter}
 use Rattle.solo_plane.specs.PlaneView.{setting_of, world_in}
-use Rattle.solo_plane.specs.World.{first_of}
+use Rattle.packet_moves.specs.World.{first_of}
 use Rattle.solo_run.specs.RunState.{port_at, world_of}
 use Rattle.solo_run.specs.RunState as run
 use Rattle.solo_run.proofs.Going.{goes_as}

@@ -1,0 +1,9 @@
+pub mod Known
+pub mod Leaving
+pub mod Sounding
+pub mod Requesting
+pub mod Timing
+pub mod Flushing
+pub mod Calling
+pub mod Entering
+pub mod Wording

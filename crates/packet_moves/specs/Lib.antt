@@ -1,0 +1,9 @@
+pub mod Numbers
+pub mod Calls
+pub mod World
+pub mod Moving
+pub mod Planes
+pub mod Messages
+pub mod HandedOn
+pub mod Soundness
+pub mod Logs

@@ -1,0 +1,64 @@
+//! How messages are logged.
+
+ghost use Rattle.std.specs.Prelude.{◌≡◌, IfOk, IsTrue, ◌==◌};
+ghost use Rattle.std.specs.Str.{bytes_eq};
+ghost use Rattle.nfqa_msgs.specs.RequestReading.{AskedFits, PayloadFits};
+ghost use Rattle.nfqa_msgs.specs.RequestWriting.{spelling};
+ghost use Rattle.histories.specs.Happenings.{queue_of};
+ghost use Rattle.packet_moves.specs.Messages.{words_of};
+
+use nfqa_msgs::{Decoded, Request, encode_request};
+use packet_entry::{Bytes, NoMemory};
+use histories::AskWords;
+use std::alloc::Global;
+
+/// A message as it is logged: in words where it is the one spelling of what it asks, and else as
+/// its own bytes.
+pub fn words_of(
+    alloc: Global,
+    port: u32,
+    call: u32,
+    whole: &[u8],
+    decoded: &Decoded,
+) -> Result<AskWords, NoMemory>
+    requires { AskedFits decoded.now }
+    ensures { IfOk result (λ words. words ≡ words_of port call whole.now decoded.now) }
+{
+    if let Decoded::Asked { request } = decoded {
+        if is_spelling(alloc, port, call, whole, request)? {
+            return Ok(AskWords::Plain {
+                request: request.share()?,
+            });
+        }
+    }
+    Ok(AskWords::Raw {
+        bytes: Bytes::copy(alloc, whole)?,
+    })
+}
+
+/// Whether these bytes are the one spelling of a request.
+fn is_spelling(
+    alloc: Global,
+    port: u32,
+    call: u32,
+    whole: &[u8],
+    request: &Request,
+) -> Result<bool, NoMemory>
+    requires { PayloadFits request.now }
+    ensures { IfOk result (λ is. is ≡ bytes_eq whole.now (spelling port call request.now)) }
+{
+    let mut text = Vec::new(alloc);
+    encode_request(port, call, request, &mut text)?;
+    Ok(whole == text.as_slice())
+}
+
+/// The queue that a request names.
+pub fn queue_of(request: &Request) -> u16
+    ensures { result ≡ queue_of request.now }
+{
+    match request {
+        Request::Config { queue, .. }
+        | Request::Verdict { queue, .. }
+        | Request::Batch { queue, .. } => *queue,
+    }
+}
