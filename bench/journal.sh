@@ -10,7 +10,7 @@ trap 'rm -rf "$work"' EXIT
 mkdir -p "$work/crates/told/src" "$work/crates/told/proofs/ask"
 mkdir -p "$work/crates/told/proofs/arrive_all" "$work/crates/told/proofs/answer_all" "$work/crates/told/proofs/happen"
 cp "$top/HANDLES" "$work"
-below="packet_entry netlink_codec ip_fields pcap_io text_lines hook_chain nfqa_msgs queue_core place_history journals fate_ledger"
+below="packet_entry netlink_codec ip_fields pcap_io text_lines hook_chain nfqa_headers nfqa_msgs queue_core place_history journals fate_ledger"
 for name in $below; do
     mkdir "$work/crates/$name"
     for part in src specs proofs; do

@@ -10,20 +10,22 @@ use Rattle.netlink_codec.specs.Messages.{pad}
 use Rattle.netlink_codec.specs.Attributes.{Attribute}
 use Rattle.netlink_codec.specs.Numbers.{attribute_header_length}
 use Rattle.netlink_codec.specs.Attributes.{attribute_text, attributes_text}
-use Rattle.nfqa_msgs.specs.declared.request.Head.{Head}
-use Rattle.nfqa_msgs.specs.declared.request.Params.{Params}
+use Rattle.nfqa_headers.specs.declared.verdict_header.Head.{Head}
+use Rattle.nfqa_headers.specs.declared.params.Params.{Params}
 use Rattle.nfqa_msgs.specs.declared.request.Request.{Request}
 use Rattle.nfqa_msgs.specs.declared.request.Request.TheVariants.{Config, Verdict, Batch}
-use Rattle.nfqa_msgs.specs.Numbers.{command_kind, params_kind, maxlen_kind, mask_kind, flags_kind}
-use Rattle.nfqa_msgs.specs.Numbers.{verdict_header_kind, mark_kind, payload_kind}
-use Rattle.nfqa_msgs.specs.Numbers.{packet_header_kind, input_device_kind, output_device_kind}
-use Rattle.nfqa_msgs.specs.Numbers.{hardware_address_kind, timestamp_kind, full_length_kind}
-use Rattle.nfqa_msgs.specs.Numbers.{input_device, output_device, hardware_address_length}
-use Rattle.nfqa_msgs.specs.Headers.{command_content, params_content, head_content}
-use Rattle.nfqa_msgs.specs.Headers.{packet_head_content, address_content, stamp_content}
-use Rattle.nfqa_msgs.specs.Headers.{value_content, zeros_text, address_filler_field}
+use Rattle.nfqa_headers.specs.Numbers.{command_kind, params_kind, maxlen_kind, mask_kind}
+use Rattle.nfqa_headers.specs.Numbers.{flags_kind, verdict_header_kind, mark_kind, payload_kind}
+use Rattle.nfqa_headers.specs.Numbers.{packet_header_kind, input_device_kind, output_device_kind}
+use Rattle.nfqa_headers.specs.Numbers.{hardware_address_kind, timestamp_kind, full_length_kind}
+use Rattle.nfqa_headers.specs.Numbers.{hardware_address_length}
+use Rattle.nfqa_msgs.specs.Numbers.{input_device, output_device}
+use Rattle.nfqa_headers.specs.Headers.{command_content, params_content, head_content}
+use Rattle.nfqa_headers.specs.Headers.{packet_head_content, address_content, stamp_content}
+use Rattle.nfqa_headers.specs.Headers.{value_content, zeros_text, address_filler_field}
+use Rattle.nfqa_headers.specs.AttributeWriting.{part}
 use Rattle.nfqa_msgs.specs.RequestReading.{PayloadFits}
-use Rattle.nfqa_msgs.specs.RequestWriting.{part, request_body}
+use Rattle.nfqa_msgs.specs.RequestWriting.{request_body}
 use Rattle.nfqa_msgs.specs.NoticeWriting.{Told, FitsTold, notice_body, mark_content}
 use Rattle.nfqa_msgs.specs.NoticeWriting.{payload_content}
 

@@ -1,6 +1,4 @@
 mod Found
-pub mod LastContent
-pub mod LastContents
 pub mod Lengths
 pub mod RequestsBack
 pub mod NoticesBack

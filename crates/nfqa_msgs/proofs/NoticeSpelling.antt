@@ -12,11 +12,11 @@ use Rattle.netlink_codec.specs.Messages.{message_text, header_text, pad}
 use Rattle.netlink_codec.specs.Numbers.{attribute_header_length, message_header_length}
 use Rattle.netlink_codec.specs.Attributes.{attribute_text, attributes_text, attribute_header_text}
 use Rattle.netlink_codec.specs.Attributes.{zero_padding}
-use Rattle.nfqa_msgs.specs.Numbers.{notice_number, payload_kind}
-use Rattle.nfqa_msgs.specs.Kinds.{queue_kind}
-use Rattle.nfqa_msgs.specs.Headers.{queue_header}
-use Rattle.nfqa_msgs.specs.NoticeWriting.{Told, family_of, front_parts, payload_part}
-use Rattle.nfqa_msgs.specs.NoticeWriting.{notice_front, notice_body, notice_text, padded_payload}
+use Rattle.nfqa_headers.specs.Numbers.{notice_number, payload_kind}
+use Rattle.nfqa_headers.specs.Kinds.{queue_kind}
+use Rattle.nfqa_headers.specs.Headers.{queue_header}
+use Rattle.nfqa_msgs.specs.NoticeWriting.{Told, family_of, front_parts, payload_part, notice_front}
+use Rattle.nfqa_msgs.specs.NoticeWriting.{notice_body, notice_text, padded_payload}
 
 abbrev pub framed : NetlinkMessage → ℕ → Option (NetlinkMessage × ℕ)
 framed message used = Some (message, used)

@@ -15,24 +15,27 @@ use Rattle.netlink_codec.specs.Messages.{first_message, pad}
 use Rattle.netlink_codec.specs.Attributes.{Attribute, AllFit, attributes_text}
 use Rattle.netlink_codec.specs.Numbers.{kind_limit}
 use Rattle.netlink_codec.specs.Fields.{Field}
-use Rattle.nfqa_msgs.specs.Kinds.{queue_kind}
-use Rattle.nfqa_msgs.specs.Numbers.{notice_number, packet_header_kind, mark_kind, timestamp_kind}
-use Rattle.nfqa_msgs.specs.Numbers.{input_device_kind, output_device_kind, payload_kind}
-use Rattle.nfqa_msgs.specs.Numbers.{hardware_address_kind, full_length_kind, input_device}
-use Rattle.nfqa_msgs.specs.Numbers.{output_device, forward_hook, hardware_address_length}
-use Rattle.nfqa_msgs.specs.Headers.{value_in, bytes_in, byte_text, zeros_text, low_half, queue_in}
-use Rattle.nfqa_msgs.specs.Headers.{packet_id_field, packet_protocol_field, packet_hook_field}
-use Rattle.nfqa_msgs.specs.Headers.{value_field, address_field, address_filler_field, seconds_field}
-use Rattle.nfqa_msgs.specs.Headers.{micros_field, packet_head_content, address_content}
-use Rattle.nfqa_msgs.specs.Headers.{stamp_content, value_content, queue_header_length, value_length}
-use Rattle.nfqa_msgs.specs.Headers.{packet_header_length, packet_address_length, timestamp_length}
-use Rattle.nfqa_msgs.specs.RequestReading.{last_content, row_in}
-use Rattle.nfqa_msgs.specs.RequestWriting.{part}
+use Rattle.nfqa_headers.specs.Numbers.{notice_number, packet_header_kind, mark_kind, timestamp_kind}
+use Rattle.nfqa_headers.specs.Numbers.{input_device_kind, output_device_kind, payload_kind}
+use Rattle.nfqa_headers.specs.Numbers.{hardware_address_kind, full_length_kind, forward_hook}
+use Rattle.nfqa_headers.specs.Numbers.{hardware_address_length}
+use Rattle.nfqa_msgs.specs.Numbers.{input_device, output_device}
+use Rattle.nfqa_headers.specs.Kinds.{queue_kind}
+use Rattle.nfqa_headers.specs.Headers.{value_in, bytes_in, byte_text, zeros_text, low_half}
+use Rattle.nfqa_headers.specs.Headers.{queue_in, packet_id_field, packet_protocol_field}
+use Rattle.nfqa_headers.specs.Headers.{packet_hook_field, value_field, address_field}
+use Rattle.nfqa_headers.specs.Headers.{address_filler_field, seconds_field, micros_field}
+use Rattle.nfqa_headers.specs.Headers.{packet_head_content, address_content, stamp_content}
+use Rattle.nfqa_headers.specs.Headers.{value_content, queue_header_length, value_length}
+use Rattle.nfqa_headers.specs.Headers.{packet_header_length, packet_address_length}
+use Rattle.nfqa_headers.specs.Headers.{timestamp_length}
+use Rattle.nfqa_headers.specs.AttributeReading.{last_content, at_least, nearest_protocol}
+use Rattle.nfqa_headers.specs.AttributeWriting.{part}
+use Rattle.nfqa_msgs.specs.RequestReading.{row_in}
 use Rattle.nfqa_msgs.specs.NoticeWriting.{Told, FitsTold, mark_content, payload_content}
 use Rattle.nfqa_msgs.specs.NoticeWriting.{notice_parts, notice_body, notice_text}
-use Rattle.nfqa_msgs.specs.NoticeReading.{at_least, value_at, nearest_protocol, protocol_at}
-use Rattle.nfqa_msgs.specs.NoticeReading.{source_at, payload_at, above, cut_at, told_in}
-use Rattle.nfqa_msgs.specs.NoticeReading.{told_by_message, told_by}
+use Rattle.nfqa_msgs.specs.NoticeReading.{value_at, protocol_at, source_at, payload_at, above}
+use Rattle.nfqa_msgs.specs.NoticeReading.{cut_at, told_in, told_by_message, told_by}
 use Rattle.nfqa_msgs.proofs.Lengths.{Sizes, notice_body-short, fits-mark, fits-address}
 use Rattle.nfqa_msgs.proofs.Lengths.{fits-number, fits-payload}
 use Rattle.nfqa_msgs.proofs.RequestsBack.{Walks, later-nothing, last_content-append}

@@ -8,8 +8,8 @@ use Rattle.packet_entry.specs.declared.packet.Card.{Card}
 use Rattle.packet_entry.specs.Numbers.{longest_payload, longest_packet, ethernet_header_length}
 use Rattle.packet_entry.specs.Numbers.{tagged_header_length}
 use Rattle.packet_entry.specs.Fields.{IsLinkLength}
-use Rattle.nfqa_msgs.specs.Numbers.{longest_range, copy_packet, hardware_address_length}
-use Rattle.nfqa_msgs.specs.Numbers.{source_address_at}
+use Rattle.nfqa_headers.specs.Numbers.{hardware_address_length}
+use Rattle.nfqa_msgs.specs.Numbers.{longest_range, copy_packet, source_address_at}
 use Rattle.nfqa_msgs.specs.NoticeWriting.{Told, FitsTold, IsNoticed, IsPacketNotice, told_of}
 use Rattle.nfqa_msgs.specs.NoticeWriting.{source_in}
 use Rattle.nfqa_msgs.proofs.Lengths.{Sizes}

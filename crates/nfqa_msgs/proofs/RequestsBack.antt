@@ -11,25 +11,27 @@ use Rattle.packet_entry.specs.Numbers.{longest_payload}
 use Rattle.netlink_codec.specs.Messages.{NetlinkMessage, FitsHeader, pad}
 use Rattle.netlink_codec.specs.Attributes.{Attribute, AllFit, attributes, attributes_text}
 use Rattle.netlink_codec.specs.Numbers.{kind_limit, request_flag, least_kind}
-use Rattle.nfqa_msgs.specs.declared.request.Head.{Head}
-use Rattle.nfqa_msgs.specs.declared.request.Params.{Params}
+use Rattle.nfqa_headers.specs.declared.verdict_header.Head.{Head}
+use Rattle.nfqa_headers.specs.declared.params.Params.{Params}
 use Rattle.nfqa_msgs.specs.declared.request.Request.{Request}
 use Rattle.nfqa_msgs.specs.declared.request.Request.TheVariants.{Config, Verdict, Batch}
 use Rattle.nfqa_msgs.specs.declared.request.Decoded.TheVariants.{Asked}
-use Rattle.nfqa_msgs.specs.Kinds.{queue_kind, subsystem_of, number_of}
-use Rattle.nfqa_msgs.specs.Numbers.{queue_subsystem, config_number, verdict_number, batch_number}
-use Rattle.nfqa_msgs.specs.Numbers.{command_kind, params_kind, maxlen_kind, mask_kind, flags_kind}
-use Rattle.nfqa_msgs.specs.Numbers.{verdict_header_kind, mark_kind, payload_kind}
-use Rattle.nfqa_msgs.specs.Headers.{queue_header, value_in, value_field, value_content, command_in}
-use Rattle.nfqa_msgs.specs.Headers.{params_in, head_in, queue_in, command_content, params_content}
-use Rattle.nfqa_msgs.specs.Headers.{head_content, queue_header_length, command_length}
-use Rattle.nfqa_msgs.specs.Headers.{params_length, verdict_header_length, value_length}
-use Rattle.nfqa_msgs.specs.RequestReading.{is_short, least_content, later, last_content, config_in}
-use Rattle.nfqa_msgs.specs.RequestReading.{verdict_in, batch_in, request_in, row_in, decoded}
-use Rattle.nfqa_msgs.specs.RequestReading.{PayloadFits}
-use Rattle.nfqa_msgs.specs.RequestWriting.{part, value_part, head_part, parts_of, spelled}
-use Rattle.nfqa_msgs.specs.RequestWriting.{request_body, number_for, flags_for, FitsHead}
-use Rattle.nfqa_msgs.specs.RequestWriting.{FitsParams, FitsConfig, FitsVerdict, FitsRequest}
+use Rattle.nfqa_headers.specs.Numbers.{queue_subsystem, config_number, verdict_number, batch_number}
+use Rattle.nfqa_headers.specs.Numbers.{command_kind, params_kind, maxlen_kind, mask_kind}
+use Rattle.nfqa_headers.specs.Numbers.{flags_kind, verdict_header_kind, mark_kind, payload_kind}
+use Rattle.nfqa_headers.specs.Kinds.{queue_kind, subsystem_of, number_of}
+use Rattle.nfqa_headers.specs.Headers.{queue_header, value_in, value_field, value_content}
+use Rattle.nfqa_headers.specs.Headers.{command_in, params_in, head_in, queue_in, command_content}
+use Rattle.nfqa_headers.specs.Headers.{params_content, head_content, queue_header_length}
+use Rattle.nfqa_headers.specs.Headers.{command_length, params_length, verdict_header_length}
+use Rattle.nfqa_headers.specs.Headers.{value_length}
+use Rattle.nfqa_headers.specs.AttributeReading.{is_short, least_content, later, last_content}
+use Rattle.nfqa_headers.specs.AttributeWriting.{part, value_part, head_part}
+use Rattle.nfqa_msgs.specs.RequestReading.{config_in, verdict_in, batch_in, request_in, row_in}
+use Rattle.nfqa_msgs.specs.RequestReading.{decoded, PayloadFits}
+use Rattle.nfqa_msgs.specs.RequestWriting.{parts_of, spelled, request_body, number_for, flags_for}
+use Rattle.nfqa_msgs.specs.RequestWriting.{FitsHead, FitsParams, FitsConfig, FitsVerdict}
+use Rattle.nfqa_msgs.specs.RequestWriting.{FitsRequest}
 use Rattle.nfqa_msgs.proofs.Lengths.{Sizes, request_body-short, padded-row}
 
 -- ---- the last content of a kind in a row of parts

@@ -1,6 +1,4 @@
 pub mod Numbers
-pub mod Kinds
-pub mod Headers
 pub mod RequestReading
 pub mod RequestWriting
 pub mod NoticeWriting

@@ -12,15 +12,16 @@ use Rattle.packet_entry.specs.Card.{IsCard}
 use Rattle.netlink_codec.specs.Messages.{message_text}
 use Rattle.netlink_codec.specs.Attributes.{Attribute, attributes_text, zero_padding}
 use Rattle.netlink_codec.specs.Numbers.{attribute_header_length}
-use Rattle.nfqa_msgs.specs.Numbers.{notice_number, packet_header_kind, mark_kind, timestamp_kind}
-use Rattle.nfqa_msgs.specs.Numbers.{input_device_kind, output_device_kind, hardware_address_kind}
-use Rattle.nfqa_msgs.specs.Numbers.{payload_kind, full_length_kind, input_device, output_device}
-use Rattle.nfqa_msgs.specs.Numbers.{ipv4_family, ipv6_family, copy_meta, copy_packet, longest_range}
-use Rattle.nfqa_msgs.specs.Numbers.{hardware_address_length, source_address_at}
-use Rattle.nfqa_msgs.specs.Kinds.{queue_kind}
-use Rattle.nfqa_msgs.specs.Headers.{queue_header, packet_head_content, address_content}
-use Rattle.nfqa_msgs.specs.Headers.{stamp_content, value_content}
-use Rattle.nfqa_msgs.specs.RequestWriting.{part, value_part}
+use Rattle.nfqa_headers.specs.Numbers.{notice_number, packet_header_kind, mark_kind, timestamp_kind}
+use Rattle.nfqa_headers.specs.Numbers.{input_device_kind, output_device_kind, hardware_address_kind}
+use Rattle.nfqa_headers.specs.Numbers.{payload_kind, full_length_kind, ipv4_family, ipv6_family}
+use Rattle.nfqa_headers.specs.Numbers.{hardware_address_length}
+use Rattle.nfqa_msgs.specs.Numbers.{input_device, output_device, copy_meta, copy_packet}
+use Rattle.nfqa_msgs.specs.Numbers.{longest_range, source_address_at}
+use Rattle.nfqa_headers.specs.Kinds.{queue_kind}
+use Rattle.nfqa_headers.specs.Headers.{queue_header, packet_head_content, address_content}
+use Rattle.nfqa_headers.specs.Headers.{stamp_content, value_content}
+use Rattle.nfqa_headers.specs.AttributeWriting.{part, value_part}
 
 -- what a notice tells
 pub record Told : Type 0 where

@@ -1,78 +1,24 @@
 -- What a message asks: uapi linux/netfilter/nfnetlink_queue.h, and the kernel's
 -- `nfnetlink_rcv_msg`, `nfqnl_recv_config`, `nfqnl_recv_verdict` and `nfqnl_recv_verdict_batch`.
--- That an attribute which is too short is ERANGE says `validate_nla` of lib/nlattr.c.
+-- A short attribute is ERANGE by `validate_nla` of lib/nlattr.c.
 use Rattle.std.specs.Prelude.{◌≤◌, ℕ, Bool, true, false, not, ◌||◌, ◌==◌, nat_lt, if◌then◌else◌}
-use Rattle.std.specs.Prelude.{List, [], ◌∷◌, length, drop, Option, Some, None, IfSome, option_map}
-use Rattle.std.specs.Prelude.{bit_and, slice_get}
+use Rattle.std.specs.Prelude.{List, length, drop, Some, None, IfSome, option_map, bit_and}
 use Rattle.std.specs.List.{list_any}
-use Rattle.std.specs.Option.{option_and_then}
 use Rattle.packet_entry.specs.Numbers.{longest_payload}
 use Rattle.netlink_codec.specs.Messages.{NetlinkMessage}
 use Rattle.netlink_codec.specs.Attributes.{Attribute, attributes}
 use Rattle.netlink_codec.specs.Numbers.{request_flag, least_kind}
-use Rattle.nfqa_msgs.specs.declared.request.Head.{Head}
 use Rattle.nfqa_msgs.specs.declared.request.Request.{Request}
 use Rattle.nfqa_msgs.specs.declared.request.Request.TheVariants.{Config, Verdict, Batch}
 use Rattle.nfqa_msgs.specs.declared.request.Decoded.{Decoded}
 use Rattle.nfqa_msgs.specs.declared.request.Decoded.TheVariants.{Nothing, Refused, Asked}
-use Rattle.nfqa_msgs.specs.Numbers.{queue_subsystem, notice_number, verdict_number, config_number}
-use Rattle.nfqa_msgs.specs.Numbers.{batch_number, command_kind, params_kind, maxlen_kind, mask_kind}
-use Rattle.nfqa_msgs.specs.Numbers.{flags_kind, verdict_header_kind, mark_kind, payload_kind}
+use Rattle.nfqa_headers.specs.Numbers.{queue_subsystem, notice_number, verdict_number}
+use Rattle.nfqa_headers.specs.Numbers.{config_number, batch_number, command_kind, params_kind}
+use Rattle.nfqa_headers.specs.Numbers.{maxlen_kind, mask_kind, flags_kind, mark_kind, payload_kind}
 use Rattle.nfqa_msgs.specs.Numbers.{einval, erange, eopnotsupp}
-use Rattle.nfqa_msgs.specs.Kinds.{subsystem_of, number_of}
-use Rattle.nfqa_msgs.specs.Headers.{value_in, value_field, queue_in, command_in, params_in, head_in}
-use Rattle.nfqa_msgs.specs.Headers.{queue_header_length, command_length, params_length}
-use Rattle.nfqa_msgs.specs.Headers.{verdict_header_length, value_length}
-
--- how many bytes a known attribute of a config request needs, by its kind (`nfqa_cfg_policy`); an
--- unknown one needs none
-abbrev pub config_least : ℕ → ℕ
-config_least kind =
-    if kind == command_kind then command_length
-    else if kind == params_kind then params_length
-    else if kind == maxlen_kind then value_length
-    else if kind == mask_kind then value_length
-    else if kind == flags_kind then value_length
-    else 0
-
--- the same for a verdict and a batch (`nfqa_verdict_policy`, `nfqa_verdict_batch_policy`); a
--- payload may have no bytes
-abbrev pub verdict_least : ℕ → ℕ
-verdict_least kind =
-    if kind == verdict_header_kind then verdict_header_length
-    else if kind == mark_kind then value_length
-    else 0
-
-abbrev pub least_content : ℕ → ℕ → ℕ
-least_content number kind =
-    if number == config_number then config_least kind else verdict_least kind
-
--- the attribute has fewer bytes than its kind needs in a message of this number
-abbrev pub is_short : ℕ → Attribute → Bool
-is_short number a = nat_lt (length a.content) (least_content number a.kind)
-
--- the later of two contents, where there are two
-abbrev pub later : Option (List ℕ) → Option (List ℕ) → Option (List ℕ)
-later None first = first
-later (Some second) first = Some second
-
--- the content of this kind: of a kind that repeats, the last one counts
-abbrev pub last_content : ℕ → List Attribute → Option (List ℕ)
-last_content kind [] = None
-last_content kind (a ∷ row) =
-    later (last_content kind row) (if a.kind == kind then Some a.content else None)
-
--- of contents that stand at the places of their kinds, the one of this kind
-abbrev pub content_at : {A : Type 0} → List (Option A) → ℕ → Option A
-content_at contents kind = option_and_then (λ content. content) (slice_get contents kind)
-
--- the number that an attribute of this kind says
-abbrev pub last_value : ℕ → List Attribute → Option ℕ
-last_value kind row = option_map (value_in value_field) (last_content kind row)
-
--- verdict and id that a verdict or a batch says
-abbrev pub last_head : List Attribute → Option Head
-last_head row = option_map head_in (last_content verdict_header_kind row)
+use Rattle.nfqa_headers.specs.Kinds.{subsystem_of, number_of}
+use Rattle.nfqa_headers.specs.Headers.{queue_in, command_in, params_in, queue_header_length}
+use Rattle.nfqa_headers.specs.AttributeReading.{is_short, last_content, last_head, last_value}
 
 -- the request of a message of this number for this queue, with this row of attributes
 abbrev pub config_in : ℕ → List Attribute → Request

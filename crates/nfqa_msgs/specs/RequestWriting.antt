@@ -1,34 +1,21 @@
 -- The one text of a request: uapi linux/netlink.h and linux/netfilter/nfnetlink_queue.h, and the
 -- messages that libnetfilter_queue writes. The order of the parts is this project's.
-use Rattle.std.specs.Prelude.{ℕ, ◌+◌, ◌<◌, ◌≤◌, ◌^◌, List, [], ◌∷◌, ◌++◌, length, Option, Some}
+use Rattle.std.specs.Prelude.{ℕ, ◌+◌, ◌<◌, ◌≤◌, ◌^◌, List, ◌++◌, length, Option}
 use Rattle.std.specs.Prelude.{None, IfSome, option_map}
 use Rattle.packet_entry.specs.Numbers.{longest_payload}
 use Rattle.netlink_codec.specs.Messages.{NetlinkMessage, message_text, message_with}
 use Rattle.netlink_codec.specs.Attributes.{Attribute, attributes_text}
 use Rattle.netlink_codec.specs.Numbers.{ack_flag, request_flag}
-use Rattle.nfqa_msgs.specs.declared.request.Head.{Head}
-use Rattle.nfqa_msgs.specs.declared.request.Params.{Params}
+use Rattle.nfqa_headers.specs.declared.verdict_header.Head.{Head}
+use Rattle.nfqa_headers.specs.declared.params.Params.{Params}
 use Rattle.nfqa_msgs.specs.declared.request.Request.{Request}
 use Rattle.nfqa_msgs.specs.declared.request.Request.TheVariants.{Config, Verdict, Batch}
-use Rattle.nfqa_msgs.specs.Numbers.{verdict_number, config_number, batch_number, command_kind}
-use Rattle.nfqa_msgs.specs.Numbers.{params_kind, maxlen_kind, mask_kind, flags_kind}
-use Rattle.nfqa_msgs.specs.Numbers.{verdict_header_kind, mark_kind, payload_kind, any_family}
-use Rattle.nfqa_msgs.specs.Kinds.{queue_kind}
-use Rattle.nfqa_msgs.specs.Headers.{queue_header, command_content, params_content, head_content}
-use Rattle.nfqa_msgs.specs.Headers.{value_content}
-
--- an attribute of this kind, where there is a content
-abbrev pub part : ℕ → Option (List ℕ) → List Attribute
-part kind None = []
-part kind (Some content) = record { kind = kind; content = content } ∷ []
-
--- an attribute of this kind that is one number, where there is one
-abbrev pub value_part : ℕ → Option ℕ → List Attribute
-value_part kind value = part kind (option_map value_content value)
-
--- verdict and id, where they are there
-abbrev pub head_part : Option Head → List Attribute
-head_part head = part verdict_header_kind (option_map head_content head)
+use Rattle.nfqa_headers.specs.Numbers.{verdict_number, config_number, batch_number, command_kind}
+use Rattle.nfqa_headers.specs.Numbers.{params_kind, maxlen_kind, mask_kind, flags_kind, mark_kind}
+use Rattle.nfqa_headers.specs.Numbers.{payload_kind, any_family}
+use Rattle.nfqa_headers.specs.Kinds.{queue_kind}
+use Rattle.nfqa_headers.specs.Headers.{queue_header, command_content, params_content}
+use Rattle.nfqa_headers.specs.AttributeWriting.{head_part, part, value_part}
 
 -- the parts of a request that are there, by ascending kind
 abbrev pub parts_of : Request → List Attribute

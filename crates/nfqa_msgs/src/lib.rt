@@ -7,11 +7,7 @@
 //! contents big-endian.
 #![tactic(auto)]
 
-mod attribute_reading;
-mod attribute_writing;
 mod fields;
-mod headers;
-mod kinds;
 mod laws;
 mod notice;
 mod notice_reading;
@@ -27,6 +23,7 @@ pub use laws::{
     notices_are_told_apart, packet_notices_are_told_apart, public_numbers,
     spelling_decodes_to_its_request,
 };
+pub use nfqa_headers::{Head, Params};
 pub use notice::Notice;
 pub use notice_reading::{decode_notice, decode_shared_notice};
 pub use notice_writing::encode_notice;
@@ -34,7 +31,7 @@ pub use numbers::{
     BIND, EINVAL, EOPNOTSUPP, ERANGE, MAX_RANGE, META, NONE, PACKET, PF_BIND, PF_UNBIND, UNBIND,
 };
 pub use queue_flags::QueueFlags;
-pub use request::{Decoded, Head, Params, Request, share_payload};
+pub use request::{Decoded, Request, share_payload};
 pub use request_reading::decode_request;
 pub use request_writing::encode_request;
 

@@ -1,31 +1,27 @@
 //! Notices, read from messages.
 
-ghost use Rattle.std.specs.Prelude.{◌≡◌, ◌≤◌, ◌+◌, ◌↔◌, length, option_map, IfSome, IfOk, IsOk};
+ghost use Rattle.std.specs.Prelude.{◌≡◌, ◌≤◌, ◌↔◌, length, option_map, IfSome, IfOk, IsOk};
 ghost use Rattle.std.specs.Prelude.{IsNone, None, Some, Ok, unwrap_or, []};
 ghost use Rattle.packet_entry.specs.Numbers.{longest_payload};
-ghost use Rattle.packet_entry.specs.Fields.{IsProtocol};
 ghost use Rattle.netlink_codec.specs.Attributes.{attributes};
-ghost use Rattle.nfqa_msgs.specs.Numbers.{hardware_address_length};
-ghost use Rattle.nfqa_msgs.specs.Headers.{field, packet_header_length, packet_protocol_field};
 ghost use Rattle.nfqa_msgs.specs.NoticeWriting.{Told, FitsTold, notice_text};
 ghost use Rattle.nfqa_msgs.specs.Telling.{telling};
 ghost use Rattle.nfqa_msgs.specs.NoticeReading as read;
 ghost use Rattle.nfqa_msgs.specs.NoticeMeaning.{notice_of, IsNoNotice};
 
-use crate::attribute_reading::{content_of, last_contents};
-use crate::headers::packet_address::{ADDRESS_AT, ADDRESS_LENGTH, PACKET_ADDRESS_LENGTH};
-use crate::headers::packet_header::{ID_AT, PACKET_HEADER_LENGTH, PROTOCOL_AT};
-use crate::headers::queue_header::{QUEUE_HEADER_LENGTH, read_queue};
-use crate::headers::timestamp::{LOW_HALF_AT, MICROS_AT, SECONDS_AT, TIMESTAMP_LENGTH};
-use crate::kinds::{
-    FULL_LENGTH, HARDWARE_ADDRESS, MARK, PACKET_HEADER, PAYLOAD, TIMESTAMP, VALUE_LENGTH,
-};
 use crate::laws::notices_are_told_apart;
 use crate::notice::{Notice, Telling};
 use crate::notice_spelling::is_notice_of;
-use byteorder::{BigEndian, ByteOrder};
 use netlink_codec::{attr_padding, next_message};
-use packet_entry::{Bytes, IPV4, IPV6, NoMemory};
+use nfqa_headers::attribute_reading::{content_of, last_contents, value_of};
+use nfqa_headers::kinds::{
+    FULL_LENGTH, HARDWARE_ADDRESS, MARK, PACKET_HEADER, PAYLOAD, TIMESTAMP, VALUE_LENGTH,
+};
+use nfqa_headers::packet_address::read_address;
+use nfqa_headers::packet_header::{read_id, read_protocol};
+use nfqa_headers::queue_header::{QUEUE_HEADER_LENGTH, read_queue};
+use nfqa_headers::timestamp::{read_micros, read_seconds};
+use packet_entry::{Bytes, NoMemory};
 use std::alloc::Global;
 
 /// What a notice tells, where the bytes are one: exactly the text of something that a notice can
@@ -149,67 +145,14 @@ fn told_in(queue: u16, row: &[u8]) -> Telling<'_>
     let payload = payload_of(content_of(&contents, PAYLOAD));
     Telling {
         queue,
-        id: value_of(header, PACKET_HEADER_LENGTH, ID_AT),
-        protocol: protocol_of(header),
+        id: read_id(header),
+        protocol: read_protocol(header),
         mark: value_of(content_of(&contents, MARK), VALUE_LENGTH, 0),
-        source: source_of(content_of(&contents, HARDWARE_ADDRESS)),
-        seconds: value_of(timestamp, TIMESTAMP_LENGTH, SECONDS_AT + LOW_HALF_AT),
-        micros: value_of(timestamp, TIMESTAMP_LENGTH, MICROS_AT + LOW_HALF_AT),
+        source: read_address(content_of(&contents, HARDWARE_ADDRESS)),
+        seconds: read_seconds(timestamp),
+        micros: read_micros(timestamp),
         cut_from: above(payload.len(), value_of(full_length, VALUE_LENGTH, 0)),
         payload,
-    }
-}
-
-/// A content, where it has at least `least` bytes.
-fn at_least(content: Option<&[u8]>, least: usize) -> Option<&[u8]>
-    ensures value { option_map (λ content. content.now) result
-        ≡ read.at_least least (option_map (λ content. content.now) content.entry) }
-    ensures long { IfSome result (λ content. least ≤ length content.now) }
-{
-    content.filter(|content| least <= content.len())
-}
-
-/// The number at this place of a content, which has at least `least` bytes; else 0.
-fn value_of(content: Option<&[u8]>, least: usize, place: usize) -> u32
-    requires { place + 4 ≤ least }
-    ensures { result
-        ≡ read.value_of least (field place 4) (option_map (λ content. content.now) content.entry) }
-{
-    match at_least(content, least) {
-        None => 0,
-        Some(content) => BigEndian::read_u32(&content[place..]),
-    }
-}
-
-/// The Ethernet type in a packet header.
-fn protocol_of(header: Option<&[u8]>) -> u16
-    ensures value { result ≡ read.nearest_protocol (read.value_of packet_header_length
-        packet_protocol_field (option_map (λ content. content.now) header.entry)) }
-    ensures one_of_two { IsProtocol result }
-{
-    match at_least(header, PACKET_HEADER_LENGTH) {
-        None => nearest_protocol(0),
-        Some(content) => nearest_protocol(BigEndian::read_u16(&content[PROTOCOL_AT..])),
-    }
-}
-
-/// One of the two Ethernet types: IPv6's where it is told, else IPv4's.
-fn nearest_protocol(protocol: u16) -> u16
-    ensures value { result ≡ read.nearest_protocol protocol }
-    ensures one_of_two { IsProtocol result }
-{
-    if protocol == IPV6 { IPV6 } else { IPV4 }
-}
-
-/// The address in a hardware address' attribute.
-fn source_of(content: Option<&[u8]>) -> Option<&[u8]>
-    ensures value { option_map (λ source. source.now) result
-        ≡ read.source_of (option_map (λ content. content.now) content.entry) }
-    ensures length { IfSome result (λ source. length source.now ≡ hardware_address_length) }
-{
-    match at_least(content, PACKET_ADDRESS_LENGTH) {
-        None => None,
-        Some(content) => Some(&content[ADDRESS_AT..ADDRESS_AT + ADDRESS_LENGTH]),
     }
 }
 

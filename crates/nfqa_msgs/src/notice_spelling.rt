@@ -5,13 +5,13 @@ ghost use Rattle.std.specs.Prelude.{option_map, Some, IfSome, IfOk, IsTrue};
 ghost use Rattle.std.specs.Prelude.{MatchOption};
 ghost use Rattle.packet_entry.specs.Numbers.{longest_payload};
 ghost use Rattle.netlink_codec.specs.Messages.{FitsHeader, message_text, message_with};
-ghost use Rattle.nfqa_msgs.specs.Numbers.{notice_number};
-ghost use Rattle.nfqa_msgs.specs.Kinds.{queue_kind};
+ghost use Rattle.nfqa_headers.specs.Numbers.{notice_number};
+ghost use Rattle.nfqa_headers.specs.Kinds.{queue_kind};
 ghost use Rattle.nfqa_msgs.specs.NoticeWriting.{FitsTold, notice_body, notice_text};
 ghost use Rattle.nfqa_msgs.specs.NoticeWriting.{padded_payload};
 ghost use Rattle.nfqa_msgs.specs.Telling.{telling};
 
-use crate::kinds::{NOTICE, NUMBERS, QUEUE_SUBSYSTEM};
+use nfqa_headers::kinds::{NOTICE, NUMBERS, QUEUE_SUBSYSTEM};
 use crate::notice::Telling;
 use crate::notice_writing::{front_of, padding_behind};
 use netlink_codec::{Message, next_message, written_attributes_are_walked};

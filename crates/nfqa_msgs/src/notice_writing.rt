@@ -5,9 +5,10 @@ ghost use Rattle.std.specs.Prelude.{OnErr, IfSome, IfOk, IsTrue};
 ghost use Rattle.packet_entry.specs.Numbers.{longest_packet, longest_payload};
 ghost use Rattle.packet_entry.specs.Fields.{IsLinkLength};
 ghost use Rattle.netlink_codec.specs.Attributes.{attributes_text};
-ghost use Rattle.nfqa_msgs.specs.Numbers.{copy_meta, copy_packet, longest_range, mark_kind};
-ghost use Rattle.nfqa_msgs.specs.Numbers.{hardware_address_length};
-ghost use Rattle.nfqa_msgs.specs.RequestWriting.{part};
+ghost use Rattle.nfqa_msgs.specs.Numbers.{copy_meta, copy_packet, longest_range};
+ghost use Rattle.nfqa_headers.specs.Numbers.{mark_kind};
+ghost use Rattle.nfqa_headers.specs.Numbers.{hardware_address_length};
+ghost use Rattle.nfqa_headers.specs.AttributeWriting.{part};
 ghost use Rattle.nfqa_msgs.specs.NoticeWriting.{FitsTold, notice, notice_text, notice_body};
 ghost use Rattle.nfqa_msgs.specs.NoticeWriting.{notice_front, told_of, source_in, cut_of};
 ghost use Rattle.nfqa_msgs.specs.NoticeWriting.{told_bytes, family_of, mark_content};
@@ -15,12 +16,12 @@ ghost use Rattle.nfqa_msgs.specs.NoticeWriting.{padded_payload, payload_padding}
 ghost use Rattle.nfqa_msgs.specs.Telling.{telling};
 
 use crate::PACKET;
-use crate::attribute_writing::put_value;
-use crate::headers::packet_address::{ADDRESS_LENGTH, put_address};
-use crate::headers::packet_header::put_packet_header;
-use crate::headers::queue_header::{IPV4_FAMILY, IPV6_FAMILY, begin_body};
-use crate::headers::timestamp::put_stamp;
-use crate::kinds::{
+use nfqa_headers::attribute_writing::put_value;
+use nfqa_headers::packet_address::{ADDRESS_LENGTH, put_address};
+use nfqa_headers::packet_header::put_packet_header;
+use nfqa_headers::queue_header::{IPV4_FAMILY, IPV6_FAMILY, begin_body};
+use nfqa_headers::timestamp::put_stamp;
+use nfqa_headers::kinds::{
     FULL_LENGTH, INPUT_DEVICE, MARK, NOTICE, NUMBERS, OUTPUT_DEVICE, PAYLOAD, QUEUE_SUBSYSTEM,
 };
 use crate::notice::Telling;

@@ -2,25 +2,8 @@
 
 ghost use Rattle.std.specs.Prelude.{◌≡◌, IfOk};
 
+use nfqa_headers::{Head, Params};
 use packet_entry::{Bytes, NoMemory};
-
-/// The verdict and the id that a verdict message names.
-#[derive(Clone, Copy, Debug, PartialEq, Eq)]
-pub struct Head {
-    /// The decision in its low 8 bits, for `QUEUE` with the queue's number in its high 16 bits.
-    pub verdict: u32,
-    /// The id that the packet waits under; in a batch the greatest id.
-    pub id: u32,
-}
-
-/// What of a packet is copied into its notice.
-#[derive(Clone, Copy, Debug, PartialEq, Eq)]
-pub struct Params {
-    /// How many bytes at most, under the mode `PACKET`; 0 asks for as many as a notice can have.
-    pub range: u32,
-    /// `NONE`, `META` or `PACKET`. Any other mode changes neither mode nor range.
-    pub mode: u8,
-}
 
 /// What a port asks of a queue. What a message doesn't have is `None`.
 #[derive(Debug, Drop)]

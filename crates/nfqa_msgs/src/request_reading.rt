@@ -4,17 +4,18 @@ ghost use Rattle.std.specs.Prelude.{◌≡◌, ◌≤◌, IfOk, IsOk, false};
 ghost use Rattle.std.specs.List.{list_any};
 ghost use Rattle.netlink_codec.specs.Messages.{message_of};
 ghost use Rattle.netlink_codec.specs.Attributes.{attributes};
-ghost use Rattle.nfqa_msgs.specs.Numbers.{verdict_number, config_number, batch_number};
+ghost use Rattle.nfqa_headers.specs.Numbers.{verdict_number, config_number, batch_number};
 ghost use Rattle.nfqa_msgs.specs.RequestReading.{decoded, request_in, config_in, verdict_in};
-ghost use Rattle.nfqa_msgs.specs.RequestReading.{batch_in, is_short, AskedFits, PayloadFits};
+ghost use Rattle.nfqa_msgs.specs.RequestReading.{batch_in, AskedFits, PayloadFits};
+ghost use Rattle.nfqa_headers.specs.AttributeReading.{is_short};
 ghost use Rattle.nfqa_msgs.specs.RequestReading.{has_payload, asks_with_payload};
 
-use crate::attribute_reading::{content_of, copy_payload, has_short, last_contents, value_in};
-use crate::headers::command::read_command;
-use crate::headers::params::read_params;
-use crate::headers::queue_header::{QUEUE_HEADER_LENGTH, read_queue};
-use crate::headers::verdict_header::read_head;
-use crate::kinds::{
+use nfqa_headers::attribute_reading::{content_of, copy_payload, has_short, last_contents, read_value};
+use nfqa_headers::command::read_command;
+use nfqa_headers::params::read_params;
+use nfqa_headers::queue_header::{QUEUE_HEADER_LENGTH, read_queue};
+use nfqa_headers::verdict_header::read_head;
+use nfqa_headers::kinds::{
     BATCH, COMMAND, CONFIG, FLAGS, LEAST_KIND, MARK, MASK, MAXLEN, NOTICE, NUMBERS, PARAMS,
     PAYLOAD, QUEUE_SUBSYSTEM, REQUEST_FLAG, VERDICT, VERDICT_HEADER,
 };
@@ -92,9 +93,9 @@ fn config_of(queue: u16, row: &[u8]) -> Request
         queue,
         command: content_of(&contents, COMMAND).map(read_command),
         params: content_of(&contents, PARAMS).map(read_params),
-        maxlen: value_in(content_of(&contents, MAXLEN)),
-        flags: value_in(content_of(&contents, FLAGS)),
-        mask: value_in(content_of(&contents, MASK)),
+        maxlen: read_value(content_of(&contents, MAXLEN)),
+        flags: read_value(content_of(&contents, FLAGS)),
+        mask: read_value(content_of(&contents, MASK)),
     }
 }
 
@@ -108,7 +109,7 @@ fn verdict_of(alloc: Global, queue: u16, row: &[u8]) -> Result<Request, NoMemory
     Ok(Request::Verdict {
         queue,
         head: content_of(&contents, VERDICT_HEADER).map(read_head),
-        mark: value_in(content_of(&contents, MARK)),
+        mark: read_value(content_of(&contents, MARK)),
         payload: copy_payload(alloc, content_of(&contents, PAYLOAD))?,
     })
 }
@@ -122,6 +123,6 @@ fn batch_of(queue: u16, row: &[u8]) -> Request
     Request::Batch {
         queue,
         head: content_of(&contents, VERDICT_HEADER).map(read_head),
-        mark: value_in(content_of(&contents, MARK)),
+        mark: read_value(content_of(&contents, MARK)),
     }
 }

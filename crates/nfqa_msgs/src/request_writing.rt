@@ -3,18 +3,18 @@
 ghost use Rattle.std.specs.Prelude.{◌≡◌, ◌≤◌, ◌++◌, length, option_map, OnOk, OnErr, IfSome, IfOk};
 ghost use Rattle.packet_entry.specs.Numbers.{longest_payload};
 ghost use Rattle.nfqa_msgs.specs.declared.request.Request.TheVariants.{Config, Verdict, Batch};
-ghost use Rattle.nfqa_msgs.specs.Kinds.{queue_kind};
+ghost use Rattle.nfqa_headers.specs.Kinds.{queue_kind};
 ghost use Rattle.nfqa_msgs.specs.RequestReading.{PayloadFits};
 ghost use Rattle.nfqa_msgs.specs.RequestWriting.{FitsRequest, spelling, request_body, number_for};
 ghost use Rattle.nfqa_msgs.specs.RequestWriting.{flags_for};
 
-use crate::attribute_writing::{put_part, put_value};
+use nfqa_headers::attribute_writing::{put_part, put_value};
 use crate::fields::fits_its_fields;
-use crate::headers::command::put_command;
-use crate::headers::params::put_params;
-use crate::headers::queue_header::{ANY_FAMILY, begin_body};
-use crate::headers::verdict_header::put_head;
-use crate::kinds::{
+use nfqa_headers::command::put_command;
+use nfqa_headers::params::put_params;
+use nfqa_headers::queue_header::{ANY_FAMILY, begin_body};
+use nfqa_headers::verdict_header::put_head;
+use nfqa_headers::kinds::{
     ACK_FLAG, BATCH, CONFIG, FLAGS, MARK, MASK, MAXLEN, NUMBERS, PAYLOAD, QUEUE_SUBSYSTEM,
     REQUEST_FLAG, VERDICT,
 };

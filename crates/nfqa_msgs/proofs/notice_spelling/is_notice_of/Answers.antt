@@ -1,9 +1,9 @@
 use Rattle.std.proofs.Common.{ap, ◌∙◌}
 use Rattle.std.proofs.lemmas.Option.{same_Some}
 use Rattle.netlink_codec.specs.Messages.{message_text}
+use Rattle.nfqa_headers.specs.Numbers.{notice_number}
+use Rattle.nfqa_headers.specs.Kinds.{queue_kind}
 use Rattle.nfqa_msgs.specs.NoticeWriting.{Told, notice_body, notice_text}
-use Rattle.nfqa_msgs.specs.Numbers.{notice_number}
-use Rattle.nfqa_msgs.specs.Kinds.{queue_kind}
 use Rattle.nfqa_msgs.specs.Telling.{telling}
 use Rattle.nfqa_msgs.proofs.NoticesBack.{notice-fits}
 use Rattle.nfqa_msgs.proofs.notice_spelling.is_notice_of.Goals as goal

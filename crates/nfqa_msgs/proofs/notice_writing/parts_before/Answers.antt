@@ -1,12 +1,13 @@
 use Rattle.std.proofs.Common.{◌≡◌, ℕ, List, ◌++◌, Some, ap, ◌∙◌}
 use Rattle.std.specs.Prelude.{option_map}
 use Rattle.netlink_codec.specs.Attributes.{Attribute, attributes_text}
-use Rattle.nfqa_msgs.specs.Numbers.{packet_header_kind, input_device_kind, output_device_kind}
-use Rattle.nfqa_msgs.specs.Numbers.{mark_kind, hardware_address_kind, timestamp_kind}
-use Rattle.nfqa_msgs.specs.Numbers.{full_length_kind, input_device, output_device}
-use Rattle.nfqa_msgs.specs.Headers.{queue_header, packet_head_content, address_content}
-use Rattle.nfqa_msgs.specs.Headers.{stamp_content, value_content}
-use Rattle.nfqa_msgs.specs.RequestWriting.{part, value_part}
+use Rattle.nfqa_headers.specs.Numbers.{packet_header_kind, input_device_kind, output_device_kind}
+use Rattle.nfqa_headers.specs.Numbers.{mark_kind, hardware_address_kind, timestamp_kind}
+use Rattle.nfqa_headers.specs.Numbers.{full_length_kind}
+use Rattle.nfqa_msgs.specs.Numbers.{input_device, output_device}
+use Rattle.nfqa_headers.specs.Headers.{queue_header, packet_head_content, address_content}
+use Rattle.nfqa_headers.specs.Headers.{stamp_content, value_content}
+use Rattle.nfqa_headers.specs.AttributeWriting.{part, value_part}
 use Rattle.nfqa_msgs.specs.NoticeWriting.{Told, family_of, mark_content}
 use Rattle.nfqa_msgs.specs.Telling.{telling}
 use Rattle.nfqa_msgs.proofs.Lengths.{row-goes-on}

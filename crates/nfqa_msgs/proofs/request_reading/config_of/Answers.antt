@@ -1,7 +1,7 @@
 use Rattle.std.proofs.Common.{arith}
-use Rattle.nfqa_msgs.specs.Numbers.{config_number, command_kind, params_kind}
-use Rattle.nfqa_msgs.specs.Numbers.{flags_kind, mask_kind, maxlen_kind}
-use Rattle.nfqa_msgs.specs.Headers.{command_length, params_length, value_length}
+use Rattle.nfqa_headers.specs.Numbers.{config_number, command_kind, params_kind, flags_kind}
+use Rattle.nfqa_headers.specs.Numbers.{mask_kind, maxlen_kind}
+use Rattle.nfqa_headers.specs.Headers.{command_length, params_length, value_length}
 use Rattle.nfqa_msgs.proofs.Found.{found-long, found-some}
 use Rattle.nfqa_msgs.proofs.request_reading.config_of.Goals as goal
 
@@ -15,17 +15,17 @@ map-requires-2 c x is =
     let long = c.last_contents-contents.ensures.long config_number params_kind c.requires in
     found-some params_length _ _ x is c.content_of-2.ensures (long (omega arith))
 
-pub value_in-requires : goal.value_in-requires
-value_in-requires c =
+pub read_value-requires : goal.read_value-requires
+read_value-requires c =
     let long = c.last_contents-contents.ensures.long config_number maxlen_kind c.requires in
     found-long value_length _ _ c.content_of-3.ensures (long (omega arith))
 
-pub value_in-requires-2 : goal.value_in-requires-2
-value_in-requires-2 c =
+pub read_value-requires-2 : goal.read_value-requires-2
+read_value-requires-2 c =
     let long = c.last_contents-contents.ensures.long config_number flags_kind c.requires in
     found-long value_length _ _ c.content_of-4.ensures (long (omega arith))
 
-pub value_in-requires-3 : goal.value_in-requires-3
-value_in-requires-3 c =
+pub read_value-requires-3 : goal.read_value-requires-3
+read_value-requires-3 c =
     let long = c.last_contents-contents.ensures.long config_number mask_kind c.requires in
     found-long value_length _ _ c.content_of-5.ensures (long (omega arith))

@@ -1,6 +1,6 @@
 use Rattle.std.proofs.Common.{arith}
-use Rattle.nfqa_msgs.specs.Numbers.{verdict_number, mark_kind, verdict_header_kind}
-use Rattle.nfqa_msgs.specs.Headers.{value_length, verdict_header_length}
+use Rattle.nfqa_headers.specs.Numbers.{verdict_number, mark_kind, verdict_header_kind}
+use Rattle.nfqa_headers.specs.Headers.{value_length, verdict_header_length}
 use Rattle.nfqa_msgs.proofs.Found.{found-long, found-some}
 use Rattle.nfqa_msgs.proofs.request_reading.verdict_of.Goals as goal
 
@@ -10,7 +10,7 @@ map-requires c x is =
     c.last_contents-contents.ensures.long verdict_number verdict_header_kind c.requires in
     found-some verdict_header_length _ _ x is c.content_of.ensures (long (omega arith))
 
-pub value_in-requires : goal.value_in-requires
-value_in-requires c =
+pub read_value-requires : goal.read_value-requires
+read_value-requires c =
     let long = c.last_contents-contents.ensures.long verdict_number mark_kind c.requires in
     found-long value_length _ _ c.content_of-2.ensures (long (omega arith))

@@ -1,0 +1,2 @@
+pub mod LastContent
+pub mod LastContents

@@ -1,0 +1,5 @@
+pub mod Numbers
+pub mod Kinds
+pub mod Headers
+pub mod AttributeReading
+pub mod AttributeWriting

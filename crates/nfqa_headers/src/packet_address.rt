@@ -1,0 +1,67 @@
+//! The sender's hardware address, `struct nfqnl_msg_packet_hw`, in which the address is filled up
+//! to 8 bytes:
+//!
+//! | Place | Width | Field |
+//! |---|---|---|
+//! | 0 | 2 | length of the address, 6 |
+//! | 2 | 2 | padding, 0 |
+//! | 4 | 6 | address |
+//! | 10 | 2 | filler, 0 |
+
+ghost use Rattle.std.specs.Prelude.{◌≡◌, ◌++◌, length, option_map, OnOk, IfSome};
+ghost use Rattle.netlink_codec.specs.Attributes.{attributes_text};
+ghost use Rattle.nfqa_headers.specs.Numbers.{hardware_address_kind, hardware_address_length};
+ghost use Rattle.nfqa_headers.specs.Headers.{address_content};
+ghost use Rattle.nfqa_headers.specs.AttributeReading as read;
+ghost use Rattle.nfqa_headers.specs.AttributeWriting.{part};
+
+use crate::attribute_reading::at_least;
+use crate::attribute_writing::put_part;
+use crate::kinds::HARDWARE_ADDRESS;
+use byteorder::{BigEndian, ByteOrder};
+use std::alloc::AllocError;
+
+/// The content's bytes.
+pub const PACKET_ADDRESS_LENGTH: usize = 12;
+/// Where the address's length begins.
+const LENGTH_AT: usize = 0;
+/// Where the address begins.
+const ADDRESS_AT: usize = 4;
+
+/// The bytes of a hardware address.
+pub const ADDRESS_LENGTH: usize = 6;
+
+/// The address that a content says.
+pub fn read_address(content: Option<&[u8]>) -> Option<&[u8]>
+    ensures value { option_map (λ source. source.now) result
+        ≡ read.source_of (option_map (λ content. content.now) content.entry) }
+    ensures length { IfSome result (λ source. length source.now ≡ hardware_address_length) }
+{
+    match at_least(content, PACKET_ADDRESS_LENGTH) {
+        None => None,
+        Some(content) => Some(&content[ADDRESS_AT..ADDRESS_AT + ADDRESS_LENGTH]),
+    }
+}
+
+/// Appends the address, where there is one.
+pub fn put_address(body: &mut Vec<u8>, source: Option<&[u8]>) -> Result<(), AllocError>
+    requires { IfSome source (λ source. length source.now ≡ hardware_address_length) }
+    ensures { OnOk result (body.new.items ≡ body.old.items
+        ++ attributes_text (part hardware_address_kind
+        (option_map address_content (option_map (λ source. source.now) source.entry)))) }
+{
+    match source {
+        None => Ok(()),
+        Some(source) => put_part(body, HARDWARE_ADDRESS, &address_of(source)),
+    }
+}
+
+fn address_of(source: &[u8]) -> [u8; PACKET_ADDRESS_LENGTH]
+    requires { length source.now ≡ hardware_address_length }
+    ensures { result ≡ address_content source.now }
+{
+    let mut content = [0; PACKET_ADDRESS_LENGTH];
+    BigEndian::write_u16(&mut content[LENGTH_AT..], ADDRESS_LENGTH as u16);
+    content[ADDRESS_AT..ADDRESS_AT + ADDRESS_LENGTH].copy_from_slice(source);
+    content
+}

@@ -1,0 +1,53 @@
+//! The header before the attributes, `struct nfgenmsg`:
+//!
+//! | Place | Width | Field |
+//! |---|---|---|
+//! | 0 | 1 | address family; a request's is ignored |
+//! | 1 | 1 | version, 0; a request's is ignored |
+//! | 2 | 2 | number of the queue |
+
+ghost use Rattle.std.specs.Prelude.{◌≡◌, ◌≤◌, ◌<◌, ◌^◌, length, IfOk};
+ghost use Rattle.nfqa_headers.specs.Headers.{queue_header, queue_in, queue_header_length};
+
+use byteorder::{BigEndian, ByteOrder};
+use std::alloc::{AllocError, Global};
+
+/// The header's bytes.
+pub const QUEUE_HEADER_LENGTH: usize = 4;
+/// Where the address family stands.
+const FAMILY_AT: usize = 0;
+/// Where the queue's number begins.
+const QUEUE_AT: usize = 2;
+
+/// The address family of a request. (`AF_UNSPEC`)
+pub const ANY_FAMILY: u8 = 0;
+/// The address family of an IPv4 packet. (`AF_INET`)
+pub const IPV4_FAMILY: u8 = 2;
+/// The address family of an IPv6 packet. (`AF_INET6`)
+pub const IPV6_FAMILY: u8 = 10;
+
+/// The number of the queue in a message's body.
+pub fn read_queue(body: &[u8]) -> u16
+    requires { queue_header_length ≤ length body.now }
+    ensures { result ≡ queue_in body.now }
+{
+    BigEndian::read_u16(&body[QUEUE_AT..])
+}
+
+/// A body that has its header alone, and room for so many bytes more.
+pub fn begin_body(
+    alloc: Global,
+    family: u8,
+    queue: u16,
+    room: usize,
+) -> Result<Vec<u8>, AllocError>
+    requires { room < 2 ^ 32 }
+    ensures { IfOk result (λ body. body.items ≡ queue_header family queue) }
+{
+    let mut header = [0; QUEUE_HEADER_LENGTH];
+    header[FAMILY_AT] = family;
+    BigEndian::write_u16(&mut header[QUEUE_AT..], queue);
+    let mut body = Vec::with_capacity(alloc, QUEUE_HEADER_LENGTH + room)?;
+    body.extend_from_slice(&header)?;
+    Ok(body)
+}
