@@ -11,7 +11,7 @@ use Rattle.packet_entry.specs.Numbers.{last_visit, longest_payload}
 use Rattle.nfqa_msgs.specs.Numbers.{copy_none, command_bind}
 use Rattle.nfqa_msgs.specs.Numbers.{command_unbind, command_pf_bind, command_pf_unbind}
 use Rattle.nfqa_msgs.specs.Numbers.{input_device, output_device, eperm, einval}
-use Rattle.nfqa_msgs.specs.declared.request.Head.{Head}
+use Rattle.nfqa_headers.specs.declared.verdict_header.Head.{Head}
 use Rattle.nfqa_msgs.specs.declared.request.Request.{Request}
 use Rattle.nfqa_msgs.specs.declared.request.Request.TheVariants.{Config, Verdict, Batch}
 use Rattle.nfqa_msgs.specs.RequestReading.{PayloadFits}

@@ -2,7 +2,7 @@
 use Rattle.std.proofs.Common.{◌≡◌, ℕ, Option, Some, None, Bool, true, false, cond, refl, ◌∙◌}
 use Rattle.std.specs.Prelude.{◌||◌, ◌==◌}
 use Rattle.nfqa_msgs.specs.Numbers.{copy_none, copy_meta, copy_packet}
-use Rattle.nfqa_msgs.specs.declared.request.Params.{Params}
+use Rattle.nfqa_headers.specs.declared.params.Params.{Params}
 use Rattle.queue_core.specs.State.{Bound, configured, params_set, maximum_set, flags_set}
 
 -- one test of a table: what holds of its line and of the lines after it holds of the table

@@ -9,8 +9,8 @@ use Rattle.text_lines.specs.Words.{cut_at}
 use Rattle.text_lines.specs.Digits as digits
 use Rattle.text_lines.specs.Hexadecimal.{hexadecimal}
 use Rattle.packet_entry.specs.declared.packet.Card.{Card}
-use Rattle.nfqa_msgs.specs.declared.request.Params.{Params}
-use Rattle.nfqa_msgs.specs.declared.request.Head.{Head}
+use Rattle.nfqa_headers.specs.declared.params.Params.{Params}
+use Rattle.nfqa_headers.specs.declared.verdict_header.Head.{Head}
 use Rattle.nfqa_msgs.specs.declared.request.Request.{Request}
 use Rattle.nfqa_msgs.specs.declared.request.Request.TheVariants.{Config, Verdict, Batch}
 use Rattle.histories.specs.declared.log.AskWords.{AskWords}

@@ -9,8 +9,8 @@ use Rattle.hex.specs.Hex.{IsBytes}
 use Rattle.text_lines.specs.Words.{◌>>=◌, cut_at}
 use Rattle.text_lines.specs.Digits as digits
 use Rattle.text_lines.specs.Hexadecimal.{hexadecimal}
-use Rattle.nfqa_msgs.specs.declared.request.Params.{Params}
-use Rattle.nfqa_msgs.specs.declared.request.Head.{Head}
+use Rattle.nfqa_headers.specs.declared.params.Params.{Params}
+use Rattle.nfqa_headers.specs.declared.verdict_header.Head.{Head}
 use Rattle.nfqa_msgs.specs.declared.request.Request.{Request}
 use Rattle.nfqa_msgs.specs.declared.request.Request.TheVariants.{Config, Verdict, Batch}
 use Rattle.journals.specs.WellFormed.{FitsHead, FitsParams, FitsRequest, IsHalf, IsSmall}

@@ -5,8 +5,8 @@ use Rattle.std.specs.Prelude.{ℕ, ◌≡◌, ◌≢◌, ◌<◌, ◌≤◌, ◌
 use Rattle.std.specs.Prelude.{IfSome}
 use Rattle.hex.specs.Hex.{IsBytes}
 use Rattle.packet_entry.specs.declared.packet.Card.{Card}
-use Rattle.nfqa_msgs.specs.declared.request.Params.{Params}
-use Rattle.nfqa_msgs.specs.declared.request.Head.{Head}
+use Rattle.nfqa_headers.specs.declared.params.Params.{Params}
+use Rattle.nfqa_headers.specs.declared.verdict_header.Head.{Head}
 use Rattle.nfqa_msgs.specs.declared.request.Request.{Request}
 use Rattle.nfqa_msgs.specs.declared.request.Request.TheVariants.{Config, Verdict, Batch}
 use Rattle.queue_core.specs.declared.offers.Outcome.{Outcome}

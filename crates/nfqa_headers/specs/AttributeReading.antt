@@ -63,7 +63,7 @@ last_value kind row = option_map (value_in value_field) (last_content kind row)
 abbrev pub last_head : List Attribute → Option Head
 last_head row = option_map head_in (last_content verdict_header_kind row)
 
--- ---- the same of a notice, of whose attributes none is checked first
+-- ---- bridges for proofs: what is read of a notice, whose attributes may be short
 
 -- the content, where it has at least n bytes
 abbrev pub at_least : ℕ → Option (List ℕ) → Option (List ℕ)
@@ -78,5 +78,6 @@ value_of n f content = unwrap_or (option_map (value_in f) (at_least n content)) 
 abbrev pub nearest_protocol : ℕ → ℕ
 nearest_protocol protocol = if protocol == ipv6_type then ipv6_type else ipv4_type
 
+-- the sender's address; none where the content has too few bytes
 abbrev pub source_of : Option (List ℕ) → Option (List ℕ)
 source_of content = option_map (bytes_in address_field) (at_least packet_address_length content)

@@ -1,7 +1,7 @@
 -- The numbers of the headers and attributes of nfnetlink_queue messages, each once: uapi
--- linux/netfilter/nfnetlink.h, linux/netfilter/nfnetlink_queue.h, linux/netfilter.h, and the kernel's
--- include/linux/socket.h. Kinds, numbers and places have no unit; lengths are in bytes. The sizes of
--- headers follow from their fields, in Headers.antt.
+-- linux/netfilter/nfnetlink.h, linux/netfilter/nfnetlink_queue.h, linux/netfilter.h, and the
+-- kernel's include/linux/socket.h. Kinds and numbers have no unit; lengths are in bytes. The sizes
+-- of headers follow from their fields, in Headers.antt.
 use Rattle.std.specs.Prelude.{ℕ}
 
 -- ---- messages

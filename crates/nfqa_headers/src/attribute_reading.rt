@@ -1,6 +1,7 @@
 //! The known attributes of a message, checked for their length and found by their kinds.
 
-ghost use Rattle.std.specs.Prelude.{ℕ, ◌≡◌, ◌≤◌, ◌+◌, length, Option, option_map, IfSome, IfOk, IsOk};
+ghost use Rattle.std.specs.Prelude.{ℕ, ◌≡◌, ◌≤◌, ◌+◌, length, Option, option_map, IfSome};
+ghost use Rattle.std.specs.Prelude.{IfOk, IsOk};
 ghost use Rattle.std.specs.Prelude.{IsNone, false};
 ghost use Rattle.std.specs.List.{list_any};
 ghost use Rattle.packet_entry.specs.Numbers.{longest_payload};
@@ -12,11 +13,11 @@ ghost use Rattle.nfqa_headers.specs.AttributeReading.{is_short, content_at, last
 ghost use Rattle.nfqa_headers.specs.Numbers.{full_length_kind};
 
 use crate::command::COMMAND_LENGTH;
-use crate::params::PARAMS_LENGTH;
-use crate::verdict_header::VERDICT_HEADER_LENGTH;
 use crate::kinds::{
     COMMAND, CONFIG, FLAGS, KINDS, MARK, MASK, MAXLEN, PARAMS, VALUE_LENGTH, VERDICT_HEADER,
 };
+use crate::params::PARAMS_LENGTH;
+use crate::verdict_header::VERDICT_HEADER_LENGTH;
 use byteorder::{BigEndian, ByteOrder};
 use netlink_codec::attrs;
 use packet_entry::{Bytes, NoMemory};

@@ -63,11 +63,7 @@ fn nearest_protocol(protocol: u16) -> u16
 }
 
 /// Appends id, Ethernet type and hook.
-pub fn put_packet_header(
-    body: &mut Vec<u8>,
-    id: u32,
-    protocol: u16,
-) -> Result<(), AllocError>
+pub fn put_packet_header(body: &mut Vec<u8>, id: u32, protocol: u16) -> Result<(), AllocError>
     ensures { OnOk result (body.new.items ≡ body.old.items ++
         attributes_text (part packet_header_kind (Some (packet_head_content id protocol)))) }
 {

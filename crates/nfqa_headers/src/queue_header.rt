@@ -35,12 +35,7 @@ pub fn read_queue(body: &[u8]) -> u16
 }
 
 /// A body that has its header alone, and room for so many bytes more.
-pub fn begin_body(
-    alloc: Global,
-    family: u8,
-    queue: u16,
-    room: usize,
-) -> Result<Vec<u8>, AllocError>
+pub fn begin_body(alloc: Global, family: u8, queue: u16, room: usize) -> Result<Vec<u8>, AllocError>
     requires { room < 2 ^ 32 }
     ensures { IfOk result (λ body. body.items ≡ queue_header family queue) }
 {

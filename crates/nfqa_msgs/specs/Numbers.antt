@@ -1,6 +1,7 @@
--- The numbers of nfnetlink_queue messages that stand in no header, each once: uapi
--- linux/netfilter/nfnetlink_queue.h, asm-generic/errno-base.h and errno.h. Commands, modes, flags and
--- places have no unit; lengths are in bytes.
+-- The numbers that the fields of nfnetlink_queue messages hold, each once: uapi
+-- linux/netfilter/nfnetlink_queue.h, asm-generic/errno-base.h and errno.h. Commands, modes, flags
+-- and places have no unit; lengths are in bytes. The kinds of messages and attributes, and the
+-- numbers of their headers, are those of nfqa_headers.
 use Rattle.std.specs.Prelude.{ℕ}
 use Rattle.packet_entry.specs.Numbers.{longest_payload}
 

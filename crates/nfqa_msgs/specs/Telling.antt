@@ -1,4 +1,4 @@
--- What the code's view of a notice tells.
+-- A bridge for proofs: what the code's view of a notice, whose bytes are borrowed, tells.
 use Rattle.std.specs.Prelude.{option_map}
 use Rattle.nfqa_msgs.specs.declared.notice.Telling.{Telling}
 use Rattle.nfqa_msgs.specs.NoticeWriting.{Told}

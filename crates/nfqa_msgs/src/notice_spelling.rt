@@ -11,10 +11,10 @@ ghost use Rattle.nfqa_msgs.specs.NoticeWriting.{FitsTold, notice_body, notice_te
 ghost use Rattle.nfqa_msgs.specs.NoticeWriting.{padded_payload};
 ghost use Rattle.nfqa_msgs.specs.Telling.{telling};
 
-use nfqa_headers::kinds::{NOTICE, NUMBERS, QUEUE_SUBSYSTEM};
 use crate::notice::Telling;
 use crate::notice_writing::{front_of, padding_behind};
 use netlink_codec::{Message, next_message, written_attributes_are_walked};
+use nfqa_headers::kinds::{NOTICE, NUMBERS, QUEUE_SUBSYSTEM};
 use packet_entry::NoMemory;
 use std::alloc::Global;
 

@@ -16,16 +16,16 @@ ghost use Rattle.nfqa_msgs.specs.NoticeWriting.{padded_payload, payload_padding}
 ghost use Rattle.nfqa_msgs.specs.Telling.{telling};
 
 use crate::PACKET;
+use crate::notice::Telling;
+use netlink_codec::{attr_header, attr_padding, put_split_message, written_attributes_are_walked};
 use nfqa_headers::attribute_writing::put_value;
+use nfqa_headers::kinds::{
+    FULL_LENGTH, INPUT_DEVICE, MARK, NOTICE, NUMBERS, OUTPUT_DEVICE, PAYLOAD, QUEUE_SUBSYSTEM,
+};
 use nfqa_headers::packet_address::{ADDRESS_LENGTH, put_address};
 use nfqa_headers::packet_header::put_packet_header;
 use nfqa_headers::queue_header::{IPV4_FAMILY, IPV6_FAMILY, begin_body};
 use nfqa_headers::timestamp::put_stamp;
-use nfqa_headers::kinds::{
-    FULL_LENGTH, INPUT_DEVICE, MARK, NOTICE, NUMBERS, OUTPUT_DEVICE, PAYLOAD, QUEUE_SUBSYSTEM,
-};
-use crate::notice::Telling;
-use netlink_codec::{attr_header, attr_padding, put_split_message, written_attributes_are_walked};
 use packet_entry::{IPV4, NoMemory, Packet};
 use std::alloc::{AllocError, Global};
 

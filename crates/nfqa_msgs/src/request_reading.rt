@@ -10,17 +10,19 @@ ghost use Rattle.nfqa_msgs.specs.RequestReading.{batch_in, AskedFits, PayloadFit
 ghost use Rattle.nfqa_headers.specs.AttributeReading.{is_short};
 ghost use Rattle.nfqa_msgs.specs.RequestReading.{has_payload, asks_with_payload};
 
-use nfqa_headers::attribute_reading::{content_of, copy_payload, has_short, last_contents, read_value};
+use crate::{Decoded, EINVAL, EOPNOTSUPP, ERANGE, Request};
+use netlink_codec::Message;
+use nfqa_headers::attribute_reading::{
+    content_of, copy_payload, has_short, last_contents, read_value,
+};
 use nfqa_headers::command::read_command;
-use nfqa_headers::params::read_params;
-use nfqa_headers::queue_header::{QUEUE_HEADER_LENGTH, read_queue};
-use nfqa_headers::verdict_header::read_head;
 use nfqa_headers::kinds::{
     BATCH, COMMAND, CONFIG, FLAGS, LEAST_KIND, MARK, MASK, MAXLEN, NOTICE, NUMBERS, PARAMS,
     PAYLOAD, QUEUE_SUBSYSTEM, REQUEST_FLAG, VERDICT, VERDICT_HEADER,
 };
-use crate::{Decoded, EINVAL, EOPNOTSUPP, ERANGE, Request};
-use netlink_codec::Message;
+use nfqa_headers::params::read_params;
+use nfqa_headers::queue_header::{QUEUE_HEADER_LENGTH, read_queue};
+use nfqa_headers::verdict_header::read_head;
 use packet_entry::NoMemory;
 use std::alloc::Global;
 

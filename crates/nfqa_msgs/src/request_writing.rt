@@ -8,18 +8,18 @@ ghost use Rattle.nfqa_msgs.specs.RequestReading.{PayloadFits};
 ghost use Rattle.nfqa_msgs.specs.RequestWriting.{FitsRequest, spelling, request_body, number_for};
 ghost use Rattle.nfqa_msgs.specs.RequestWriting.{flags_for};
 
-use nfqa_headers::attribute_writing::{put_part, put_value};
 use crate::fields::fits_its_fields;
+use crate::{Head, Params, Request};
+use netlink_codec::{put_message, written_attributes_are_walked};
+use nfqa_headers::attribute_writing::{put_part, put_value};
 use nfqa_headers::command::put_command;
-use nfqa_headers::params::put_params;
-use nfqa_headers::queue_header::{ANY_FAMILY, begin_body};
-use nfqa_headers::verdict_header::put_head;
 use nfqa_headers::kinds::{
     ACK_FLAG, BATCH, CONFIG, FLAGS, MARK, MASK, MAXLEN, NUMBERS, PAYLOAD, QUEUE_SUBSYSTEM,
     REQUEST_FLAG, VERDICT,
 };
-use crate::{Head, Params, Request};
-use netlink_codec::{put_message, written_attributes_are_walked};
+use nfqa_headers::params::put_params;
+use nfqa_headers::queue_header::{ANY_FAMILY, begin_body};
+use nfqa_headers::verdict_header::put_head;
 use packet_entry::{Bytes, NoMemory};
 use std::alloc::{AllocError, Global};
 

@@ -7,7 +7,7 @@ use Rattle.std.specs.declared.result.Result.TheVariants.{Ok, Err}
 use Rattle.std.proofs.lemmas.List.{length-map}
 use Rattle.packet_entry.specs.declared.packet.Card.{Card}
 use Rattle.hook_chain.specs.declared.chain.Decision.{Decision}
-use Rattle.nfqa_msgs.specs.declared.request.Head.{Head}
+use Rattle.nfqa_headers.specs.declared.verdict_header.Head.{Head}
 use Rattle.queue_core.specs.Numbers.{verdict_drop, verdict_accept, verdict_queue, verdict_repeat}
 use Rattle.queue_core.specs.Decision.{kind_of, decision_of}
 use Rattle.queue_core.specs.Share.{share}

@@ -1,6 +1,6 @@
 -- The lines of the tables of requests, as the code tells them apart.
 use Rattle.std.specs.Prelude.{◌≡◌, ℕ, Option, Some, None, false}
-use Rattle.nfqa_msgs.specs.declared.request.Head.{Head}
+use Rattle.nfqa_headers.specs.declared.verdict_header.Head.{Head}
 use Rattle.queue_core.specs.Decision.{IsVerdict}
 use Rattle.queue_core.specs.State.{Bound, bound_to}
 use Rattle.queue_core.specs.Step.{ConfigAsk, config, unchanged, ended, set_up, are_flags_refused}

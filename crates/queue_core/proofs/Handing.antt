@@ -3,7 +3,7 @@ use Rattle.std.proofs.Common.{◌≡◌, ℕ, suc, List, [], ◌∷◌, length, 
 use Rattle.std.proofs.Common.{ap, ◌∙◌, Option}
 use Rattle.std.proofs.lemmas.Bool.{eq-eqb}
 use Rattle.packet_entry.specs.declared.packet.Card.{Card}
-use Rattle.nfqa_msgs.specs.declared.request.Head.{Head}
+use Rattle.nfqa_headers.specs.declared.verdict_header.Head.{Head}
 use Rattle.queue_core.specs.declared.event.Reply.TheVariants.{Answer}
 use Rattle.queue_core.specs.Decision.{Edit, IsVerdict}
 use Rattle.queue_core.specs.State.{Bound}

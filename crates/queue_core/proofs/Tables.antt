@@ -18,8 +18,8 @@ use Rattle.packet_entry.specs.Numbers.{last_visit}
 use Rattle.nfqa_msgs.specs.Numbers.{copy_none, copy_meta, copy_packet, command_bind}
 use Rattle.nfqa_msgs.specs.Numbers.{command_unbind, command_pf_bind, command_pf_unbind}
 use Rattle.nfqa_msgs.specs.Numbers.{input_device, output_device, eperm}
-use Rattle.nfqa_msgs.specs.declared.request.Params.{Params}
-use Rattle.nfqa_msgs.specs.declared.request.Head.{Head}
+use Rattle.nfqa_headers.specs.declared.params.Params.{Params}
+use Rattle.nfqa_headers.specs.declared.verdict_header.Head.{Head}
 use Rattle.nfqa_msgs.specs.declared.request.Request.{Request}
 use Rattle.nfqa_msgs.specs.declared.request.Request.TheVariants as request
 use Rattle.queue_core.specs.declared.event.Event.{Event}

@@ -2,7 +2,7 @@
 use Rattle.std.specs.Prelude.{ℕ, ◌||◌, List, [], Option, Some, None, Bool, ◌==◌, bit_and, bit_or}
 use Rattle.std.specs.Prelude.{unwrap_or, if◌then◌else◌}
 use Rattle.packet_entry.specs.declared.packet.Card.{Card}
-use Rattle.nfqa_msgs.specs.declared.request.Params.{Params}
+use Rattle.nfqa_headers.specs.declared.params.Params.{Params}
 use Rattle.nfqa_msgs.specs.Numbers.{copy_none, copy_meta, copy_packet, longest_range}
 use Rattle.nfqa_msgs.specs.Numbers.{flag_fail_open}
 use Rattle.queue_core.specs.Numbers.{default_maximum}

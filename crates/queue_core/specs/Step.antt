@@ -9,8 +9,8 @@ use Rattle.packet_entry.specs.declared.packet.Card.{Card}
 use Rattle.packet_entry.specs.Numbers.{last_visit}
 use Rattle.hook_chain.specs.declared.chain.Decision.{Decision}
 use Rattle.hook_chain.specs.declared.chain.Decision.TheVariants as decision
-use Rattle.nfqa_msgs.specs.declared.request.Params.{Params}
-use Rattle.nfqa_msgs.specs.declared.request.Head.{Head}
+use Rattle.nfqa_headers.specs.declared.params.Params.{Params}
+use Rattle.nfqa_headers.specs.declared.verdict_header.Head.{Head}
 use Rattle.nfqa_msgs.specs.declared.request.Request.{Request}
 use Rattle.nfqa_msgs.specs.declared.request.Request.TheVariants as request
 use Rattle.queue_core.specs.declared.offers.Outcome.{Outcome}

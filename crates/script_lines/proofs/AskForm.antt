@@ -7,7 +7,7 @@ use Rattle.std.proofs.lemmas.Bool.{eqb-true, false_from_ne_true, false≢true}
 use Rattle.std.proofs.lemmas.Option.{cond_some, none-some, same_Some}
 use Rattle.text_lines.specs.Words.{◌>>=◌, first_word, words_after}
 use Rattle.text_lines.specs.Hexadecimal.{bytes_of}
-use Rattle.nfqa_msgs.specs.declared.request.Params.{Params}
+use Rattle.nfqa_headers.specs.declared.params.Params.{Params}
 use Rattle.script_lines.specs.declared.template.OrThis.{OrThis}
 use Rattle.script_lines.specs.declared.template.Judgement.{Judgement}
 use Rattle.script_lines.specs.declared.template.Settings.{Settings}

@@ -6,7 +6,7 @@ use Rattle.std.specs.Option.{option_map_or}
 use Rattle.std.proofs.lemmas.Option.{same_Some}
 use Rattle.text_lines.specs.Words.{◌>>=◌, first_word, words_after}
 use Rattle.text_lines.specs.Digits.{decimal, decimal_below}
-use Rattle.nfqa_msgs.specs.declared.request.Params.{Params}
+use Rattle.nfqa_headers.specs.declared.params.Params.{Params}
 use Rattle.script_lines.specs.AskLine.{command_named, command_part, mode_of, number_part}
 use Rattle.script_lines.specs.AskLine.{params_part}
 use Rattle.script_lines.specs.Grammar.{IsCommandPart, IsNumberPart, IsParamsPart, command_names}

@@ -6,7 +6,7 @@ use Rattle.std.proofs.lemmas.List.Elements.{All-append, All-cons, All-nil}
 use Rattle.text_lines.specs.Digits.{decimal, digits_onto, number}
 use Rattle.text_lines.specs.Hexadecimal.{bytes_of}
 use Rattle.text_lines.specs.Numerals.{IsNumeral}
-use Rattle.nfqa_msgs.specs.declared.request.Params.{Params}
+use Rattle.nfqa_headers.specs.declared.params.Params.{Params}
 use Rattle.script_lines.specs.declared.template.OrThis.{OrThis}
 use Rattle.script_lines.specs.declared.template.Judgement.{Judgement}
 use Rattle.script_lines.specs.declared.template.Settings.{Settings}

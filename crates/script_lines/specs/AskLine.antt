@@ -5,7 +5,7 @@ use Rattle.std.specs.Option.{option_map_or}
 use Rattle.text_lines.specs.Words.{◌>>=◌, byte, first_word, words_after, cut_at}
 use Rattle.text_lines.specs.Digits.{decimal, decimal_below}
 use Rattle.text_lines.specs.Hexadecimal.{bytes_of}
-use Rattle.nfqa_msgs.specs.declared.request.Params.{Params}
+use Rattle.nfqa_headers.specs.declared.params.Params.{Params}
 use Rattle.nfqa_msgs.specs.Numbers.{command_bind, command_unbind, command_pf_bind}
 use Rattle.nfqa_msgs.specs.Numbers.{command_pf_unbind, copy_none, copy_meta, copy_packet}
 use Rattle.queue_core.specs.Numbers.{verdict_drop, verdict_accept, verdict_repeat, verdict_stop}

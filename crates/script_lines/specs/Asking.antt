@@ -2,7 +2,7 @@
 use Rattle.std.specs.Prelude.{ℕ, Option, Some, None}
 use Rattle.text_lines.specs.Words.{◌>>=◌}
 use Rattle.nfqa_msgs.specs.declared.notice.Notice.{Notice}
-use Rattle.nfqa_msgs.specs.declared.request.Head.{Head}
+use Rattle.nfqa_headers.specs.declared.verdict_header.Head.{Head}
 use Rattle.nfqa_msgs.specs.declared.request.Request.{Request}
 use Rattle.nfqa_msgs.specs.declared.request.Request.TheVariants as request
 use Rattle.histories.specs.declared.log.AskWords.{AskWords}

@@ -7,7 +7,7 @@ use Rattle.std.specs.List.{list_all}
 use Rattle.text_lines.specs.Words.{IsPassedOver, is_printable, words_of}
 use Rattle.text_lines.specs.Numerals.{IsNumeral}
 use Rattle.text_lines.specs.Hexadecimal.{IsSpelled}
-use Rattle.nfqa_msgs.specs.declared.request.Params.{Params}
+use Rattle.nfqa_headers.specs.declared.params.Params.{Params}
 use Rattle.nfqa_msgs.specs.Numbers.{command_bind, command_unbind, command_pf_bind}
 use Rattle.nfqa_msgs.specs.Numbers.{command_pf_unbind, copy_none, copy_meta, copy_packet}
 use Rattle.histories.specs.declared.log.AskWords.{AskWords}

@@ -15,19 +15,23 @@ use Rattle.netlink_codec.specs.Attributes.{attributes_up_to, has_attribute, firs
 use Rattle.netlink_codec.specs.Attributes.{after_attribute, attribute_length}
 use Rattle.nfqa_msgs.specs.declared.request.Request.{Request}
 use Rattle.nfqa_msgs.specs.declared.request.Request.TheVariants.{Config, Verdict, Batch}
-use Rattle.nfqa_msgs.specs.declared.request.Head.{Head}
-use Rattle.nfqa_msgs.specs.declared.request.Params.{Params}
-use Rattle.nfqa_msgs.specs.Headers.{command_content, params_content, head_content, value_content}
-use Rattle.nfqa_msgs.specs.Headers.{queue_header, queue_header_length, queue_in}
-use Rattle.nfqa_msgs.specs.Numbers.{any_family, command_kind, params_kind, maxlen_kind, mask_kind}
-use Rattle.nfqa_msgs.specs.Numbers.{flags_kind, verdict_header_kind, mark_kind, payload_kind}
-use Rattle.nfqa_msgs.specs.Numbers.{config_number, verdict_number, notice_number}
-use Rattle.nfqa_msgs.specs.RequestReading.{PayloadFits, AskedFits, decoded, request_in, later}
-use Rattle.nfqa_msgs.specs.RequestReading.{last_content, row_in, is_short, is_foreign}
+use Rattle.nfqa_headers.specs.declared.verdict_header.Head.{Head}
+use Rattle.nfqa_headers.specs.declared.params.Params.{Params}
+use Rattle.nfqa_headers.specs.Headers.{command_content, params_content, head_content, value_content}
+use Rattle.nfqa_headers.specs.Headers.{queue_header, queue_header_length, queue_in}
+use Rattle.nfqa_headers.specs.Numbers.{any_family, command_kind, params_kind, maxlen_kind}
+use Rattle.nfqa_headers.specs.Numbers.{mask_kind}
+use Rattle.nfqa_headers.specs.Numbers.{flags_kind, verdict_header_kind, mark_kind, payload_kind}
+use Rattle.nfqa_headers.specs.Numbers.{config_number, verdict_number, notice_number}
+use Rattle.nfqa_msgs.specs.RequestReading.{PayloadFits, AskedFits, decoded, request_in}
+use Rattle.nfqa_headers.specs.AttributeReading.{later}
+use Rattle.nfqa_headers.specs.AttributeReading.{last_content, is_short}
+use Rattle.nfqa_msgs.specs.RequestReading.{row_in, is_foreign}
 use Rattle.nfqa_msgs.specs.RequestReading.{config_in, verdict_in, batch_in}
-use Rattle.nfqa_msgs.specs.RequestWriting.{part, value_part, head_part, parts_of, queue_for}
+use Rattle.nfqa_headers.specs.AttributeWriting.{part, value_part, head_part}
+use Rattle.nfqa_msgs.specs.RequestWriting.{parts_of, queue_for}
 use Rattle.nfqa_msgs.specs.RequestWriting.{number_for, flags_for, request_body, spelling}
-use Rattle.nfqa_msgs.specs.Kinds.{queue_kind, number_of}
+use Rattle.nfqa_headers.specs.Kinds.{queue_kind, number_of}
 use Rattle.histories.specs.declared.log.AskWords.{AskWords}
 use Rattle.histories.specs.declared.log.AskWords.TheVariants.{Plain, Raw}
 use Rattle.script_lines.specs.Limits.{IsWords, IsRequest}

@@ -9,10 +9,10 @@ use Rattle.nfqa_msgs.specs.Numbers.{copy_none, command_bind, command_unbind, com
 use Rattle.nfqa_msgs.specs.Numbers.{command_pf_unbind, input_device, output_device}
 use Rattle.nfqa_msgs.specs.Numbers.{copy_meta, copy_packet}
 use Rattle.nfqa_msgs.specs.Numbers.{eperm, einval}
-use Rattle.nfqa_msgs.specs.declared.request.Head.{Head}
+use Rattle.nfqa_headers.specs.declared.verdict_header.Head.{Head}
 use Rattle.nfqa_msgs.specs.declared.request.Request.{Request}
 use Rattle.nfqa_msgs.specs.declared.request.Request.TheVariants.{Config, Verdict, Batch}
-use Rattle.nfqa_msgs.specs.declared.request.Params.{Params}
+use Rattle.nfqa_headers.specs.declared.params.Params.{Params}
 use Rattle.queue_core.specs.Decision.{Edit}
 use Rattle.queue_core.specs.Share.{share}
 use Rattle.queue_core.specs.State.{Bound, fails_open, bound_to, configured, params_set}

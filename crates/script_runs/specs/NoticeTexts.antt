@@ -4,7 +4,7 @@ use Rattle.std.specs.Prelude.{ℕ, ◌^◌, ◌&&◌, ◌||◌, ◌==◌, nat_lt
 use Rattle.std.specs.Prelude.{None, Bool, true, if◌then◌else◌}
 use Rattle.std.specs.Str.{bytes_eq}
 use Rattle.packet_entry.specs.Numbers.{ipv4_type, ipv6_type, longest_payload}
-use Rattle.nfqa_msgs.specs.Numbers.{hardware_address_length}
+use Rattle.nfqa_headers.specs.Numbers.{hardware_address_length}
 use Rattle.nfqa_msgs.specs.NoticeWriting.{Told, notice_text}
 use Rattle.nfqa_msgs.specs.NoticeReading.{told_by}
 

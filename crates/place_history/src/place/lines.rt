@@ -2,7 +2,7 @@
 
 ghost use Rattle.std.specs.Prelude.{◌≡◌, ◌||◌, ℕ, Option, IfSome, IfNone, IfOk, IfErr, false};
 ghost use Rattle.std.specs.Prelude.{option_map};
-ghost use Rattle.nfqa_msgs.specs.declared.request.Params.{Params};
+ghost use Rattle.nfqa_headers.specs.declared.params.Params.{Params};
 ghost use Rattle.queue_core.specs.State.{Bound};
 ghost use Rattle.queue_core.specs.Decision as decision;
 ghost use Rattle.nfqa_msgs.specs.Numbers.{command_pf_bind, command_pf_unbind};
