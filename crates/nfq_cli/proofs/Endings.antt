@@ -2,39 +2,30 @@
 use Rattle.std.proofs.Common.{◌≡◌, ◌≤◌, ◌⊎◌, ◌∙◌, ℕ, List, Option, Some, None, Result, Ok, Err}
 use Rattle.std.proofs.Common.{OnOk, OnErr, refl, sym, ap, subst, inl, inr, arith, [], ◌∷◌, map}
 use Rattle.std.specs.Prelude.{IfOk, IsErrAnd, IsSomeAnd}
+use Rattle.std.proofs.lemmas.Result.{IfErr-at_err}
 use Rattle.host_io.specs.Host.{Rises, SameFiles}
-use Rattle.nfq_cli.specs.declared.refusal.Refusal.{Refusal}
-use Rattle.nfq_cli.specs.declared.refusal.Refusal.TheVariants as refusal
-use Rattle.nfq_cli.specs.declared.stop.Stop.{Stop}
-use Rattle.nfq_cli.specs.declared.stop.Stop.TheVariants as stop
-use Rattle.nfq_cli.specs.Arguments.{Call, InputFiles, PlayFiles}
-use Rattle.nfq_cli.specs.Causes.{IsAnswered, IsRefused, IsTurnedDown}
-use Rattle.nfq_cli.specs.Files.{Contents, Counts, IsPrinted, IsStoppedAfter, Stay, Text}
+use Rattle.run_files.specs.declared.refusal.Refusal.{Refusal}
+use Rattle.run_files.specs.declared.refusal.Refusal.TheVariants as refusal
+use Rattle.run_files.specs.declared.stop.Stop.{Stop}
+use Rattle.run_files.specs.declared.stop.Stop.TheVariants as stop
+use Rattle.command_line.specs.Arguments.{Call, InputFiles, PlayFiles}
+use Rattle.run_files.specs.Causes.{IsAnswered, IsRefused, IsTurnedDown}
+use Rattle.run_files.specs.Files.{Contents, Counts, IsPrinted, IsStoppedAfter, Stay, Text}
 use Rattle.nfq_cli.specs.Headline.{texts_as}
-use Rattle.nfq_cli.specs.Printed.{line_of}
-use Rattle.nfq_cli.specs.Statuses.{IfRefused, IfStopRefuses, IsStopFor, status_of}
-use Rattle.nfq_cli.specs.Statuses.{status_of_refusal}
-use Rattle.nfq_cli.proofs.Saying.{ok_is_no_err}
+use Rattle.run_files.specs.Printed.{line_of}
+use Rattle.run_files.specs.Statuses.{IfRefused, IfStopRefuses, IsStopFor, status_of}
+use Rattle.run_files.specs.Statuses.{status_of_refusal}
 
 -- ---- one outcome
-
-pub on_ok : {T E : Type 0} (A B : Type 0) (r : Result T E) → (A → B) → OnOk r A → OnOk r B
-on_ok A B (Ok x) f h = f h
-on_ok A B (Err e) f h = tt
 
 pub on_ok_both : {T E : Type 0} (A B : Type 0) (r : Result T E) → OnOk r A → OnOk r B →
     OnOk r (A × B)
 on_ok_both A B (Ok x) a b = (a, b)
 on_ok_both A B (Err e) a b = tt
 
-pub if_ok_and : {T E : Type 0} (P R : T → Type 0) (B : Type 0) (r : Result T E) →
-    IfOk r P → OnOk r B → ((x : T) → P x → B → R x) → IfOk r R
-if_ok_and P R B (Ok x) p b f = f x p b
-if_ok_and P R B (Err e) p b f = tt
-
-pub on_err : {T E : Type 0} (P : Type 0) (r : Result T E) (e : E) → r ≡ Err e → OnErr r P → P
-on_err P (Ok x) e is h = absurd (ok_is_no_err x e is)
-on_err P (Err x) e is h = h
+-- what was made isn't refused
+pub made_is_not_refused : {T E : Type 0} {x : T} {e : E} → ◌≡◌ {A = Result T E} (Err e) (Ok x) → ⊥
+made_is_not_refused same = IfErr-at_err (λ _. ⊥) (sym same) tt
 
 -- a call that fails in one way alone did nothing in any other
 pub in_no_other_way : {T : Type 0} (P : Type 0) (r : Result T Stop) (s : Stop) →

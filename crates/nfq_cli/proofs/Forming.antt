@@ -5,7 +5,8 @@ use Rattle.std.proofs.Common.{subst}
 use Rattle.std.specs.Prelude.{◌==◌, ◌≢◌, All, AllPairs, flat_map, if◌then◌else◌}
 use Rattle.std.specs.List.{AllByRecursion}
 use Rattle.std.specs.List.Sorted.{IsNonDecreasingBy}
-use Rattle.std.proofs.lemmas.Bool.{eq-eqb, eqb-true}
+use Rattle.std.proofs.lemmas.Bool.{cases_Bool, eq-eqb, eqb-true}
+use Rattle.std.proofs.Common.{◌⊎◌, inl, inr}
 use Rattle.std.proofs.lemmas.List.Elements.{All-from_recursion, All-head, All-tail}
 use Rattle.std.proofs.lemmas.List.Sorted.{IsNonDecreasingBy-from_sort}
 use Rattle.std.proofs.lemmas.List.Kept.{AllPairs-cons}
@@ -33,7 +34,8 @@ use Rattle.inspector_script.specs.Scripts.{ScriptValue, IsScript}
 use Rattle.script_runs.specs.Log.{Note, Got, Begun, Spoke, Shut, Standing, AreNextFrom}
 use Rattle.script_runs.specs.Log.{after, logged, start}
 use Rattle.script_runs.specs.Requests.{Plea, pleas_of, pleas_in, pleas_told, plea_of}
-use Rattle.script_runs.specs.Run.{AreLogs, IsMadeBy}
+use Rattle.script_runs.specs.Run.{IsMadeBy, IsTold, RequestsHold}
+use Rattle.script_runs.specs.Ports.{is_port, place_in}
 use Rattle.script_runs.specs.Sending.{errno_in}
 use Rattle.histories.specs.Grouping.{IsGrouped}
 use Rattle.journals.specs.WellFormed as formed
@@ -152,6 +154,16 @@ told_names queue (Shut ∷ ns) = told_names queue ns
 told_names queue (Spoke call m errno ∷ ns) =
     join (Names queue) (plea_of queue call errno (decoded m)) (flat_map (pleas_told queue) ns)
     (plea_names queue call errno (decoded m)) (told_names queue ns)
+
+asked_names : (script : ScriptValue) (h : Histories) (notes : ℕ → List Note) →
+    RequestsHold script h notes → (port queue : ℕ) →
+    (is_port script port ≡ true) ⊎ (is_port script port ≡ false) →
+    AllByRecursion (Names queue) (pleas_in port (history queue h.entries))
+asked_names script h notes hold port queue (inl i) =
+    subst (λ ps. AllByRecursion (Names queue) ps) (sym (hold.each port i queue))
+    (told_names queue (notes port))
+asked_names script h notes hold port queue (inr out) =
+    subst (λ ps. AllByRecursion (Names queue) ps) (sym (hold.nobody port out queue)) tt
 
 -- the request of an entry is of this queue, where it is this port's
 abbrev AskedOf : ℕ → ℕ → Event → Type 0
@@ -295,27 +307,24 @@ pairs (d ∷ ds) last =
     AllPairs-cons (λ (a b : Did). a ≢ Closed) d ds
     (All-from_recursion (λ (b : Did). d ≢ Closed) ds last.0) (pairs ds last.1)
 
-logs_formed : (script : ScriptValue) (notes : ℕ → List Note) (place : ℕ) (ls : List PortLog) →
-    AreLogs script notes place ls → AllByRecursion FitsLog ls → AllByRecursion formed.IsLog ls
-logs_formed script notes place [] are fit = tt
-logs_formed script notes place (l ∷ ls) are fit = (
-  record {
-    port = fit.0.port;
-    dids = fit.0.dids;
-    closed_last = subst (λ ds. AllPairs (λ a b. a ≢ Closed) ds) (sym are.0.noted)
-        (pairs (logged l.port (notes l.port))
-        (last_only script place l.port (start script place) (notes l.port) are.0.next));
-  },
-  logs_formed script notes (place + 1) ls are.1 fit.1,
-)
+log_formed : (script : ScriptValue) (notes : ℕ → List Note) (l : PortLog) → FitsLog l →
+    IsTold script notes l → formed.IsLog l
+log_formed script notes l fit is = record {
+  port = fit.port;
+  dids = fit.dids;
+  closed_last = subst (λ ds. AllPairs (λ a b. a ≢ Closed) ds) (sym is.whole)
+      (pairs (logged l.port (notes l.port))
+      (last_only script (place_in l.port script.ports) l.port
+      (start script (place_in l.port script.ports)) (notes l.port) is.next));
+}
 
 -- ---- all of it
 
 pub well_formed : Replies → (script : ScriptValue) (frames : ℕ) (h : Histories)
     (notes : ℕ → List Note) (left : ℕ → List Letter) → IsScript script → Fit h → h.lost ≡ [] →
     (ws : List Entry) → IsGrouped ws h.entries → AreLegal h.entries →
-    IsMadeBy script frames h notes left → IsWellFormed h
-well_formed replies script frames h notes left is fit kept ws grouped legal made =
+    IsMadeBy script frames h notes left → All (IsTold script notes) h.logs → IsWellFormed h
+well_formed replies script frames h notes left is fit kept ws grouped legal made told =
     let kinds : AllByRecursion KindOf h.entries =
     from_histories KindOf h.entries
     (λ queue. kinds_from replies None (history queue h.entries) (legal queue)) in
@@ -327,8 +336,8 @@ well_formed replies script frames h notes left is fit kept ws grouped legal made
     (all_own queue h.entries)
     (own_asks queue (history queue h.entries)
     (λ port. asked_in queue port (history queue h.entries)
-    (subst (λ ps. AllByRecursion (Names queue) ps) (sym (made.requests port queue))
-    (told_names queue (notes port)))))) in
+    (asked_names script h notes made.requests port queue
+    (cases_Bool (is_port script port)))))) in
     let fits : AllByRecursion FitsEntry h.entries =
     by_recursion FitsEntry h.entries fit.entries in
     let up : IsNonDecreasingBy (λ (e : Entry). e.queue) h.entries =
@@ -347,8 +356,9 @@ well_formed replies script frames h notes left is fit kept ws grouped legal made
           (λ e f k. (f, k)) h.entries fits kinds) asks);
       queues_ascend = λ i j d low within. up i j d (omega (arith, low)) within;
       logs = All-from_recursion formed.IsLog h.logs
-          (logs_formed script notes 0 h.logs made.logs
-          (by_recursion FitsLog h.logs fit.logs));
+          (both_hold FitsLog (IsTold script notes) formed.IsLog (log_formed script notes) h.logs
+          (by_recursion FitsLog h.logs fit.logs)
+          (by_recursion (IsTold script notes) h.logs told));
       ports_differ = subst (λ ps. AllPairs (λ a b. a ≢ b) ps) (sym made.ports)
           is.ports_differ;
     }

@@ -1,6 +1,3 @@
-pub mod Numbering
-pub mod Digits
-pub mod Saying
-pub mod Endings
-pub mod Forming
-pub mod Parts
+mod Numbering
+mod Endings
+mod Forming

@@ -21,7 +21,7 @@ use Rattle.fate_ledger.specs.Laws.{AreApart, IsLastEvent, IsLineOf, LeftForGood,
 use Rattle.fate_ledger.specs.Ledger.{is_release}
 use Rattle.fate_ledger.specs.Released as released
 use Rattle.journals.specs.WellFormed.{IsWellFormed}
-use Rattle.nfq_cli.specs.Outputs.{fates_of}
+use Rattle.run_files.specs.Outputs.{fates_of}
 
 -- Each frame's line is that of its packet's last event in these histories, or that of a frame whose
 -- packet has none. Where the line doesn't say that the packet waits, it left in that event's step,
@@ -51,11 +51,10 @@ AreReleased c h =
     ≡ map (λ p. released.written c.link p.0 p.1)
     (filter (λ p. is_release p.1.fate) (zip c.frames (fates_of c h)))
 
--- Histories of a run of this script over this capture, under these rules.
-pub record IsAccounted (tables : List (List Rule)) (script : ScriptValue) (c : Capture)
+-- Histories of a run of this script over this capture, under these rules, in which nothing is lost.
+pub record AreAccounted (tables : List (List Rule)) (script : ScriptValue) (c : Capture)
     (h : Histories) : Type 0 where
-  -- they are those of the schedule of one thread, in which nothing is lost
-  pub schedule : IsSolo script tables c h
+  pub nothing_lost : h.lost ≡ []
   -- at each queue, each event may happen in the state that the sequential queue reaches by the
   -- entries before it, and each reply is the one of its step
   pub legal : AreLegal h.entries
@@ -73,3 +72,10 @@ pub record IsAccounted (tables : List (List Rule)) (script : ScriptValue) (c : C
   pub once : IsEachOnce tables script c h
   pub lines : AreLinesOf tables script.key c h
   pub released : AreReleased c h
+
+-- And those of the run on one thread: its schedule has no others.
+pub record IsAccounted (tables : List (List Rule)) (script : ScriptValue) (c : Capture)
+    (h : Histories) : Type 0 where
+  pub schedule : IsSolo script tables c h
+  pub only : (g : Histories) → IsSolo script tables c g → g ≡ h
+  pub run : AreAccounted tables script c h

@@ -11,12 +11,12 @@ use Rattle.histories.specs.Listing.{listing}
 use Rattle.script_runs.specs.Schedule.{before_ends}
 use Rattle.generated.specs.Captures.{generated_capture}
 use Rattle.generated.specs.Texts.{rules_text, script_text}
-use Rattle.nfq_cli.specs.Arguments.{Call, Generates, GenFiles, InputFiles, Lists, ListFiles}
-use Rattle.nfq_cli.specs.Arguments.{PlayFiles, Plays, Sample, standard_output, Tries}
+use Rattle.command_line.specs.Arguments.{Call, Generates, GenFiles, InputFiles, Lists, ListFiles}
+use Rattle.command_line.specs.Arguments.{PlayFiles, Plays, Sample, standard_output, Tries}
 use Rattle.nfq_cli.specs.Account.{IsAccounted}
-use Rattle.nfq_cli.specs.Causes.{AreRead}
-use Rattle.nfq_cli.specs.Files.{AreWritten, Contents, Counts, IsStoppedAfter, Text}
-use Rattle.nfq_cli.specs.Outputs.{output_text, ledger_text, journal_text, counts_text}
+use Rattle.run_files.specs.Causes.{AreRead}
+use Rattle.run_files.specs.Files.{AreWritten, Contents, Counts, IsStoppedAfter, Text}
+use Rattle.run_files.specs.Outputs.{output_text, ledger_text, journal_text, counts_text}
 
 -- ---- play
 

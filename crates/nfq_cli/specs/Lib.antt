@@ -1,12 +1,2 @@
-pub mod Numbers
-pub mod Numerals
-pub mod Arguments
-pub mod Inputs
-pub mod Statuses
-pub mod Printed
-pub mod Outputs
 pub mod Account
-pub mod Files
-pub mod Parts
-pub mod Causes
 pub mod Headline

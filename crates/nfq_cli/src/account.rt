@@ -14,7 +14,7 @@ ghost use Rattle.script_runs.specs.Schedule.{IsSolo};
 ghost use Rattle.fate_ledger.specs.Released.{released};
 ghost use Rattle.solo_run.specs.Numbers.{most_frames};
 ghost use Rattle.nfq_cli.specs.Account.{IsAccounted};
-ghost use Rattle.nfq_cli.specs.Outputs.{fates_of};
+ghost use Rattle.run_files.specs.Outputs.{fates_of};
 ghost use Rattle.journals.specs.WellFormed.{Fit};
 
 use fate_ledger::{
@@ -30,7 +30,8 @@ use pcap_io::Capture;
 use histories::{Histories, each_packet_waits_is_lost_or_is_over};
 use queue_core::replies_tell_how_many_left;
 use script_runs::{
-    no_notice_is_left, packets_and_payloads_are_within_bounds, packets_are_read_with_their_frames,
+    a_schedule_has_one_run, each_log_is_what_is_told, no_notice_is_left,
+    packets_and_payloads_are_within_bounds, packets_are_read_with_their_frames,
 };
 use solo_run::solo;
 use std::alloc::Global;
@@ -75,7 +76,9 @@ fn each_packet_is_accounted_for()
         AreSound tables script.key (cards c) h.entries h.lost →
         IsHeld (released c (fates_of c h)) }
 {
+    a_schedule_has_one_run();
     no_notice_is_left();
+    each_log_is_what_is_told();
     packets_and_payloads_are_within_bounds();
     packets_are_read_with_their_frames();
     each_line_names_the_last_event();

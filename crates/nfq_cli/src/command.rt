@@ -3,32 +3,26 @@
 ghost use Rattle.std.specs.Prelude.{◌≡◌, ◌⊎◌, ◌≤◌, ◌≢◌, ◌↔◌, None, Some};
 ghost use Rattle.std.specs.Prelude.{IsTrue, IfSome, IsSomeAnd, OnOk, OnErr, IsErrOf};
 ghost use Rattle.host_io.specs.Host.{IsLater, SameFiles, ChangesOnly};
-ghost use Rattle.nfq_cli.specs.declared.refusal.Refusal.{Refusal as ARefusal};
-ghost use Rattle.nfq_cli.specs.Arguments.{Call, call_of, call_of_words, Generates, GenFiles};
-ghost use Rattle.nfq_cli.specs.Arguments.{InputFiles, inputs, IsAllowed, Lists, ListFiles, outputs};
-ghost use Rattle.nfq_cli.specs.Arguments.{PlayFiles, Plays, Sample, standard_output, Tries};
-ghost use Rattle.nfq_cli.specs.Causes.{AreTaken, IsAnswered, IsRefused, IsTurnedDown, IsUnread};
-ghost use Rattle.nfq_cli.specs.Files.{IsPrinted, IsStopped, OthersStay};
-ghost use Rattle.nfq_cli.specs.Files.{ReadFaultRose, WriteFaultRose};
+ghost use Rattle.run_files.specs.declared.refusal.Refusal.{Refusal as ARefusal};
+ghost use Rattle.command_line.specs.Arguments.{Call, call_of, call_of_words, Generates, GenFiles};
+ghost use Rattle.command_line.specs.Arguments.{InputFiles, inputs, IsAllowed, Lists, ListFiles, outputs};
+ghost use Rattle.command_line.specs.Arguments.{PlayFiles, Plays, Sample, standard_output, Tries};
+ghost use Rattle.run_files.specs.Causes.{AreTaken, IsAnswered, IsRefused, IsTurnedDown, IsUnread};
+ghost use Rattle.run_files.specs.Files.{IsPrinted, IsStopped, OthersStay};
+ghost use Rattle.run_files.specs.Files.{ReadFaultRose, WriteFaultRose};
 ghost use Rattle.nfq_cli.specs.Headline.{IsCut, IsDone, IsGenerated, IsListed, IsPlayed, IsTried};
-ghost use Rattle.nfq_cli.specs.Printed.{line_of, usage_line};
-ghost use Rattle.nfq_cli.specs.Statuses.{IfRefused, StopsFor};
+ghost use Rattle.run_files.specs.Printed.{line_of, usage_line};
+ghost use Rattle.run_files.specs.Statuses.{IfRefused, StopsFor};
 
-use crate::arguments::{Command, command_of};
 use crate::generation::generate;
 use crate::list::list_files;
 use crate::play::play_files;
-use crate::printing::{print, print_usage};
-use crate::stop::Stop;
 use crate::trial::try_out;
+use command_line::{Command, command_of};
 use host_io::Host;
+use run_files::status::{DONE, USAGE};
+use run_files::{Stop, print, print_usage};
 use std::alloc::Global;
-
-/// All inputs were read to their end, and all outputs written.
-pub const DONE: u8 = 0;
-
-/// The arguments aren't a command.
-pub const USAGE: u8 = 1;
 
 /// Does the command that the arguments are, without the program's name, and answers its status.
 pub fn play<H: Host>(alloc: Global, words: &[String], host: &mut H) -> u8

@@ -4,20 +4,19 @@ ghost use Rattle.std.specs.Prelude.{◌≡◌, IsTrue, IfOk, OnOk, OnErr, IsErrO
 ghost use Rattle.host_io.specs.Host.{IsLater, SameFiles};
 ghost use Rattle.pcap_io.specs.Text.{capture_text};
 ghost use Rattle.generated.specs.Captures.{generated_capture};
-ghost use Rattle.nfq_cli.specs.Arguments.{are_inputs_apart, gen_files_of, gen_outputs};
-ghost use Rattle.nfq_cli.specs.Arguments.{input_names, inputs_of, IsGenAllowed, IsSample};
-ghost use Rattle.nfq_cli.specs.Arguments.{sample_of};
-ghost use Rattle.nfq_cli.specs.Files.{AreWritten, IsStopped, IsStoppedAfter, OthersStay};
-ghost use Rattle.nfq_cli.specs.Files.{WriteFaultRose};
+ghost use Rattle.command_line.specs.Arguments.{are_inputs_apart, gen_files_of, gen_outputs};
+ghost use Rattle.command_line.specs.Arguments.{input_names, inputs_of, IsGenAllowed, IsSample};
+ghost use Rattle.command_line.specs.Arguments.{sample_of};
+ghost use Rattle.run_files.specs.Files.{AreWritten, IsStopped, IsStoppedAfter, OthersStay};
+ghost use Rattle.run_files.specs.Files.{WriteFaultRose};
 ghost use Rattle.nfq_cli.specs.Headline.{gen_texts, input_texts, IsGenerated};
-ghost use Rattle.nfq_cli.specs.Statuses.{IfRefused};
+ghost use Rattle.run_files.specs.Statuses.{IfRefused};
 
-use crate::arguments::{Generation, Inputs, Sample};
-use crate::capture_file::CaptureFile;
-use crate::stop::Stop;
+use command_line::{Generation, Inputs, Sample};
 use generated::{rules_text, script_text};
 use host_io::{Host, write_whole};
 use packet_entry::NoMemory;
+use run_files::{CaptureFile, Stop};
 use std::alloc::Global;
 
 /// Makes the inputs and writes them.

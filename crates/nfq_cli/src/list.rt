@@ -3,17 +3,16 @@
 
 ghost use Rattle.std.specs.Prelude.{◌≡◌, IsTrue, OnOk, OnErr, IsErrOf};
 ghost use Rattle.host_io.specs.Host.{IsLater, SameFiles};
-ghost use Rattle.nfq_cli.specs.declared.refusal.Refusal.{Refusal as ARefusal};
-ghost use Rattle.nfq_cli.specs.Arguments.{list_files_of, list_outputs};
-ghost use Rattle.nfq_cli.specs.Causes.{AreTaken, IsRefused, IsUnread};
-ghost use Rattle.nfq_cli.specs.Files.{IsStopped, OthersStay, ReadFaultRose, WriteFaultRose};
+ghost use Rattle.run_files.specs.declared.refusal.Refusal.{Refusal as ARefusal};
+ghost use Rattle.command_line.specs.Arguments.{list_files_of, list_outputs};
+ghost use Rattle.run_files.specs.Causes.{AreTaken, IsRefused, IsUnread};
+ghost use Rattle.run_files.specs.Files.{IsStopped, OthersStay, ReadFaultRose, WriteFaultRose};
 ghost use Rattle.nfq_cli.specs.Headline.{IsListed};
-ghost use Rattle.nfq_cli.specs.Statuses.{IfRefused, StopsFor};
+ghost use Rattle.run_files.specs.Statuses.{IfRefused, StopsFor};
 
-use crate::arguments::Listing;
-use crate::inputs::{Made, read_inputs};
-use crate::stop::Stop;
+use command_line::Listing;
 use host_io::{Host, write_whole};
+use run_files::{Made, Stop, read_inputs};
 use solo_run::list_before_ends;
 use std::alloc::Global;
 

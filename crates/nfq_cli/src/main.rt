@@ -6,21 +6,11 @@
 #![tactic(auto)]
 
 mod account;
-mod arguments;
-mod capture_file;
 mod command;
 mod generation;
-mod inputs;
-mod journal_file;
 mod list;
-mod numerals;
-mod outputs;
-mod part_writing;
 mod play;
-mod printing;
 mod program;
-mod refusal;
-mod stop;
 mod trial;
 
 use host_io::FileHost;

@@ -2,20 +2,18 @@
 
 ghost use Rattle.std.specs.Prelude.{◌≡◌, Some, IsTrue, OnOk, OnErr, IsErrOf, [], ◌∷◌, true};
 ghost use Rattle.host_io.specs.Host.{IsLater, SameFiles};
-ghost use Rattle.nfq_cli.specs.declared.refusal.Refusal.{Refusal as ARefusal};
-ghost use Rattle.nfq_cli.specs.Arguments.{are_outputs_apart, files_of, play_outputs};
-ghost use Rattle.nfq_cli.specs.Causes.{AreTaken, IsRefused, IsUnread};
-ghost use Rattle.nfq_cli.specs.Files.{IsStopped, IsStoppedAfter, OthersStay};
-ghost use Rattle.nfq_cli.specs.Files.{ReadFaultRose, WriteFaultRose};
+ghost use Rattle.run_files.specs.declared.refusal.Refusal.{Refusal as ARefusal};
+ghost use Rattle.command_line.specs.Arguments.{are_outputs_apart, files_of, play_outputs};
+ghost use Rattle.run_files.specs.Causes.{AreTaken, IsRefused, IsUnread};
+ghost use Rattle.run_files.specs.Files.{IsStopped, IsStoppedAfter, OthersStay};
+ghost use Rattle.run_files.specs.Files.{ReadFaultRose, WriteFaultRose};
 ghost use Rattle.nfq_cli.specs.Headline.{IsCutShort, IsPlayed, texts_as};
-ghost use Rattle.nfq_cli.specs.Statuses.{IfRefused, StopsFor};
+ghost use Rattle.run_files.specs.Statuses.{IfRefused, StopsFor};
 
 use crate::account::histories_of;
-use crate::arguments::Play;
-use crate::inputs::{Made, read_inputs};
-use crate::outputs::{Outputs, outputs_of};
-use crate::stop::Stop;
+use command_line::Play;
 use host_io::{Host, write_whole};
+use run_files::{Made, Outputs, Stop, outputs_of, read_inputs};
 use std::alloc::Global;
 
 /// Reads the inputs, makes the run and writes the outputs.

@@ -5,25 +5,23 @@ ghost use Rattle.std.specs.Prelude.{◌≡◌, ◌≤◌, ◌⊎◌, ◌≢◌, 
 ghost use Rattle.std.specs.Prelude.{IfSome, IsErr, IsErrOf, IsOkAnd, IsSomeAnd};
 ghost use Rattle.std.specs.Vec.Iter.{into_iter_items};
 ghost use Rattle.host_io.specs.Host.{IsLater, SameFiles, ChangesOnly};
-ghost use Rattle.nfq_cli.specs.declared.refusal.Refusal.{Refusal};
-ghost use Rattle.nfq_cli.specs.Arguments.{Call, call_of_arguments, Generates, GenFiles};
-ghost use Rattle.nfq_cli.specs.Arguments.{InputFiles, inputs, Lists, ListFiles, outputs};
-ghost use Rattle.nfq_cli.specs.Arguments.{PlayFiles, Plays, Sample, standard_output, Tries};
-ghost use Rattle.nfq_cli.specs.Causes.{AreTaken, IsAnswered, IsRefused, IsTurnedDown, IsUnread};
-ghost use Rattle.nfq_cli.specs.Files.{IsPrinted, IsStopped, OthersStay};
-ghost use Rattle.nfq_cli.specs.Files.{ReadFaultRose, WriteFaultRose};
+ghost use Rattle.run_files.specs.declared.refusal.Refusal.{Refusal};
+ghost use Rattle.command_line.specs.Arguments.{Call, call_of_arguments, Generates, GenFiles};
+ghost use Rattle.command_line.specs.Arguments.{InputFiles, inputs, Lists, ListFiles, outputs};
+ghost use Rattle.command_line.specs.Arguments.{PlayFiles, Plays, Sample, standard_output, Tries};
+ghost use Rattle.run_files.specs.Causes.{AreTaken, IsAnswered, IsRefused, IsTurnedDown, IsUnread};
+ghost use Rattle.run_files.specs.Files.{IsPrinted, IsStopped, OthersStay};
+ghost use Rattle.run_files.specs.Files.{ReadFaultRose, WriteFaultRose};
 ghost use Rattle.nfq_cli.specs.Headline.{IsCut, IsGenerated, IsListed, IsPlayed, IsTried};
-ghost use Rattle.nfq_cli.specs.Printed.{usage_line};
+ghost use Rattle.run_files.specs.Printed.{usage_line};
 
-use crate::command::{USAGE, play};
-use crate::printing::print_usage;
+use crate::command::play;
 use host_io::Host;
+use run_files::print_usage;
+use run_files::status::{NO_MEMORY, USAGE};
 use std::alloc::{AllocError, Global};
 use std::env::Args;
 use std::io::{Error, ErrorKind};
-
-/// Out of memory.
-const NO_MEMORY: u8 = 8;
 
 /// Does the command that the arguments after the program's name are, and answers its status, with
 /// the clauses of [`play`]. Arguments that can't be had, since one is no text, are no command.

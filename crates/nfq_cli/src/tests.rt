@@ -1,11 +1,7 @@
 //! Runs of the commands over a machine in memory. What they expect was written out by hand, but for
-//! generated inputs and for the longest run.
+//! generated inputs. Inputs at the limits are played by the built program.
 
-mod frames;
-mod listed;
-mod refused;
 mod tried;
-mod whole;
 mod worked;
 
 use crate::command::play;
@@ -34,11 +30,11 @@ fn record(n: u8) -> [u8; 36] {
     ]
 }
 
-/// A capture of these packets.
-fn capture(alloc: Global, packets: &[u8]) -> Result<Vec<u8>, AllocError> {
+/// A capture of three packets.
+fn capture(alloc: Global) -> Result<Vec<u8>, AllocError> {
     let mut bytes = Vec::from_slice(alloc, &HEADER)?;
-    for n in packets {
-        bytes.extend_from_slice(&record(*n))?;
+    for n in 1..=3 {
+        bytes.extend_from_slice(&record(n))?;
     }
     Ok(bytes)
 }
@@ -83,25 +79,156 @@ fn lacks(rt: &impl Abort, host: &MemoryHost, names: &[&str]) {
     }
 }
 
-/// No output was written.
-fn no_output(rt: &impl Abort, host: &MemoryHost) {
-    lacks(rt, host, &["o", "l", "j"]);
-}
-
 /// The file of this name holds these bytes.
 fn has(rt: &impl Abort, host: &MemoryHost, name: &str, bytes: &[u8]) {
     assert!(rt; host.get(name) == Some(bytes));
 }
 
-/// The file of this name holds this text.
-fn holds(rt: &impl Abort, host: &MemoryHost, name: &str, text: &str) {
-    has(rt, host, name, text.as_bytes());
-}
-
-/// Begins a record: of a frame of so many bytes, captured at this second.
-fn push_head(capture: &mut Vec<u8>, second: u32, length: u32) -> Result<(), AllocError> {
+/// The record of this frame, captured at this second.
+fn push_record(capture: &mut Vec<u8>, second: u32, frame: &[u8]) -> Result<(), AllocError> {
+    let length = u32::try_from(frame.len()).unwrap_or(0);
     for word in &[second, 0, length, length] {
         capture.extend_from_slice(&word.to_le_bytes())?;
+    }
+    capture.extend_from_slice(frame)
+}
+
+/// The journal of the run by the rules and the script above over three packets.
+const JOURNAL: &str = "nfq-journal 1
+M 0 7 1 config 0 cmd 1 = 0 0
+M 0 7 2 config 0 params 2 0 = 0 0
+A 0 1 1 1 n y 0 1 0 2048 - 4500001400010000400600000a0000010a000002 taken:1
+M 0 7 3 verdict 0 1 1 = 0 1
+A 0 2 1 1 n y 0 2 0 2048 - 4500001400020000400600000a0000010a000002 taken:2
+M 0 7 4 verdict 0 0 2 = 0 1
+A 0 3 1 1 n y 0 3 0 2048 - 4500001400030000400600000a0000010a000002 taken:3
+M 0 7 5 verdict 0 1 3 = 0 1
+P 7
+S 1 config 0 cmd 1 = 0
+S 2 config 0 params 2 0 = 0
+R 0 1 1
+S 3 verdict 0 1 1 = -
+R 0 2 1
+S 4 verdict 0 0 2 = -
+R 0 3 1
+S 5 verdict 0 1 3 = -
+end
+";
+
+#[test]
+fn the_second_of_three_packets_is_dropped(rt: HostRuntime) -> Result<(), Fail> {
+    let alloc = rt.alloc();
+    let input = capture(alloc)?;
+    let mut host = host(alloc, RULES, SCRIPT, &input)?;
+    assert_eq!(rt; played(alloc, &mut host)?, 0);
+    let ledger = "record fate queue at mark bytes\n\
+        1 accept 0 4 0 20\n2 drop 0 6 0 20\n3 accept 0 8 0 20\n";
+    has(&rt, &host, "l", ledger.as_bytes());
+    has(&rt, &host, "j", JOURNAL.as_bytes());
+    lacks(&rt, &host, &["-"]);
+    Ok(())
+}
+
+/// What a call of the host does at a fault.
+#[derive(Clone, Copy)]
+enum Fault {
+    Fails,
+    TakesNothing,
+}
+
+/// A run of these words, in which this call of the host has a fault, ends with this status, and
+/// leaves no file of these names. The rules are refused where they are those of `x`.
+fn check(rt: &impl Abort, alloc: Global, row: &Row) -> Result<(), Fail> {
+    let input = capture(alloc)?;
+    let mut host = host(alloc, row.rules, SCRIPT, &input)?;
+    match row.fault {
+        Fault::Fails => host.fail_call(row.call)?,
+        Fault::TakesNothing => host.short_call(row.call)?,
+    }
+    assert_eq!(rt; done(alloc, &mut host, row.command)?, row.status);
+    lacks(rt, &host, row.missing);
+    Ok(())
+}
+
+/// A command, its rules, the call of the host that has a fault, the status, and which files aren't
+/// there then.
+struct Row {
+    command: &'static [&'static str],
+    rules: &'static str,
+    fault: Fault,
+    call: u64,
+    status: u8,
+    missing: &'static [&'static str],
+}
+
+const PLAY: &[&str] = &["play", "r", "s", "c", "o", "l", "j"];
+
+const LIST: &[&str] = &["list", "r", "s", "c", "o"];
+
+/// Each input takes two reads: the first write is call 7. `gen` and `trial` read nothing.
+#[test]
+fn faults_of_the_host_end_a_command(rt: HostRuntime) -> Result<(), Fail> {
+    const ROWS: [Row; 7] = [
+        Row {
+            command: PLAY,
+            rules: RULES,
+            fault: Fault::Fails,
+            call: 2,
+            status: 2,
+            missing: &["o", "l", "j", "-"],
+        },
+        Row {
+            command: PLAY,
+            rules: RULES,
+            fault: Fault::TakesNothing,
+            call: 7,
+            status: 3,
+            missing: &["l", "j", "-"],
+        },
+        Row {
+            command: PLAY,
+            rules: "x",
+            fault: Fault::Fails,
+            call: 3,
+            status: 5,
+            missing: &["o", "l", "j"],
+        },
+        Row {
+            command: LIST,
+            rules: RULES,
+            fault: Fault::Fails,
+            call: 5,
+            status: 2,
+            missing: &["o", "-"],
+        },
+        Row {
+            command: LIST,
+            rules: RULES,
+            fault: Fault::TakesNothing,
+            call: 7,
+            status: 3,
+            missing: &["l", "-"],
+        },
+        Row {
+            command: &["gen", "7", "3", "a", "b", "d"],
+            rules: RULES,
+            fault: Fault::TakesNothing,
+            call: 2,
+            status: 3,
+            missing: &["d", "-"],
+        },
+        Row {
+            command: &["trial", "7", "3"],
+            rules: RULES,
+            fault: Fault::TakesNothing,
+            call: 1,
+            status: 3,
+            missing: &["o", "l", "j"],
+        },
+    ];
+    let alloc = rt.alloc();
+    for row in &ROWS {
+        check(&rt, alloc, row)?;
     }
     Ok(())
 }

@@ -2,18 +2,17 @@
 
 ghost use Rattle.std.specs.Prelude.{◌≡◌, IsTrue, IfOk, OnOk, OnErr, IsErrOf};
 ghost use Rattle.host_io.specs.Host.{IsLater, SameFiles};
-ghost use Rattle.nfq_cli.specs.Arguments.{IsSample, sample_of, trial_outputs};
-ghost use Rattle.nfq_cli.specs.Files.{IsStopped, OthersStay, WriteFaultRose};
+ghost use Rattle.command_line.specs.Arguments.{IsSample, sample_of, trial_outputs};
+ghost use Rattle.run_files.specs.Files.{IsStopped, OthersStay, WriteFaultRose};
 ghost use Rattle.nfq_cli.specs.Headline.{IsCounted, IsTried};
-ghost use Rattle.nfq_cli.specs.Statuses.{IfRefused};
+ghost use Rattle.run_files.specs.Statuses.{IfRefused};
 
 use crate::account::histories_of;
-use crate::arguments::Sample;
-use crate::printing::STANDARD_OUTPUT;
-use crate::stop::Stop;
+use command_line::Sample;
 use fate_ledger::{counts_text, fates};
 use host_io::{Host, write_whole};
 use packet_entry::NoMemory;
+use run_files::{STANDARD_OUTPUT, Stop};
 use std::alloc::Global;
 
 /// Makes the run and prints its counts.

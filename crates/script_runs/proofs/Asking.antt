@@ -28,7 +28,7 @@ use Rattle.script_runs.specs.Sending.{all_sent, done, all_done}
 use Rattle.script_runs.specs.Schedule.{is_open_port}
 use Rattle.script_runs.specs.Log.{Note, Got, Begun, Spoke, Shut, Due, Still, Message, Standing}
 use Rattle.script_runs.specs.Log.{all_due, is_some_due, after}
-use Rattle.script_runs.specs.Log.{IsNext, IsErrno, standing}
+use Rattle.script_runs.specs.Log.{IsNext, standing}
 use Rattle.script_runs.proofs.Carrying.{all_moved_keeps}
 use Rattle.script_runs.proofs.Reaching.{Stand, full, IsAt, noted, put, put_same, is_in}
 use Rattle.script_runs.proofs.Reaching.{AreAt, all_push, all_arrive, all_as}
@@ -229,15 +229,10 @@ spoke_leads script place port call m errno held (Now ends) ds fresh = refl
 spoke_leads script place port call m errno held AtEnd ds fresh = refl
 
 spoke_may : (held : Port) (x : Side) (m : NetlinkMessage) (ds : List Due) (call errno : ℕ)
-    (fresh : Bool) → call ≡ next_call held.dids → IsErrno (decoded m) errno →
+    (fresh : Bool) → call ≡ next_call held.dids →
     IsNext (full held (cut_side x (Message m ∷ ds) fresh)) (Spoke call m errno)
-spoke_may held (Now ends) m ds call errno fresh is so = (refl, refl, is, so)
-spoke_may held AtEnd m ds call errno fresh is so = (refl, refl, is, so)
-
-errno_is : (port call : ℕ) (d : Decoded) (w : World) → IsErrno d (errno_of port call d w)
-errno_is port call Nothing w = refl
-errno_is port call (Refused errno) w = refl
-errno_is port call (Asked request) w = tt
+spoke_may held (Now ends) m ds call errno fresh is = (refl, refl, is)
+spoke_may held AtEnd m ds call errno fresh is = (refl, refl, is)
 
 pub shut_same : (x : Side) (held : Port) (ds es : List Due) →
     held.is_closed ≡ not (side x ds).is_open → held.is_closed ≡ not (side x es).is_open
@@ -382,8 +377,7 @@ module _ (s : Setting) (script : ScriptValue) (f : ℕ → ℕ) (P : Staged) (K 
               spoke_may held x m ds call errno fresh
                   (same_call (f port) port (r.notes port) (w.ports port) (between.ports port)
                   (U port)
-                  held (r.are.at port i) (are.at port i) there)
-                  (errno_is port call (decoded m) w),
+                  held (r.are.at port i) (are.at port i) there),
               spoke_leads script (f port) port call m errno held x ds fresh,
               shut_same x held (Message m ∷ ds) ds shut,
             ));

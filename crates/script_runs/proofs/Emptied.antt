@@ -42,9 +42,10 @@ use Rattle.script_runs.specs.Schedule.{Looked, is_open_port, letters_at, receive
 use Rattle.script_runs.specs.Schedule.{looked_at, looked, round}
 use Rattle.script_runs.specs.Schedule.{go_on_while, emptied_in, opened_all}
 use Rattle.script_runs.specs.Schedule.{all_down, downs_after, fed, is_pause, frame_passed}
+use Rattle.script_runs.specs.Schedule.{frame_fed, paused, until_open, until_fed}
 use Rattle.script_runs.specs.Schedule.{frames_passed, ended_all, rounds_for, until_ends}
 use Rattle.script_runs.specs.Schedule.{setting_of, run, IsSolo}
-use Rattle.script_runs.specs.Order.{place_in}
+use Rattle.script_runs.specs.Ports.{place_in}
 use Rattle.script_runs.proofs.Closings.{Laws}
 use Rattle.script_runs.proofs.Shut.{is_shut}
 use Rattle.script_runs.proofs.Later.{LeaveAlone, IsFresh, is_fresh}
@@ -69,16 +70,16 @@ below_of (e ∷ es) all queue out =
 
 -- ---- ports
 
-abbrev AllOpen : (ℕ → Bool) → List ℕ → Type 0
+abbrev pub AllOpen : (ℕ → Bool) → List ℕ → Type 0
 AllOpen o [] = Unit {0}
 AllOpen o (q ∷ qs) = (o q ≡ true) × AllOpen o qs
 
 -- the open ones of these ports have empty boxes
-abbrev AllQuiet : (ℕ → Bool) → World → List ℕ → Type 0
+abbrev pub AllQuiet : (ℕ → Bool) → World → List ℕ → Type 0
 AllQuiet o w [] = Unit {0}
 AllQuiet o w (q ∷ qs) = (o q ≡ true → letters_at (w.ports q) ≡ []) × AllQuiet o w qs
 
-abbrev QuietIn : (ℕ → Bool) → World → Type 0
+abbrev pub QuietIn : (ℕ → Bool) → World → Type 0
 QuietIn o w = (p : ℕ) → o p ≡ true → letters_at (w.ports p) ≡ []
 
 quiet_of : (o : ℕ → Bool) (w : World) (qs : List ℕ) → AllQuiet o w qs → (p : ℕ) →
@@ -121,11 +122,11 @@ open_but o port (q ∷ qs) out all =
 
 module _ (laws : Laws) (conserve : Conserve) (leaves : LeaveAlone) (s : Setting)
     (script : ScriptValue) (apart : AreApart script.ports) where
-  abbrev Is : (ℕ → Bool) → World → ℕ → Type 0
+  abbrev pub Is : (ℕ → Bool) → World → ℕ → Type 0
   Is o w b = HeldIn script.ports o w b
 
   -- what holds behind each message
-  sends_keep : (o : ℕ → Bool) (b : ℕ) (behind : World → World) (R : World → Type 0) →
+  pub sends_keep : (o : ℕ → Bool) (b : ℕ) (behind : World → World) (R : World → Type 0) →
       ((w : World) → R w → Is o w b) → ((w : World) → Is o w b → R (behind w)) → (port : ℕ) →
       o port ≡ true → (ms : List NetlinkMessage) (w : World) → R w →
       R (all_sent behind s port ms w)
@@ -194,11 +195,11 @@ module _ (laws : Laws) (conserve : Conserve) (leaves : LeaveAlone) (s : Setting)
       by false so = Passes refl (λ op.
           let wrong : true ≡ false = sym op ∙ sym (is.is_open port) ∙ so in absurd (cc))
 
-  data Round (o : ℕ → Bool) (l r : Looked) (b : ℕ) (qs : List ℕ) : Type 0 where
+  pub data Round (o : ℕ → Bool) (l r : Looked) (b : ℕ) (qs : List ℕ) : Type 0 where
     Found : r.found ≡ true → (c : ℕ) → suc c ≤ b → Is o r.world c → Round o l r b qs
     Same : r ≡ l → AllQuiet o l.world qs → Round o l r b qs
 
-  round_held : (o : ℕ → Bool) (place : ℕ) (qs : List ℕ) (l : Looked) (b : ℕ) →
+  pub round_held : (o : ℕ → Bool) (place : ℕ) (qs : List ℕ) (l : Looked) (b : ℕ) →
       ArePlaced script (λ p. place_in p script.ports) place qs → Is o l.world b →
       Round o l (round s script place qs l) b qs
   round_held o place [] l b placed is = Same refl tt
@@ -232,11 +233,11 @@ module _ (laws : Laws) (conserve : Conserve) (leaves : LeaveAlone) (s : Setting)
           (on m b (subst (λ (k : Looked). Is o k.world b) (sym same) is))
 
   -- after more rounds than letters can come the boxes of open ports are empty
-  record Emptied (o : ℕ → Bool) (w : World) (b n : ℕ) : Type 0 where
-    held : Is o w b
+  pub record Emptied (o : ℕ → Bool) (w : World) (b n : ℕ) : Type 0 where
+    pub held : Is o w b
     quiet : b < n → AllQuiet o w script.ports
 
-  emptied_held : ArePlaced script (λ p. place_in p script.ports) 0 script.ports → (n : ℕ)
+  pub emptied_held : ArePlaced script (λ p. place_in p script.ports) 0 script.ports → (n : ℕ)
       (o : ℕ → Bool) (w : World) (b : ℕ) → Is o w b →
       Emptied o (emptied_in n s script w) b n
   emptied_held placed zero o w b is = record {
@@ -265,7 +266,7 @@ module _ (laws : Laws) (conserve : Conserve) (leaves : LeaveAlone) (s : Setting)
 
   -- ---- the parts of a run
 
-  opens_held : (o : ℕ → Bool) (b place : ℕ) (qs : List ℕ) (w : World) → AllOpen o qs →
+  pub opens_held : (o : ℕ → Bool) (b place : ℕ) (qs : List ℕ) (w : World) → AllOpen o qs →
       Is o w b → Is o (opened_all s script place qs w) b
   opens_held o b place [] w open_all is = is
   opens_held o b place (q ∷ qs) w open_all is =
@@ -273,7 +274,7 @@ module _ (laws : Laws) (conserve : Conserve) (leaves : LeaveAlone) (s : Setting)
       opens_held o b (place + 1) qs (all_done (λ v. v) s q (opening script place) w) open_all.1
       (plain_words o b q open_all.0 (opening script place) words.0 words.1 w is)
 
-  downs_held : (o : ℕ → Bool) (b : ℕ) (ds : List Down) (w : World) → Is o w b →
+  pub downs_held : (o : ℕ → Bool) (b : ℕ) (ds : List Down) (w : World) → Is o w b →
       Is o (all_down ds w) b
   downs_held o b [] w is = is
   downs_held o b (d ∷ ds) w is =
@@ -288,7 +289,23 @@ module _ (laws : Laws) (conserve : Conserve) (leaves : LeaveAlone) (s : Setting)
       carry_held laws conserve leaves s script.ports apart o enough_arrivals (entered w card) card
       (next s.tables s.key card 1) b (b + 32) (omega (arith, fresh.0)) (omega arith) is
 
-  frames_held : ArePlaced script (λ p. place_in p script.ports) 0 script.ports → (rounds : ℕ)
+  -- one frame, before and after a pause
+  pub frame_held : (o : ℕ → Bool) (c : Capture) (number : ℕ) (g : Frame) (w : World) (b : ℕ) →
+      Is o w b → Is o (frame_fed s script c number g w) (b + 32)
+  frame_held o c number g w b is =
+      downs_held o (b + 32) (downs_after script number) (fed s (card_of c number g) w)
+      (fed_held o b number (card_of c number g) w (is_fresh c number g) is)
+
+  pub pause_held : ArePlaced script (λ p. place_in p script.ports) 0 script.ports → (rounds : ℕ)
+      (o : ℕ → Bool) (number : ℕ) (v : World) (b : ℕ) → Is o v b →
+      Is o (paused rounds s script number v) b
+  pause_held placed rounds o number v b is = by (is_pause script.pace number)
+    where
+      by : (p : Bool) → Is o (if p then emptied_in rounds s script v else v) b
+      by true = (emptied_held placed rounds o v b is).held
+      by false = is
+
+  pub frames_held : ArePlaced script (λ p. place_in p script.ports) 0 script.ports → (rounds : ℕ)
       (o : ℕ → Bool) (c : Capture) (number : ℕ) (fs : List Frame) (w : World) (b : ℕ) →
       Is o w b → Is o (frames_passed rounds s script c number fs w) (b + 32 * length fs)
   frames_held placed rounds o c number [] w b is =
@@ -299,27 +316,20 @@ module _ (laws : Laws) (conserve : Conserve) (leaves : LeaveAlone) (s : Setting)
       more_held script.ports o u.entries u.ports (b + 32 + 32 * length gs)
       (b + 32 * length (g ∷ gs)) (omega arith)
       (frames_held placed rounds o c (number + 1) gs v (b + 32)
-      (by (is_pause script.pace number)
-      (all_down (downs_after script number) (fed s (card_of c number g) w))
-      (downs_held o (b + 32) (downs_after script number) (fed s (card_of c number g) w)
-      (fed_held o b number (card_of c number g) w (is_fresh c number g) is))))
-    where
-      by : (p : Bool) (v : World) → Is o v (b + 32) →
-          Is o (if p then emptied_in rounds s script v else v) (b + 32)
-      by true v so = (emptied_held placed rounds o v (b + 32) so).held
-      by false v so = so
+      (pause_held placed rounds o number (frame_fed s script c number g w) (b + 32)
+      (frame_held o c number g w b is)))
 
   -- ---- the ends
 
-  abbrev Only : (ℕ → Bool) → Type 0
+  abbrev pub Only : (ℕ → Bool) → Type 0
   Only o = (p : ℕ) → o p ≡ true → list_any (nat_eq p) script.ports ≡ true
 
   -- the boxes of open ports are empty
-  record Calm (o : ℕ → Bool) (b : ℕ) (w : World) : Type 0 where
-    held : Is o w b
-    quiet : QuietIn o w
+  pub record Calm (o : ℕ → Bool) (b : ℕ) (w : World) : Type 0 where
+    pub held : Is o w b
+    pub quiet : QuietIn o w
 
-  calm_then : ArePlaced script (λ p. place_in p script.ports) 0 script.ports → (rounds : ℕ)
+  pub calm_then : ArePlaced script (λ p. place_in p script.ports) 0 script.ports → (rounds : ℕ)
       (o : ℕ → Bool) (b : ℕ) → b < rounds → Only o → (w : World) → Is o w b →
       Calm o b (emptied_in rounds s script w)
   calm_then placed rounds o b more only w is =
@@ -331,11 +341,11 @@ module _ (laws : Laws) (conserve : Conserve) (leaves : LeaveAlone) (s : Setting)
       }
 
   -- once some ports have ended
-  record Ended (b : ℕ) (qs : List ℕ) (w : World) : Type 0 where
-    o : ℕ → Bool
-    only : Only o
-    open_all : AllOpen o qs
-    calm : Calm o b w
+  pub record Ended (b : ℕ) (qs : List ℕ) (w : World) : Type 0 where
+    pub o : ℕ → Bool
+    pub only : Only o
+    pub open_all : AllOpen o qs
+    pub calm : Calm o b w
 
   shut_calm : (behind : World → World) (o : ℕ → Bool) (b q : ℕ) (qs : List ℕ) (stays : Bool)
       (w : World) → list_any (nat_eq q) qs ≡ false → o q ≡ true → Only o → AllOpen o qs →
@@ -368,11 +378,12 @@ module _ (laws : Laws) (conserve : Conserve) (leaves : LeaveAlone) (s : Setting)
       same true (Some held) none = none
       same false p none = none
 
-  ends_calm : ArePlaced script (λ p. place_in p script.ports) 0 script.ports → (rounds b : ℕ) →
-      b < rounds → (place : ℕ) (qs : List ℕ) (w : World) → AreApart qs → Ended b qs w →
-      Ended b [] (ended_all rounds s script place qs w)
-  ends_calm placed rounds b more place [] w apart_qs is = is
-  ends_calm placed rounds b more place (q ∷ qs) w apart_qs is =
+  -- one port ends
+  pub end_calm : ArePlaced script (λ p. place_in p script.ports) 0 script.ports →
+      (rounds b : ℕ) → b < rounds → (place q : ℕ) (qs : List ℕ) (w : World) →
+      AreApart (q ∷ qs) → Ended b (q ∷ qs) w →
+      Ended b qs (all_done (emptied_in rounds s script) s q (closing script place) w)
+  end_calm placed rounds b more place q qs w apart_qs is =
       let e = closing_end (slice_get script.blocks place) in
       let stays = stays_open (slice_get script.blocks place) in
       let last = if stays then [] else Close ∷ [] in
@@ -381,17 +392,23 @@ module _ (laws : Laws) (conserve : Conserve) (leaves : LeaveAlone) (s : Setting)
       let calm : Calm is.o b mid =
       words_keep is.o b behind (Calm is.o b) (λ v so. so.held)
       (calm_then placed rounds is.o b more is.only) q is.open_all.0 e.all w is.calm in
-      let one : Ended b qs (all_done behind s q (closing script place) w) =
       subst (λ (asks : List Ask). Ended b qs (all_done behind s q asks w)) (sym e.is)
       (subst (λ (v : World). Ended b qs v) (sym (done_append behind s q (map Words e.all) last w))
       (shut_calm behind is.o b q qs stays mid apart_qs.0 is.open_all.0 is.only is.open_all.1
-      calm)) in
-      ends_calm placed rounds b more (place + 1) qs (all_done behind s q (closing script place) w)
-      apart_qs.1 one
+      calm))
+
+  ends_calm : ArePlaced script (λ p. place_in p script.ports) 0 script.ports → (rounds b : ℕ) →
+      b < rounds → (place : ℕ) (qs : List ℕ) (w : World) → AreApart qs → Ended b qs w →
+      Ended b [] (ended_all rounds s script place qs w)
+  ends_calm placed rounds b more place [] w apart_qs is = is
+  ends_calm placed rounds b more place (q ∷ qs) w apart_qs is =
+      ends_calm placed rounds b more (place + 1) qs
+      (all_done (emptied_in rounds s script) s q (closing script place) w) apart_qs.1
+      (end_calm placed rounds b more place q qs w apart_qs is)
 
 -- ---- the whole run
 
-all_open : (script : ScriptValue) (place : ℕ) (qs : List ℕ) →
+pub all_open : (script : ScriptValue) (place : ℕ) (qs : List ℕ) →
     ArePlaced script (λ p. place_in p script.ports) place qs →
     AllOpen (λ p. list_any (nat_eq p) script.ports) qs
 all_open script place [] placed = tt
@@ -410,7 +427,7 @@ empty_boxes order (q ∷ qs) =
       empty_boxes order qs,
     )
 
-begun_held : (script : ScriptValue) →
+pub begun_held : (script : ScriptValue) →
     HeldIn script.ports (λ p. list_any (nat_eq p) script.ports) (beginning script.ports) 0
 begun_held script = record {
   n = 0;
@@ -441,35 +458,59 @@ record AtEnd (script : ScriptValue) (w : World) : Type 0 where
   held : HeldIn script.ports o w b
   quiet : (p : ℕ) → o p ≡ true → letters_at (w.ports p) ≡ []
 
+-- the script's ports
+abbrev pub at_first : ScriptValue → ℕ → Bool
+at_first script p = list_any (nat_eq p) script.ports
+
+pub opened_held : Laws → Conserve → LeaveAlone → (script : ScriptValue)
+    (tables : List (List Rule)) → AllPairs (λ p q. p ≢ q) script.ports →
+    HeldIn script.ports (at_first script) (until_open (setting_of script tables) script) 0
+opened_held laws conserve leaves script tables differ =
+    let s = setting_of script tables in
+    let apart = apart_so script.ports differ in
+    let zero_world = beginning script.ports in
+    downs_held laws conserve leaves s script apart (at_first script) 0 (downs_after script 0)
+    (opened_all s script 0 script.ports zero_world)
+    (opens_held laws conserve leaves s script apart (at_first script) 0 0 script.ports zero_world
+    (all_open script 0 script.ports (placed_so script differ)) (begun_held script))
+
+pub before_last : Laws → Conserve → LeaveAlone → (script : ScriptValue)
+    (tables : List (List Rule)) (c : Capture) → AllPairs (λ p q. p ≢ q) script.ports →
+    HeldIn script.ports (at_first script) (until_fed (setting_of script tables) script c)
+    (0 + 32 * length c.frames)
+before_last laws conserve leaves script tables c differ =
+    let s = setting_of script tables in
+    frames_held laws conserve leaves s script (apart_so script.ports differ)
+    (placed_so script differ) (rounds_for c) (at_first script) c 1 c.frames (until_open s script) 0
+    (opened_held laws conserve leaves script tables differ)
+
+pub before_end : (laws : Laws) (conserve : Conserve) (leaves : LeaveAlone) (script : ScriptValue)
+    (tables : List (List Rule)) (c : Capture) (differ : AllPairs (λ p q. p ≢ q) script.ports) →
+    Ended laws conserve leaves (setting_of script tables) script (apart_so script.ports differ)
+    (0 + 32 * length c.frames) script.ports (until_ends (setting_of script tables) script c)
+before_end laws conserve leaves script tables c differ =
+    let s = setting_of script tables in
+    let placed = placed_so script differ in
+    let more : 0 + 32 * length c.frames < rounds_for c = omega arith in
+    record {
+      o = at_first script;
+      only = λ p op. op;
+      open_all = all_open script 0 script.ports placed;
+      calm = calm_then laws conserve leaves s script (apart_so script.ports differ) placed
+          (rounds_for c) (at_first script) (0 + 32 * length c.frames) more (λ p op. op)
+          (until_fed s script c) (before_last laws conserve leaves script tables c differ);
+    }
+
 run_ends : Laws → Conserve → LeaveAlone → (script : ScriptValue) (tables : List (List Rule))
     (c : Capture) → AllPairs (λ p q. p ≢ q) script.ports → AtEnd script (run script tables c)
 run_ends laws conserve leaves script tables c differ =
     let s = setting_of script tables in
-    let rounds = rounds_for c in
-    let o = λ (p : ℕ). list_any (nat_eq p) script.ports in
-    let placed = placed_so script differ in
     let apart = apart_so script.ports differ in
     let b = 0 + 32 * length c.frames in
-    let more : b < rounds = omega arith in
-    let zero_world = beginning script.ports in
-    let one = opened_all s script 0 script.ports zero_world in
-    let two = all_down (downs_after script 0) one in
-    let three = frames_passed rounds s script c 1 c.frames two in
-    let at_one = opens_held laws conserve leaves s script apart o 0 0 script.ports zero_world
-    (all_open script 0 script.ports placed) (begun_held script) in
-    let at_two = downs_held laws conserve leaves s script apart o 0 (downs_after script 0) one
-    at_one in
-    let at_three = frames_held laws conserve leaves s script apart placed rounds o c 1 c.frames two
-    0 at_two in
-    let calm = calm_then laws conserve leaves s script apart placed rounds o b more (λ p op. op)
-    three at_three in
-    let last = ends_calm laws conserve leaves s script apart placed rounds b more 0 script.ports
-    (until_ends s script c) apart (record {
-      o = o;
-      only = λ p op. op;
-      open_all = all_open script 0 script.ports placed;
-      calm = calm;
-    }) in
+    let more : b < rounds_for c = omega arith in
+    let last = ends_calm laws conserve leaves s script apart (placed_so script differ)
+    (rounds_for c) b more 0 script.ports (until_ends s script c) apart
+    (before_end laws conserve leaves script tables c differ) in
     record { o = last.o; b = b; held = last.calm.held; quiet = last.calm.quiet }
 
 pub open_boxes_empty : Laws → Conserve → LeaveAlone → (script : ScriptValue)

@@ -84,6 +84,19 @@ late_by_one (Was x ∷ Passed d ∷ is) e l a t =
     (subst AreNoDowns more (no_more (replay_from None (x ∷ [])) is
     (rest_of d line (flat_map lines_of is) l) a.1.1)).0
 
+-- a device goes down without a line
+pub lineless_not_fed : IsFed [] (falls 5 ∷ []) → ⊥
+lineless_not_fed is = by is.items is.entries is.lines is.each
+  where
+    by : (items : List Item) → flat_map entries_of items ≡ falls 5 ∷ [] →
+        flat_map lines_of items ≡ [] → AreItemsFrom None items → ⊥
+    by [] wrong lines each = cc
+    by (Was e ∷ is) entries lines each =
+        let same : e ≡ falls 5 = cc in
+        subst (λ (f : Entry). IsNoDown f.event) same each.0
+    by (Fell d e ∷ is) entries wrong each = cc
+    by (Passed d ∷ is) entries wrong each = cc
+
 pub late_not_fed : IsFed down_5 (arrives 2 ∷ falls 5 ∷ []) → ⊥
 late_not_fed is =
     late_by_one is.items is.entries is.lines is.each is.times

@@ -24,6 +24,8 @@ pub mod Made
 pub mod Written
 pub mod FedByHand
 pub mod HeardByHand
+pub mod LoggedByHand
+pub mod Told
 pub mod OneRun
 pub mod Small
 pub mod Bounded
@@ -33,3 +35,4 @@ pub mod Pools
 pub mod Mailboxes
 pub mod Emptying
 pub mod Emptied
+pub mod Rounds

@@ -1,8 +1,12 @@
 -- The schedule's histories are made by the script.
-use Rattle.std.proofs.Common.{◌≡◌, ◌≢◌, ◌∙◌, ◌≤◌, ◌+◌, ℕ, List}
+use Rattle.std.proofs.Common.{◌≡◌, ◌≢◌, ◌∙◌, ◌≤◌, ℕ, List}
 use Rattle.std.proofs.Common.{[], ◌∷◌, Option, true, false, refl, sym, ap}
 use Rattle.std.proofs.Common.{subst, Bool, Some, None, ◌++◌, arith}
-use Rattle.std.specs.Prelude.{length, map, filter, AllPairs, nat_eq, if◌then◌else◌}
+use Rattle.std.specs.Prelude.{length, map, filter, flat_map, AllPairs, nat_eq, if◌then◌else◌}
+use Rattle.std.specs.Prelude.{◌==◌, ◌⊎◌}
+use Rattle.std.proofs.Common.{inl, inr}
+use Rattle.std.proofs.lemmas.Bool.{cases_Bool, eqb-true}
+use Rattle.histories.specs.declared.log.Did.{Did}
 use Rattle.std.specs.List.{list_any}
 use Rattle.histories.specs.declared.entry.Entry.{Entry}
 use Rattle.pcap_io.specs.declared.capture.Capture.{Capture}
@@ -11,7 +15,8 @@ use Rattle.histories.specs.History.{history}
 use Rattle.inspector_script.specs.Scripts.{ScriptValue}
 use Rattle.packet_moves.specs.World.{Port, opened}
 use Rattle.script_runs.specs.Schedule.{run, setting_of, IsSolo, letters_at}
-use Rattle.packet_moves.specs.Logs.{dids_of, log_of}
+use Rattle.packet_moves.specs.Logs.{dids_of}
+use Rattle.packet_moves.specs.Logs as closing
 use Rattle.histories.specs.declared.histories.Histories.{Histories}
 use Rattle.histories.specs.declared.log.PortLog.{PortLog}
 use Rattle.packet_moves.specs.Planes.{opened_ports}
@@ -23,10 +28,10 @@ use Rattle.script_runs.proofs.Roomy.{AllRoomy, Roomy, lacking, roomy_kept}
 use Rattle.script_runs.specs.LettersLeft.{left_in}
 use Rattle.script_runs.specs.Notices.{heard, is_from, letters_from}
 use Rattle.script_runs.specs.Log.{Note, IsLog}
-use Rattle.script_runs.specs.Requests.{pleas_in}
-use Rattle.script_runs.specs.Run.{AreLogs, IsMadeBy}
+use Rattle.script_runs.specs.Requests.{pleas_in, pleas_told, answer_in}
+use Rattle.script_runs.specs.Ports.{log_of}
+use Rattle.script_runs.specs.Run.{IsMadeBy}
 use Rattle.script_runs.proofs.Ports.{ports_of_logs}
-use Rattle.script_runs.proofs.Reaching.{is_in}
 use Rattle.script_runs.proofs.Asking.{Kept, Staged, Stage, both_kept, always_goes, both_go}
 use Rattle.script_runs.proofs.Going.{Below}
 use Rattle.script_runs.proofs.Feeding.{Fed, nothing_fed}
@@ -34,23 +39,29 @@ use Rattle.script_runs.proofs.Fed.{FedSo, fed_goes}
 use Rattle.script_runs.proofs.Ordering.{Ordered}
 use Rattle.script_runs.proofs.Ordered.{OrderSo, order_goes, told}
 use Rattle.script_runs.specs.Feeder.{IsFed, downs_in_effect}
-use Rattle.script_runs.proofs.Running.{ArePlaced}
-use Rattle.script_runs.proofs.Whole.{run_reached, run_logged, closed_at, ended, last_stage}
+use Rattle.script_runs.proofs.Whole.{run_reached, run_dids, run_logged, closed_at, ended}
+use Rattle.script_runs.proofs.Whole.{last_stage}
 use Rattle.script_runs.proofs.Pleading.{AreEven, even_kept}
 use Rattle.script_runs.proofs.Noticing.{AreNoticed, Noticed, letters, noticed_kept}
 use Rattle.script_runs.proofs.Placing.{placed_so}
-use Rattle.script_runs.specs.Order.{place_in, Kind, IsOrdered, kinds_told}
+use Rattle.script_runs.specs.Ports.{place_in}
+use Rattle.script_runs.specs.Order.{Kind, IsOrdered, kinds_told}
 
-are_logs : (script : ScriptValue) (f : ℕ → ℕ)
-    (ports : ℕ → Option Port) (notes : ℕ → List Note) →
-    ((p : ℕ) → is_in script f p ≡ true → IsLog script (f p) p (notes p) (dids_of (ports p))) →
-    (place : ℕ) (ps : List ℕ) → ArePlaced script f place ps →
-    AreLogs script notes place (map (log_of ports) ps)
-are_logs script f ports notes each place [] placed = tt
-are_logs script f ports notes each place (p ∷ ps) placed = (
-  subst (λ k. IsLog script k p (notes p) (dids_of (ports p))) placed.0 (each p placed.1),
-  are_logs script f ports notes each (place + 1) ps placed.2,
-)
+-- a log is its port's
+log_there : (ports : ℕ → Option Port) (port : ℕ) (dids : List Did) (ps : List ℕ) →
+    log_of port (map (closing.log_of ports) ps) ≡ Some dids → dids_of (ports port) ≡ dids
+log_there ports port dids [] wrong = absurd (cc)
+log_there ports port dids (p ∷ ps) is =
+    by (cases_Bool (port == p)) (log_there ports port dids ps)
+  where
+    by : ((port == p) ≡ true) ⊎ ((port == p) ≡ false) →
+        (log_of port (map (closing.log_of ports) ps) ≡ Some dids →
+        dids_of (ports port) ≡ dids) → dids_of (ports port) ≡ dids
+    by (inl h) later =
+        let own : Some (dids_of (ports p)) ≡ Some dids = rw h at is in
+        let same : dids_of (ports p) ≡ dids = cc in
+        ap (λ k. dids_of (ports k)) (eqb-true port p h) ∙ same
+    by (inr h) later = later (rw h at is)
 
 -- a port that is there
 noticed_of : (p queue : ℕ) (es : List Entry) (o : Option Port) (held : Port) (notes : List Note) →
@@ -151,7 +162,7 @@ made_by_script laws below script tables c h differ is =
     let placed = placed_so script differ in
     let old_nothing : Old [] (opened_ports script.ports) (λ p. []) = (
       (
-        record { even = λ p queue. refl },
+        record { even = λ p queue. refl; errnos = λ p. tt },
         record { each = λ p queue. nothing_noticed p queue (list_any (nat_eq p) script.ports) },
       ),
       (
@@ -164,35 +175,45 @@ made_by_script laws below script tables c h differ is =
     let ran = run_reached script tables c f P K below.leaves
     (old_nothing, (nothing_fed_so script, nothing_ordered script)) placed in
     let r = ran.reached in
-    let w = run script tables c in (
+    let w = run script tables c in
+    let even : (port queue : ℕ) →
+    pleas_in port (history queue h.entries) ≡ flat_map (pleas_told queue) (r.notes port) =
+    λ port queue. ap (pleas_in port) (is.entries.same queue) ∙ r.kept.0.0.0.even port queue in
+    let own : (port : ℕ) (dids : List Did) → log_of port h.logs ≡ Some dids →
+    dids_of (w.ports port) ≡ dids =
+    λ port dids there. log_there w.ports port dids script.ports
+    (ap (log_of port) (sym is.logs) ∙ there) in (
       r.notes,
       record {
-        ports = ap (λ (ls : List PortLog). map (λ (l : PortLog). l.port) ls) is.logs
-            ∙ ports_of_logs w script.ports;
-        logs = subst (AreLogs script r.notes 0) (sym is.logs)
-            (are_logs script f w.ports r.notes (run_logged script tables c f P K
-            (last_stage script tables c f P K ran.time) r) 0
-            script.ports placed);
-        others = r.none;
-        requests = λ port queue.
-            ap (pleas_in port) (is.entries.same queue) ∙ r.kept.0.0.0.even port queue;
+        log = record {
+          each = λ port dids i there.
+              subst (IsLog script (f port) port (r.notes port))
+              (own port dids there) (run_logged script tables c f P K
+              (last_stage script tables c f P K ran.time) r port i);
+          others = r.none;
+        };
+        requests = record {
+          each = λ port i queue. even port queue;
+          nobody = λ port out queue.
+              even port queue ∙ ap (flat_map (pleas_told queue)) (r.none port out);
+          errnos = λ port i. r.kept.0.0.0.errnos port;
+          answers = λ port dids i there.
+              ap (flat_map answer_in) (sym (own port dids there)
+              ∙ run_dids script tables c f P K
+              (last_stage script tables c f P K ran.time) r port i);
+        };
         notices = λ port i queue.
             let here = r.are.at port i in
             noticed_of port queue w.entries (w.ports port) here.held (r.notes port) here.there
             (r.kept.0.0.1.each port queue)
             ∙ ap (letters_from port None) (sym (is.entries.same queue));
-        closings = λ port i queue below.
+        closing = λ port i queue below.
             let here = r.are.at port i in
             subst (λ b. IsClosing port b (history queue h.entries))
             (sym (closed_at script (f port) port (r.notes port) (w.ports port)
             (ended script f port) here))
             (subst (IsClosing port (is_shut (w.ports port)))
             (sym (is.entries.same queue)) (r.kept.0.1.0.each port queue below));
-        room = λ port i queue lacks.
-            let here = r.are.at port i in
-            roomy_of s.mail port queue w.entries (w.ports port) here.held (r.notes port) here.there
-            (r.kept.0.1.1.each port queue)
-            (ap (some_lacks port None) (sym (is.entries.same queue)) ∙ lacks);
         feeder = λ queue below.
             subst (IsFed (downs_in_effect script (length c.frames))) (sym (is.entries.same queue))
             (is_fed (last_stage script tables c f P K ran.time) (history queue w.entries)
@@ -203,5 +224,12 @@ made_by_script laws below script tables c h differ is =
             (is_ordered script.ports (last_stage script tables c f P K ran.time)
             (told script r.notes queue) (history queue w.entries)
             (r.kept.1.1.order.each queue below));
+        room = λ port i queue lacks.
+            let here = r.are.at port i in
+            roomy_of s.mail port queue w.entries (w.ports port) here.held (r.notes port) here.there
+            (r.kept.0.1.1.each port queue)
+            (ap (some_lacks port None) (sym (is.entries.same queue)) ∙ lacks);
+        ports = ap (λ (ls : List PortLog). map (λ (l : PortLog). l.port) ls) is.logs
+            ∙ ports_of_logs w script.ports;
       },
     )

@@ -6,7 +6,7 @@ use Rattle.std.specs.List.{list_any}
 use Rattle.std.proofs.lemmas.Bool.{cases_Bool, eq-eqb, eqb-true, ne_eqb}
 use Rattle.inspector_script.specs.Scripts.{ScriptValue}
 use Rattle.script_runs.proofs.Reaching.{is_in}
-use Rattle.script_runs.specs.Order.{place_in}
+use Rattle.script_runs.specs.Ports.{place_in}
 use Rattle.script_runs.proofs.Running.{ArePlaced}
 
 -- ---- places

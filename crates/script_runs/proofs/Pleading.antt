@@ -22,6 +22,7 @@ use Rattle.packet_moves.specs.Messages.{asking, with_ask}
 use Rattle.script_runs.specs.Sending.{carried_out, errno_of}
 use Rattle.script_runs.specs.Log.{Note, Got, Begun, Spoke, Shut}
 use Rattle.script_runs.specs.Requests.{Plea, pleas_of, pleas_in, plea_of, pleas_told}
+use Rattle.script_runs.specs.Requests.{IsErrno, AreErrnos}
 use Rattle.script_runs.proofs.Carrying.{all_moved_keeps}
 use Rattle.script_runs.proofs.Reaching.{noted}
 use Rattle.script_runs.proofs.Asking.{Keeps}
@@ -129,11 +130,35 @@ carried_pleas s w p queue port call (Asked r) =
     (entry_of w.entries (happening.queue_of r) (Ask port call r) ∷ [])
     ∙ ap (λ ps. pleas p queue w.entries ++ ps) (asked_one w p queue port call r))
 
+-- ---- errnos
+
+errno_is : (port call : ℕ) (d : Decoded) (w : World) → IsErrno d (errno_of port call d w)
+errno_is port call Nothing w = refl
+errno_is port call (Refused errno) w = refl
+errno_is port call (Asked request) w = tt
+
+errnos_push : (ns : List Note) (n : Note) → AreErrnos (n ∷ []) → AreErrnos ns →
+    AreErrnos (ns ++ n ∷ [])
+errnos_push [] n is all = is
+errnos_push (Got l ∷ ns) n is all = errnos_push ns n is all
+errnos_push (Begun ∷ ns) n is all = errnos_push ns n is all
+errnos_push (Spoke call m errno ∷ ns) n is all = (all.0, errnos_push ns n is all.1)
+errnos_push (Shut ∷ ns) n is all = errnos_push ns n is all
+
+errnos_then : (port : ℕ) (n : Note) (notes : ℕ → List Note) → AreErrnos (n ∷ []) →
+    ((p : ℕ) → AreErrnos (notes p)) → (p : ℕ) → AreErrnos (noted port n notes p)
+errnos_then port n notes is all p = by (p == port)
+  where
+    by : (c : Bool) → AreErrnos (if c then notes p ++ n ∷ [] else notes p)
+    by true = errnos_push (notes p) n is (all p)
+    by false = all p
+
 -- ---- what is kept
 
--- entries and messages are even
+-- entries and messages are even, and messages have their errnos
 pub record AreEven (es : List Entry) (notes : ℕ → List Note) : Type 0 where
   pub even : (p queue : ℕ) → pleas p queue es ≡ flat_map (pleas_told queue) (notes p)
+  pub errnos : (p : ℕ) → AreErrnos (notes p)
 
 told_then : (queue port p : ℕ) (n : Note) (notes : ℕ → List Note) →
     flat_map (pleas_told queue) (noted port n notes p)
@@ -148,41 +173,48 @@ told_then queue port p n notes = by (p == port)
 
 -- a note that is no message
 quiet : (es : List Entry) (notes : ℕ → List Note) (port : ℕ) (n : Note) →
-    ((queue : ℕ) → pleas_told queue n ≡ []) → AreEven es notes → AreEven es (noted port n notes)
-quiet es notes port n none is = record {
+    ((queue : ℕ) → pleas_told queue n ≡ []) → AreErrnos (n ∷ []) → AreEven es notes →
+    AreEven es (noted port n notes)
+quiet es notes port n none errno is = record {
   even = λ p queue. is.even p queue
       ∙ nothing_more (p == port) (flat_map (pleas_told queue) (notes p))
       ∙ ap (λ ps. flat_map (pleas_told queue) (notes p) ++ (if p == port then ps else []))
       (sym (none queue))
       ∙ sym (told_then queue port p n notes);
+  errnos = errnos_then port n notes errno is.errnos;
 }
 
 pub even_kept : (s : Setting) → Keeps s (λ es ports notes. AreEven es notes)
 even_kept s = record {
   arrives = λ w notes a is. record {
     even = λ p queue. arrival_stays s w a p queue ∙ is.even p queue;
+    errnos = is.errnos;
   };
-  begins = λ es ports notes port is. quiet es notes port Begun (λ queue. refl) is;
+  begins = λ es ports notes port is. quiet es notes port Begun (λ queue. refl) tt is;
   speaks = λ w notes port call m op is. record {
     even = λ p queue. carried_pleas s w p queue port call (decoded m)
         ∙ ap (λ ps. ps ++ own_plea p queue port call (errno_of port call (decoded m) w) (decoded m))
         (is.even p queue)
         ∙ sym (told_then queue port p (Spoke call m (errno_of port call (decoded m) w)) notes);
+    errnos = errnos_then port (Spoke call m (errno_of port call (decoded m) w)) notes
+        (errno_is port call (decoded m) w, tt) is.errnos;
   };
   gets = λ w notes port held l ls there letters is.
-      quiet w.entries notes port (Got l) (λ queue. refl) is;
+      quiet w.entries notes port (Got l) (λ queue. refl) tt is;
   closes = λ w notes port op is.
       quiet (w.entries ++ happening.closings port w.entries) notes port Shut
-      (λ queue. refl) (record {
+      (λ queue. refl) tt (record {
         even = λ p queue. pleas_stay p queue w.entries (happening.closings port w.entries)
             (no_pleas p queue (λ k. happening.closing_of port k (state_of w.entries k))
             (λ k. closing_none p queue port k (state_of w.entries k)) every_number)
             ∙ is.even p queue;
+        errnos = is.errnos;
       });
   falls = λ w notes device is. record {
     even = λ p queue. pleas_stay p queue w.entries (happening.downs device w.entries)
         (no_pleas p queue (λ k. happening.down_of device k (state_of w.entries k))
         (λ k. down_none p queue device k (state_of w.entries k)) every_number)
         ∙ is.even p queue;
+    errnos = is.errnos;
   };
 }

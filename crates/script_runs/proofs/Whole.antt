@@ -22,7 +22,7 @@ use Rattle.script_runs.specs.Schedule.{downs_after, before_ends, run, setting_of
 use Rattle.packet_moves.specs.Logs.{dids_of}
 use Rattle.script_runs.specs.Log.{Note, Due, Still, Standing}
 use Rattle.script_runs.specs.Log.{all_due, start, logged, dids_by, after}
-use Rattle.script_runs.specs.Log.{standing_from, IsLog, Got, Begun, Spoke, Shut}
+use Rattle.script_runs.specs.Log.{standing_from, IsLog, unanswered, Got, Begun, Spoke, Shut}
 use Rattle.script_runs.specs.Closing.{is_closed}
 use Rattle.script_runs.proofs.Shut.{is_shut}
 use Rattle.std.proofs.lemmas.List.Folds.{list_any-append}
@@ -390,15 +390,22 @@ module _ (script : ScriptValue) (tables : List (List Rule)) (c : Capture) (f : �
       }
 
   -- then each port's log is what the script says
+  pub run_dids : (st : Stage) (r : At (setting_of script tables) script f P K st
+      (run script tables c) (ended script f)) → (p : ℕ) → is_in script f p ≡ true →
+      dids_of ((run script tables c).ports p) ≡ logged p (r.notes p)
+  run_dids st r p i =
+      let here = r.are.at p i in
+      ap dids_of here.there
+      ∙ ap (λ (t : Standing). t.dids) (sym here.stands)
+      ∙ dids_logged script (f p) p (start script (f p)) (r.notes p)
+
   pub run_logged : (st : Stage) (r : At (setting_of script tables) script f P K st
       (run script tables c) (ended script f)) → (p : ℕ) → is_in script f p ≡ true →
       IsLog script (f p) p (r.notes p) (dids_of ((run script tables c).ports p))
   run_logged st r p i =
       let here = r.are.at p i in
       record {
-        noted = ap dids_of here.there
-            ∙ ap (λ (t : Standing). t.dids) (sym here.stands)
-            ∙ dids_logged script (f p) p (start script (f p)) (r.notes p);
+        noted = ap (map unanswered) (run_dids st r p i);
         next = here.next;
         owed = ap (λ (t : Standing). t.owed) here.stands;
         ended = ap (λ (t : Standing). t.ends) here.stands;

@@ -42,5 +42,9 @@ run_of_7 = logging (Closed ∷ [])
 abbrev pub silence_of_7 : Histories
 silence_of_7 = logging []
 
+-- what is told where port 7 alone does anything
+abbrev pub notes_by_7 : List Note → ℕ → List Note
+notes_by_7 notes port = if port == 7 then notes else []
+
 abbrev pub notes_of_7 : ℕ → List Note
-notes_of_7 port = if port == 7 then Shut ∷ [] else []
+notes_of_7 = notes_by_7 (Shut ∷ [])

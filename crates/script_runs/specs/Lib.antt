@@ -3,6 +3,7 @@ pub mod Entering
 pub mod NoticeTexts
 pub mod Sending
 pub mod Schedule
+pub mod Ports
 pub mod Log
 pub mod Requests
 pub mod Notices
@@ -12,8 +13,10 @@ pub mod Ascending
 pub mod Feeder
 pub mod Order
 pub mod LettersLeft
+pub mod Emptyings
 pub mod Run
 pub mod Bounds
 pub mod Examples
 pub mod FedExamples
 pub mod HeardExamples
+pub mod LoggedExamples

@@ -5,8 +5,6 @@ use Rattle.std.specs.Prelude.{◌≡◌, ℕ, Bool, true, false, List, [], ◌�
 use Rattle.std.specs.Prelude.{count_by, Option, Some, None}
 use Rattle.packet_entry.specs.declared.letter.Letter.{Letter}
 use Rattle.netlink_codec.specs.Messages.{NetlinkMessage}
-use Rattle.nfqa_msgs.specs.declared.request.Decoded.{Decoded}
-use Rattle.nfqa_msgs.specs.declared.request.Decoded.TheVariants.{Nothing, Refused, Asked}
 use Rattle.nfqa_msgs.specs.RequestReading.{decoded}
 use Rattle.nfqa_msgs.specs.NoticeWriting.{Told}
 use Rattle.script_runs.specs.NoticeTexts.{told_exactly}
@@ -136,12 +134,6 @@ after script place port t (Spoke call m errno) =
     record (having port (Spoke call m errno) (replaced [] t)) { is_fresh = false }
 after script place port t Shut = record (having port Shut t) { ends = []; is_open = false }
 
--- the errno of a message that asks nothing of a queue; of the others their entry tells it
-abbrev pub IsErrno : Decoded → ℕ → Type 0
-IsErrno Nothing errno = errno ≡ 0
-IsErrno (Refused refusal) errno = errno ≡ refusal
-IsErrno (Asked request) errno = Unit {0}
-
 abbrev pub IsAskDue : Option Due → Type 0
 IsAskDue (Some (Still (Words words))) = Unit {0}
 IsAskDue (Some (Still Close)) = ⊥
@@ -158,7 +150,6 @@ IsNext t (Spoke call m errno) =
     (t.is_open ≡ true)
     × (first_due t.owed t.ends ≡ Some (Message m))
     × (call ≡ next_call t.dids)
-    × IsErrno (decoded m) errno
 IsNext t Shut = (t.is_open ≡ true) × (t.owed ≡ []) × (t.ends ≡ Still Close ∷ [])
 
 -- from a standing on, each is next
@@ -178,10 +169,16 @@ standing script place port notes = standing_from script place port (start script
 
 -- ---- a whole log
 
+-- what is logged, but for the answer to a message: it is told with the requests
+abbrev pub unanswered : Did → Did
+unanswered (Received queue number visit) = Received queue number visit
+unanswered (Sent call ask answer) = Sent call ask None
+unanswered Closed = Closed
+
 -- The log of the script's port at this place: all that it did was next, and nothing is left to do.
 pub record IsLog (script : ScriptValue) (place port : ℕ) (notes : List Note) (dids : List Did)
     : Type 0 where
-  pub noted : dids ≡ logged port notes
+  pub noted : map unanswered dids ≡ map unanswered (logged port notes)
   pub next : AreNextFrom script place port (start script place) notes
   pub owed : (standing script place port notes).owed ≡ []
   pub ended : (standing script place port notes).ends ≡ []

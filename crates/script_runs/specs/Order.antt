@@ -12,12 +12,8 @@ use Rattle.inspector_script.specs.Scripts.{ScriptValue}
 use Rattle.script_runs.specs.Schedule.{is_received}
 use Rattle.script_runs.specs.Log.{Note, Due, Standing, start, after}
 use Rattle.script_runs.specs.Requests.{pleas_of, pleas_told}
+use Rattle.script_runs.specs.Ports.{place_in}
 use Rattle.script_runs.specs.Ascending.{Ascend}
-
--- where a port stands among the script's ports
-abbrev pub place_in : ℕ → List ℕ → ℕ
-place_in p [] = 0
-place_in p (q ∷ qs) = if p == q then 0 else suc (place_in p qs)
 
 -- ---- kinds of messages
 

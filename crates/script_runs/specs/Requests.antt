@@ -1,5 +1,6 @@
 -- Requests: what stands in the queues' histories of the messages that ports sent.
 use Rattle.std.specs.Prelude.{◌≡◌, ℕ, List, [], ◌∷◌, flat_map, ◌==◌, if◌then◌else◌}
+use Rattle.std.specs.Prelude.{Option}
 use Rattle.nfqa_msgs.specs.declared.request.Request.{Request}
 use Rattle.nfqa_msgs.specs.declared.request.Decoded.{Decoded}
 use Rattle.nfqa_msgs.specs.declared.request.Decoded.TheVariants.{Nothing, Refused, Asked}
@@ -8,10 +9,12 @@ use Rattle.queue_core.specs.declared.event.Event.{Event}
 use Rattle.queue_core.specs.declared.event.Event.TheVariants.{Arrive, Ask, PortClosed, DeviceDown}
 use Rattle.queue_core.specs.declared.event.Reply.{Reply}
 use Rattle.histories.specs.declared.entry.Entry.{Entry}
+use Rattle.histories.specs.declared.log.Did.{Did}
+use Rattle.histories.specs.declared.log.Did.TheVariants.{Received, Sent, Closed}
 use Rattle.histories.specs.History.{history}
 use Rattle.histories.specs.Happenings.{queue_of}
 use Rattle.script_runs.specs.Sending.{errno_in}
-use Rattle.script_runs.specs.Log.{Note, Got, Begun, Spoke, Shut}
+use Rattle.script_runs.specs.Log.{Note, Got, Begun, Spoke, Shut, logged}
 
 -- one request of a port: its call, what it asks, and its errno
 pub record Plea : Type 0 where
@@ -57,3 +60,30 @@ pleas_told queue Shut = []
 abbrev pub AreRequests : List Entry → ℕ → List Note → Type 0
 AreRequests es port notes =
     (queue : ℕ) → pleas_in port (history queue es) ≡ flat_map (pleas_told queue) notes
+
+-- ---- errnos and answers
+
+-- the errno of a message that asks nothing of a queue; of the others their entry tells it
+abbrev pub IsErrno : Decoded → ℕ → Type 0
+IsErrno Nothing errno = errno ≡ 0
+IsErrno (Refused refusal) errno = errno ≡ refusal
+IsErrno (Asked request) errno = Unit {0}
+
+-- so it is of each message that a port sent
+abbrev pub AreErrnos : List Note → Type 0
+AreErrnos [] = Unit {0}
+AreErrnos (Got l ∷ ns) = AreErrnos ns
+AreErrnos (Begun ∷ ns) = AreErrnos ns
+AreErrnos (Spoke call m errno ∷ ns) = IsErrno (decoded m) errno × AreErrnos ns
+AreErrnos (Shut ∷ ns) = AreErrnos ns
+
+-- the answer that is logged of a message
+abbrev pub answer_in : Did → List (Option ℕ)
+answer_in (Received queue number visit) = []
+answer_in (Sent call ask answer) = answer ∷ []
+answer_in Closed = []
+
+-- The answers in a port's log are those of its messages: the errno, where it isn't 0 or the message
+-- asks for an acknowledgement, and else none.
+abbrev pub AreAnswers : ℕ → List Note → List Did → Type 0
+AreAnswers port notes dids = flat_map answer_in dids ≡ flat_map answer_in (logged port notes)

@@ -136,11 +136,15 @@ abbrev pub paused : ℕ → Setting → ScriptValue → ℕ → World → World
 paused rounds s script number w =
     if is_pause script.pace number then emptied_in rounds s script w else w
 
--- one frame: its packet is fed, devices go down, and at a pause the mailboxes are emptied
+-- one frame: its packet is fed, and devices go down
+abbrev pub frame_fed : Setting → ScriptValue → Capture → ℕ → Frame → World → World
+frame_fed s script c number f w =
+    all_down (downs_after script number) (fed s (card_of c number f) w)
+
+-- and at a pause the mailboxes are emptied
 abbrev pub frame_passed : ℕ → Setting → ScriptValue → Capture → ℕ → Frame → World → World
 frame_passed rounds s script c number f w =
-    paused rounds s script number
-    (all_down (downs_after script number) (fed s (card_of c number f) w))
+    paused rounds s script number (frame_fed s script c number f w)
 
 abbrev pub frames_passed : ℕ → Setting → ScriptValue → Capture → ℕ → List Frame → World → World
 frames_passed rounds s script c number [] w = w
@@ -158,16 +162,23 @@ ended_all rounds s script place (p ∷ ps) w =
 -- ---- the whole run
 
 -- No emptying of the mailboxes needs more rounds: each but the last receives a notice, and a packet
--- waits 32 times at most.
+-- waits 32 times at most. (`each_emptying_ends_by_itself` says it of every run.)
 abbrev pub rounds_for : Capture → ℕ
 rounds_for c = rounds_per_frame * length c.frames + 1
 
+-- up to where the first frame is fed
+abbrev pub until_open : Setting → ScriptValue → World
+until_open s script =
+    all_down (downs_after script 0) (opened_all s script 0 script.ports (beginning script.ports))
+
+-- up to where all frames have passed
+abbrev pub until_fed : Setting → ScriptValue → Capture → World
+until_fed s script c =
+    frames_passed (rounds_for c) s script c 1 c.frames (until_open s script)
+
 -- up to where the ports end
 abbrev pub until_ends : Setting → ScriptValue → Capture → World
-until_ends s script c =
-    emptied_in (rounds_for c) s script
-    (frames_passed (rounds_for c) s script c 1 c.frames
-    (all_down (downs_after script 0) (opened_all s script 0 script.ports (beginning script.ports))))
+until_ends s script c = emptied_in (rounds_for c) s script (until_fed s script c)
 
 -- all of it
 abbrev pub until_end : Setting → ScriptValue → Capture → World

@@ -1,7 +1,7 @@
 //! What is known of the schedule, of its histories, and of what it is to be made by a script.
 
 ghost use Rattle.std.specs.Prelude.{◌≡◌, ◌≤◌, ℕ, true, List, [], ◌∷◌, map};
-ghost use Rattle.std.specs.Prelude.{◌+◌, ◌<◌, All, length};
+ghost use Rattle.std.specs.Prelude.{◌+◌, ◌<◌, ◌≢◌, All, AllPairs, length, None, Option, Some};
 ghost use Rattle.hook_chain.specs.declared.rule.Rule.{Rule};
 ghost use Rattle.pcap_io.specs.declared.capture.Capture.{Capture};
 ghost use Rattle.histories.specs.Numbers.{queue_count};
@@ -9,15 +9,17 @@ ghost use Rattle.histories.specs.declared.entry.Entry.{Entry};
 ghost use Rattle.histories.specs.declared.histories.Histories.{Histories};
 ghost use Rattle.histories.specs.declared.log.PortLog.{PortLog};
 ghost use Rattle.inspector_script.specs.Scripts.{ScriptValue, IsScript};
-ghost use Rattle.script_runs.specs.Schedule.{IsSolo, is_open_port, run};
+ghost use Rattle.script_runs.specs.Schedule.{IsSolo, is_open_port, rounds_for, run, setting_of};
+ghost use Rattle.script_runs.specs.Emptyings.{FindsNothing, emptyings};
 ghost use Rattle.nfqa_msgs.specs.declared.request.Request.{Request};
 ghost use Rattle.histories.specs.declared.log.Did.{Did};
-ghost use Rattle.histories.specs.declared.log.Did.TheVariants.{Closed};
+ghost use Rattle.histories.specs.declared.log.Did.TheVariants.{Closed, Received, Sent};
 ghost use Rattle.script_runs.specs.Log.{Note, Shut, IsLog};
 ghost use Rattle.script_runs.specs.Requests.{AreRequests};
 ghost use Rattle.script_runs.specs.Closing.{IsClosing};
 ghost use Rattle.script_runs.specs.Examples.{closing_script, one_request, two_closings};
-ghost use Rattle.script_runs.specs.Examples.{run_of_7, silence_of_7, notes_of_7};
+ghost use Rattle.script_runs.specs.Examples.{logging, notes_by_7, notes_of_7, run_of_7};
+ghost use Rattle.script_runs.specs.Examples.{silence_of_7};
 ghost use Rattle.script_runs.specs.FedExamples.{down_5, whole, kinds_of_7, opens_7, ends_7};
 ghost use Rattle.script_runs.specs.FedExamples.{no_kinds, binds, asks, arrives, falls, shuts};
 ghost use Rattle.script_runs.specs.Feeder.{IsFed};
@@ -31,7 +33,11 @@ ghost use Rattle.script_runs.specs.Entering.{cards};
 ghost use Rattle.script_runs.specs.Bounds.{AreRead, AreShort, AreSmall};
 ghost use Rattle.script_runs.specs.LettersLeft.{left_in};
 ghost use Rattle.script_runs.specs.Run.{IsMadeBy};
-ghost use Rattle.script_runs.specs.Log.{Got, Spoke};
+ghost use Rattle.script_runs.specs.Log.{Begun, Got, Spoke};
+ghost use Rattle.script_runs.specs.Run.{IsTold, LogHolds, PortsHold, RequestsHold};
+ghost use Rattle.script_runs.specs.LoggedExamples.{ending_script, header, message, no_logs};
+ghost use Rattle.script_runs.specs.LoggedExamples.{opening_script};
+ghost use Rattle.histories.specs.declared.log.AskWords.TheVariants.{Raw};
 ghost use Rattle.script_runs.specs.Notices.{AreNotices};
 ghost use Rattle.script_runs.specs.Room.{AreRoomy};
 ghost use Rattle.script_runs.specs.HeardExamples.{binding, bound, taken, turned};
@@ -95,16 +101,60 @@ pub fn runs_of_one_port()
         IsMadeBy closing_script 0 silence_of_7 notes left → ⊥ }
 {}
 
+/// Logs, written out, whose port is the script's alone. A message of the opening is sent under
+/// number 1, and messages of the end in their order. A port that answers no notice sends none behind
+/// one; no other number is the first; the second message of the end isn't sent first; and a notice
+/// isn't received between an ask and its first message.
+pub fn logs_by_hand()
+    ensures opened { IsLog opening_script 0 7 (Begun ∷ Spoke 1 (message 1) 0 ∷ [])
+        (Sent 1 (Raw (header 1)) None ∷ []) }
+    ensures ended { IsLog ending_script 0 7
+        (Begun ∷ Spoke 1 (message 1) 0 ∷ Begun ∷ Spoke 2 (message 2) 0 ∷ [])
+        (Sent 1 (Raw (header 1)) None ∷ Sent 2 (Raw (header 2)) None ∷ []) }
+    ensures answer { (queue number visit call : ℕ) (ask : AskWords) (answer : Option ℕ)
+        (notes : List Note) → IsLog closing_script 0 7 notes
+        (Received queue number visit ∷ Sent call ask answer ∷ Closed ∷ []) → ⊥ }
+    ensures call { (call : ℕ) (ask : AskWords) (answer : Option ℕ) (notes : List Note) →
+        call ≢ 1 → IsLog opening_script 0 7 notes (Sent call ask answer ∷ []) → ⊥ }
+    ensures order { (one two : ℕ) (first second : Option ℕ) (notes : List Note) →
+        IsLog ending_script 0 7 notes
+        (Sent one (Raw (header 2)) first ∷ Sent two (Raw (header 1)) second ∷ []) → ⊥ }
+    ensures between { (l : Letter) (notes : List Note) (dids : List Did) →
+        IsLog ending_script 0 7 (Begun ∷ Got l ∷ notes) dids → ⊥ }
+{}
+
+/// Histories, written out, that one part alone refuses. Where the port has no log, its log is no
+/// fault. And where the log has an errno that the message hasn't, the log holds and the requests
+/// don't.
+pub fn parts_by_hand()
+    ensures missing { PortsHold closing_script no_logs → ⊥ }
+    ensures no_log { LogHolds closing_script no_logs (λ port. []) }
+    ensures answered { (errno : ℕ) →
+        RequestsHold opening_script (logging (Sent 1 (Raw (header 1)) (Some 16) ∷ []))
+        (notes_by_7 (Begun ∷ Spoke 1 (message 1) errno ∷ [])) → ⊥ }
+    ensures logged { (errno : ℕ) →
+        LogHolds opening_script (logging (Sent 1 (Raw (header 1)) (Some 16) ∷ []))
+        (notes_by_7 (Begun ∷ Spoke 1 (message 1) errno ∷ [])) }
+{}
+
+/// Each log of histories that a script made is what is told of its port, with the answers.
+pub fn each_log_is_what_is_told()
+    ensures { (script : ScriptValue) (frames : ℕ) (h : Histories) (notes : ℕ → List Note)
+        (left : ℕ → List Letter) → AllPairs (λ p q. p ≢ q) script.ports →
+        IsMadeBy script frames h notes left → All (IsTold script notes) h.logs }
+{}
+
 /// Histories of one queue, written out. A queue is bound by an opening message, two frames arrive
 /// with a device that goes down between them, and its port asks something at its end and closes:
 /// this is fed with that line, and in order. Where the queue is absent the line passes without an
-/// entry, but not where it is bound. A history isn't fed where the device goes down behind the
-/// first arrival of a later frame, or where a frame arrives twice, or behind a later one. And it
-/// isn't in order where an opening message stands behind an arrival, one of the end before one, or
-/// where the later of two ports closes first.
+/// entry, but not where it is bound. A history isn't fed where a device goes down without a line or
+/// behind the first arrival of a later frame, or where a frame arrives twice, or behind a later one.
+/// And it isn't in order where an opening message stands behind an arrival, one of the end before
+/// one, or where the later of two ports closes first.
 pub fn feeding_and_order_by_hand()
     ensures fed { (request : Request) → IsFed down_5 (whole request) }
     ensures absent { IsFed down_5 (arrives 1 ∷ []) }
+    ensures lineless { IsFed [] (falls 5 ∷ []) → ⊥ }
     ensures missed { IsFed down_5 (binds ∷ arrives 1 ∷ []) → ⊥ }
     ensures late { IsFed down_5 (arrives 2 ∷ falls 5 ∷ []) → ⊥ }
     ensures backward { (m n : ℕ) → n ≤ m → IsFed [] (arrives m ∷ arrives n ∷ []) → ⊥ }
@@ -166,6 +216,19 @@ pub fn no_notice_is_left()
     each_packet_stays_or_leaves();
     what_goes_on_is_in_time();
     ports_do_what_the_script_says();
+}
+
+/// Each emptying of the mailboxes ends by a round that finds nothing, and none is ended by the count
+/// of its rounds: at each pause, once all frames have passed, and behind each message of an end.
+pub fn each_emptying_ends_by_itself()
+    ensures { (script : ScriptValue) (tables : List (List Rule)) (c : Capture) →
+        IsScript script →
+        All (FindsNothing (rounds_for c) (setting_of script tables) script)
+        (emptyings script tables c) }
+{
+    a_closed_port_has_no_queues();
+    each_packet_stays_or_leaves();
+    what_goes_on_is_in_time();
 }
 
 /// Histories of one queue with what its port received and sent, which aren't told so.

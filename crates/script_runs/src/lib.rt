@@ -5,7 +5,9 @@
 mod laws;
 
 pub use laws::{
-    a_schedule_has_one_run, datagrams_are_short, each_port_has_its_log, feeding_and_order_by_hand,
-    hearing_by_hand, no_notice_is_left, packets_and_payloads_are_within_bounds,
-    packets_are_read_with_their_frames, ports_do_what_the_script_says, runs_of_one_port,
+    a_schedule_has_one_run, datagrams_are_short, each_emptying_ends_by_itself,
+    each_log_is_what_is_told, each_port_has_its_log, feeding_and_order_by_hand, hearing_by_hand,
+    logs_by_hand, no_notice_is_left, packets_and_payloads_are_within_bounds,
+    packets_are_read_with_their_frames, parts_by_hand, ports_do_what_the_script_says,
+    runs_of_one_port,
 };

@@ -1,10 +1,9 @@
 //! Runs of `gen` and `trial`. The counts and packets are those that the published algorithms of
 //! xoshiro256++ and SplitMix64 give.
 
-use super::{HEADER, done, has, holds, lacks, played};
+use super::{HEADER, PLAY, done, has, lacks};
 use host_io::MemoryHost;
 use std::alloc::{AllocError, Global};
-use std::process::Abort;
 use std::test::Fail;
 
 const GENERATED_RULES: &str = "*filter\n-A FORWARD -j NFQUEUE --queue-balance 0:7\nCOMMIT\n";
@@ -80,22 +79,10 @@ fn generated_inputs_are_written(rt: HostRuntime) -> Result<(), Fail> {
     let capture = capture_of(alloc, &PACKETS)?;
     let mut host = roomy(alloc)?;
     assert_eq!(rt; done(alloc, &mut host, &GENERATION)?, 0);
-    holds(&rt, &host, "r", GENERATED_RULES);
-    holds(&rt, &host, "s", GENERATED_SCRIPT);
+    has(&rt, &host, "r", GENERATED_RULES.as_bytes());
+    has(&rt, &host, "s", GENERATED_SCRIPT.as_bytes());
     has(&rt, &host, "c", &capture);
     lacks(&rt, &host, &["-"]);
-    Ok(())
-}
-
-/// The second write takes nothing: the rules are whole, and the capture isn't reached.
-#[test]
-fn generation_stops_at_a_write_that_takes_nothing(rt: HostRuntime) -> Result<(), Fail> {
-    let alloc = rt.alloc();
-    let mut host = roomy(alloc)?;
-    host.short_call(2)?;
-    assert_eq!(rt; done(alloc, &mut host, &GENERATION)?, 3);
-    holds(&rt, &host, "r", GENERATED_RULES);
-    lacks(&rt, &host, &["c"]);
     Ok(())
 }
 
@@ -107,63 +94,37 @@ fn lines_with(ledger: &[u8], fate: &str) -> usize {
         .count()
 }
 
-/// A trial of this number and count prints these lines.
-fn tries(
-    rt: &impl Abort,
-    alloc: Global,
-    host: &mut MemoryHost,
-    sample: [&str; 2],
-    lines: &str,
-) -> Result<(), AllocError> {
-    let [number, count] = sample;
-    assert_eq!(rt; done(alloc, host, &["trial", number, count])?, 0);
-    holds(rt, host, "-", lines);
-    Ok(())
-}
-
-/// The ledger has this many lines of packets that are accepted and that are dropped.
-fn has_fates(rt: &impl Abort, host: &MemoryHost, counts: (usize, usize)) -> Result<(), Fail> {
-    let ledger = host.get("l").ok_or("no ledger")?;
-    assert_eq!(rt;
-        (lines_with(ledger, "accept"), lines_with(ledger, "drop")),
-        counts
-    );
-    Ok(())
-}
-
-/// `gen 7 60`, then `play`, and `trial 7 60` twice.
+/// The same inputs as those of the first trial below, from their files.
 #[test]
-fn what_is_tried_is_what_is_played(rt: HostRuntime) -> Result<(), Fail> {
+fn generated_inputs_are_played(rt: HostRuntime) -> Result<(), Fail> {
     let alloc = rt.alloc();
     let mut host = roomy(alloc)?;
     assert_eq!(rt;
         done(alloc, &mut host, &["gen", "7", "60", "r", "s", "c"])?,
         0
     );
-    assert_eq!(rt; played(alloc, &mut host)?, 0);
-    has_fates(&rt, &host, (26, 34))?;
-    lacks(&rt, &host, &["-"]);
-    for _ in 0..2 {
-        tries(&rt, alloc, &mut host, ["7", "60"], "accept 26\ndrop 34\n")?;
-    }
+    assert_eq!(rt; done(alloc, &mut host, PLAY)?, 0);
+    let ledger = host.get("l").ok_or("no ledger")?;
+    assert_eq!(rt;
+        (lines_with(ledger, "accept"), lines_with(ledger, "drop")),
+        (26, 34)
+    );
     Ok(())
 }
 
 #[test]
-fn the_least_and_the_greatest_number_are_tried(rt: HostRuntime) -> Result<(), Fail> {
+fn counts_are_printed(rt: HostRuntime) -> Result<(), Fail> {
+    const TRIALS: [(&[&str], &str); 3] = [
+        (&["trial", "7", "60"], "accept 26\ndrop 34\n"),
+        (&["trial", "0", "1"], "drop 1\n"),
+        (&["trial", "18446744073709551615", "1"], "accept 1\n"),
+    ];
     let alloc = rt.alloc();
     let mut host = roomy(alloc)?;
-    tries(&rt, alloc, &mut host, ["0", "1"], "drop 1\n")?;
-    tries(
-        &rt,
-        alloc,
-        &mut host,
-        ["18446744073709551615", "1"],
-        "accept 1\n",
-    )?;
+    for &(trial, counts) in &TRIALS {
+        assert_eq!(rt; done(alloc, &mut host, trial)?, 0);
+        has(&rt, &host, "-", counts.as_bytes());
+    }
     lacks(&rt, &host, &["r", "s", "c", "o", "l", "j"]);
-
-    host.short_call(3)?;
-    assert_eq!(rt; done(alloc, &mut host, &["trial", "0", "1"])?, 3);
     Ok(())
 }

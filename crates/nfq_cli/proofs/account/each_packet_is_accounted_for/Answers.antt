@@ -5,7 +5,8 @@ use Rattle.histories.specs.declared.entry.Entry.{Entry}
 use Rattle.nfq_cli.proofs.Forming.{well_formed}
 use Rattle.histories.specs.declared.histories.Lost.{Lost}
 use Rattle.script_runs.specs.Entering.{cards}
-use Rattle.nfq_cli.specs.Outputs.{fates_of}
+use Rattle.nfq_cli.specs.Account.{AreAccounted}
+use Rattle.run_files.specs.Outputs.{fates_of}
 use Rattle.fate_ledger.specs.Fates.{is_lost}
 use Rattle.nfq_cli.proofs.Numbering.{cards_differ, one_line_each}
 use Rattle.nfq_cli.proofs.account.each_packet_is_accounted_for.Goals as goal
@@ -17,14 +18,17 @@ returns-clause-account c = λ tables script capture h is solo legal fit sound.
     let made = c.no_notice_is_left.ensures.made script tables capture h is solo numbered in
     let apart = c.no_visit_arrives_twice.ensures tables script.key (cards capture) h.entries h.lost
     (cards_differ capture) sound in
+    let run : AreAccounted tables script capture h =
     record {
-      schedule = solo;
+      nothing_lost = solo.lost;
       legal = legal;
       sound = sound;
       notes = made.0;
       made = made.1;
       formed = well_formed c.replies_tell_how_many_left.ensures script (length capture.frames) h
-          made.0 (λ port. []) is fit solo.lost _ solo.entries legal made.1;
+          made.0 (λ port. []) is fit solo.lost _ solo.entries legal made.1
+          (c.each_log_is_what_is_told.ensures script (length capture.frames) h made.0 (λ port. [])
+          is.ports_differ made.1);
       apart = apart;
       once = λ number queues are.
           let each = c.each_packet_waits_is_lost_or_is_over.ensures tables script.key number queues
@@ -50,6 +54,11 @@ returns-clause-account c = λ tables script capture h is solo legal fit sound.
           };
       released = c.released_frames_are_those_let_go.ensures.order capture.link capture.frames
           (fates_of capture h) (one_line_each h capture.frames);
+    } in
+    record {
+      schedule = solo;
+      only = λ g other. c.a_schedule_has_one_run.ensures.entries script tables capture g h other solo;
+      run = run;
     }
 
 pub returns-clause-fit : goal.returns-clause-fit

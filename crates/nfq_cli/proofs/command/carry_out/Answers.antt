@@ -1,6 +1,6 @@
 use Rattle.std.proofs.Common.{subst}
-use Rattle.nfq_cli.specs.declared.stop.Stop.{Stop}
-use Rattle.nfq_cli.specs.Statuses.{IsStopFor}
+use Rattle.run_files.specs.declared.stop.Stop.{Stop}
+use Rattle.run_files.specs.Statuses.{IsStopFor}
 use Rattle.nfq_cli.proofs.command.carry_out.Goals as goal
 
 pub returns-in_ok-line-in-Err-Refused-clause-exact :

@@ -1,7 +1,7 @@
 use Rattle.std.proofs.Common.{ap, subst}
-use Rattle.nfq_cli.specs.declared.arguments.Command.{Command}
-use Rattle.nfq_cli.specs.Arguments.{call_of, InputFiles, inputs}
-use Rattle.nfq_cli.specs.Causes.{IsRefused}
+use Rattle.command_line.specs.declared.arguments.Command.{Command}
+use Rattle.command_line.specs.Arguments.{call_of, InputFiles, inputs}
+use Rattle.run_files.specs.Causes.{IsRefused}
 use Rattle.nfq_cli.proofs.Endings.{never_refused, none_read, same_inputs}
 use Rattle.nfq_cli.proofs.command.dispatch.Goals as goal
 

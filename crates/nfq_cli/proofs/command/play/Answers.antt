@@ -1,7 +1,7 @@
 use Rattle.std.proofs.Common.{◌≤◌, ap, subst, sym, Err, ◌∙◌, Option}
 use Rattle.std.specs.Prelude.{IsSomeAnd}
-use Rattle.nfq_cli.specs.Arguments.{Call, call_of, InputFiles, inputs}
-use Rattle.nfq_cli.specs.Causes.{IsTurnedDown, IsUnread}
+use Rattle.command_line.specs.Arguments.{Call, call_of, InputFiles, inputs}
+use Rattle.run_files.specs.Causes.{IsTurnedDown, IsUnread}
 use Rattle.nfq_cli.specs.Headline.{IsCut, IsDone}
 use Rattle.nfq_cli.proofs.Endings.{answered, is_write_fault, once_told, same_call, turned_down}
 use Rattle.nfq_cli.proofs.command.play.Goals as goal

@@ -1,8 +1,9 @@
 use Rattle.std.proofs.Common.{IsTrue, List, ℕ, OnOk, subst}
-use Rattle.nfq_cli.specs.Arguments.{inputs_of}
-use Rattle.nfq_cli.specs.Files.{AreWritten, IsStoppedAfter}
+use Rattle.command_line.specs.Arguments.{inputs_of}
+use Rattle.run_files.specs.Files.{AreWritten, IsStoppedAfter}
 use Rattle.nfq_cli.specs.Headline.{input_texts}
-use Rattle.nfq_cli.proofs.Endings.{in_no_other_way, on_err}
+use Rattle.std.proofs.lemmas.Result.{IfErr-at_err}
+use Rattle.nfq_cli.proofs.Endings.{in_no_other_way}
 use Rattle.nfq_cli.proofs.generation.generate.Goals as goal
 
 pub returns-clause-generated : goal.returns-clause-generated
@@ -20,7 +21,7 @@ returns-clause-cut_short g c = λ stopped t.
     (g.H.Host.write_faults c.args.host.now) (g.H.Host.write_faults c.write_inputs.new.host)
     (g.H.Host.content c.args.host.now) (g.H.Host.content c.write_inputs.new.host))
     c.in_ok-capture.ensures
-    (on_err _ c.write_inputs.result _ stopped c.write_inputs.ensures.cut_short t)
+    (IfErr-at_err _ stopped c.write_inputs.ensures.cut_short t)
 
 pub returns-clause-untouched : goal.returns-clause-untouched
 returns-clause-untouched g c =

@@ -1,11 +1,10 @@
-use Rattle.nfq_cli.specs.declared.stop.Stop.TheVariants as stop
-use Rattle.nfq_cli.proofs.Endings.{by_this_alone}
-use Rattle.nfq_cli.proofs.Saying.{err_is_no_ok}
+use Rattle.run_files.specs.declared.stop.Stop.TheVariants as stop
+use Rattle.nfq_cli.proofs.Endings.{by_this_alone, made_is_not_refused}
 use Rattle.nfq_cli.proofs.list.list_files.Goals as goal
 
 pub returns-in_err-write_whole-clause-exact : goal.returns-in_err-write_whole-clause-exact
 returns-in_err-write_whole-clause-exact g c = λ why t refused.
-    absurd (err_is_no_ok why c.in_ok-made.made (c.in_ok-made.ensures.exact why t refused))
+    absurd (made_is_not_refused (c.in_ok-made.ensures.exact why t refused))
 
 pub returns-in_err-write_whole-clause-untouched :
     goal.returns-in_err-write_whole-clause-untouched
@@ -15,4 +14,4 @@ returns-in_err-write_whole-clause-untouched g c =
 
 pub returns-clause-exact : goal.returns-clause-exact
 returns-clause-exact g c = λ why t refused.
-    absurd (err_is_no_ok why c.in_ok-made.made (c.in_ok-made.ensures.exact why t refused))
+    absurd (made_is_not_refused (c.in_ok-made.ensures.exact why t refused))

@@ -1,12 +1,13 @@
 use Rattle.std.proofs.Common.{ap, ◌∙◌, Some, List, ℕ}
-use Rattle.nfq_cli.proofs.Endings.{in_no_other_way, on_ok, on_ok_both, on_err, same_texts}
+use Rattle.std.proofs.lemmas.Result.{IfErr-at_err, on_ok_weaker}
+use Rattle.nfq_cli.proofs.Endings.{in_no_other_way, on_ok_both, same_texts}
 use Rattle.nfq_cli.proofs.Endings.{stopped_since}
-use Rattle.nfq_cli.specs.Arguments.{files_of}
+use Rattle.command_line.specs.Arguments.{files_of}
 use Rattle.nfq_cli.proofs.play.play_files.Goals as goal
 
 pub returns-clause-played : goal.returns-clause-played
 returns-clause-played g c =
-    on_ok _ _ c.write_outputs.result
+    on_ok_weaker c.write_outputs.result
     (λ w t.
     let tells = c.in_ok-made.ensures.later.tells_same ∙ t in
     record {
@@ -42,7 +43,7 @@ returns-clause-cut_short g c = λ stopped t.
           (same_texts (files_of c.args.files.now) _ _ _ _ _ _ c.in_ok-outputs.ensures.output
           c.in_ok-outputs.ensures.ledger c.in_ok-outputs.ensures.journal)
           c.in_ok-made.ensures.later.write_faults_stay c.in_ok-made.ensures.files
-          (on_err _ c.write_outputs.result _ stopped c.write_outputs.ensures.cut_short tells);
+          (IfErr-at_err _ stopped c.write_outputs.ensures.cut_short tells);
     }
 
 pub returns-clause-untouched : goal.returns-clause-untouched

@@ -3,8 +3,8 @@ use Rattle.std.proofs.Common.{String, Global}
 use Rattle.std.specs.Prelude.{IsOkAnd}
 use Rattle.std.specs.Vec.Iter.{into_iter_items}
 use Rattle.std.specs.declared.vec.IntoIter.{IntoIter}
-use Rattle.nfq_cli.specs.Arguments.{Call, call_of_arguments, call_of_words, Generates}
-use Rattle.nfq_cli.specs.Arguments.{Lists, Plays, Tries}
+use Rattle.command_line.specs.Arguments.{Call, call_of_arguments, call_of_words, Generates}
+use Rattle.command_line.specs.Arguments.{Lists, Plays, Tries}
 use Rattle.nfq_cli.proofs.program.program.Goals as goal
 
 -- words that are the arguments after the program's name are the command that the arguments are

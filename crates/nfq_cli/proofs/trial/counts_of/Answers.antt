@@ -4,7 +4,7 @@ use Rattle.fate_ledger.specs.declared.fate.FateLine.{FateLine}
 use Rattle.pcap_io.specs.declared.capture.Capture.{Capture}
 use Rattle.histories.specs.declared.histories.Histories.{Histories}
 use Rattle.nfq_cli.specs.Account.{IsAccounted}
-use Rattle.nfq_cli.specs.Outputs.{counts_text, fates_of}
+use Rattle.run_files.specs.Outputs.{counts_text, fates_of}
 use Rattle.nfq_cli.proofs.trial.counts_of.Goals as goal
 
 -- what was appended to nothing, of a capture that is known by another name

@@ -1,6 +1,6 @@
 use Rattle.script_runs.proofs.FedByHand.{whole_fed, late_not_fed, backward_not_fed, whole_ordered}
 use Rattle.script_runs.proofs.FedByHand.{late_opening, early_end, wrong_closings}
-use Rattle.script_runs.proofs.FedByHand.{absent_fed, missed_not_fed}
+use Rattle.script_runs.proofs.FedByHand.{absent_fed, missed_not_fed, lineless_not_fed}
 use Rattle.script_runs.proofs.laws.feeding_and_order_by_hand.Goals as goal
 
 pub returns-clause-fed : goal.returns-clause-fed
@@ -8,6 +8,9 @@ returns-clause-fed c = whole_fed
 
 pub returns-clause-absent : goal.returns-clause-absent
 returns-clause-absent c = absent_fed
+
+pub returns-clause-lineless : goal.returns-clause-lineless
+returns-clause-lineless c = lineless_not_fed
 
 pub returns-clause-missed : goal.returns-clause-missed
 returns-clause-missed c = missed_not_fed

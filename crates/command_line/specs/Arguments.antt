@@ -1,0 +1,232 @@
+-- The arguments of the command line: a command, its numbers, and the names of its files.
+--     play RULES SCRIPT IN OUT LEDGER JOURNAL
+--     list RULES SCRIPT IN OUT
+--     gen NUMBER COUNT RULES SCRIPT IN
+--     trial NUMBER COUNT
+use Rattle.std.specs.Prelude.{◌≡◌, ◌≤◌, ℕ, ⊤, List, [], ◌∷◌, length, map, Option, Some, None, Bool}
+use Rattle.std.specs.Prelude.{true, not, ◌&&◌, ◌==◌, codes, if◌then◌else◌, option_map}
+use Rattle.std.specs.Str.{bytes_eq}
+use Rattle.std.specs.Prelude.{String}
+use Rattle.std.specs.String.{string_bytes}
+use Rattle.std.specs.Prelude.{drop, Result, Ok, Err}
+use Rattle.std.specs.Vec.Iter.{into_iter_items}
+use Rattle.std.specs.declared.vec.IntoIter.{IntoIter}
+use Rattle.std.specs.declared.alloc.Global.{Global}
+use Rattle.text_lines.specs.Words.{◌>>=◌}
+use Rattle.packet_entry.specs.Numbers.{most_frames as most_records}
+use Rattle.command_line.specs.Numerals.{count_of, number_of}
+use Rattle.command_line.specs.declared.arguments.Command.{Command}
+use Rattle.command_line.specs.declared.arguments.Command.TheVariants as command
+use Rattle.command_line.specs.declared.arguments.Generation.{Generation}
+use Rattle.command_line.specs.declared.arguments.Inputs.{Inputs}
+use Rattle.command_line.specs.declared.arguments.Listing.{Listing}
+use Rattle.command_line.specs.declared.arguments.Play.{Play}
+use Rattle.command_line.specs.declared.arguments.Sample.{Sample as ASample}
+
+-- ---- commands
+
+-- the names of the files that a run is made from
+pub record InputFiles : Type 0 where
+  pub rules : List ℕ
+  pub script : List ℕ
+  pub capture : List ℕ
+
+-- the names of the files that a `play` command reads and writes
+pub record PlayFiles : Type 0 where
+  pub inputs : InputFiles
+  pub output : List ℕ
+  pub ledger : List ℕ
+  pub journal : List ℕ
+
+-- the names of the files that a `list` command reads and writes
+pub record ListFiles : Type 0 where
+  pub inputs : InputFiles
+  pub output : List ℕ
+
+-- what generated inputs are made of: the number that seeds the generator, and how many records
+pub record Sample : Type 0 where
+  pub number : ℕ
+  pub count : ℕ
+
+-- what a `gen` command makes, and the names of the files that it writes
+pub record GenFiles : Type 0 where
+  pub sample : Sample
+  pub files : InputFiles
+
+-- a command, with the names of its files and its numbers
+pub data Call : Type 0 where
+  Plays : PlayFiles → Call
+  Lists : ListFiles → Call
+  Generates : GenFiles → Call
+  Tries : Sample → Call
+
+-- the files that a command reads, if it reads any
+abbrev pub inputs : Call → Option InputFiles
+inputs (Plays f) = Some f.inputs
+inputs (Lists f) = Some f.inputs
+inputs (Generates g) = None
+inputs (Tries s) = None
+
+-- the name of standard output
+abbrev pub standard_output : List ℕ
+standard_output = codes "-"
+
+-- the names that a command writes, in their order
+abbrev pub play_outputs : PlayFiles → List (List ℕ)
+play_outputs f = f.output ∷ f.ledger ∷ f.journal ∷ []
+
+abbrev pub list_outputs : ListFiles → List (List ℕ)
+list_outputs f = f.output ∷ []
+
+abbrev pub input_names : InputFiles → List (List ℕ)
+input_names i = i.rules ∷ i.script ∷ i.capture ∷ []
+
+abbrev pub gen_outputs : GenFiles → List (List ℕ)
+gen_outputs g = input_names g.files
+
+abbrev pub trial_outputs : List (List ℕ)
+trial_outputs = standard_output ∷ []
+
+abbrev pub outputs : Call → List (List ℕ)
+outputs (Plays f) = play_outputs f
+outputs (Lists f) = list_outputs f
+outputs (Generates g) = gen_outputs g
+outputs (Tries s) = trial_outputs
+
+-- ---- as the code holds them
+
+abbrev pub inputs_of : Inputs → InputFiles
+inputs_of i =
+    record { rules = i.rules.now; script = i.script.now; capture = i.capture.now }
+
+abbrev pub files_of : Play → PlayFiles
+files_of p =
+    record {
+      inputs = inputs_of p.inputs;
+      output = p.output.now;
+      ledger = p.ledger.now;
+      journal = p.journal.now;
+    }
+
+abbrev pub list_files_of : Listing → ListFiles
+list_files_of l = record { inputs = inputs_of l.inputs; output = l.output.now }
+
+abbrev pub sample_of : ASample → Sample
+sample_of s = record { number = s.number; count = s.count }
+
+abbrev pub gen_files_of : Generation → GenFiles
+gen_files_of g = record { sample = sample_of g.sample; files = inputs_of g.files }
+
+abbrev pub call_of : Command → Call
+call_of (command.Play files) = Plays (files_of files)
+call_of (command.List files) = Lists (list_files_of files)
+call_of (command.Gen files) = Generates (gen_files_of files)
+call_of (command.Trial sample) = Tries (sample_of sample)
+
+-- ---- words
+
+-- a word names a file where it isn't empty and isn't that of standard output
+abbrev pub is_file : List ℕ → Bool
+is_file word = not (length word == 0) && not (bytes_eq word standard_output)
+
+abbrev pub are_inputs : InputFiles → Bool
+are_inputs i = is_file i.rules && is_file i.script && is_file i.capture
+
+abbrev pub are_files : PlayFiles → Bool
+are_files f = are_inputs f.inputs && is_file f.output && is_file f.ledger && is_file f.journal
+
+abbrev pub are_list_files : ListFiles → Bool
+are_list_files f = are_inputs f.inputs && is_file f.output
+
+-- three names, none of which is another
+abbrev pub are_apart : List ℕ → List ℕ → List ℕ → Bool
+are_apart a b c = not (bytes_eq a b) && not (bytes_eq a c) && not (bytes_eq b c)
+
+-- the written files have names of their own; a file that is read may be named again
+abbrev pub are_outputs_apart : PlayFiles → Bool
+are_outputs_apart f = are_apart f.output f.ledger f.journal
+
+abbrev pub are_inputs_apart : InputFiles → Bool
+are_inputs_apart i = are_apart i.rules i.script i.capture
+
+-- there are records, and no more than may be
+abbrev pub IsSample : Sample → Type 0
+IsSample s = (1 ≤ s.count) × (s.count ≤ most_records)
+
+abbrev pub IsGenAllowed : GenFiles → Type 0
+IsGenAllowed g = IsSample g.sample × (are_inputs_apart g.files ≡ true)
+
+-- what is known of the names and numbers of a command
+abbrev pub IsAllowed : Call → Type 0
+IsAllowed (Plays f) = are_outputs_apart f ≡ true
+IsAllowed (Lists f) = ⊤
+IsAllowed (Generates g) = IsGenAllowed g
+IsAllowed (Tries s) = IsSample s
+
+-- the files of a `play` command, where the arguments are one
+abbrev pub play_of : List (List ℕ) → Option PlayFiles
+play_of (verb ∷ rules ∷ script ∷ capture ∷ output ∷ ledger ∷ journal ∷ []) =
+    let f : PlayFiles =
+    record {
+      inputs = record { rules = rules; script = script; capture = capture };
+      output = output;
+      ledger = ledger;
+      journal = journal;
+    } in
+    if bytes_eq verb (codes "play") && are_files f && are_outputs_apart f then Some f else None
+play_of words = None
+
+-- the files of a `list` command
+abbrev pub list_of : List (List ℕ) → Option ListFiles
+list_of (verb ∷ rules ∷ script ∷ capture ∷ output ∷ []) =
+    let f : ListFiles =
+    record {
+      inputs = record { rules = rules; script = script; capture = capture };
+      output = output;
+    } in
+    if bytes_eq verb (codes "list") && are_list_files f then Some f else None
+list_of words = None
+
+-- the numbers that two words give
+abbrev pub sample_of_words : List ℕ → List ℕ → Option Sample
+sample_of_words number count = do
+  n ← number_of number
+  k ← count_of count
+  Some (record { number = n; count = k })
+
+-- the numbers and files of a `gen` command
+abbrev pub gen_of : List (List ℕ) → Option GenFiles
+gen_of (verb ∷ number ∷ count ∷ rules ∷ script ∷ capture ∷ []) =
+    let f : InputFiles = record { rules = rules; script = script; capture = capture } in
+    if bytes_eq verb (codes "gen") && are_inputs f && are_inputs_apart f
+    then option_map (λ (s : Sample). record { sample = s; files = f })
+    (sample_of_words number count) else None
+gen_of words = None
+
+-- the numbers of a `trial` command
+abbrev pub trial_of : List (List ℕ) → Option Sample
+trial_of (verb ∷ number ∷ count ∷ []) =
+    if bytes_eq verb (codes "trial") then sample_of_words number count else None
+trial_of words = None
+
+-- the first that is there
+abbrev pub either : {A : Type 0} → Option A → Option A → Option A
+either (Some x) other = Some x
+either None other = other
+
+-- the command that the arguments are, if any
+abbrev pub call : List (List ℕ) → Option Call
+call words =
+    either (option_map Plays (play_of words)) (either (option_map Lists (list_of words))
+    (either (option_map Generates (gen_of words)) (option_map Tries (trial_of words))))
+
+-- the same, of arguments as the program is given them, without its name
+abbrev pub call_of_words : List (String Global) → Option Call
+call_of_words words = call (map string_bytes words)
+
+-- the same, of all arguments, the program's name first; where they can't be had they are no
+-- command
+abbrev pub call_of_arguments : {E : Type 0} → Result (IntoIter (String Global) Global) E →
+    Option Call
+call_of_arguments (Ok arguments) = call_of_words (drop 1 (into_iter_items arguments))
+call_of_arguments (Err e) = None

@@ -1,0 +1,209 @@
+//! The arguments of the command line.
+
+ghost use Rattle.std.specs.Prelude.{◌≡◌, None, Some, map, MatchOption, IfSome, true};
+ghost use Rattle.std.specs.String.{string_bytes};
+ghost use Rattle.command_line.specs.Arguments as named;
+
+use crate::numerals::{count_of, number_of};
+
+/// The files that a run is made from, by the names that the arguments give them.
+#[derive(Clone, Copy, Debug, PartialEq, Eq)]
+pub struct Inputs<'a> {
+    pub rules: &'a str,
+    pub script: &'a str,
+    pub capture: &'a str,
+}
+
+/// The files that `play` reads and writes.
+#[derive(Clone, Copy, Debug, PartialEq, Eq)]
+pub struct Play<'a> {
+    pub inputs: Inputs<'a>,
+    pub output: &'a str,
+    pub ledger: &'a str,
+    pub journal: &'a str,
+}
+
+/// The files that `list` reads and writes.
+#[derive(Clone, Copy, Debug, PartialEq, Eq)]
+pub struct Listing<'a> {
+    pub inputs: Inputs<'a>,
+    pub output: &'a str,
+}
+
+/// What generated inputs are made of.
+#[derive(Clone, Copy, Debug, PartialEq, Eq)]
+pub struct Sample {
+    /// The number that seeds the generator.
+    pub number: u64,
+    /// How many records: 1 to 200,000.
+    pub count: u32,
+}
+
+/// What `gen` makes, and the files that it writes.
+#[derive(Clone, Copy, Debug, PartialEq, Eq)]
+pub struct Generation<'a> {
+    pub sample: Sample,
+    pub files: Inputs<'a>,
+}
+
+/// A command, with the names of its files and its numbers.
+#[derive(Clone, Copy, Debug, PartialEq, Eq)]
+pub enum Command<'a> {
+    Play { files: Play<'a> },
+    List { files: Listing<'a> },
+    Gen { files: Generation<'a> },
+    Trial { sample: Sample },
+}
+
+/// The command that the arguments are; `None` where they are none.
+pub fn command_of(words: &[String]) -> Option<Command<'_>>
+    ensures call { MatchOption result (named.call (map string_bytes words.now) ≡ None)
+        (λ c. named.call (map string_bytes words.now) ≡ Some (named.call_of c)) }
+    ensures allowed { IfSome result (λ c. named.IsAllowed (named.call_of c)) }
+{
+    if let Some(files) = play_of(words) {
+        return Some(Command::Play { files });
+    }
+    if let Some(files) = list_of(words) {
+        return Some(Command::List { files });
+    }
+    if let Some(files) = gen_of(words) {
+        return Some(Command::Gen { files });
+    }
+    let sample = trial_of(words)?;
+    Some(Command::Trial { sample })
+}
+
+/// The files of a `play` command; `None` where the arguments aren't one.
+fn play_of(words: &[String]) -> Option<Play<'_>>
+    ensures files { MatchOption result (named.play_of (map string_bytes words.now) ≡ None)
+        (λ p. named.play_of (map string_bytes words.now) ≡ Some (named.files_of p)) }
+    ensures apart { IfSome result (λ p. named.are_outputs_apart (named.files_of p) ≡ true) }
+{
+    let [verb, rules, script, capture, output, ledger, journal] = words else {
+        return None;
+    };
+    let play = Play {
+        inputs: Inputs {
+            rules: rules.as_str(),
+            script: script.as_str(),
+            capture: capture.as_str(),
+        },
+        output: output.as_str(),
+        ledger: ledger.as_str(),
+        journal: journal.as_str(),
+    };
+    if verb.as_str() == "play"
+        && are_files(&play)
+        && are_apart(play.output, play.ledger, play.journal)
+    {
+        Some(play)
+    } else {
+        None
+    }
+}
+
+/// The files of a `list` command.
+fn list_of(words: &[String]) -> Option<Listing<'_>>
+    ensures { MatchOption result (named.list_of (map string_bytes words.now) ≡ None)
+        (λ l. named.list_of (map string_bytes words.now) ≡ Some (named.list_files_of l)) }
+{
+    let [verb, rules, script, capture, output] = words else {
+        return None;
+    };
+    let listing = Listing {
+        inputs: Inputs {
+            rules: rules.as_str(),
+            script: script.as_str(),
+            capture: capture.as_str(),
+        },
+        output: output.as_str(),
+    };
+    if verb.as_str() == "list" && are_inputs(&listing.inputs) && is_file(listing.output) {
+        Some(listing)
+    } else {
+        None
+    }
+}
+
+/// The numbers and files of a `gen` command.
+fn gen_of(words: &[String]) -> Option<Generation<'_>>
+    ensures files { MatchOption result (named.gen_of (map string_bytes words.now) ≡ None)
+        (λ g. named.gen_of (map string_bytes words.now) ≡ Some (named.gen_files_of g)) }
+    ensures allowed { IfSome result (λ g. named.IsGenAllowed (named.gen_files_of g)) }
+{
+    let [verb, number, count, rules, script, capture] = words else {
+        return None;
+    };
+    let files = Inputs {
+        rules: rules.as_str(),
+        script: script.as_str(),
+        capture: capture.as_str(),
+    };
+    if verb.as_str() == "gen"
+        && are_inputs(&files)
+        && are_apart(files.rules, files.script, files.capture)
+    {
+        let sample = sample_of(number.as_str(), count.as_str())?;
+        Some(Generation { sample, files })
+    } else {
+        None
+    }
+}
+
+/// The numbers of a `trial` command.
+fn trial_of(words: &[String]) -> Option<Sample>
+    ensures sample { MatchOption result (named.trial_of (map string_bytes words.now) ≡ None)
+        (λ s. named.trial_of (map string_bytes words.now) ≡ Some (named.sample_of s)) }
+    ensures allowed { IfSome result (λ s. named.IsSample (named.sample_of s)) }
+{
+    let [verb, number, count] = words else {
+        return None;
+    };
+    if verb.as_str() == "trial" {
+        sample_of(number.as_str(), count.as_str())
+    } else {
+        None
+    }
+}
+
+/// The numbers that two words give.
+fn sample_of(number: &str, count: &str) -> Option<Sample>
+    ensures sample { MatchOption result (named.sample_of_words number.now count.now ≡ None)
+        (λ s. named.sample_of_words number.now count.now ≡ Some (named.sample_of s)) }
+    ensures allowed { IfSome result (λ s. named.IsSample (named.sample_of s)) }
+{
+    let number = number_of(number)?;
+    let count = count_of(count)?;
+    Some(Sample { number, count })
+}
+
+/// Whether each argument names a file.
+fn are_files(play: &Play<'_>) -> bool
+    ensures { result ≡ named.are_files (named.files_of play.now) }
+{
+    are_inputs(&play.inputs)
+        && is_file(play.output)
+        && is_file(play.ledger)
+        && is_file(play.journal)
+}
+
+fn are_inputs(inputs: &Inputs<'_>) -> bool
+    ensures { result ≡ named.are_inputs (named.inputs_of inputs.now) }
+{
+    is_file(inputs.rules) && is_file(inputs.script) && is_file(inputs.capture)
+}
+
+/// Whether none of three names is another.
+fn are_apart(first: &str, second: &str, third: &str) -> bool
+    ensures { result ≡ named.are_apart first.now second.now third.now }
+{
+    first != second && first != third && second != third
+}
+
+/// Whether an argument names a file: it isn't empty, and isn't that of standard output.
+fn is_file(word: &str) -> bool
+    ensures { result ≡ named.is_file word.now }
+{
+    !word.is_empty() && word != "-"
+}

@@ -1,0 +1,143 @@
+//! Arguments that are a command, and arguments that aren't.
+
+use crate::{Command, Generation, Inputs, Listing, Play, Sample, command_of};
+use std::alloc::{AllocError, Global};
+use std::process::Abort;
+use std::test::Fail;
+
+/// The names that the arguments of each command give its inputs.
+const INPUTS: Inputs<'static> = Inputs {
+    rules: "r",
+    script: "s",
+    capture: "c",
+};
+
+/// These words as arguments.
+fn words(alloc: Global, words: &[&str]) -> Result<Vec<String>, AllocError> {
+    let mut all = Vec::new(alloc);
+    for word in words {
+        all.push(String::from_str(alloc, word)?)?;
+    }
+    Ok(all)
+}
+
+/// Arguments are this command, or none.
+fn check(
+    rt: &impl Abort,
+    alloc: Global,
+    arguments: &[&str],
+    wanted: Option<Command<'static>>,
+) -> Result<(), AllocError> {
+    let words = words(alloc, arguments)?;
+    assert!(rt; command_of(&words) == wanted);
+    Ok(())
+}
+
+#[test]
+fn commands_are_read(rt: HostRuntime) -> Result<(), Fail> {
+    const ROWS: [(&[&str], Command<'static>); 6] = [
+        (
+            &["play", "r", "s", "c", "o", "l", "j"],
+            Command::Play {
+                files: Play {
+                    inputs: INPUTS,
+                    output: "o",
+                    ledger: "l",
+                    journal: "j",
+                },
+            },
+        ),
+        (
+            &["list", "r", "s", "c", "r"],
+            Command::List {
+                files: Listing {
+                    inputs: INPUTS,
+                    output: "r",
+                },
+            },
+        ),
+        (
+            &["gen", "0", "200000", "r", "s", "c"],
+            Command::Gen {
+                files: Generation {
+                    sample: Sample {
+                        number: 0,
+                        count: 200_000,
+                    },
+                    files: INPUTS,
+                },
+            },
+        ),
+        (
+            &["trial", "18446744073709551615", "1"],
+            Command::Trial {
+                sample: Sample {
+                    number: 18_446_744_073_709_551_615,
+                    count: 1,
+                },
+            },
+        ),
+        (
+            &["trial", "18446744073709551610", "100"],
+            Command::Trial {
+                sample: Sample {
+                    number: 18_446_744_073_709_551_610,
+                    count: 100,
+                },
+            },
+        ),
+        (
+            &["trial", "70", "9"],
+            Command::Trial {
+                sample: Sample {
+                    number: 70,
+                    count: 9,
+                },
+            },
+        ),
+    ];
+    let alloc = rt.alloc();
+    for &(arguments, command) in &ROWS {
+        check(&rt, alloc, arguments, Some(command))?;
+    }
+    Ok(())
+}
+
+#[test]
+fn other_arguments_are_no_command(rt: HostRuntime) -> Result<(), Fail> {
+    const ROWS: [&[&str]; 28] = [
+        &["play", "r", "s", "c", "o", "o", "j"],
+        &["play", "r", "s", "c", "o", "l"],
+        &["play", "r", "s", "c", "o", "l", "-"],
+        &["play", "", "s", "c", "o", "l", "j"],
+        &["list", "r", "s", "c", "o", "l", "j"],
+        &["list", "r", "s", "c"],
+        &["list", "r", "s", "c", "-"],
+        &["list", "r", "", "c", "o"],
+        &["play", "r", "s", "c", "o"],
+        &["gen", "7", "1", "r", "s", "s"],
+        &["gen", "7", "1", "r", "s", "-"],
+        &["gen", "7", "1", "r", "s"],
+        &["gen", "7", "0", "r", "s", "c"],
+        &["gen", "x", "1", "r", "s", "c"],
+        &["trial", "7", "0"],
+        &["trial", "7", "200001"],
+        &["trial", "7", "4294967297"],
+        &["trial", "7", "01"],
+        &["trial", "7", " 1"],
+        &["trial", "07", "1"],
+        &["trial", "+7", "1"],
+        &["trial", "-7", "1"],
+        &["trial", "", "1"],
+        &["trial", "18446744073709551616", "1"],
+        &["trial", "7", "1", "1"],
+        &["trial", "7"],
+        &["live", "7", "1"],
+        &[],
+    ];
+    let alloc = rt.alloc();
+    for &arguments in &ROWS {
+        check(&rt, alloc, arguments, None)?;
+    }
+    Ok(())
+}

@@ -1,0 +1,233 @@
+-- What a reader answered is what the text says, and nothing else is said of it.
+use Rattle.std.proofs.Common.{◌≡◌, ◌≤◌, ◌<◌, ◌∙◌, ℕ, List, Option, Some, None, Result, Ok, Err}
+use Rattle.std.proofs.Common.{refl, sym, ap, subst, length, arith}
+use Rattle.std.specs.Prelude.{IsSomeAnd}
+use Rattle.hook_chain.specs.declared.rule.Rule.{Rule}
+use Rattle.hook_chain.specs.Grammar as rules
+use Rattle.hook_chain.specs.RulesFile as tables
+use Rattle.inspector_script.specs.Scripts.{ScriptValue}
+use Rattle.inspector_script.specs.Grammar as script
+use Rattle.inspector_script.specs.ScriptFile as script_file
+use Rattle.text_lines.specs.declared.fault.LineFault.{LineFault}
+use Rattle.text_lines.specs.declared.fault.LineFault.TheVariants as line
+use Rattle.pcap_io.specs.declared.capture.Capture.{Capture}
+use Rattle.pcap_io.specs.declared.fault.CaptureFault.{CaptureFault}
+use Rattle.pcap_io.specs.declared.fault.CaptureFault.TheVariants as fault
+use Rattle.pcap_io.specs.Text.{IsCapture}
+use Rattle.pcap_io.specs.Reading.{IsFault, Gives}
+use Rattle.packet_entry.specs.Numbers.{most_frames}
+use Rattle.run_files.specs.Numbers.{text_limit, capture_limit}
+use Rattle.run_files.specs.declared.refusal.Limit.{Limit}
+use Rattle.run_files.specs.declared.refusal.Limit.TheVariants as limit
+use Rattle.run_files.specs.declared.refusal.Refusal.{Refusal}
+use Rattle.run_files.specs.declared.refusal.Refusal.TheVariants as refusal
+use Rattle.run_files.specs.declared.stop.Stop.{Stop}
+use Rattle.run_files.specs.declared.stop.Stop.TheVariants as stop
+use Rattle.run_files.specs.Inputs.{Saying, RulesSay, ScriptSays, CaptureSays, Said}
+use Rattle.run_files.specs.Statuses.{IfStopRefuses, of_rules, of_script, of_capture}
+
+-- ---- results that differ
+
+abbrev IsOkay : {A B : Type 0} → Result A B → Type 0
+IsOkay (Ok x) = Unit {0}
+IsOkay (Err e) = ⊥
+
+pub ok_is_no_err : {A B : Type 0} (x : A) (e : B) → Ok x ≡ Err e → ⊥
+ok_is_no_err {A} {B} x e same = subst (λ (r : Result A B). IsOkay r) same tt
+
+pub err_is_no_ok : {A B : Type 0} (e : B) (x : A) → Err e ≡ Ok x → ⊥
+err_is_no_ok e x same = ok_is_no_err x e (sym same)
+
+-- a value that is the same under one kind of error is under another
+pub same_ok : {A B : Type 0} (C : Type 0) (x y : A) → ◌≡◌ {A = Result A B} (Ok x) (Ok y) →
+    ◌≡◌ {A = Result A C} (Ok x) (Ok y)
+same_ok C x y same = let is : x ≡ y = cc in ap Ok is
+
+pub same_err : {A B : Type 0} (n m : B) → ◌≡◌ {A = Result A B} (Err n) (Err m) → n ≡ m
+same_err n m same = cc
+
+-- ---- files above their limit
+
+-- of a file that wasn't read since it is too large just that is said
+pub too_large : {V : Type 0} (Says : Saying V) (what : Limit) (most : ℕ) (file : Option (List ℕ))
+    (s : Stop) → IfStopRefuses s (λ why. why ≡ refusal.TooLarge what) →
+    IfStopRefuses s (λ why. IsSomeAnd file (λ text. most < length text)) →
+    ((text : List ℕ) → most < length text → (said : Result V Refusal) → Says text said →
+    said ≡ Err (refusal.TooLarge what)) →
+    (said : Result V Refusal) → Said Says file said → IfStopRefuses s (λ why. said ≡ Err why)
+too_large Says what most (Some text) (stop.Refused why) is large only said says =
+    only text large said says ∙ ap Err (sym is)
+too_large Says what most None (stop.Refused why) is large only said says = absurd large
+too_large Says what most file stop.ReadFault is large only said says = tt
+too_large Says what most file stop.WriteFault is large only said says = tt
+too_large Says what most file stop.NoMemory is large only said says = tt
+
+-- ---- rules
+
+pub rules_taken : (text : List ℕ) (taken : List (List Rule)) → length text ≤ text_limit →
+    ((t : List (List Rule)) → rules.IsRulesFile text t → tables.Answers (Ok taken) (Ok t)) →
+    ((line : ℕ) → rules.IsFirstRefused text line → tables.Answers (Ok taken) (Err line)) →
+    (said : Result (List (List Rule)) Refusal) → RulesSay text said → said ≡ Ok taken
+rules_taken text taken small only stuck (Ok t) says =
+    same_ok Refusal t taken (only t says.1)
+rules_taken text taken small only stuck (Err (refusal.Rules n)) says =
+    absurd (err_is_no_ok n taken (stuck n says.1))
+rules_taken text taken small only stuck (Err (refusal.TooLarge limit.Rules)) says =
+    absurd (omega (arith, small, says))
+rules_taken text taken small only stuck (Err (refusal.TooLarge limit.Script)) says = absurd says
+rules_taken text taken small only stuck (Err (refusal.TooLarge limit.Capture)) says = absurd says
+rules_taken text taken small only stuck (Err (refusal.TooLarge limit.Records)) says = absurd says
+rules_taken text taken small only stuck (Err (refusal.Script n)) says = absurd says
+rules_taken text taken small only stuck (Err (refusal.Capture f)) says = absurd says
+
+pub rules_refused : (text : List ℕ) (why : LineFault) → length text ≤ text_limit →
+    ((t : List (List Rule)) → rules.IsRulesFile text t → tables.Answers (Err why) (Ok t)) →
+    ((line : ℕ) → rules.IsFirstRefused text line → tables.Answers (Err why) (Err line)) →
+    (said : Result (List (List Rule)) Refusal) → RulesSay text said →
+    IfStopRefuses (of_rules why) (λ w. said ≡ Err w)
+rules_refused text line.NoMemory small only stuck said says = tt
+rules_refused text (line.Bad number) small only stuck (Ok t) says =
+    absurd (ok_is_no_err t number (only t says.1))
+rules_refused text (line.Bad number) small only stuck (Err (refusal.Rules n)) says =
+    ap (λ (m : ℕ). Err (refusal.Rules m))
+    (same_err {A = List (List Rule)} n number (stuck n says.1))
+rules_refused text (line.Bad number) small only stuck (Err (refusal.TooLarge limit.Rules)) says =
+    absurd (omega (arith, small, says))
+rules_refused text (line.Bad number) small only stuck (Err (refusal.TooLarge limit.Script)) says =
+    absurd says
+rules_refused text (line.Bad number) small only stuck (Err (refusal.TooLarge limit.Capture)) says =
+    absurd says
+rules_refused text (line.Bad number) small only stuck (Err (refusal.TooLarge limit.Records)) says =
+    absurd says
+rules_refused text (line.Bad number) small only stuck (Err (refusal.Script n)) says = absurd says
+rules_refused text (line.Bad number) small only stuck (Err (refusal.Capture f)) says = absurd says
+
+-- ---- scripts
+
+pub script_taken : (text : List ℕ) (taken : ScriptValue) → length text ≤ text_limit →
+    ((t : ScriptValue) → script.IsScriptFile text t → script_file.Answers (Ok taken) (Ok t)) →
+    ((line : ℕ) → script.IsFirstRefused text line → script_file.Answers (Ok taken) (Err line)) →
+    (said : Result ScriptValue Refusal) → ScriptSays text said → said ≡ Ok taken
+script_taken text taken small only stuck (Ok t) says =
+    same_ok Refusal t taken (only t says.1)
+script_taken text taken small only stuck (Err (refusal.Script n)) says =
+    absurd (err_is_no_ok n taken (stuck n says.1))
+script_taken text taken small only stuck (Err (refusal.TooLarge limit.Script)) says =
+    absurd (omega (arith, small, says))
+script_taken text taken small only stuck (Err (refusal.TooLarge limit.Rules)) says = absurd says
+script_taken text taken small only stuck (Err (refusal.TooLarge limit.Capture)) says = absurd says
+script_taken text taken small only stuck (Err (refusal.TooLarge limit.Records)) says = absurd says
+script_taken text taken small only stuck (Err (refusal.Rules n)) says = absurd says
+script_taken text taken small only stuck (Err (refusal.Capture f)) says = absurd says
+
+pub script_refused : (text : List ℕ) (why : LineFault) → length text ≤ text_limit →
+    ((t : ScriptValue) → script.IsScriptFile text t → script_file.Answers (Err why) (Ok t)) →
+    ((line : ℕ) → script.IsFirstRefused text line → script_file.Answers (Err why) (Err line)) →
+    (said : Result ScriptValue Refusal) → ScriptSays text said →
+    IfStopRefuses (of_script why) (λ w. said ≡ Err w)
+script_refused text line.NoMemory small only stuck said says = tt
+script_refused text (line.Bad number) small only stuck (Ok t) says =
+    absurd (ok_is_no_err t number (only t says.1))
+script_refused text (line.Bad number) small only stuck (Err (refusal.Script n)) says =
+    ap (λ (m : ℕ). Err (refusal.Script m)) (same_err {A = ScriptValue} n number (stuck n says.1))
+script_refused text (line.Bad number) small only stuck (Err (refusal.TooLarge limit.Script)) says =
+    absurd (omega (arith, small, says))
+script_refused text (line.Bad number) small only stuck (Err (refusal.TooLarge limit.Rules)) says =
+    absurd says
+script_refused text (line.Bad number) small only stuck (Err (refusal.TooLarge limit.Capture)) says =
+    absurd says
+script_refused text (line.Bad number) small only stuck (Err (refusal.TooLarge limit.Records)) says =
+    absurd says
+script_refused text (line.Bad number) small only stuck (Err (refusal.Rules n)) says = absurd says
+script_refused text (line.Bad number) small only stuck (Err (refusal.Capture f)) says = absurd says
+
+-- ---- captures
+
+-- what is read of a file that is a capture
+read_as : (text : List ℕ) (taken c : Capture) →
+    ((d : Capture) → IsCapture text d → Gives (Ok taken) (Ok d)) → IsCapture text c → c ≡ taken
+read_as text taken c only is = let same = only c is in cc
+
+no_fault : (text : List ℕ) (taken : Capture) (f : CaptureFault) →
+    ((e : CaptureFault) → IsFault text e → Gives (Ok taken) (Err e)) → IsFault text f → ⊥
+no_fault text taken f exact is = err_is_no_ok f taken (exact f is)
+
+pub capture_taken : (text : List ℕ) (taken : Capture) → length text ≤ capture_limit →
+    length taken.frames ≤ most_frames →
+    ((d : Capture) → IsCapture text d → Gives (Ok taken) (Ok d)) →
+    ((e : CaptureFault) → IsFault text e → Gives (Ok taken) (Err e)) →
+    (said : Result Capture Refusal) → CaptureSays text said → said ≡ Ok taken
+capture_taken text taken small few only exact (Ok c) says = ap Ok (read_as text taken c only says.1)
+capture_taken text taken small few only exact (Err (refusal.Capture f)) says =
+    absurd (no_fault text taken f exact says.1)
+capture_taken text taken small few only exact (Err (refusal.TooLarge limit.Capture)) says =
+    absurd (omega (arith, small, says))
+capture_taken text taken small few only exact (Err (refusal.TooLarge limit.Records)) says =
+    let same = read_as text taken says.1.capture only says.1.file in
+    let many = subst (λ (c : Capture). most_frames < length c.frames) same says.1.many in
+    absurd (omega (arith, few, many))
+capture_taken text taken small few only exact (Err (refusal.TooLarge limit.Rules)) says =
+    absurd says
+capture_taken text taken small few only exact (Err (refusal.TooLarge limit.Script)) says =
+    absurd says
+capture_taken text taken small few only exact (Err (refusal.Rules n)) says = absurd says
+capture_taken text taken small few only exact (Err (refusal.Script n)) says = absurd says
+
+pub many_frames : (text : List ℕ) (taken : Capture) → length text ≤ capture_limit →
+    (length taken.frames ≤ most_frames → ⊥) →
+    ((d : Capture) → IsCapture text d → Gives (Ok taken) (Ok d)) →
+    ((e : CaptureFault) → IsFault text e → Gives (Ok taken) (Err e)) →
+    (said : Result Capture Refusal) → CaptureSays text said →
+    said ≡ Err (refusal.TooLarge limit.Records)
+many_frames text taken small many only exact (Ok c) says =
+    let same = read_as text taken c only says.1 in
+    absurd (many (subst (λ (d : Capture). length d.frames ≤ most_frames) same says.2))
+many_frames text taken small many only exact (Err (refusal.Capture f)) says =
+    absurd (no_fault text taken f exact says.1)
+many_frames text taken small many only exact (Err (refusal.TooLarge limit.Capture)) says =
+    absurd (omega (arith, small, says))
+many_frames text taken small many only exact (Err (refusal.TooLarge limit.Records)) says = refl
+many_frames text taken small many only exact (Err (refusal.TooLarge limit.Rules)) says = absurd says
+many_frames text taken small many only exact (Err (refusal.TooLarge limit.Script)) says =
+    absurd says
+many_frames text taken small many only exact (Err (refusal.Rules n)) says = absurd says
+many_frames text taken small many only exact (Err (refusal.Script n)) says = absurd says
+
+-- a fault that was answered is the file's, and the file is no capture
+fault_answered : (text : List ℕ) (why : CaptureFault) → length text ≤ capture_limit →
+    ((d : Capture) → IsCapture text d → ◌≡◌ {A = Result Capture CaptureFault} (Ok d) (Err why)) →
+    ((e : CaptureFault) → IsFault text e →
+    ◌≡◌ {A = Result Capture CaptureFault} (Err e) (Err why)) →
+    (said : Result Capture Refusal) → CaptureSays text said → said ≡ Err (refusal.Capture why)
+fault_answered text why small only exact (Ok c) says =
+    absurd (ok_is_no_err c why (only c says.1))
+fault_answered text why small only exact (Err (refusal.Capture f)) says =
+    ap (λ (x : CaptureFault). Err (refusal.Capture x))
+    (same_err {A = Capture} f why (exact f says.1))
+fault_answered text why small only exact (Err (refusal.TooLarge limit.Capture)) says =
+    absurd (omega (arith, small, says))
+fault_answered text why small only exact (Err (refusal.TooLarge limit.Records)) says =
+    absurd (ok_is_no_err says.1.capture why (only says.1.capture says.1.file))
+fault_answered text why small only exact (Err (refusal.TooLarge limit.Rules)) says = absurd says
+fault_answered text why small only exact (Err (refusal.TooLarge limit.Script)) says = absurd says
+fault_answered text why small only exact (Err (refusal.Rules n)) says = absurd says
+fault_answered text why small only exact (Err (refusal.Script n)) says = absurd says
+
+pub capture_refused : (text : List ℕ) (why : CaptureFault) → length text ≤ capture_limit →
+    ((d : Capture) → IsCapture text d → Gives {A = Capture} (Err why) (Ok d)) →
+    ((e : CaptureFault) → IsFault text e → Gives {A = Capture} (Err why) (Err e)) →
+    (said : Result Capture Refusal) → CaptureSays text said →
+    IfStopRefuses (of_capture why) (λ w. said ≡ Err w)
+capture_refused text fault.NoMemory small only exact said says = tt
+capture_refused text fault.Magic small only exact said says =
+    fault_answered text fault.Magic small only exact said says
+capture_refused text fault.Pcapng small only exact said says =
+    fault_answered text fault.Pcapng small only exact said says
+capture_refused text fault.Version small only exact said says =
+    fault_answered text fault.Version small only exact said says
+capture_refused text (fault.LinkType link) small only exact said says =
+    fault_answered text (fault.LinkType link) small only exact said says
+capture_refused text (fault.Cut frame at) small only exact said says =
+    fault_answered text (fault.Cut frame at) small only exact said says
+capture_refused text (fault.TooLong frame length) small only exact said says =
+    fault_answered text (fault.TooLong frame length) small only exact said says

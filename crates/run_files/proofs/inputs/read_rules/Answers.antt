@@ -1,0 +1,21 @@
+use Rattle.std.proofs.Common.{List, ℕ, Option, subst, sym}
+use Rattle.run_files.specs.Inputs.{RulesSay, Said}
+use Rattle.run_files.proofs.Saying.{rules_taken, rules_refused}
+use Rattle.run_files.proofs.inputs.read_rules.Goals as goal
+
+pub returns-in-Ok-clause-only : goal.returns-in-Ok-clause-only
+returns-in-Ok-clause-only g c = λ said t says.
+    rules_taken c.in_ok-bytes.bytes.items c.in-Ok.tables c.in_ok-bytes.ensures.within
+    (rw (sym c.deref.ensures.value) c.in-Ok.ensures.only)
+    (rw (sym c.deref.ensures.value) c.in-Ok.ensures.stuck) said
+    (subst (λ (file : Option (List ℕ)). Said RulesSay file said) (c.in_ok-bytes.ensures.bytes t)
+    says)
+
+pub returns-clause-only : goal.returns-clause-only
+returns-clause-only g c = λ said t says.
+    rw c.of_rules.ensures
+    (rules_refused c.in_ok-bytes.bytes.items c.in-Err.fault c.in_ok-bytes.ensures.within
+    (rw (sym c.deref.ensures.value) c.in-Err.ensures.only)
+    (rw (sym c.deref.ensures.value) c.in-Err.ensures.stuck) said
+    (subst (λ (file : Option (List ℕ)). Said RulesSay file said) (c.in_ok-bytes.ensures.bytes t)
+    says))

@@ -1,0 +1,29 @@
+//! The files of a run: its inputs are read whole and tested, in the order rules, script, capture,
+//! and its outputs are written, the long ones part by part.
+//!
+//! [`read_inputs`] answers what a run is made from, or a [`Stop`]: why the command ends before its
+//! end, with its exit status ([`status`]). A [`Refusal`] has the line that is printed of it.
+//! [`outputs_of`] takes all memory that the writing of the outputs wants, so that none is taken once
+//! a file has been opened.
+#![tactic(auto)]
+
+mod capture_file;
+mod inputs;
+mod journal_file;
+mod outputs;
+mod part_writing;
+mod printing;
+mod refusal;
+pub mod status;
+mod stop;
+
+pub use capture_file::CaptureFile;
+pub use inputs::{Made, read_inputs};
+pub use journal_file::JournalFile;
+pub use outputs::{Outputs, outputs_of};
+pub use printing::{STANDARD_OUTPUT, print, print_usage};
+pub use refusal::{Limit, Refusal};
+pub use stop::Stop;
+
+#[cfg(test)]
+mod tests;

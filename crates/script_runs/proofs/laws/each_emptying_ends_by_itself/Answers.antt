@@ -1,0 +1,10 @@
+use Rattle.script_runs.proofs.Rounds.{emptyings_end}
+use Rattle.script_runs.proofs.laws.each_emptying_ends_by_itself.Goals as goal
+
+pub returns : goal.returns
+returns c = λ script tables capture is.
+    emptyings_end (record {
+      entries = c.a_closed_port_has_no_queues.ensures.entries;
+      none = c.a_closed_port_has_no_queues.ensures.none;
+    }) c.each_packet_stays_or_leaves.ensures c.what_goes_on_is_in_time.ensures.arrival script tables
+    capture is.ports_differ

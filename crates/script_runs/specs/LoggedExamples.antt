@@ -1,0 +1,44 @@
+-- Scripts of one port that sends something, written out, for what its log may be and may not.
+use Rattle.std.specs.Prelude.{ℕ, false, List, [], ◌∷◌}
+use Rattle.netlink_codec.specs.Messages.{NetlinkMessage}
+use Rattle.histories.specs.declared.log.AskWords.TheVariants.{Raw}
+use Rattle.histories.specs.declared.histories.Histories.{Histories}
+use Rattle.inspector_script.specs.Scripts.{ScriptValue, held}
+
+-- a netlink message without a body, of this kind, which asks nothing of a queue: its length, its
+-- kind, and no flags, number or port
+abbrev pub header : ℕ → List ℕ
+header kind =
+    16 ∷ 0 ∷ 0 ∷ 0 ∷ kind ∷ 0 ∷ 0 ∷ 0 ∷ 0 ∷ 0 ∷ 0 ∷ 0 ∷ 0 ∷ 0 ∷ 0 ∷ 0 ∷ []
+
+abbrev pub message : ℕ → NetlinkMessage
+message kind = record {
+  kind = kind;
+  flags = 0;
+  sequence = 0;
+  port = 0;
+  body = [];
+  whole = header kind;
+}
+
+-- port 7 opens with message 1, answers no notice, and stays open
+abbrev pub opening_script : ScriptValue
+opening_script =
+    held 1 0 0 [] (7 ∷ [])
+    (record { opening = Raw (header 1) ∷ []; lines = []; closing = []; closes = false } ∷ [])
+
+-- port 7 opens without a message, answers no notice, sends messages 1 and 2 at its end, and stays
+-- open
+abbrev pub ending_script : ScriptValue
+ending_script =
+    held 1 0 0 [] (7 ∷ [])
+    (record {
+      opening = [];
+      lines = [];
+      closing = Raw (header 1) ∷ Raw (header 2) ∷ [];
+      closes = false;
+    } ∷ [])
+
+-- histories without a log
+abbrev pub no_logs : Histories
+no_logs = record { entries = []; logs = []; lost = [] }
