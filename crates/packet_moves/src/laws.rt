@@ -24,9 +24,9 @@ ghost use Rattle.packet_moves.specs.Messages.{Sends, words_of};
 ghost use Rattle.packet_moves.specs.HandedOn.{AreInTime, LeavesAlone, WaitInTime, is_out_of_time};
 ghost use Rattle.packet_moves.specs.Soundness.{IsSound};
 
+use histories::{a_legal_history_goes_on, an_entry_is_a_move, soundness_is_kept_move_by_move};
 use netlink_codec::one_message_in_front;
 use nfqa_msgs::spelling_decodes_to_its_request;
-use histories::{a_legal_history_goes_on, an_entry_is_a_move, soundness_is_kept_move_by_move};
 use queue_core::{each_packet_stays_or_leaves, what_is_flushed_is_destroyed};
 
 /// The histories of a plane stay sound for the packets that were fed and those that were lost, and

@@ -7,9 +7,9 @@ ghost use Rattle.nfqa_msgs.specs.RequestWriting.{spelling};
 ghost use Rattle.histories.specs.Happenings.{queue_of};
 ghost use Rattle.packet_moves.specs.Messages.{words_of};
 
+use histories::AskWords;
 use nfqa_msgs::{Decoded, Request, encode_request};
 use packet_entry::{Bytes, NoMemory};
-use histories::AskWords;
 use std::alloc::Global;
 
 /// A message as it is logged: in words where it is the one spelling of what it asks, and else as

@@ -3,4 +3,4 @@ pub mod PlaceState
 pub mod Calls
 pub mod Changes
 pub mod PlaceInvariant
-pub mod Lines
+pub mod Asking

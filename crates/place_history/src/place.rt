@@ -21,7 +21,6 @@ mod arrivals;
 mod bound;
 mod endings;
 mod held;
-mod lines;
 mod listing;
 mod requests;
 

@@ -8,4 +8,5 @@ pub mod Step
 pub mod WithOffer
 pub mod Calls
 pub mod Laws
+pub mod Lines
 pub mod Place

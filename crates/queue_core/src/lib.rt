@@ -10,6 +10,7 @@ mod event;
 mod handed;
 mod ids;
 mod laws;
+mod lines;
 mod offers;
 mod queue;
 
@@ -22,6 +23,7 @@ pub use laws::{
     public_numbers, replies_tell_how_many_left, room_matters_where_a_notice_is_offered,
     share_is_the_longest, share_of_ascending_ids, what_is_flushed_is_destroyed,
 };
+pub use lines::{ConfigLine, config_line, ruling};
 pub use offers::{Begun, NoRoom, Outcome, Settled};
 pub use queue::{DEFAULT_MAXIMUM, Queue};
 

@@ -14,9 +14,8 @@ ghost use Rattle.place_history.specs.PlaceInvariant.{IsReplayed, HasRoom, as_arr
 use super::bound;
 use super::held::{Held, Offer, append, note};
 use histories::Entry;
-use queue_core::{Event, Reply};
 use packet_entry::{MAX_VISITS, Packet};
-use queue_core::{Begun, NoRoom, Outcome, Settled};
+use queue_core::{Begun, Event, NoRoom, Outcome, Reply, Settled};
 use std::alloc::Global;
 
 /// What becomes of an arrival whose queue isn't asked.

@@ -13,20 +13,21 @@ ghost use Rattle.queue_core.specs.Step.{step, way_of};
 ghost use Rattle.histories.specs.States.{state_of};
 ghost use Rattle.place_history.specs.Changes.{queue_at, Changes, AreSame};
 ghost use Rattle.histories.specs.Happenings.{handed_of, all_handed};
-ghost use Rattle.place_history.specs.declared.place.lines.ConfigLine.TheVariants as line;
-ghost use Rattle.place_history.specs.Lines.{IsConfigLine, IsAllowed, asked, config_event};
+ghost use Rattle.queue_core.specs.declared.lines.ConfigLine.TheVariants as line;
+ghost use Rattle.queue_core.specs.Lines.{IsConfigLine, IsAllowed};
+ghost use Rattle.place_history.specs.Asking.{asked, config_event};
 ghost use Rattle.place_history.specs.PlaceInvariant.{IsReplayed, HasRoom, Enters, HandsOut};
 
 use super::bound;
 use super::bound::Queues;
 use super::held::{Held, append, note, port_of};
-use super::lines::{ConfigLine, config_line, ruling};
 use histories::Entry;
-use queue_core::{Event, Reply};
 use hook_chain::Decision;
 use nfqa_msgs::{Head, Params, Request, share_payload};
 use packet_entry::{Bytes, NoMemory, Packet};
-use queue_core::{DROP, ENOENT, Handed, Queue, VERDICT_MASK};
+use queue_core::{
+    ConfigLine, DROP, ENOENT, Event, Handed, Queue, Reply, VERDICT_MASK, config_line, ruling,
+};
 use std::alloc::Global;
 
 /// Who asks, and at which queue: a port, by the message with this number among its messages.

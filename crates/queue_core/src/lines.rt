@@ -7,10 +7,11 @@ ghost use Rattle.queue_core.specs.State.{Bound};
 ghost use Rattle.queue_core.specs.Decision as decision;
 ghost use Rattle.nfqa_msgs.specs.Numbers.{command_pf_bind, command_pf_unbind};
 ghost use Rattle.queue_core.specs.Step.{config, unchanged, are_flags_refused, is_command};
-ghost use Rattle.place_history.specs.Lines.{IsConfigLine, IsAllowed, IsRefused};
+ghost use Rattle.queue_core.specs.Lines.{IsConfigLine, IsAllowed, IsRefused};
 
+use crate::decision::{STOLEN, STOP, VERDICT_MASK};
+use crate::errno::{EBUSY, ENODEV, EPERM};
 use nfqa_msgs::{BIND, EINVAL, EOPNOTSUPP, Head, PF_BIND, PF_UNBIND, UNBIND};
-use queue_core::{EBUSY, ENODEV, EPERM, STOLEN, STOP, VERDICT_MASK};
 
 /// The flags of a config request from this one on are unknown. (`NFQA_CFG_F_MAX`)
 const FIRST_UNKNOWN_FLAG: u32 = 32;
@@ -19,7 +20,7 @@ const FIRST_UNKNOWN_FLAG: u32 = 32;
 const REFUSED_FLAGS: u32 = 2 | 16;
 
 /// What a config request comes to.
-pub(super) enum ConfigLine {
+pub enum ConfigLine {
     /// It is answered, and changes nothing.
     Answered { errno: u16 },
     /// The queue ends, with all that waits in it destroyed.
@@ -32,7 +33,7 @@ pub(super) enum ConfigLine {
 
 /// The first line of a config request's table that applies. `bound` is the port that the queue is
 /// bound to, `None` where the queue is absent; `port` is the one that asks.
-pub(super) fn config_line(
+pub fn config_line(
     bound: Option<u32>,
     port: u32,
     command: Option<u8>,
@@ -107,7 +108,7 @@ fn refused_flags(flags: Option<u32>, mask: Option<u32>) -> Option<u16>
 /// Whether a verdict or a batch is carried out: allowed with this header, or refused with this
 /// error. `bound` is the port that the queue is bound to, `None` where the queue is absent; `port`
 /// is the one that asks.
-pub(super) fn ruling(bound: Option<u32>, port: u32, head: Option<Head>) -> Result<Head, u16>
+pub fn ruling(bound: Option<u32>, port: u32, head: Option<Head>) -> Result<Head, u16>
     ensures allowed { IfOk result (λ allowed. (q : Option Bound) →
         option_map (λ (b : Bound). b.port) q ≡ bound → IsAllowed q port head allowed) }
     ensures refused { IfErr result (λ errno. (q : Option Bound) →

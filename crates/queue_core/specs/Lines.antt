@@ -5,30 +5,8 @@ use Rattle.queue_core.specs.Decision.{IsVerdict}
 use Rattle.queue_core.specs.State.{Bound, bound_to}
 use Rattle.queue_core.specs.Step.{ConfigAsk, config, unchanged, ended, set_up, are_flags_refused}
 use Rattle.queue_core.specs.Step.{refusal, Refused}
-use Rattle.nfqa_msgs.specs.declared.request.Request.TheVariants.{Config}
-use Rattle.queue_core.specs.declared.event.Event.{Event}
-use Rattle.queue_core.specs.declared.event.Event.TheVariants.{Ask}
-use Rattle.place_history.specs.declared.place.requests.Asker.{Asker}
-use Rattle.place_history.specs.declared.place.requests.ConfigRequest.{ConfigRequest}
-use Rattle.place_history.specs.declared.place.lines.ConfigLine.{ConfigLine}
-use Rattle.place_history.specs.declared.place.lines.ConfigLine.TheVariants as line
-
--- what a config request asks for
-abbrev pub asked : ConfigRequest → ConfigAsk
-asked ask =
-    record {
-      command = ask.command;
-      params = ask.params;
-      maximum = ask.maxlen;
-      flags = ask.flags;
-      mask = ask.mask;
-    }
-
--- its event
-abbrev pub config_event : Asker → ConfigRequest → Event
-config_event asker ask =
-    Ask asker.port asker.call
-    (Config asker.queue ask.command ask.params ask.maxlen ask.flags ask.mask)
+use Rattle.queue_core.specs.declared.lines.ConfigLine.{ConfigLine}
+use Rattle.queue_core.specs.declared.lines.ConfigLine.TheVariants as line
 
 -- what a config request does, by its line
 abbrev pub IsConfigLine : ConfigLine → Option Bound → ℕ → ConfigAsk → Type 0
