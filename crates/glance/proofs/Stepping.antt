@@ -13,14 +13,14 @@ use Rattle.glance.specs.declared.view.Reading.{Reading}
 use Rattle.glance.specs.declared.view.View.{View}
 use Rattle.glance.specs.Words.{totals_of}
 use Rattle.glance.specs.Views as views
-use Rattle.glance.specs.Views.{last_of, latest, NeverDescend, ReadOff, readings_of}
+use Rattle.glance.specs.Views.{latest, NeverDescend, readings_of, shown_of, AreBeginnings}
 use Rattle.glance.specs.Rule.{Fits, Shows, first_view, maker_view, writer_view, reader_view}
 use Rattle.glance.specs.Rule.{published_view, read_view, told_view, clear_view}
 use Rattle.glance.specs.Rule.{Publishes, Reads, Compares}
 use Rattle.glance.proofs.Seats.{at_number, at_same, at_other, each_set, each_new, each_joined}
 use Rattle.glance.proofs.Seats.{was_there}
-use Rattle.glance.proofs.Reading.{read_off_longer, read_last, read_rise, rise_longer, last_longer}
-use Rattle.glance.proofs.Reading.{one_more, none_more}
+use Rattle.glance.proofs.Reading.{read_rise, rise_longer, last_longer, one_more, none_more, reading}
+use Rattle.glance.proofs.Reading.{grown_longer, grown_more, read_off_beginnings}
 
 -- words that all are 0, and the first seat
 pub opens : (places : ℕ) (ws : List ℕ) → length ws ≡ places → ((k : ℕ) → get_or ws k 0 ≡ 0)
@@ -38,7 +38,7 @@ opens places ws sized zeros = record {
       (record {
         makes = λ _. (refl, refl);
         writes = λ h. absurd (true≢false (sym h));
-        reads = λ _. tt;
+        reads = λ _. ([], refl);
       });
 }
 
@@ -83,21 +83,21 @@ makes_writer places id v makes writes s r at =
               omega arith,
               sym (r.unmade v.place (omega arith)),
             );
-            reads = λ _. tt;
+            reads = λ j. (r.published j, refl);
           });
     }
 
--- what was read of any place, once totals more are published for the place k
-reads_longer : (published : ℕ → List Totals) (k j : ℕ) (t : Totals) (rs : List Totals)
-    → ReadOff (views.opening ∷ published j) rs
-    → ReadOff (views.opening ∷ at_number k (published k ++ t ∷ []) published j) rs
-reads_longer published k j t rs h =
+-- what is known of any place, once totals more are published for the place k
+reads_longer : (published : ℕ → List Totals) (k j : ℕ) (t : Totals) (lists : List (List Totals))
+    → AreBeginnings lists (published j)
+    → AreBeginnings lists (at_number k (published k ++ t ∷ []) published j)
+reads_longer published k j t lists h =
     dite (ℕ_discrete j k)
-    (λ e. subst (λ (ps : List Totals). ReadOff (views.opening ∷ ps) rs)
+    (λ e. subst (AreBeginnings lists)
     (sym (at_same k j (published k ++ t ∷ []) published e))
-    (read_off_longer (views.opening ∷ published k) t rs
-    (subst (λ i. ReadOff (views.opening ∷ published i) rs) e h)))
-    (λ ne. subst (λ (ps : List Totals). ReadOff (views.opening ∷ ps) rs)
+    (grown_longer (published k) [] lists t
+    (subst (λ i. AreBeginnings lists (published i)) e h)))
+    (λ ne. subst (AreBeginnings lists)
     (sym (at_other k j (published k ++ t ∷ []) published ne)) h)
 
 -- a Writer publishes
@@ -146,7 +146,7 @@ publishes places slots id m k n writes place below later s r _ at _ =
                 ap (λ (ps : List Totals). ps ++ t ∷ []) same
                     ∙ sym (at_same k m.0.place list r.published place),
               );
-              reads = λ j. reads_longer r.published k j t (readings_of j m.0.readings) (f.reads j);
+              reads = λ j. reads_longer r.published k j t (shown_of j m.0.readings) (f.reads j);
             })
             (λ i u ne at_u. let g = r.each i u at_u in record {
               makes = g.makes;
@@ -156,7 +156,7 @@ publishes places slots id m k n writes place below later s r _ at _ =
                 p.2 ∙ sym (at_other k u.place list r.published
                     (λ e. ne (sym p.0 ∙ ap r.writer (e ∙ sym place) ∙ own.0))),
               );
-              reads = λ j. reads_longer r.published k j t (readings_of j u.readings) (g.reads j);
+              reads = λ j. reads_longer r.published k j t (shown_of j u.readings) (g.reads j);
             });
       },
       refl,
@@ -179,39 +179,43 @@ looked places s r id k cs w fits =
           (λ i u ne at_u. r.each i u at_u);
     }
 
--- what was read of any place, once the place k is read
-reads_one : (published : ℕ → List Totals) (k j : ℕ) (t : Totals) (rs : List Reading)
-    → t ≡ latest (published k) → ReadOff (views.opening ∷ published j) (readings_of j rs)
-    → ReadOff (views.opening ∷ published j)
-    (readings_of j (rs ++ record { place = k; totals = t } ∷ []))
-reads_one published k j t rs is h =
+-- what is known of any place, once the place k is read
+reads_one : (published : ℕ → List Totals) (k j : ℕ) (rs : List Reading)
+    → AreBeginnings (shown_of j rs) (published j)
+    → AreBeginnings (shown_of j (rs ++ reading k (published k) ∷ [])) (published j)
+reads_one published k j rs h =
     dite (ℕ_discrete k j)
-    (λ e. subst (ReadOff (views.opening ∷ published j)) (sym (one_more j rs k t e
-    ∙ ap (λ (l : Totals). readings_of j rs ++ l ∷ []) (is ∙ ap (λ i. latest (published i)) e)))
-    (read_last views.opening (published j) (readings_of j rs) h))
-    (λ ne. subst (ReadOff (views.opening ∷ published j)) (sym (none_more j rs k t ne)) h)
+    (λ e. subst (λ (lists : List (List Totals)). AreBeginnings lists (published j))
+    (sym (one_more j rs k (published k) e
+    ∙ ap (λ i. shown_of j rs ++ published i ∷ []) e))
+    (grown_more (published j) [] (shown_of j rs) h))
+    (λ ne. subst (λ (lists : List (List Totals)). AreBeginnings lists (published j))
+    (sym (none_more j rs k (published k) ne)) h)
 
 -- a place is read
 pub reads : (places slots id : ℕ) (m : Me ℕ View) (k : ℕ)
     → Allows (Shows places) slots id m k (λ n. n) (Reads (step slots k 0 0 none) m)
 reads places slots id m k s r _ at _ =
-    let t : Totals = totals_of (get_or s.words k 0) in
-    let w : View = read_view m.0 k t in
+    let w : View = read_view m.0 k (r.published k) in
     let f = r.each id m.0 at in
     let fits : Fits r.published r.writer r.made id w = record {
       makes = f.makes;
       writes = f.writes;
-      reads = λ j. reads_one r.published k j t m.0.readings (r.shown k) (f.reads j);
+      reads = λ j. reads_one r.published k j m.0.readings (f.reads j);
     } in (
       w,
       keeps,
       tt,
       looked places s r id k m.1 w fits,
-      (
-        refl,
-        read_rise 0 (views.opening ∷ r.published k) (readings_of k w.readings)
-            (le_refl 0, r.rise k) (fits.reads k),
-      ),
+      record {
+        published = r.published k;
+        read = refl;
+        last = r.shown k;
+        grows = f.reads k;
+        rise = read_rise 0 (views.opening ∷ r.published k) (readings_of k w.readings)
+            (le_refl 0, r.rise k)
+            (read_off_beginnings (r.published k) (shown_of k w.readings) (fits.reads k));
+      },
     )
 
 -- a note is cut off
@@ -255,7 +259,7 @@ takes_note places id other v w s r at ne at_o =
           (record {
             makes = λ h. absurd (true≢false (sym h));
             writes = λ h. absurd (true≢false (sym h));
-            reads = λ _. tt;
+            reads = λ j. (r.published j, refl);
           })
           (λ i u ne_id ne_o at_u. r.each i u at_u);
     }
@@ -265,16 +269,18 @@ pub compares : (places slots id : ℕ) (m : Me ℕ View) (k : ℕ) → m.0.write
     → Allows (Shows places) slots id m k (λ n. n) (Compares (step slots k 0 0 none) m)
 compares places slots id m k writes s r _ at _ =
     let f = r.each id m.0 at in
-    let own = f.writes writes in (
+    let own = f.writes writes in
+    let lists : List (List Totals) = shown_of m.0.place m.0.readings in
+    let shown : AreBeginnings lists m.0.published =
+    subst (AreBeginnings lists) (sym own.2) (f.reads m.0.place) in (
       clear_view m.0,
       keeps,
       tt,
       looked places s r id k m.1 (clear_view m.0)
-          (record { makes = f.makes; writes = f.writes; reads = λ _. tt }),
-      (
-        refl,
-        subst (λ (ps : List Totals).
-            ReadOff (views.opening ∷ ps) (readings_of m.0.place m.0.readings)) (sym own.2)
-            (f.reads m.0.place),
-      ),
+          (record { makes = f.makes; writes = f.writes; reads = λ j. (r.published j, refl) }),
+      record {
+        clear = refl;
+        shown = shown;
+        read_off = read_off_beginnings m.0.published lists shown;
+      },
     )

@@ -9,7 +9,8 @@ use Rattle.glance.specs.declared.totals.Totals.{Totals}
 use Rattle.glance.specs.declared.view.Reading.{Reading}
 use Rattle.glance.specs.declared.view.View.{View}
 use Rattle.glance.specs.Words.{totals_of}
-use Rattle.glance.specs.Views.{opening, latest, NeverDescend, ReadOff, readings_of}
+use Rattle.glance.specs.Views.{opening, latest, NeverDescend, ReadOff, readings_of, shown_of}
+use Rattle.glance.specs.Views.{AreBeginnings}
 
 -- the first seat makes the Writers and reads; its place is that of the next Writer
 abbrev pub maker_at : ℕ → View
@@ -37,10 +38,10 @@ reader_view readings =
 abbrev pub published_view : View → Totals → View
 published_view v totals = record v { published = v.published ++ totals ∷ [] }
 
--- a place was read once more
-abbrev pub read_view : View → ℕ → Totals → View
-read_view v place totals =
-    record v { readings = v.readings ++ record { place = place; totals = totals } ∷ [] }
+-- a place was read once more, for which this had been published
+abbrev pub read_view : View → ℕ → List Totals → View
+read_view v place published =
+    record v { readings = v.readings ++ record { place = place; published = published } ∷ [] }
 
 -- a Writer's seat that was told what another seat read
 abbrev pub told_view : View → View → View
@@ -52,14 +53,14 @@ clear_view v = record v { readings = [] }
 
 -- ---- the rule
 -- Each place has one Writer's seat, `writer`, and what was `published` for it; `made` Writers were
--- made. Whatever a seat read of a place was published for it, or is the opening zero, and no
--- reading of a place is older than the seat's reading of it before.
+-- made. What a seat knows to have been published for a place by its readings of it are beginnings
+-- of what was published, none shorter than the one before it.
 pub record Fits (published : ℕ → List Totals) (writer : ℕ → ℕ) (made id : ℕ) (v : View)
     : Type 0 where
   pub makes : v.makes ≡ true → (id ≡ 0) × (v.place ≡ made)
   pub writes : v.writes ≡ true
       → (writer v.place ≡ id) × (v.place < made) × (v.published ≡ published v.place)
-  pub reads : (k : ℕ) → ReadOff (opening ∷ published k) (readings_of k v.readings)
+  pub reads : (k : ℕ) → AreBeginnings (shown_of k v.readings) (published k)
 
 -- it holds of each seat
 abbrev pub Each : (ℕ → View → Type 0) → List View → Type 0
@@ -85,15 +86,18 @@ Sat = Me ℕ View
 abbrev pub Publishes : Step ℕ → Sat → ℕ → Sat → Type 0
 Publishes s m stored m' = m' ≡ (published_view m.0 (totals_of stored), m.1)
 
--- the totals of the word that was found are read, and what was read of the place never descends
-abbrev pub Reads : Step ℕ → Sat → ℕ → Sat → Type 0
-Reads s m found m' =
-    (m' ≡ (read_view m.0 s.word (totals_of found), m.1))
-    × NeverDescend (readings_of s.word m'.0.readings)
+-- the totals of the word that was found are read, which are the last that had been published, and
+-- what was read of the place never descends
+pub record Reads (s : Step ℕ) (m : Sat) (found : ℕ) (m' : Sat) : Type 0 where
+  pub published : List Totals
+  pub read : m' ≡ (read_view m.0 s.word published, m.1)
+  pub last : totals_of found ≡ latest published
+  pub grows : AreBeginnings (shown_of s.word m.0.readings) published
+  pub rise : NeverDescend (readings_of s.word m'.0.readings)
 
--- a Writer's seat is told that what another read of its place was read off the opening zeros and
--- what it published
-abbrev pub Compares : Step ℕ → Sat → ℕ → Sat → Type 0
-Compares s m found m' =
-    (m' ≡ (clear_view m.0, m.1))
-    × ReadOff (opening ∷ m.0.published) (readings_of m.0.place m.0.readings)
+-- a Writer's seat is told that what another knows to have been published for its place are
+-- beginnings of what it published, so that what was read was read off the opening zeros and this
+pub record Compares (s : Step ℕ) (m : Sat) (found : ℕ) (m' : Sat) : Type 0 where
+  pub clear : m' ≡ (clear_view m.0, m.1)
+  pub shown : AreBeginnings (shown_of m.0.place m.0.readings) m.0.published
+  pub read_off : ReadOff (opening ∷ m.0.published) (readings_of m.0.place m.0.readings)

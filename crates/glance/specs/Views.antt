@@ -1,7 +1,8 @@
 -- What contracts see of a board, of a place's Writer and of who reads, and what was read of what
 -- was published.
-use Rattle.std.specs.Prelude.{◌≡◌, ℕ, ◌<◌, ◌≤◌, List, [], ◌∷◌, ◌++◌, length, nat_eq, Option, Some}
-use Rattle.std.specs.Prelude.{if◌then◌else◌, slice_get}
+use Rattle.std.specs.Prelude.{◌≡◌, ℕ, ◌<◌, ◌≤◌, List, [], ◌∷◌, ◌++◌, length, map, nat_eq, Option}
+use Rattle.std.specs.Prelude.{Some, if◌then◌else◌, slice_get}
+use mathlib.Core.List.{IsPrefix}
 use Rattle.atomic_table.specs.Seated.{TableId}
 use Rattle.glance.specs.declared.totals.Totals.{Totals}
 use Rattle.glance.specs.declared.view.Reading.{Reading}
@@ -21,7 +22,7 @@ pub record WriterView : Type 0 where
 -- who reads
 pub record PassView : Type 0 where
   pub board : BoardView
-  -- all that it read, in this order, each with its place
+  -- each time that it read, in this order, with the place and what had been published for it
   pub readings : List Reading
 
 -- ---- totals of one place
@@ -54,11 +55,24 @@ ReadOff list (r ∷ rs) =
     (front : List Totals) × (back : List Totals) × (list ≡ front ++ r ∷ back)
     × ReadOff (r ∷ back) rs
 
--- what was read of a place, in this order
+-- what had been published for a place by each reading of it, in this order
+abbrev pub shown_of : ℕ → List Reading → List (List Totals)
+shown_of k [] = []
+shown_of k (r ∷ rs) =
+    if nat_eq r.place k then r.published ∷ shown_of k rs else shown_of k rs
+
+-- what was read of it: each time the last of these
 abbrev pub readings_of : ℕ → List Reading → List Totals
-readings_of k [] = []
-readings_of k (r ∷ rs) =
-    if nat_eq r.place k then r.totals ∷ readings_of k rs else readings_of k rs
+readings_of k readings = map latest (shown_of k readings)
+
+-- each of these lists begins with the one before it, and `all` begins with the last
+abbrev pub GrowTo : List Totals → List Totals → List (List Totals) → Type 0
+GrowTo all before [] = IsPrefix before all
+GrowTo all before (list ∷ lists) = IsPrefix before list × GrowTo all list lists
+
+-- these lists are beginnings of what was published, none shorter than the one before it
+abbrev pub AreBeginnings : List (List Totals) → List Totals → Type 0
+AreBeginnings lists all = GrowTo all [] lists
 
 -- ---- calls
 -- the Writer of a place, which has published nothing
@@ -83,7 +97,16 @@ published_by w totals = record w { published = w.published ++ totals ∷ [] }
 abbrev pub opening_pass : BoardView → PassView
 opening_pass board = record { board = board; readings = [] }
 
--- a place was read once more
-abbrev pub read_by : PassView → ℕ → Totals → PassView
-read_by p place totals =
-    record p { readings = p.readings ++ record { place = place; totals = totals } ∷ [] }
+-- a place was read once more, for which this had been published
+abbrev pub read_by : PassView → ℕ → List Totals → PassView
+read_by p place published =
+    record p { readings = p.readings ++ record { place = place; published = published } ∷ [] }
+
+-- A place was read: `totals` are the last that had been published for it by then, or the opening
+-- zeros, and what had been published by the earlier readings of it are beginnings of that
+pub record ReadsLatest (old : PassView) (place : ℕ) (totals : Totals) (new : PassView) : Type 0
+  where
+    pub published : List Totals
+    pub read : new ≡ read_by old place published
+    pub last : totals ≡ latest published
+    pub grows : AreBeginnings (shown_of place old.readings) published

@@ -32,12 +32,12 @@ impl Model for Board {
 const OPENING: [u64; 64] = [0; 64];
 
 impl Board {
-    ghost use Rattle.std.specs.Prelude.{◌≡◌, ◌<◌, ◌≤◌, IfOk, vec_capacity, []};
+    ghost use Rattle.std.specs.Prelude.{◌≡◌, ◌≢◌, ◌<◌, ◌≤◌, ℕ, IfOk, vec_capacity, [], ◌∷◌, ◌++◌};
     ghost use Rattle.glance.specs.Numbers.{least_places, most_places};
     ghost use Rattle.glance.specs.Words.{FitOneWord};
     ghost use Rattle.glance.specs.Rule.{first_view};
-    ghost use Rattle.glance.specs.Views.{AllWriters, latest, published_by, opening_pass, read_by};
-    ghost use Rattle.glance.specs.Views.{NeverDescend, readings_of};
+    ghost use Rattle.glance.specs.Views.{AllWriters, latest, published_by, opening_pass};
+    ghost use Rattle.glance.specs.Views.{ReadsLatest, NeverDescend, readings_of};
 
     /// A board of so many places, all of which show zeros, each place's Writer, and a pass that has
     /// read nothing.
@@ -69,13 +69,18 @@ impl Board {
             .store::<Publish>(&mut writer.seat, place, totals.word());
     }
 
-    /// What a place shows: totals that were published for it, or the opening zeros, and none that
-    /// were published before those that this pass read of it last. One load; it never waits, and
-    /// takes no memory.
+    /// What a place shows: the last totals that its Writer had published by then, or the opening
+    /// zeros. The pass knows what had been published by each of its readings of the place; these
+    /// lists only grow, and are beginnings of what the Writer published (see
+    /// `readings_were_published`). One load; it never waits, and takes no memory.
     pub fn glance(&self, pass: &mut GlancePass, place: u8) -> Totals
         requires board { pass.old.board ≡ self.now }
         requires place { place < self.now.places }
-        ensures read { pass.new ≡ read_by pass.old place result }
+        ensures read { ReadsLatest pass.old place result pass.new }
+        ensures added { readings_of place pass.new.readings
+            ≡ readings_of place pass.old.readings ++ result ∷ [] }
+        ensures others { (k : ℕ) → k ≢ place
+            → readings_of k pass.new.readings ≡ readings_of k pass.old.readings }
         ensures rise { NeverDescend (readings_of place pass.new.readings) }
     {
         let word = self

@@ -3,9 +3,23 @@
 ghost use Rattle.std.specs.Prelude.{◌≡◌, ◌<◌};
 ghost use Rattle.glance.specs.Views.{latest};
 
-use crate::{Board, GlancePass, Totals, Writer, readings_were_published};
+use crate::{Board, GlancePass, Totals, Writer, Writers, readings_were_published};
 use std::test::Fail;
 use std::thread::join;
+
+/// A type whose values threads hand on and share.
+fn is_shared<T: Send + Sync>() {}
+
+/// A type whose values threads hand on.
+fn is_handed_on<T: Send>() {}
+
+#[test]
+fn threads_share_boards_and_own_passes(_rt: HostRuntime) {
+    is_shared::<Board>();
+    is_handed_on::<Writer>();
+    is_handed_on::<Writers>();
+    is_handed_on::<GlancePass>();
+}
 
 /// How many readings the reader makes.
 const READINGS: u32 = 10_000;

@@ -3,10 +3,12 @@
 use crate::totals::Totals;
 use std::collections::LinkedList;
 
-/// What was read of a place once.
+/// A place was read once.
 pub(crate) struct Reading {
     pub place: u64,
-    pub totals: Totals,
+    /// What had been published for it by then, in this order. The last of these was read, or the
+    /// opening zeros where there was none.
+    pub published: LinkedList<Totals>,
 }
 
 /// What a seat may do, and what it knows.

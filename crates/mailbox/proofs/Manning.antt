@@ -2,16 +2,18 @@
 use Rattle.std.proofs.Common.{◌≡◌, ℕ, ◌+◌, ◌≢◌, ◌⊎◌, inl, inr, ⊎_elim, Bool, true, false}
 use Rattle.std.proofs.Common.{List, [], ◌∷◌, ◌++◌, length, set, refl, sym, ap, ◌∙◌, subst, arith}
 use Rattle.std.proofs.Common.{true≢false}
-use mathlib.Core.Option.{some, some-ne-none}
+use mathlib.Core.Option.{some, some-injective, some-ne-none}
 use mathlib.Core.Logic.{dite}
 use native.Mathlib.Decide.{ℕ_discrete}
 use lib.ListN.{get_elem?}
 use Rattle.mailbox.specs.declared.view.Role.{Role}
-use Rattle.mailbox.specs.Roles.{In, HasAll, Fits, Manned, first_role, sending_role}
+use Rattle.mailbox.specs.Roles.{In, HasAll, AreDistinct, Fits, Manned, IsSenderAt, first_role}
+use Rattle.mailbox.specs.Roles.{sending_role}
 use Rattle.mailbox.specs.Roles.{receiving_role, spent_role, parent_role, child_role, joined_role}
 use Rattle.mailbox.specs.Roles.{made_known}
 use Rattle.mailbox.proofs.Seats.{not_true, at_number, at_same, at_other, each_set, each_new}
-use Rattle.mailbox.proofs.Seats.{each_joined}
+use Rattle.mailbox.proofs.Seats.{each_joined, set_there}
+use Rattle.atomic_table.proofs.Lists.{set_else, at_longer, at_last}
 
 pub in_append : (k n : ℕ) (xs : List ℕ) → In k (xs ++ n ∷ []) → In k xs ⊎ (k ≡ n)
 in_append k n [] (inl e) = inr e
@@ -19,6 +21,15 @@ in_append k n [] (inr h) = absurd h
 in_append k n (x ∷ xs) (inl e) = inl (inl e)
 in_append k n (x ∷ xs) (inr h) = ⊎_elim (λ (l : In k xs). inl (inr l)) (λ (e : k ≡ n). inr e)
     (in_append k n xs h)
+
+-- a number that isn't among distinct ones comes to them
+pub distinct_more : (n : ℕ) (xs : List ℕ) → AreDistinct xs → (In n xs → ⊥)
+    → AreDistinct (xs ++ n ∷ [])
+distinct_more n [] d none = ((λ h. h), tt)
+distinct_more n (x ∷ xs) d none = (
+  λ h. ⊎_elim (λ (i : In x xs). d.0 i) (λ (e : x ≡ n). none (inl (sym e))) (in_append x n xs h),
+  distinct_more n xs d.1 (λ i. none (inr i)),
+)
 
 -- what a number knows of how many were made, by whether it is number 0
 pub known_zero : (n made before : ℕ) → n ≡ 0 → made_known n made before ≡ made
@@ -39,9 +50,40 @@ first_fits = record {
   zero = λ _ _. refl;
   receiver = λ _. (refl, λ k h. absurd h);
   all_made = λ _ h. absurd (true≢false (sym h));
+  once = λ _. tt;
 }
 
 module _ {V : Type 0} (role : V → Role) where
+  -- an end changes, and still sends under its number where it did
+  pub sender_set : (vs : List V) (me id k : ℕ) (v w : V) → get_elem? vs me ≡ some v
+      → (role w).sends ≡ (role v).sends → (role w).number ≡ (role v).number
+      → IsSenderAt role vs id k → IsSenderAt role (set vs me w) id k
+  sender_set vs me id k v w at sends number s =
+      dite (ℕ_discrete id me)
+      (λ e. let same : s.end ≡ v =
+          some-injective s.end v (sym s.there ∙ (ap (get_elem? vs) e ∙ at)) in record {
+        end = w;
+        there = ap (get_elem? (set vs me w)) e ∙ set_there vs me v w at;
+        sends = sends ∙ (ap (λ u. (role u).sends) (sym same) ∙ s.sends);
+        numbered = number ∙ (ap (λ u. (role u).number) (sym same) ∙ s.numbered);
+      })
+      (λ ne. record {
+        end = s.end;
+        there = set_else vs me id w ne ∙ s.there;
+        sends = s.sends;
+        numbered = s.numbered;
+      })
+
+  -- a new end comes
+  pub sender_stays : (vs : List V) (id k : ℕ) (w : V) → IsSenderAt role vs id k
+      → IsSenderAt role (vs ++ w ∷ []) id k
+  sender_stays vs id k w s = record {
+    end = s.end;
+    there = at_longer vs (w ∷ []) id s.end s.there;
+    sends = s.sends;
+    numbered = s.numbered;
+  }
+
   abbrev pub opens : (v : V) → role v ≡ first_role → Manned role (v ∷ [])
   opens v is = record {
     seat = λ _. 0;
@@ -50,6 +92,12 @@ module _ {V : Type 0} (role : V → Role) where
     ended = λ _. false;
     started = omega arith;
     unmade = λ k h. refl;
+    seated = λ k h _. record {
+      end = v;
+      there = refl;
+      sends = ap (λ (r : Role). r.sends) is;
+      numbered = ap (λ (r : Role). r.number) is ∙ omega arith;
+    };
     fits = each_new (λ id u. Fits (λ _. 0) 0 1 (λ _. false) id (role u)) [] v
         (λ i u at. absurd (some-ne-none u (sym at)))
         (subst (Fits (λ _. 0) 0 1 (λ _. false) 0) (sym is) first_fits);
@@ -65,6 +113,8 @@ module _ {V : Type 0} (role : V → Role) where
     ended = m.ended;
     started = m.started;
     unmade = m.unmade;
+    seated = λ k low still. sender_set vs me (m.seat k) k v w at (ap (λ (r : Role). r.sends) same)
+        (ap (λ (r : Role). r.number) same) (m.seated k low still);
     fits = each_set (λ id u. Fits m.seat m.reader m.made m.ended id (role u)) vs me w
         (subst (Fits m.seat m.reader m.made m.ended me) (sym same) (m.fits me v at))
         (λ i u ne at_u. m.fits i u at_u);
@@ -99,12 +149,14 @@ module _ {V : Type 0} (role : V → Role) where
         zero = old.zero;
         receiver = λ h. absurd (true≢false (sym h));
         all_made = λ h _. absurd (true≢false (sym h));
+        once = λ _. tt;
       } in
       let right : Fits m.seat n m.made m.ended n receiving_role = record {
         sender = λ h. absurd (true≢false (sym h));
         zero = λ h _. absurd (true≢false (sym h));
         receiver = λ _. (refl, λ k h. absurd h);
         all_made = λ _ h. absurd (true≢false (sym h ∙ (old.sender refl).2));
+        once = λ _. tt;
       } in record {
         seat = m.seat;
         reader = n;
@@ -112,6 +164,11 @@ module _ {V : Type 0} (role : V → Role) where
         ended = m.ended;
         started = m.started;
         unmade = m.unmade;
+        seated = λ k low still. sender_stays (set vs me l) (m.seat k) k r
+            (sender_set vs me (m.seat k) k v l at
+            (ap (λ (x : Role). x.sends) is_l ∙ ap (λ (x : Role). x.sends) (sym is))
+            (ap (λ (x : Role). x.number) is_l ∙ ap (λ (x : Role). x.number) (sym is))
+            (m.seated k low still));
         fits = each_new F (set vs me l) r
             (each_set F vs me l (subst (Fits m.seat n m.made m.ended me) (sym is_l) left)
             (λ i u ne at_u. let f = m.fits i u at_u in record {
@@ -119,6 +176,7 @@ module _ {V : Type 0} (role : V → Role) where
               zero = f.zero;
               receiver = λ h. absurd (one_gets vs m me i v u at at_u gets_v h ne);
               all_made = λ h _. absurd (one_gets vs m me i v u at at_u gets_v h ne);
+              once = f.once;
             }))
             (subst (Fits m.seat n m.made m.ended n) (sym is_r) right);
       }
@@ -147,6 +205,7 @@ module _ {V : Type 0} (role : V → Role) where
         zero = λ _ _. refl;
         receiver = λ h. absurd (true≢false (sym h ∙ gets));
         all_made = λ h _. absurd (true≢false (sym h ∙ gets));
+        once = λ h. absurd (true≢false (sym h ∙ gets));
       } in
       let right : Fits seat m.reader (made + 1) m.ended n (child_role (role v)) = record {
         sender = λ _. (
@@ -157,6 +216,7 @@ module _ {V : Type 0} (role : V → Role) where
         zero = λ _ e. absurd (omega arith);
         receiver = λ h. absurd (true≢false (sym h));
         all_made = λ h _. absurd (true≢false (sym h));
+        once = λ h. absurd (true≢false (sym h));
       } in record {
         seat = seat;
         reader = m.reader;
@@ -164,6 +224,19 @@ module _ {V : Type 0} (role : V → Role) where
         ended = m.ended;
         started = omega arith;
         unmade = λ k h. m.unmade k (omega arith);
+        seated = λ k below still. dite (ℕ_discrete k made)
+            (λ e. record {
+              end = r;
+              there = ap (get_elem? (set vs me l ++ r ∷ [])) (at_same made k n m.seat e)
+                  ∙ at_last (set vs me l) r n refl;
+              sends = ap (λ (x : Role). x.sends) is_r;
+              numbered = ap (λ (x : Role). x.number) is_r ∙ sym e;
+            })
+            (λ ne. subst (λ i. IsSenderAt role (set vs me l ++ r ∷ []) i k)
+            (sym (at_other made k n m.seat ne))
+            (sender_stays (set vs me l) (m.seat k) k r
+            (sender_set vs me (m.seat k) k v l at (ap (λ (x : Role). x.sends) is_l)
+            (ap (λ (x : Role). x.number) is_l) (m.seated k (omega arith) still))));
         fits = each_new F (set vs me l) r
             (each_set F vs me l
             (subst (Fits seat m.reader (made + 1) m.ended me) (sym is_l) left)
@@ -177,6 +250,7 @@ module _ {V : Type 0} (role : V → Role) where
                   (e ∙ sym is_zero));
               receiver = f.receiver;
               all_made = λ _ h. absurd (true≢false (sym h ∙ ap m.ended (sym is_zero) ∙ mine.2));
+              once = f.once;
             }))
             (subst (Fits seat m.reader (made + 1) m.ended n) (sym is_r) right);
       }
@@ -209,12 +283,15 @@ module _ {V : Type 0} (role : V → Role) where
             (λ nz. known_other n (role w).made (role v).made nz
             ∙ old.all_made gets
             (sym (at_other n 0 true m.ended (λ z. nz (sym z))) ∙ h));
+        once = λ _. distinct_more n (role v).joined (old.once gets)
+            (λ i. true≢false (sym ((old.receiver gets).1 n i) ∙ theirs.2));
       } in
       let gone : Fits m.seat m.reader m.made ended o spent_role = record {
         sender = λ h. absurd (true≢false (sym h));
         zero = λ h _. absurd (true≢false (sym h));
         receiver = λ h. absurd (true≢false (sym h));
         all_made = λ h _. absurd (true≢false (sym h));
+        once = λ h. absurd (true≢false (sym h));
       } in record {
         seat = m.seat;
         reader = m.reader;
@@ -222,6 +299,21 @@ module _ {V : Type 0} (role : V → Role) where
         ended = ended;
         started = m.started;
         unmade = λ k h. at_other n k true m.ended (λ z. omega arith) ∙ m.unmade k h;
+        seated = λ k below still.
+            let ne_n : k ≢ n = λ e. true≢false (sym (at_same n k true m.ended e) ∙ still) in
+            let s = m.seated k below (sym (at_other n k true m.ended ne_n) ∙ still) in
+            let ne_me : m.seat k ≢ me = λ e. true≢false (sym s.sends
+            ∙ (ap (λ u. (role u).sends) (some-injective s.end v
+            (sym s.there ∙ (ap (get_elem? vs) e ∙ at))) ∙ sends)) in
+            let ne_o : m.seat k ≢ o = λ z. ne_n (sym s.numbered
+            ∙ ap (λ u. (role u).number) (some-injective s.end w
+            (sym s.there ∙ (ap (get_elem? vs) z ∙ at_w)))) in record {
+              end = s.end;
+              there = set_else (set vs me b) o (m.seat k) e ne_o
+                  ∙ (set_else vs me (m.seat k) b ne_me ∙ s.there);
+              sends = s.sends;
+              numbered = s.numbered;
+            };
         fits = each_joined F vs me o b e
             (subst (Fits m.seat m.reader m.made ended me) (sym is_b) taker)
             (subst (Fits m.seat m.reader m.made ended o) (sym is_e) gone)
@@ -236,6 +328,7 @@ module _ {V : Type 0} (role : V → Role) where
               zero = f.zero;
               receiver = λ h. absurd (one_gets vs m me i v u at at_u gets h ne_me);
               all_made = λ h _. absurd (one_gets vs m me i v u at at_u gets h ne_me);
+              once = f.once;
             });
       }
 

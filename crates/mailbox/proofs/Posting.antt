@@ -13,7 +13,7 @@ use Rattle.packet_entry.specs.declared.letter.Letter.{Letter}
 use Rattle.mailbox.specs.declared.view.Role.{Role}
 use Rattle.mailbox.specs.declared.view.Line.{Line}
 use Rattle.mailbox.specs.declared.view.Post.{Post}
-use Rattle.mailbox.specs.Roles.{In, HasAll}
+use Rattle.mailbox.specs.Roles.{In, HasAll, AreDistinct}
 use Rattle.mailbox.specs.Views.{letters_of, numbers, letters_in, All, AreOf}
 use Rattle.mailbox.specs.Lines.{Knows, InOrder, IsTold, weight, first_line, sending_line}
 use Rattle.mailbox.specs.Lines.{receiving_line, spent_line, parent_line, child_line, put_line}
@@ -131,6 +131,12 @@ of_known sent made known whole all unmade has before (p ∷ ps) items e =
     of_known sent made known whole all unmade has (before ++ p ∷ []) ps items
     (e ∙ sym (append_assoc before (p ∷ []) (ps ++ items))))
 
+-- what stands before nothing is nothing
+none_before : {A : Type 0} (xs ys : List A) → xs ++ ys ≡ [] → xs ≡ []
+none_before xs ys e =
+    let a = length-append xs ys in
+    let b : length (xs ++ ys) ≡ 0 = ap length e in none_left xs (omega arith)
+
 -- ---- what the receiver is told
 pub tells : (items : List Post) (views : List Line) (r : InOrder items views) (port : ℕ) (v : Line)
     → get_elem? views port ≡ some v → v.role.sends ≡ false → v.role.gets ≡ true → IsTold v
@@ -151,6 +157,38 @@ tells items views r port v at sends gets =
           of_known r.sent v.role.made (numbers v.known) (r.got ++ items) r.all
           (λ n h. r.unmade n (omega arith)) has.1 [] v.got items
           (ap (λ (g : List Post). g ++ items) (sym (k.got gets)));
+      once = subst AreDistinct (k.names gets) ((r.ends.fits port v at).once gets);
+      made = λ zero_in n n_in.
+          let role = r.ends.fits port v at in
+          let ends = (role.receiver gets).1 in
+          let in_role : (j : ℕ) → In j (numbers v.known) → In j v.role.joined =
+          λ j i. subst (In j) (sym (k.names gets)) i in
+          let made : v.role.made ≡ r.ends.made =
+          role.all_made gets (ends 0 (in_role 0 zero_in)) in
+          ⊎_elim (λ (h : n < v.role.made). h)
+          (λ (h : v.role.made ≤ n). absurd (true≢false (sym (ends n (in_role n n_in))
+          ∙ r.ends.unmade n (omega arith)))) (cases_lt n v.role.made);
+      beyond = λ zero_in n above.
+          let role = r.ends.fits port v at in
+          let made : v.role.made ≡ r.ends.made =
+          role.all_made gets ((role.receiver gets).1 0
+          (subst (In 0) (sym (k.names gets)) zero_in)) in
+          none_before (letters_of n v.got) (letters_of n items)
+          (ap (λ (g : List Post). letters_of n g ++ letters_of n items) (k.got gets)
+          ∙ (sym (letters_append n r.got items) ∙ (r.all n ∙ r.unmade n (omega arith))));
+      inside = λ has.
+          let zero_in = subst (In 0) (sym (k.names gets)) has.0 in
+          let role = r.ends.fits port v at in
+          let made : v.role.made ≡ r.ends.made =
+          role.all_made gets ((role.receiver gets).1 0 zero_in) in record {
+            inside = items;
+            whole = all_map (λ s. s.1 ≡ r.sent s.0) (λ s. letters_of s.0 (v.got ++ items) ≡ s.1)
+                v.known (λ s _ e. letters_append s.0 v.got items ∙ split s e) (k.known gets);
+            senders = of_known r.sent v.role.made (numbers v.known) (r.got ++ items) r.all
+                (λ n h. r.unmade n (omega arith)) has.1 [] (v.got ++ items) []
+                (ap (λ (g : List Post). g ++ items) (sym (k.got gets))
+                ∙ sym (append-nil (v.got ++ items)));
+          };
       whole = λ has same.
           let has' : HasAll v.role.made v.role.joined =
           subst (HasAll v.role.made) (sym (k.names gets)) has in

@@ -4,9 +4,11 @@ use Rattle.packet_entry.specs.declared.letter.Letter.{Letter}
 use Rattle.mailbox.specs.declared.view.Role.{Role}
 use Rattle.mailbox.specs.declared.view.Line.{Line}
 use Rattle.mailbox.specs.declared.view.Post.{Post}
-use Rattle.mailbox.specs.Roles.{HasAll, Manned, Each, total, first_role, sending_role}
+use Rattle.mailbox.specs.Roles.{In, HasAll, AreDistinct, Manned, Each, total, first_role}
+use Rattle.mailbox.specs.Roles.{sending_role}
 use Rattle.mailbox.specs.Roles.{receiving_role, spent_role, parent_role, child_role, joined_role}
 use Rattle.mailbox.specs.Views.{letters_of, numbers, letters_in, All, Prefixes, Wholes, AreOf}
+use Rattle.mailbox.specs.Views.{AreMade, AccountFor}
 
 -- an end that has put in and taken out nothing
 abbrev pub line_of : Role → Line
@@ -79,3 +81,7 @@ pub record IsTold (v : Line) : Type 0 where
   pub senders : HasAll v.role.made (numbers v.known) → AreOf v.got (numbers v.known)
   pub whole : HasAll v.role.made (numbers v.known) → letters_in v.known ≡ length v.got
       → Wholes v.got v.known
+  pub once : AreDistinct (numbers v.known)
+  pub made : AreMade v.role.made (numbers v.known)
+  pub beyond : In 0 (numbers v.known) → (k : ℕ) → v.role.made ≤ k → letters_of k v.got ≡ []
+  pub inside : HasAll v.role.made (numbers v.known) → AccountFor v.got v.known

@@ -10,6 +10,11 @@ abbrev pub In : ℕ → List ℕ → Type 0
 In k [] = ⊥
 In k (x ∷ xs) = (k ≡ x) ⊎ In k xs
 
+-- no number stands twice
+abbrev pub AreDistinct : List ℕ → Type 0
+AreDistinct [] = Unit {0}
+AreDistinct (x ∷ xs) = (In x xs → ⊥) × AreDistinct xs
+
 -- number 0 and each other number that was made are among those joined
 abbrev pub HasAll : ℕ → List ℕ → Type 0
 HasAll made joined = In 0 joined × ((k : ℕ) → k < made → In k joined)
@@ -56,6 +61,7 @@ pub record Fits (seat : ℕ → ℕ) (reader made : ℕ) (ended : ℕ → Bool) 
     pub zero : r.sends ≡ true → r.number ≡ 0 → r.made ≡ made
     pub receiver : r.gets ≡ true → (reader ≡ id) × ((k : ℕ) → In k r.joined → ended k ≡ true)
     pub all_made : r.gets ≡ true → ended 0 ≡ true → r.made ≡ made
+    pub once : r.gets ≡ true → AreDistinct r.joined
 
 module _ {V : Type 0} where
   -- each end is like that
@@ -67,7 +73,17 @@ module _ {V : Type 0} where
   total f [] = 0
   total f (v ∷ vs) = f v + total f vs
 
--- the ends of a mailbox have their roles, which `role` gives
+-- this end is the sender of this number
+pub record IsSenderAt {V : Type 0} (role : V → Role) (views : List V) (id number : ℕ) : Type 0
+  where
+    pub end : V
+    pub there : get_elem? views id ≡ some end
+    pub sends : (role end).sends ≡ true
+    pub numbered : (role end).number ≡ number
+
+-- The ends of a mailbox have their roles, which `role` gives. Beside the receiver's these are one
+-- for each number that was made and isn't joined: `seated` says that there is one, and `fits` that
+-- there is no other
 pub record Manned {V : Type 0} (role : V → Role) (views : List V) : Type 0 where
   pub seat : ℕ → ℕ
   pub reader : ℕ
@@ -75,4 +91,5 @@ pub record Manned {V : Type 0} (role : V → Role) (views : List V) : Type 0 whe
   pub ended : ℕ → Bool
   pub started : 0 < made
   pub unmade : (k : ℕ) → made ≤ k → ended k ≡ false
+  pub seated : (k : ℕ) → k < made → ended k ≡ false → IsSenderAt role views (seat k) k
   pub fits : Each (λ id v. Fits seat reader made ended id (role v)) views

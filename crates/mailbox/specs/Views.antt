@@ -1,5 +1,5 @@
 -- What contracts see of a mailbox and its ends, and what each call makes of it.
-use Rattle.std.specs.Prelude.{◌≡◌, ℕ, ◌+◌, List, [], ◌∷◌, ◌++◌, length, map, nat_eq}
+use Rattle.std.specs.Prelude.{◌≡◌, ℕ, ◌+◌, ◌<◌, ◌≤◌, List, [], ◌∷◌, ◌++◌, length, map, nat_eq}
 use Rattle.std.specs.Prelude.{if◌then◌else◌}
 use mathlib.Core.List.{IsPrefix}
 use Rattle.atomic_table.specs.Seated.{TableId}
@@ -123,6 +123,25 @@ AreOf (p ∷ ps) senders = In p.from senders × AreOf ps senders
 
 abbrev pub AreOfJoined : ReceiverView → Type 0
 AreOfJoined r = AreOf r.received (numbers r.joined)
+
+-- each number joined is one that was made, once it is known how many were
+abbrev pub AreMade : ℕ → List ℕ → Type 0
+AreMade made joined = In 0 joined → (k : ℕ) → In k joined → k < made
+
+-- no letter was received of a number that was never made, once it is known how many were
+abbrev pub NoneBeyond : ReceiverView → Type 0
+NoneBeyond r =
+    In 0 (numbers r.joined) → (k : ℕ) → r.made ≤ k → letters_of k r.received ≡ []
+
+-- With the letters `inside`, which are still to be received, those received are all that these
+-- senders sent: of each the letters that it sent, in its order, and none of anyone else
+pub record AccountFor (received : List Post) (known : List (ℕ × List Letter)) : Type 0 where
+  pub inside : List Post
+  pub whole : Wholes (received ++ inside) known
+  pub senders : AreOf (received ++ inside) (numbers known)
+
+abbrev pub AreAccountedFor : ReceiverView → Type 0
+AreAccountedFor r = AccountFor r.received r.joined
 
 abbrev pub ArePrefixes : ReceiverView → Type 0
 ArePrefixes r = Prefixes r.received r.joined

@@ -47,13 +47,15 @@ enum Turn {
 
 impl Mailbox {
     ghost use Rattle.std.specs.Prelude.{◌≡◌, ◌<◌, ◌≤◌, ℕ, true, false, IfOk, IfNone, OnOk, OnErr};
-    ghost use Rattle.std.specs.Prelude.{MatchOption, MatchResult, [], length};
+    ghost use Rattle.std.specs.Prelude.{MatchOption, MatchResult, IsOk, [], length};
     ghost use Rattle.crossbeam_queue.specs.Passes.{view, IsPassOf, IsSamePass};
     ghost use Rattle.mailbox.specs.Numbers.{least_capacity, most_capacity, most_senders};
     ghost use Rattle.mailbox.specs.Views.{opening_sender, opening_receiver, letters_in};
     ghost use Rattle.mailbox.specs.Views.{sender_with, sender_back, parent_sender, child_sender};
     ghost use Rattle.mailbox.specs.Views.{receiver_with, receiver_empty, receiver_joined};
     ghost use Rattle.mailbox.specs.Views.{HasAllSenders, ArePrefixes, AreOfJoined, AreWhole};
+    ghost use Rattle.mailbox.specs.Views.{numbers, AreMade, NoneBeyond, AreAccountedFor};
+    ghost use Rattle.mailbox.specs.Roles.{AreDistinct};
     ghost use Rattle.mailbox.specs.Fills.{claiming, full_look, freeing};
     ghost use Rattle.mailbox.specs.Lines.{put_line};
     ghost use Rattle.mailbox.specs.declared.mailbox.Turn.TheVariants.{Got, Empty, Again};
@@ -98,6 +100,7 @@ impl Mailbox {
         ensures old { OnOk result (sender.new ≡ parent_sender sender.old) }
         ensures made { IfOk result (λ made. made ≡ child_sender sender.old) }
         ensures memory { OnErr result (sender.new ≡ sender.old) }
+        ensures succeeds { IsOk result }
     {
         let number = sender.made;
         let pass = self.queue.another::<line::OneMore>(&mut sender.pass);
@@ -143,6 +146,8 @@ impl Mailbox {
         ensures whole { HasAllSenders receiver.new
             → letters_in receiver.new.joined ≡ length receiver.new.received
             → AreWhole receiver.new }
+        ensures beyond { NoneBeyond receiver.new }
+        ensures inside { HasAllSenders receiver.new → AreAccountedFor receiver.new }
         ensures empty { IfNone result (HasAllSenders receiver.new → AreWhole receiver.new) }
     {
         for _ in rt.forever() {
@@ -155,10 +160,12 @@ impl Mailbox {
         unreachable!()
     }
 
-    /// Joins a sender into the receiver, which ends it. The letters received of each sender that
-    /// was joined are a prefix of those that it sent. Once all senders are joined, these are the
-    /// same where as many were received as were sent, and where one ever came back, at least
-    /// `capacity` were sent. It takes no memory.
+    /// Joins a sender into the receiver, which ends it. Each number is joined once at most. The
+    /// letters received of each sender that was joined are a prefix of those that it sent. Once
+    /// number 0 is joined it is known how many were made, and no letter is of any further number.
+    /// Once all senders are joined, the letters received and those still inside are those that
+    /// they sent, nothing is inside where as many were received as were sent, and where one ever
+    /// came back, at least `capacity` were sent. It takes no memory.
     pub fn join(&self, receiver: &mut Receiver, sender: Sender)
         requires mailbox { (receiver.old.mailbox ≡ self.now) × (sender.mailbox ≡ self.now) }
         ensures joined { receiver.new ≡ receiver_joined receiver.old sender }
@@ -169,6 +176,10 @@ impl Mailbox {
             → AreWhole receiver.new }
         ensures full { HasAllSenders receiver.new → 0 < receiver.new.full
             → self.now.capacity ≤ letters_in receiver.new.joined }
+        ensures once { AreDistinct (numbers receiver.new.joined) }
+        ensures made { AreMade receiver.new.made (numbers receiver.new.joined) }
+        ensures beyond { NoneBeyond receiver.new }
+        ensures inside { HasAllSenders receiver.new → AreAccountedFor receiver.new }
     {
         let Sender {
             pass,

@@ -37,6 +37,67 @@ fn one_letter_at_a_time(rt: HostRuntime) -> Result<(), Fail> {
     Ok(())
 }
 
+/// A type whose values threads hand on and share.
+fn is_shared<T: Send + Sync>() {}
+
+/// A type whose values threads hand on.
+fn is_handed_on<T: Send>() {}
+
+#[test]
+fn threads_share_mailboxes_and_own_ends(_rt: HostRuntime) {
+    is_shared::<Mailbox>();
+    is_handed_on::<Sender>();
+    is_handed_on::<Receiver>();
+}
+
+/// Makes the senders from number 1 to 63, each of which sends one letter, with its number, and is
+/// joined.
+fn each_sends_one(
+    rt: &impl Wait,
+    alloc: Global,
+    mailbox: &Mailbox,
+    first: &mut Sender,
+    receiver: &mut Receiver,
+) -> bool
+    requires mailbox { (first.old.mailbox ≡ mailbox.now) × (receiver.old.mailbox ≡ mailbox.now) }
+    requires first { (first.old.number ≡ 0) × (first.old.made ≡ 1) }
+    ensures mailbox { (first.new.mailbox ≡ mailbox.now) × (receiver.new.mailbox ≡ mailbox.now) }
+{
+    for number in 1..64 {
+        let Ok(mut sender) = mailbox.split(first) else {
+            unreachable!()
+        };
+        if mailbox.send(rt, &mut sender, letter(alloc, 0, number)).is_err() {
+            return false;
+        }
+        mailbox.join(receiver, sender);
+    }
+    true
+}
+
+/// Receives 64 letters, and says whether they are numbered from 1 on.
+fn comes_in_order(rt: &impl Wait, mailbox: &Mailbox, receiver: &mut Receiver) -> bool
+    requires { receiver.old.mailbox ≡ mailbox.now }
+{
+    for number in 1..65 {
+        match mailbox.receive(rt, receiver) {
+            Some(letter) if letter.number == number => {}
+            _ => return false,
+        }
+    }
+    mailbox.receive(rt, receiver).is_none()
+}
+
+#[test]
+fn sixty_four_senders(rt: HostRuntime) -> Result<(), Fail> {
+    let (mailbox, mut first, mut receiver) = Mailbox::new(rt.alloc(), 64)?;
+    assert!(rt; each_sends_one(&rt, rt.alloc(), &mailbox, &mut first, &mut receiver));
+    assert!(rt; mailbox.send(&rt, &mut first, letter(rt.alloc(), 0, 64)).is_ok());
+    mailbox.join(&mut receiver, first);
+    assert!(rt; comes_in_order(&rt, &mailbox, &mut receiver));
+    Ok(())
+}
+
 /// Sends letters, numbered from 0, until one comes back, so many at most, and says how many the
 /// mailbox took.
 fn fill(rt: &impl Wait, alloc: Global, mailbox: &Mailbox, sender: &mut Sender, most: u32) -> u32

@@ -589,3 +589,40 @@ fn decided(place: &mut Place, alloc: Global, handed: &mut Handed) -> Result<u16,
     };
     place.ask(alloc, 7, 3, verdict, handed)
 }
+
+#[test]
+fn a_batch_hands_its_packets_out(rt: HostRuntime) -> Result<(), Fail> {
+    let alloc = rt.alloc();
+    let mut place = only(alloc);
+    let mut handed = Handed::new(alloc);
+    let answer = let_go(&mut place, alloc, &mut handed);
+    let (count, first) = released(handed);
+    let waiting = place.waiting();
+    let entries = ended(place);
+    assert_eq!(rt;
+        (answer?, count, first, waiting, entries.len()),
+        (0, 2, Some((9, 1, Decision::Accept)), 1, 6)
+    );
+    Ok(())
+}
+
+/// Three packets wait, and a batch accepts the first two, with a mark.
+fn let_go(place: &mut Place, alloc: Global, handed: &mut Handed) -> Result<u16, NoMemory>
+    requires { IsOnly place.old }
+    ensures { IsOnly place.new }
+{
+    let all = [
+        Happens::Asks(7, 0, Words::Bind),
+        Happens::Asks(7, 0, Words::SetUp(PACKET, 1024)),
+        Happens::Arrives(0, 1, false, true),
+        Happens::Arrives(0, 2, false, true),
+        Happens::Arrives(0, 3, false, true),
+    ];
+    happen_all(place, alloc, &all)?;
+    let batch = Request::Batch {
+        queue: 0,
+        head: Some(Head { verdict: 1, id: 2 }),
+        mark: Some(9),
+    };
+    place.ask(alloc, 7, 3, batch, handed)
+}

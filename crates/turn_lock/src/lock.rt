@@ -30,7 +30,7 @@ pub struct Unmade<S> {
 
 impl<S: Storied> TurnLock<S> {
     ghost use Rattle.std.specs.Prelude.{◌≡◌, ℕ, ◌∷◌, ◌<◌, true, false, Some, [], length};
-    ghost use Rattle.std.specs.Prelude.{IfOk, IfErr, OnOk, OnErr};
+    ghost use Rattle.std.specs.Prelude.{IfOk, IfErr, OnOk, OnErr, IsOk};
     ghost use Rattle.std.specs.List.{range_with_len};
     ghost use mathlib.Core.List.{IsPrefix};
     ghost use Rattle.turn_lock.specs.declared.view.Turn.TheVariants.{Outside, Waits, Served};
@@ -127,6 +127,7 @@ impl<S: Storied> TurnLock<S> {
         ensures kept { OnOk result (view_of pass.new ≡ kept_view (view_of pass.old)) }
         ensures made { IfOk result (λ made. view_of made ≡ split_view (view_of pass.old)) }
         ensures memory { OnErr result (view_of pass.new ≡ view_of pass.old) }
+        ensures succeeds { IsOk result }
     {
         Ok(Pass {
             seat: self.table.shared.split_seat::<Cut>(&mut pass.seat),

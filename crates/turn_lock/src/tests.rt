@@ -41,6 +41,18 @@ fn none_yet(alloc: Global, name: u64) -> Numbers
     }
 }
 
+/// A type whose values threads hand on and share.
+fn is_shared<T: Send + Sync>() {}
+
+/// A type whose values threads hand on.
+fn is_handed_on<T: Send>() {}
+
+#[test]
+fn threads_share_locks_and_own_passes(_rt: HostRuntime) {
+    is_shared::<TurnLock<Numbers>>();
+    is_handed_on::<Pass<Numbers>>();
+}
+
 /// Appends a number in a turn, and says whether there was memory for it. Then the pass has one
 /// place more, and the number stands there in what the pass has seen.
 fn append<R: Wait>(rt: &R, lock: &TurnLock<Numbers>, pass: &mut Pass<Numbers>, number: u64) -> bool

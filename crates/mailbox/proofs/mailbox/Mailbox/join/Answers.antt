@@ -58,3 +58,15 @@ returns-clause-full c =
 
 pub returns-clause-senders : goal.returns-clause-senders
 returns-clause-senders c = (invariant_of-receiver c).told.senders
+
+pub returns-clause-once : goal.returns-clause-once
+returns-clause-once c = (invariant_of-receiver c).told.once
+
+pub returns-clause-made : goal.returns-clause-made
+returns-clause-made c = (invariant_of-receiver c).told.made
+
+pub returns-clause-beyond : goal.returns-clause-beyond
+returns-clause-beyond c = (invariant_of-receiver c).told.beyond
+
+pub returns-clause-inside : goal.returns-clause-inside
+returns-clause-inside c = (invariant_of-receiver c).told.inside

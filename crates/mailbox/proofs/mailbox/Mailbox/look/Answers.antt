@@ -20,6 +20,12 @@ returns-then-load-eq0 c =
     let f = c.load.ensures.2.0 c.if-load-eq0.true in (
       view_empty c.receiver.inside.pass c.receiver.inside.chair c.load.new.seat
           c.load.ensures.0 f.0 ∙ ap receiver_empty c.receiver.view_is,
-      record { prefix = i.told.prefix; senders = i.told.senders; whole = i.told.whole },
+      record {
+        prefix = i.told.prefix;
+        senders = i.told.senders;
+        whole = i.told.whole;
+        beyond = i.told.beyond;
+        inside = i.told.inside;
+      },
       whole_when_empty _ _ i f.1,
     )

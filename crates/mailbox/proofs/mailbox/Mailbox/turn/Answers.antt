@@ -24,7 +24,13 @@ returns-in-Some g c =
             c.free.ensures.freed
             ∙ ap (λ r. receiver_with r post.from post.letter) c.receiver.view_is,
       ),
-      record { prefix = e.1.prefix; senders = e.1.senders; whole = e.1.whole },
+      record {
+        prefix = e.1.prefix;
+        senders = e.1.senders;
+        whole = e.1.whole;
+        beyond = e.1.beyond;
+        inside = e.1.inside;
+      },
     )
 
 pub returns-in-None : goal.returns-in-None
