@@ -31,12 +31,12 @@ use Rattle.histories.specs.History.{history, is_of, AreLegal, IsLegalFrom}
 use Rattle.histories.specs.Happenings as place
 use Rattle.packet_entry.specs.declared.letter.Letter.{Letter}
 use Rattle.inspector_script.specs.Scripts.{ScriptValue, IsScript}
-use Rattle.script_runs.specs.Log.{Note, Got, Begun, Spoke, Shut, Standing, AreNextFrom}
-use Rattle.script_runs.specs.Log.{after, logged, start}
-use Rattle.script_runs.specs.Requests.{Plea, pleas_of, pleas_in, pleas_told, plea_of}
-use Rattle.script_runs.specs.Run.{IsMadeBy, IsTold, RequestsHold}
-use Rattle.script_runs.specs.Ports.{is_port, place_in}
-use Rattle.script_runs.specs.Sending.{errno_in}
+use Rattle.made_runs.specs.Log.{Note, Got, Begun, Spoke, Shut, Standing, AreNextFrom}
+use Rattle.made_runs.specs.Log.{after, logged, start}
+use Rattle.made_runs.specs.Requests.{Plea, pleas_of, pleas_in, pleas_told, plea_of}
+use Rattle.made_runs.specs.Run.{IsMadeBy, IsTold, RequestsHold}
+use Rattle.made_runs.specs.Ports.{is_port, place_in}
+use Rattle.made_runs.specs.Requests.{errno_in}
 use Rattle.histories.specs.Grouping.{IsGrouped}
 use Rattle.journals.specs.WellFormed as formed
 use Rattle.journals.specs.WellFormed.{Fit, FitsDid, FitsEntry, FitsEvent, FitsLog, FitsReply}

@@ -10,7 +10,7 @@ use Rattle.ip_fields.specs.declared.frame.LinkCut.{LinkCut}
 use Rattle.ip_fields.specs.Frame.{cut_of}
 use Rattle.pcap_io.specs.declared.capture.Capture.{Capture}
 use Rattle.pcap_io.specs.declared.capture.Frame.{Frame}
-use Rattle.script_runs.specs.Entering.{card_at, cards, cards_from}
+use Rattle.made_runs.specs.Entering.{card_at, cards, cards_from}
 use Rattle.std.specs.Prelude.{◌++◌, option_map, option_to_list}
 use Rattle.histories.specs.declared.histories.Histories.{Histories}
 use Rattle.histories.specs.declared.histories.Lost.{Lost}

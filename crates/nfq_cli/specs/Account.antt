@@ -10,9 +10,9 @@ use Rattle.histories.specs.Moves.{moves}
 use Rattle.histories.specs.Journeys.{AreSound}
 use Rattle.histories.specs.Endings.{AreQueuesOf, times_waiting, times_over, times_entered}
 use Rattle.inspector_script.specs.Scripts.{ScriptValue}
-use Rattle.script_runs.specs.Entering.{cards}
-use Rattle.script_runs.specs.Log.{Note}
-use Rattle.script_runs.specs.Run.{IsMadeBy}
+use Rattle.made_runs.specs.Entering.{cards}
+use Rattle.made_runs.specs.Log.{Note}
+use Rattle.made_runs.specs.Run.{IsMadeBy}
 use Rattle.script_runs.specs.Schedule.{IsSolo}
 use Rattle.fate_ledger.specs.declared.fate.Fate.TheVariants.{Waiting}
 use Rattle.fate_ledger.specs.declared.fate.FateLine.{FateLine}

@@ -9,7 +9,7 @@ ghost use Rattle.pcap_io.specs.Text.{IsHeld};
 ghost use Rattle.histories.specs.declared.histories.Histories.{Histories as AHistories};
 ghost use Rattle.histories.specs.History.{AreLegal};
 ghost use Rattle.histories.specs.Journeys.{AreSound};
-ghost use Rattle.script_runs.specs.Entering.{cards};
+ghost use Rattle.made_runs.specs.Entering.{cards};
 ghost use Rattle.script_runs.specs.Schedule.{IsSolo};
 ghost use Rattle.fate_ledger.specs.Released.{released};
 ghost use Rattle.solo_run.specs.Numbers.{most_frames};
@@ -29,9 +29,9 @@ use packet_entry::NoMemory;
 use pcap_io::Capture;
 use histories::{Histories, each_packet_waits_is_lost_or_is_over};
 use queue_core::replies_tell_how_many_left;
+use made_runs::{each_log_is_what_is_told, packets_are_read_with_their_frames};
 use script_runs::{
-    a_schedule_has_one_run, each_log_is_what_is_told, no_notice_is_left,
-    packets_and_payloads_are_within_bounds, packets_are_read_with_their_frames,
+    a_schedule_has_one_run, no_notice_is_left, packets_and_payloads_are_within_bounds,
 };
 use solo_run::solo;
 use std::alloc::Global;

@@ -23,12 +23,13 @@ use Rattle.packet_moves.specs.Calls.{next_call}
 use Rattle.packet_moves.specs.Moving.{arrived, left_at_once, room_for}
 use Rattle.packet_moves.specs.Messages.{words_of, answered, call_at, asking, with_ask}
 use Rattle.packet_moves.specs.Planes.{with_closed, without_device}
-use Rattle.script_runs.specs.Sending.{carried_out, errno_of, sent, sent_as, messages_in, bytes_of}
+use Rattle.script_runs.specs.Sending.{carried_out, errno_of, sent, sent_as}
+use Rattle.made_runs.specs.Datagrams.{messages_in, bytes_of}
 use Rattle.script_runs.specs.Sending.{all_sent, done, all_done}
 use Rattle.script_runs.specs.Schedule.{is_open_port}
-use Rattle.script_runs.specs.Log.{Note, Got, Begun, Spoke, Shut, Due, Still, Message, Standing}
-use Rattle.script_runs.specs.Log.{all_due, is_some_due, after}
-use Rattle.script_runs.specs.Log.{IsNext, standing}
+use Rattle.made_runs.specs.Log.{Note, Got, Begun, Spoke, Shut, Due, Still, Message, Standing}
+use Rattle.made_runs.specs.Log.{all_due, is_some_due, after}
+use Rattle.made_runs.specs.Log.{IsNext, standing}
 use Rattle.script_runs.proofs.Carrying.{all_moved_keeps}
 use Rattle.script_runs.proofs.Reaching.{Stand, full, IsAt, noted, put, put_same, is_in}
 use Rattle.script_runs.proofs.Reaching.{AreAt, all_push, all_arrive, all_as}

@@ -3,6 +3,7 @@ use Rattle.std.proofs.Common.{◌≤◌, ◌+◌, ℕ, zero, suc, List, [], ◌�
 use Rattle.std.proofs.Common.{Option, Some, None, Bool, true, false, cond, arith}
 use Rattle.std.specs.Prelude.{slice_get, find, flat_map, ◌==◌, option_map}
 use Rattle.std.specs.Option.{option_map_or}
+use Rattle.std.specs.Prelude.{All}
 use Rattle.std.specs.List.{AllByRecursion}
 use Rattle.std.proofs.lemmas.List.{length-drop}
 use Rattle.std.proofs.lemmas.List.Elements.{recursion_from_All}
@@ -52,15 +53,18 @@ use Rattle.packet_moves.specs.Moving.{Carried, arrival_to, arrived, turned_away,
 use Rattle.packet_moves.specs.Moving.{carry_on, goes_on, route_after, room_for}
 use Rattle.packet_moves.specs.Messages.{asking, with_ask, call_at}
 use Rattle.packet_moves.specs.Planes.{entered, with_closed, without_device, beginning}
+use Rattle.made_runs.specs.Datagrams.{AsksWell}
 use Rattle.script_runs.specs.Numbers.{enough_arrivals}
-use Rattle.script_runs.specs.Entering.{card_of, card_at}
-use Rattle.script_runs.specs.NoticeTexts.{told_exactly}
-use Rattle.script_runs.specs.Sending.{all_moved, carried_out, sent, messages_in, bytes_of, all_sent}
+use Rattle.made_runs.specs.Entering.{card_of, card_at}
+use Rattle.made_runs.specs.NoticeTexts.{told_exactly}
+use Rattle.script_runs.specs.Sending.{all_moved, carried_out, sent, all_sent}
+use Rattle.made_runs.specs.Datagrams.{messages_in, bytes_of}
 use Rattle.script_runs.specs.Sending.{done, all_done}
 use Rattle.script_runs.specs.Schedule.{Looked, letters_at, is_open_port, looked_at}
 use Rattle.script_runs.specs.Schedule.{looked, round, emptied_in, received_in, asks_for}
 use Rattle.script_runs.specs.Schedule.{opened_all, all_down, fed, frame_passed, frames_passed}
-use Rattle.script_runs.specs.Schedule.{downs_after, is_pause, ended_all, rounds_for}
+use Rattle.made_runs.specs.Feeder.{downs_after}
+use Rattle.script_runs.specs.Schedule.{is_pause, ended_all, rounds_for}
 use Rattle.script_runs.proofs.Small.{IsSmall, AllFit, AllLeave, step_good, state_small}
 use Rattle.script_runs.proofs.Small.{append_fits}
 
@@ -86,12 +90,12 @@ handed_small (l ∷ ls) all = by l.0 l.1 all.0 (handed_small ls all.1)
 
 -- messages whose payload fits
 abbrev pub AllAskWell : List NetlinkMessage → Type 0
-AllAskWell ms = AllByRecursion (λ (m : NetlinkMessage). AskedFits (decoded m)) ms
+AllAskWell ms = AllByRecursion AsksWell ms
 
 -- the messages of each ask of a script are so
 abbrev pub WordsFit : Type 0
 WordsFit = (port call : ℕ) (words : AskWords) → IsWords words →
-    AllAskWell (messages_in (bytes_of port call words))
+    All AsksWell (messages_in (bytes_of port call words))
 
 abbrev AllAsks : List lines.Ask → Type 0
 AllAsks asks = AllByRecursion IsAsk asks
@@ -238,7 +242,8 @@ module _ (fits : WordsFit) (s : Setting) where
       IsAsk a → Bounded w → Bounded (done then s port a w)
   done_fits then stays port (Words words) w is fit =
       sends_fit s then stays port (messages_in (bytes_of port (call_at (w.ports port)) words)) w
-      (fits port (call_at (w.ports port)) words is) fit
+      (recursion_from_All AsksWell (messages_in (bytes_of port (call_at (w.ports port)) words))
+      (fits port (call_at (w.ports port)) words is)) fit
   done_fits then stays port Close w is fit = shuts_fit port w fit
 
   dones_fit : (then : World → World) → Stays then → (port : ℕ) (asks : List lines.Ask)

@@ -14,8 +14,8 @@ use Rattle.histories.specs.Numbers.{queue_count}
 use Rattle.histories.specs.History.{history, is_of, replay, replay_from}
 use Rattle.histories.specs.States.{entry_in, state_of}
 use Rattle.histories.specs.Happenings as happening
-use Rattle.script_runs.specs.Closing.{is_closing_of, is_of_port, behind_first, is_bound_to}
-use Rattle.script_runs.specs.Closing.{IsClosing}
+use Rattle.made_runs.specs.Closing.{is_closing_of, is_of_port, behind_first, is_bound_to}
+use Rattle.made_runs.specs.Closing.{IsClosing}
 use Rattle.script_runs.proofs.Shutting.{step_frees}
 
 -- what the queues do when a port closes

@@ -30,28 +30,30 @@ use Rattle.packet_moves.specs.declared.setting.Setting.{Setting}
 use Rattle.packet_moves.specs.World.{World, Port, at_port, received, opened, closed}
 use Rattle.packet_moves.specs.Messages.{call_at}
 use Rattle.packet_moves.specs.Planes.{beginning, opened_ports, entered, without_device}
+use Rattle.made_runs.specs.Ports.{AreApart, ArePlaced, HavePlaces}
 use Rattle.script_runs.specs.Numbers.{enough_arrivals}
-use Rattle.script_runs.specs.Entering.{card_of}
-use Rattle.script_runs.specs.NoticeTexts.{told_exactly}
-use Rattle.script_runs.specs.Closing.{IsClosing}
+use Rattle.made_runs.specs.Entering.{card_of}
+use Rattle.made_runs.specs.NoticeTexts.{told_exactly}
+use Rattle.made_runs.specs.Closing.{IsClosing}
 use Rattle.script_runs.specs.LettersLeft.{left_in}
-use Rattle.script_runs.specs.Log.{Note}
-use Rattle.script_runs.specs.Run.{IsMadeBy}
-use Rattle.script_runs.specs.Sending.{sent, all_sent, done, all_done, messages_in, bytes_of}
+use Rattle.made_runs.specs.Log.{Note}
+use Rattle.made_runs.specs.Run.{IsMadeBy}
+use Rattle.script_runs.specs.Sending.{sent, all_sent, done, all_done}
+use Rattle.made_runs.specs.Datagrams.{messages_in, bytes_of}
 use Rattle.script_runs.specs.Schedule.{Looked, is_open_port, letters_at, received_in, answered_by}
 use Rattle.script_runs.specs.Schedule.{looked_at, looked, round}
 use Rattle.script_runs.specs.Schedule.{go_on_while, emptied_in, opened_all}
-use Rattle.script_runs.specs.Schedule.{all_down, downs_after, fed, is_pause, frame_passed}
+use Rattle.script_runs.specs.Schedule.{all_down, fed, is_pause, frame_passed}
+use Rattle.made_runs.specs.Feeder.{downs_after}
 use Rattle.script_runs.specs.Schedule.{frame_fed, paused, until_open, until_fed}
 use Rattle.script_runs.specs.Schedule.{frames_passed, ended_all, rounds_for, until_ends}
 use Rattle.script_runs.specs.Schedule.{setting_of, run, IsSolo}
-use Rattle.script_runs.specs.Ports.{place_in}
+use Rattle.made_runs.specs.Ports.{place_in}
 use Rattle.script_runs.proofs.Closings.{Laws}
 use Rattle.script_runs.proofs.Shut.{is_shut}
 use Rattle.script_runs.proofs.Later.{LeaveAlone, IsFresh, is_fresh}
 use Rattle.script_runs.proofs.Zeros.{Conserve}
-use Rattle.script_runs.proofs.Placing.{AreApart, apart_so, placed_so}
-use Rattle.script_runs.proofs.Running.{ArePlaced, opening_words}
+use Rattle.script_runs.proofs.Running.{opening_words}
 use Rattle.script_runs.proofs.Running.{answer_words, closing_end, stays_open}
 use Rattle.script_runs.proofs.Running.{done_append}
 use Rattle.script_runs.proofs.Pools.{weight_none}
@@ -463,74 +465,74 @@ abbrev pub at_first : ScriptValue → ℕ → Bool
 at_first script p = list_any (nat_eq p) script.ports
 
 pub opened_held : Laws → Conserve → LeaveAlone → (script : ScriptValue)
-    (tables : List (List Rule)) → AllPairs (λ p q. p ≢ q) script.ports →
+    (tables : List (List Rule)) → HavePlaces script →
     HeldIn script.ports (at_first script) (until_open (setting_of script tables) script) 0
-opened_held laws conserve leaves script tables differ =
+opened_held laws conserve leaves script tables places =
     let s = setting_of script tables in
-    let apart = apart_so script.ports differ in
+    let apart = places.apart in
     let zero_world = beginning script.ports in
     downs_held laws conserve leaves s script apart (at_first script) 0 (downs_after script 0)
     (opened_all s script 0 script.ports zero_world)
     (opens_held laws conserve leaves s script apart (at_first script) 0 0 script.ports zero_world
-    (all_open script 0 script.ports (placed_so script differ)) (begun_held script))
+    (all_open script 0 script.ports places.placed) (begun_held script))
 
 pub before_last : Laws → Conserve → LeaveAlone → (script : ScriptValue)
-    (tables : List (List Rule)) (c : Capture) → AllPairs (λ p q. p ≢ q) script.ports →
+    (tables : List (List Rule)) (c : Capture) → HavePlaces script →
     HeldIn script.ports (at_first script) (until_fed (setting_of script tables) script c)
     (0 + 32 * length c.frames)
-before_last laws conserve leaves script tables c differ =
+before_last laws conserve leaves script tables c places =
     let s = setting_of script tables in
-    frames_held laws conserve leaves s script (apart_so script.ports differ)
-    (placed_so script differ) (rounds_for c) (at_first script) c 1 c.frames (until_open s script) 0
-    (opened_held laws conserve leaves script tables differ)
+    frames_held laws conserve leaves s script places.apart
+    places.placed (rounds_for c) (at_first script) c 1 c.frames (until_open s script) 0
+    (opened_held laws conserve leaves script tables places)
 
 pub before_end : (laws : Laws) (conserve : Conserve) (leaves : LeaveAlone) (script : ScriptValue)
-    (tables : List (List Rule)) (c : Capture) (differ : AllPairs (λ p q. p ≢ q) script.ports) →
-    Ended laws conserve leaves (setting_of script tables) script (apart_so script.ports differ)
+    (tables : List (List Rule)) (c : Capture) (places : HavePlaces script) →
+    Ended laws conserve leaves (setting_of script tables) script places.apart
     (0 + 32 * length c.frames) script.ports (until_ends (setting_of script tables) script c)
-before_end laws conserve leaves script tables c differ =
+before_end laws conserve leaves script tables c places =
     let s = setting_of script tables in
-    let placed = placed_so script differ in
+    let placed = places.placed in
     let more : 0 + 32 * length c.frames < rounds_for c = omega arith in
     record {
       o = at_first script;
       only = λ p op. op;
       open_all = all_open script 0 script.ports placed;
-      calm = calm_then laws conserve leaves s script (apart_so script.ports differ) placed
+      calm = calm_then laws conserve leaves s script places.apart placed
           (rounds_for c) (at_first script) (0 + 32 * length c.frames) more (λ p op. op)
-          (until_fed s script c) (before_last laws conserve leaves script tables c differ);
+          (until_fed s script c) (before_last laws conserve leaves script tables c places);
     }
 
 run_ends : Laws → Conserve → LeaveAlone → (script : ScriptValue) (tables : List (List Rule))
-    (c : Capture) → AllPairs (λ p q. p ≢ q) script.ports → AtEnd script (run script tables c)
-run_ends laws conserve leaves script tables c differ =
+    (c : Capture) → HavePlaces script → AtEnd script (run script tables c)
+run_ends laws conserve leaves script tables c places =
     let s = setting_of script tables in
-    let apart = apart_so script.ports differ in
+    let apart = places.apart in
     let b = 0 + 32 * length c.frames in
     let more : b < rounds_for c = omega arith in
-    let last = ends_calm laws conserve leaves s script apart (placed_so script differ)
+    let last = ends_calm laws conserve leaves s script apart places.placed
     (rounds_for c) b more 0 script.ports (until_ends s script c) apart
-    (before_end laws conserve leaves script tables c differ) in
+    (before_end laws conserve leaves script tables c places) in
     record { o = last.o; b = b; held = last.calm.held; quiet = last.calm.quiet }
 
 pub open_boxes_empty : Laws → Conserve → LeaveAlone → (script : ScriptValue)
-    (tables : List (List Rule)) (c : Capture) → AllPairs (λ p q. p ≢ q) script.ports →
+    (tables : List (List Rule)) (c : Capture) → HavePlaces script →
     (port : ℕ) → is_open_port ((run script tables c).ports port) ≡ true →
     left_in (run script tables c) port ≡ []
-open_boxes_empty laws conserve leaves script tables c differ port op =
-    let is = run_ends laws conserve leaves script tables c differ in
+open_boxes_empty laws conserve leaves script tables c places port op =
+    let is = run_ends laws conserve leaves script tables c places in
     is.quiet port (sym (is.held.is_open port) ∙ op)
 
 pub all_boxes_empty : Laws → Conserve → LeaveAlone → (script : ScriptValue)
     (tables : List (List Rule)) (c : Capture) (h : Histories) →
-    AllPairs (λ p q. p ≢ q) script.ports → IsSolo script tables c h →
+    HavePlaces script → IsSolo script tables c h →
     All (λ (e : Entry). e.queue < queue_count) h.entries → (port : ℕ) →
     left_in (run script tables c) port ≡ []
-all_boxes_empty laws conserve leaves script tables c h differ solo small port =
+all_boxes_empty laws conserve leaves script tables c h places solo small port =
     by (cases_Bool (is.o port))
   where
     is : AtEnd script (run script tables c)
-    is = run_ends laws conserve leaves script tables c differ
+    is = run_ends laws conserve leaves script tables c places
 
     below : AreBelow (run script tables c).entries
     below queue out =
@@ -543,14 +545,14 @@ all_boxes_empty laws conserve leaves script tables c h differ solo small port =
 -- so what the histories are made by, they are made by with nothing left
 pub made_with_nothing : Laws → Conserve → LeaveAlone → (script : ScriptValue)
     (tables : List (List Rule)) (c : Capture) (h : Histories) →
-    AllPairs (λ p q. p ≢ q) script.ports → IsSolo script tables c h →
+    HavePlaces script → IsSolo script tables c h →
     All (λ (e : Entry). e.queue < queue_count) h.entries →
     (notes : ℕ → List Note) × IsMadeBy script (length c.frames) h notes
     (left_in (run script tables c)) →
     (notes : ℕ → List Note) × IsMadeBy script (length c.frames) h notes (λ port. [])
-made_with_nothing laws conserve leaves script tables c h differ solo small made =
+made_with_nothing laws conserve leaves script tables c h places solo small made =
     let none : left_in (run script tables c) ≡ (λ port. []) =
-    fun_ext (λ port. all_boxes_empty laws conserve leaves script tables c h differ solo small port)
+    fun_ext (λ port. all_boxes_empty laws conserve leaves script tables c h places solo small port)
     in (
       made.0,
       subst (λ left. IsMadeBy script (length c.frames) h made.0 left) none made.1,

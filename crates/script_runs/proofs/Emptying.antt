@@ -41,8 +41,9 @@ use Rattle.packet_moves.specs.Moving.{with_notice, carry, carry_on, settled, goe
 use Rattle.packet_moves.specs.Moving.{Carried}
 use Rattle.packet_moves.specs.Messages.{asking, with_ask, words_of, answered}
 use Rattle.packet_moves.specs.Planes.{with_closed, without_device}
+use Rattle.made_runs.specs.Ports.{AreApart}
 use Rattle.script_runs.specs.Numbers.{enough_arrivals}
-use Rattle.script_runs.specs.Closing.{IsClosing, is_bound_to}
+use Rattle.made_runs.specs.Closing.{IsClosing, is_bound_to}
 use Rattle.script_runs.specs.Schedule.{is_open_port, letters_at}
 use Rattle.script_runs.specs.Sending.{all_moved, carried_out, errno_of, sent_as}
 use Rattle.script_runs.proofs.Closings.{Laws}
@@ -50,7 +51,6 @@ use Rattle.script_runs.proofs.Shut.{AreShut, is_shut, shut_kept, asked_shut, por
 use Rattle.script_runs.proofs.Shut.{received_stays}
 use Rattle.script_runs.proofs.Later.{MayGo, LeaveAlone}
 use Rattle.script_runs.proofs.Zeros.{Conserve, AllBring, bring_all, closing_brings, down_brings}
-use Rattle.script_runs.proofs.Placing.{AreApart}
 use Rattle.script_runs.proofs.Pools.{Pool, Waits, cards, pushed, weight, weight_same}
 use Rattle.script_runs.proofs.Pools.{weight_cons, weight_none, is_late, in_time, one, times_cons}
 use Rattle.script_runs.proofs.Pools.{carried, go_early, go_cost}

@@ -17,7 +17,7 @@ use Rattle.packet_moves.specs.declared.setting.Setting.{Setting}
 use Rattle.packet_moves.specs.World.{World}
 use Rattle.packet_moves.specs.Moving.{arrived, room_for}
 use Rattle.script_runs.specs.Sending.{carried_out}
-use Rattle.script_runs.specs.Feeder.{times_of_event}
+use Rattle.made_runs.specs.Feeder.{times_of_event}
 use Rattle.script_runs.proofs.Asking.{Stage, IsOver, MayArrive, Goes, MayEnter, with_fed}
 use Rattle.script_runs.proofs.Zeros.{NoneWaits, none_less}
 use Rattle.script_runs.proofs.Rising.{IsNow}

@@ -13,9 +13,9 @@ use Rattle.histories.specs.History.{history, is_of, replay, replay_from}
 use Rattle.histories.specs.States.{entry_in, state_of}
 use Rattle.histories.specs.Happenings as happening
 use Rattle.script_lines.specs.declared.line.Down.{Down}
-use Rattle.script_runs.specs.Feeder.{Item, Was, Fell, Passed}
-use Rattle.script_runs.specs.Feeder.{entries_of, lines_of, IsItem, IsNoDown}
-use Rattle.script_runs.specs.Feeder.{AreItemsFrom, times_of, times_of_event}
+use Rattle.made_runs.specs.Feeder.{Item, Was, Fell, Passed}
+use Rattle.made_runs.specs.Feeder.{entries_of, lines_of, IsItem, IsNoDown}
+use Rattle.made_runs.specs.Feeder.{AreItemsFrom, times_of, times_of_event}
 use Rattle.script_runs.proofs.Closings.{replay_on}
 use Rattle.script_runs.proofs.Rising.{Rise, IsNow, rise_push, rise_later, history_push}
 

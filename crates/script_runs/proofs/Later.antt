@@ -23,7 +23,7 @@ use Rattle.packet_moves.specs.Moving.{arrival_to, arrived, turned_away, settled,
 use Rattle.packet_moves.specs.Moving.{goes_on, route_after, Carried, left_at_once, room_for}
 use Rattle.histories.specs.States.{state_of}
 use Rattle.script_runs.specs.Numbers.{enough_arrivals}
-use Rattle.script_runs.specs.Entering.{card_of, card_at}
+use Rattle.made_runs.specs.Entering.{card_of, card_at}
 use Rattle.script_runs.specs.Sending.{all_moved}
 use Rattle.script_runs.proofs.Carrying.{Known, Of}
 

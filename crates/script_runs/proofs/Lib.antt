@@ -1,4 +1,4 @@
-pub mod Ports
+pub mod Logs
 pub mod Carrying
 pub mod Later
 pub mod Reaching
@@ -6,7 +6,6 @@ pub mod Asking
 pub mod Running
 pub mod Whole
 pub mod Pleading
-pub mod Placing
 pub mod Noticing
 pub mod Shutting
 pub mod Closings
@@ -21,15 +20,9 @@ pub mod Owing
 pub mod Ordering
 pub mod Ordered
 pub mod Made
-pub mod Written
-pub mod FedByHand
-pub mod HeardByHand
-pub mod LoggedByHand
-pub mod Told
 pub mod OneRun
 pub mod Small
 pub mod Bounded
-pub mod Datagrams
 pub mod Withins
 pub mod Pools
 pub mod Mailboxes

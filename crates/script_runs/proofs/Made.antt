@@ -14,48 +14,48 @@ use Rattle.hook_chain.specs.declared.rule.Rule.{Rule}
 use Rattle.histories.specs.History.{history}
 use Rattle.inspector_script.specs.Scripts.{ScriptValue}
 use Rattle.packet_moves.specs.World.{Port, opened}
+use Rattle.made_runs.specs.Ports.{HavePlaces}
 use Rattle.script_runs.specs.Schedule.{run, setting_of, IsSolo, letters_at}
 use Rattle.packet_moves.specs.Logs.{dids_of}
-use Rattle.packet_moves.specs.Logs as closing
+use Rattle.packet_moves.specs.Logs as logs
 use Rattle.histories.specs.declared.histories.Histories.{Histories}
 use Rattle.histories.specs.declared.log.PortLog.{PortLog}
 use Rattle.packet_moves.specs.Planes.{opened_ports}
-use Rattle.script_runs.specs.Closing.{IsClosing}
+use Rattle.made_runs.specs.Closing.{IsClosing}
 use Rattle.script_runs.proofs.Shut.{AreShut, is_shut, shut_kept}
 use Rattle.script_runs.proofs.Closings.{Laws}
-use Rattle.script_runs.specs.Room.{some_lacks}
+use Rattle.made_runs.specs.Room.{some_lacks}
 use Rattle.script_runs.proofs.Roomy.{AllRoomy, Roomy, lacking, roomy_kept}
 use Rattle.script_runs.specs.LettersLeft.{left_in}
-use Rattle.script_runs.specs.Notices.{heard, is_from, letters_from}
-use Rattle.script_runs.specs.Log.{Note, IsLog}
-use Rattle.script_runs.specs.Requests.{pleas_in, pleas_told, answer_in}
-use Rattle.script_runs.specs.Ports.{log_of}
-use Rattle.script_runs.specs.Run.{IsMadeBy}
-use Rattle.script_runs.proofs.Ports.{ports_of_logs}
+use Rattle.made_runs.specs.Notices.{heard, is_from, letters_from}
+use Rattle.made_runs.specs.Log.{Note, IsLog}
+use Rattle.made_runs.specs.Requests.{pleas_in, pleas_told, answer_in}
+use Rattle.made_runs.specs.Ports.{log_of}
+use Rattle.made_runs.specs.Run.{IsMadeBy}
+use Rattle.script_runs.proofs.Logs.{ports_of_logs}
 use Rattle.script_runs.proofs.Asking.{Kept, Staged, Stage, both_kept, always_goes, both_go}
 use Rattle.script_runs.proofs.Going.{Below}
 use Rattle.script_runs.proofs.Feeding.{Fed, nothing_fed}
 use Rattle.script_runs.proofs.Fed.{FedSo, fed_goes}
 use Rattle.script_runs.proofs.Ordering.{Ordered}
 use Rattle.script_runs.proofs.Ordered.{OrderSo, order_goes, told}
-use Rattle.script_runs.specs.Feeder.{IsFed, downs_in_effect}
+use Rattle.made_runs.specs.Feeder.{IsFed, downs_in_effect}
 use Rattle.script_runs.proofs.Whole.{run_reached, run_dids, run_logged, closed_at, ended}
 use Rattle.script_runs.proofs.Whole.{last_stage}
 use Rattle.script_runs.proofs.Pleading.{AreEven, even_kept}
 use Rattle.script_runs.proofs.Noticing.{AreNoticed, Noticed, letters, noticed_kept}
-use Rattle.script_runs.proofs.Placing.{placed_so}
-use Rattle.script_runs.specs.Ports.{place_in}
-use Rattle.script_runs.specs.Order.{Kind, IsOrdered, kinds_told}
+use Rattle.made_runs.specs.Ports.{place_in}
+use Rattle.made_runs.specs.Order.{Kind, IsOrdered, kinds_told}
 
 -- a log is its port's
 log_there : (ports : ℕ → Option Port) (port : ℕ) (dids : List Did) (ps : List ℕ) →
-    log_of port (map (closing.log_of ports) ps) ≡ Some dids → dids_of (ports port) ≡ dids
+    log_of port (map (logs.log_of ports) ps) ≡ Some dids → dids_of (ports port) ≡ dids
 log_there ports port dids [] wrong = absurd (cc)
 log_there ports port dids (p ∷ ps) is =
     by (cases_Bool (port == p)) (log_there ports port dids ps)
   where
     by : ((port == p) ≡ true) ⊎ ((port == p) ≡ false) →
-        (log_of port (map (closing.log_of ports) ps) ≡ Some dids →
+        (log_of port (map (logs.log_of ports) ps) ≡ Some dids →
         dids_of (ports port) ≡ dids) → dids_of (ports port) ≡ dids
     by (inl h) later =
         let own : Some (dids_of (ports p)) ≡ Some dids = rw h at is in
@@ -138,10 +138,10 @@ nothing_ordered script = record {
 }
 
 pub made_by_script : Laws → Below → (script : ScriptValue) (tables : List (List Rule)) (c : Capture)
-    (h : Histories) → AllPairs (λ p q. p ≢ q) script.ports → IsSolo script tables c h →
+    (h : Histories) → HavePlaces script → IsSolo script tables c h →
     (notes : ℕ → List Note) × IsMadeBy script (length c.frames) h notes (left_in
     (run script tables c))
-made_by_script laws below script tables c h differ is =
+made_by_script laws below script tables c h places is =
     let s = setting_of script tables in
     let f = λ (p : ℕ). place_in p script.ports in
     let Even : Kept = λ es ports notes. AreEven es notes in
@@ -159,7 +159,7 @@ made_by_script laws below script tables c h differ is =
     let P : Staged = λ st es ports notes. Old es ports notes × New st es ports notes in
     let K = both_go s script f (λ st. Old) New (always_goes s script f Old kept)
     (both_go s script f Fed_so In_order (fed_goes below s script f) (order_goes script below s)) in
-    let placed = placed_so script differ in
+    let placed = places.placed in
     let old_nothing : Old [] (opened_ports script.ports) (λ p. []) = (
       (
         record { even = λ p queue. refl; errnos = λ p. tt },

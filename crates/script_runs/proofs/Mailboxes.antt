@@ -7,8 +7,8 @@ use Rattle.std.specs.List.{list_any}
 use Rattle.std.proofs.lemmas.Bool.{cases_Bool, eq-eqb, eqb-true, ne_eqb}
 use Rattle.packet_entry.specs.declared.letter.Letter.{Letter}
 use Rattle.packet_moves.specs.World.{Port, changed_at, delivered, received, received_from}
+use Rattle.made_runs.specs.Ports.{AreApart}
 use Rattle.script_runs.specs.Schedule.{letters_at}
-use Rattle.script_runs.proofs.Placing.{AreApart}
 
 abbrev pub in_box : (ℕ → Option Port) → ℕ → ℕ
 in_box ports p = length (letters_at (ports p))

@@ -21,13 +21,13 @@ use Rattle.packet_moves.specs.declared.setting.Setting.{Setting}
 use Rattle.packet_moves.specs.World.{World}
 use Rattle.packet_moves.specs.Moving.{arrived, room_for}
 use Rattle.script_runs.specs.Sending.{carried_out, errno_of}
-use Rattle.script_runs.specs.Log.{Note, Got, Begun, Spoke, Shut}
-use Rattle.script_runs.specs.Log.{Due, Standing, start, after, standing}
-use Rattle.script_runs.specs.Log.{is_some_due, standing_from}
-use Rattle.script_runs.specs.Requests.{Plea, plea_of, pleas_told}
-use Rattle.script_runs.specs.Ports.{place_in}
-use Rattle.script_runs.specs.Order.{Kind, Answers, kind_by, kind_at, kinds_from}
-use Rattle.script_runs.specs.Order.{kinds_told, early_by, late_by, late_asked}
+use Rattle.made_runs.specs.Log.{Note, Got, Begun, Spoke, Shut}
+use Rattle.made_runs.specs.Log.{Due, Standing, start, after, standing}
+use Rattle.made_runs.specs.Log.{is_some_due, standing_from}
+use Rattle.made_runs.specs.Requests.{Plea, plea_of, pleas_told}
+use Rattle.made_runs.specs.Ports.{place_in}
+use Rattle.made_runs.specs.Order.{Kind, Answers, kind_by, kind_at, kinds_from}
+use Rattle.made_runs.specs.Order.{kinds_told, early_by, late_by, late_asked}
 use Rattle.script_runs.proofs.Asking.{Stage, IsOver, MayArrive, MaySpeak, Goes, MayEnter, with_fed}
 use Rattle.script_runs.proofs.Reaching.{noted, is_in}
 use Rattle.script_runs.proofs.Zeros.{NoneWaits, none_less}

@@ -13,9 +13,9 @@ use Rattle.histories.specs.Numbers.{queue_count}
 use Rattle.histories.specs.History.{history, is_of}
 use Rattle.histories.specs.States.{entry_in, state_of}
 use Rattle.histories.specs.Happenings as happening
-use Rattle.script_runs.specs.Ports.{place_in}
-use Rattle.script_runs.specs.Order.{Kind, Answers, Marked}
-use Rattle.script_runs.specs.Order.{kinds_of, early_rank, late_ranks}
+use Rattle.made_runs.specs.Ports.{place_in}
+use Rattle.made_runs.specs.Order.{Kind, Answers, Marked}
+use Rattle.made_runs.specs.Order.{kinds_of, early_rank, late_ranks}
 use Rattle.script_runs.proofs.Feeding.{ClosingLaw, DownLaw}
 use Rattle.script_runs.proofs.Rising.{Rise, IsNow, rise_push, rise_later, history_push_own}
 

@@ -7,10 +7,10 @@ use Rattle.std.specs.List.{list_any}
 use Rattle.std.proofs.lemmas.List.Folds.{list_any-append}
 use Rattle.packet_entry.specs.declared.letter.Letter.{Letter}
 use Rattle.inspector_script.specs.Scripts.{ScriptValue}
-use Rattle.script_runs.specs.Schedule.{is_received}
-use Rattle.script_runs.specs.Log.{Note, Got, Begun, Spoke, Shut}
-use Rattle.script_runs.specs.Log.{Due, Standing, after, dids_by, standing}
-use Rattle.script_runs.specs.Log.{owed_then, start, messages_of, first_due}
+use Rattle.made_runs.specs.Log.{is_received}
+use Rattle.made_runs.specs.Log.{Note, Got, Begun, Spoke, Shut}
+use Rattle.made_runs.specs.Log.{Due, Standing, after, dids_by, standing}
+use Rattle.made_runs.specs.Log.{owed_then, start, messages_of, first_due}
 use Rattle.script_runs.proofs.Reaching.{noted, standing_push, is_in}
 use Rattle.script_runs.proofs.Whole.{or_false, or_true}
 

@@ -20,9 +20,9 @@ use Rattle.packet_moves.specs.World.{World}
 use Rattle.packet_moves.specs.Moving.{arrived, room_for}
 use Rattle.packet_moves.specs.Messages.{asking, with_ask}
 use Rattle.script_runs.specs.Sending.{carried_out, errno_of}
-use Rattle.script_runs.specs.Log.{Note, Got, Begun, Spoke, Shut}
-use Rattle.script_runs.specs.Requests.{Plea, pleas_of, pleas_in, plea_of, pleas_told}
-use Rattle.script_runs.specs.Requests.{IsErrno, AreErrnos}
+use Rattle.made_runs.specs.Log.{Note, Got, Begun, Spoke, Shut}
+use Rattle.made_runs.specs.Requests.{Plea, pleas_of, pleas_in, plea_of, pleas_told}
+use Rattle.made_runs.specs.Requests.{IsErrno, AreErrnos}
 use Rattle.script_runs.proofs.Carrying.{all_moved_keeps}
 use Rattle.script_runs.proofs.Reaching.{noted}
 use Rattle.script_runs.proofs.Asking.{Keeps}

@@ -13,9 +13,9 @@ use Rattle.histories.specs.Journeys.{Arrival}
 use Rattle.inspector_script.specs.Scripts.{ScriptValue}
 use Rattle.packet_moves.specs.World.{Port, changed_at, delivered}
 use Rattle.packet_moves.specs.Moving.{with_notice}
-use Rattle.script_runs.specs.Log.{Note, Due, Standing}
-use Rattle.script_runs.specs.Log.{start, after}
-use Rattle.script_runs.specs.Log.{IsNext, AreNextFrom, standing_from, standing}
+use Rattle.made_runs.specs.Log.{Note, Due, Standing}
+use Rattle.made_runs.specs.Log.{start, after}
+use Rattle.made_runs.specs.Log.{IsNext, AreNextFrom, standing_from, standing}
 
 -- ---- one note more
 

@@ -5,7 +5,7 @@ use Rattle.std.specs.Prelude.{if◌then◌else◌}
 use Rattle.std.proofs.lemmas.List.Elements.{filter-append}
 use Rattle.histories.specs.declared.entry.Entry.{Entry}
 use Rattle.histories.specs.History.{history, is_of}
-use Rattle.script_runs.specs.Ascending.{AscendFrom}
+use Rattle.made_runs.specs.Ascending.{AscendFrom}
 
 -- the last of these, or this where there is none
 abbrev pub last_of : ℕ → List ℕ → ℕ

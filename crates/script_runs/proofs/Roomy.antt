@@ -28,9 +28,9 @@ use Rattle.packet_moves.specs.Moving.{arrived, room_for, has_room}
 use Rattle.packet_moves.specs.Moving.{takes_one, with_notice, left_at_once}
 use Rattle.packet_moves.specs.Messages.{asking, with_ask, words_of, answered}
 use Rattle.script_runs.specs.Sending.{carried_out, errno_of}
-use Rattle.script_runs.specs.Log.{Note, Got, Begun, Spoke, Shut}
-use Rattle.script_runs.specs.Notices.{heard, heard_by}
-use Rattle.script_runs.specs.Room.{lacks_room, lacks_under, some_lacks}
+use Rattle.made_runs.specs.Log.{Note, Got, Begun, Spoke, Shut}
+use Rattle.made_runs.specs.Notices.{heard, heard_by}
+use Rattle.made_runs.specs.Room.{lacks_room, lacks_under, some_lacks}
 use Rattle.script_runs.proofs.Carrying.{all_moved_keeps}
 use Rattle.script_runs.proofs.Reaching.{noted}
 use Rattle.script_runs.proofs.Asking.{Keeps}

@@ -15,17 +15,18 @@ use Rattle.inspector_script.specs.Scripts.{ScriptValue, closing}
 use Rattle.packet_moves.specs.declared.setting.Setting.{Setting}
 use Rattle.packet_moves.specs.World.{World}
 use Rattle.packet_moves.specs.Messages.{call_at}
-use Rattle.script_runs.specs.Sending.{sent, done, all_done, messages_in, bytes_of}
+use Rattle.made_runs.specs.Ports.{AreApart, ArePlaced, HavePlaces}
+use Rattle.script_runs.specs.Sending.{sent, done, all_done}
+use Rattle.made_runs.specs.Datagrams.{messages_in, bytes_of}
 use Rattle.script_runs.specs.Schedule.{Looked, emptied_in, frame_fed, frame_passed, is_pause}
 use Rattle.script_runs.specs.Schedule.{rounds_for, setting_of, until_open, until_fed, until_ends}
-use Rattle.script_runs.specs.Ports.{place_in}
+use Rattle.made_runs.specs.Ports.{place_in}
 use Rattle.script_runs.specs.Emptyings.{FindsNothing, round_in, at_pauses, behind_messages}
 use Rattle.script_runs.specs.Emptyings.{behind_asks, at_ends, emptyings}
 use Rattle.script_runs.proofs.Closings.{Laws}
 use Rattle.script_runs.proofs.Later.{LeaveAlone}
 use Rattle.script_runs.proofs.Zeros.{Conserve}
-use Rattle.script_runs.proofs.Placing.{AreApart, apart_so, placed_so}
-use Rattle.script_runs.proofs.Running.{ArePlaced, closing_end, stays_open}
+use Rattle.script_runs.proofs.Running.{closing_end, stays_open}
 use Rattle.script_runs.proofs.Emptying.{sent_held}
 use Rattle.script_runs.proofs.Emptied.{Is, Round, Found, Same, round_held, emptied_held}
 use Rattle.script_runs.proofs.Emptied.{frame_held, pause_held, sends_keep, Ended, end_calm}
@@ -138,14 +139,14 @@ module _ (laws : Laws) (conserve : Conserve) (leaves : LeaveAlone) (s : Setting)
       (end_calm laws conserve leaves s script apart placed rounds b less place q qs w apart_qs is))
 
 pub emptyings_end : Laws → Conserve → LeaveAlone → (script : ScriptValue)
-    (tables : List (List Rule)) (c : Capture) → AllPairs (λ p q. p ≢ q) script.ports →
+    (tables : List (List Rule)) (c : Capture) → HavePlaces script →
     All (FindsNothing (rounds_for c) (setting_of script tables) script)
     (emptyings script tables c)
-emptyings_end laws conserve leaves script tables c differ =
+emptyings_end laws conserve leaves script tables c places =
     let s = setting_of script tables in
     let rounds = rounds_for c in
-    let apart = apart_so script.ports differ in
-    let placed = placed_so script differ in
+    let apart = places.apart in
+    let placed = places.placed in
     let b = 0 + 32 * length c.frames in
     let more : b < rounds = omega arith in
     All-from_recursion (FindsNothing rounds s script) (emptyings script tables c)
@@ -153,10 +154,10 @@ emptyings_end laws conserve leaves script tables c differ =
     (at_pauses rounds s script c 1 c.frames (until_open s script))
     (until_fed s script c ∷ at_ends rounds s script 0 script.ports (until_ends s script c))
     (pauses_end laws conserve leaves s script apart placed rounds (at_first script) c 1 c.frames
-    (until_open s script) 0 more (opened_held laws conserve leaves script tables differ)) (
+    (until_open s script) 0 more (opened_held laws conserve leaves script tables places)) (
       finds_nothing laws conserve leaves s script apart placed rounds (at_first script)
-          (until_fed s script c) b more (before_last laws conserve leaves script tables c differ),
+          (until_fed s script c) b more (before_last laws conserve leaves script tables c places),
       ports_end laws conserve leaves s script apart placed rounds b more 0 script.ports
           (until_ends s script c) apart
-          (before_end laws conserve leaves script tables c differ),
+          (before_end laws conserve leaves script tables c places),
     ))

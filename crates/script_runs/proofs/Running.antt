@@ -12,7 +12,8 @@ use Rattle.pcap_io.specs.declared.capture.Frame.{Frame}
 use Rattle.hook_chain.specs.Route.{next}
 use Rattle.nfqa_msgs.specs.declared.notice.Notice.{Notice}
 use Rattle.nfqa_msgs.specs.NoticeWriting.{Told}
-use Rattle.script_runs.specs.NoticeTexts.{told_exactly}
+use Rattle.made_runs.specs.Ports.{ArePlaced}
+use Rattle.made_runs.specs.NoticeTexts.{told_exactly}
 use Rattle.nfqa_msgs.specs.NoticeMeaning.{notice_of}
 use Rattle.histories.specs.declared.log.AskWords.{AskWords}
 use Rattle.script_lines.specs.declared.ask.Ask.{Ask}
@@ -32,16 +33,17 @@ use Rattle.packet_moves.specs.Planes.{entered, without_device}
 use Rattle.packet_moves.specs.Moving.{arrival_to, arrived, left_at_once, room_for}
 use Rattle.histories.specs.States.{state_of}
 use Rattle.script_runs.specs.Numbers.{enough_arrivals}
-use Rattle.script_runs.specs.Entering.{card_of}
+use Rattle.made_runs.specs.Entering.{card_of}
 use Rattle.script_runs.specs.Sending.{all_done, done}
 use Rattle.script_runs.specs.Schedule.{Looked, letters_at, is_open_port}
 use Rattle.script_runs.specs.Schedule.{answered_by, looked_at, looked}
 use Rattle.script_runs.specs.Schedule.{received_in, round, go_on_while, emptied_in}
 use Rattle.script_runs.specs.Schedule.{all_down, fed, frame_passed, frames_passed}
-use Rattle.script_runs.specs.Schedule.{downs_after, is_after, is_pause}
-use Rattle.script_runs.specs.Feeder.{downs_from}
-use Rattle.script_runs.specs.Log.{Got, Due, Standing, all_due, after}
-use Rattle.script_runs.specs.Log.{answer_to}
+use Rattle.made_runs.specs.Feeder.{downs_after, is_after}
+use Rattle.script_runs.specs.Schedule.{is_pause}
+use Rattle.made_runs.specs.Feeder.{downs_from}
+use Rattle.made_runs.specs.Log.{Got, Due, Standing, all_due, after}
+use Rattle.made_runs.specs.Log.{answer_to}
 use Rattle.script_runs.proofs.Later.{LeaveAlone, carry_first, IsFresh, is_fresh}
 use Rattle.script_runs.proofs.Reaching.{Stand, full, noted, put, is_in}
 use Rattle.script_runs.proofs.Reaching.{all_push, all_arrive}
@@ -135,11 +137,6 @@ module _ (script : ScriptValue) (f : ℕ → ℕ) where
       (p : ℕ) → is_in script f p ≡ true → ((T p).owed ≡ []) × ((T p).is_fresh ≡ false)
 
   -- the ports from this place on
-  abbrev pub ArePlaced : ℕ → List ℕ → Type 0
-  ArePlaced place [] = Unit {0}
-  ArePlaced place (p ∷ ps) =
-      (f p ≡ place) × (is_in script f p ≡ true) × ArePlaced (place + 1) ps
-
 -- all ports have opened
 module _ (s : Setting) (script : ScriptValue) (f : ℕ → ℕ) (P : Staged) (K : Goes s script f P)
     (st : Stage) (over : IsOver script st) where

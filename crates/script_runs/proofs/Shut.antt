@@ -25,7 +25,7 @@ use Rattle.packet_moves.specs.Moving.{arrived, room_for, with_notice, left_at_on
 use Rattle.packet_moves.specs.Messages.{asking, with_ask, words_of, answered}
 use Rattle.script_runs.specs.Sending.{carried_out, errno_of}
 use Rattle.script_runs.specs.Schedule.{is_open_port}
-use Rattle.script_runs.specs.Closing.{IsClosing, is_closing_of}
+use Rattle.made_runs.specs.Closing.{IsClosing, is_closing_of}
 use Rattle.script_runs.proofs.Carrying.{all_moved_keeps}
 use Rattle.script_runs.proofs.Asking.{Keeps}
 use Rattle.script_runs.proofs.Closings.{Laws, AreOthers, others_all, others_then, own_then}

@@ -26,7 +26,7 @@ use Rattle.queue_core.specs.declared.event.Event.{Event}
 use Rattle.queue_core.specs.declared.event.Event.TheVariants.{Arrive, Ask, PortClosed, DeviceDown}
 use Rattle.queue_core.specs.Range.{range_of}
 use Rattle.queue_core.specs.Decision.{is_verdict}
-use Rattle.script_runs.specs.Closing.{is_bound_to, is_by}
+use Rattle.made_runs.specs.Closing.{is_bound_to, is_by}
 
 either : (P : Stepped → Type 0) (c : Bool) (x y : Stepped) → P x → P y → P (if c then x else y)
 either P true x y one two = one

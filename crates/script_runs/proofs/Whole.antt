@@ -16,26 +16,28 @@ use Rattle.inspector_script.specs.Scripts.{ScriptValue, opening, closing}
 use Rattle.packet_moves.specs.declared.setting.Setting.{Setting}
 use Rattle.packet_moves.specs.World.{World, Port, opened}
 use Rattle.packet_moves.specs.Planes.{beginning, opened_ports}
+use Rattle.made_runs.specs.Ports.{ArePlaced}
 use Rattle.script_runs.specs.Sending.{all_done}
 use Rattle.script_runs.specs.Schedule.{emptied_in, opened_all, all_down, frames_passed, ended_all}
-use Rattle.script_runs.specs.Schedule.{downs_after, before_ends, run, setting_of, rounds_for}
+use Rattle.made_runs.specs.Feeder.{downs_after}
+use Rattle.script_runs.specs.Schedule.{before_ends, run, setting_of, rounds_for}
 use Rattle.packet_moves.specs.Logs.{dids_of}
-use Rattle.script_runs.specs.Log.{Note, Due, Still, Standing}
-use Rattle.script_runs.specs.Log.{all_due, start, logged, dids_by, after}
-use Rattle.script_runs.specs.Log.{standing_from, IsLog, unanswered, Got, Begun, Spoke, Shut}
-use Rattle.script_runs.specs.Closing.{is_closed}
+use Rattle.made_runs.specs.Log.{Note, Due, Still, Standing}
+use Rattle.made_runs.specs.Log.{all_due, start, logged, dids_by, after}
+use Rattle.made_runs.specs.Log.{standing_from, IsLog, unanswered, Got, Begun, Spoke, Shut}
+use Rattle.made_runs.specs.Closing.{is_closed}
 use Rattle.script_runs.proofs.Shut.{is_shut}
 use Rattle.std.proofs.lemmas.List.Folds.{list_any-append}
 use Rattle.script_runs.proofs.Reaching.{Stand, IsAt, put, is_in}
 use Rattle.script_runs.proofs.Asking.{Staged, Goes, Stage, IsOver, Now, AtEnd, side, At}
 use Rattle.script_runs.proofs.Asking.{reached_as}
 use Rattle.script_runs.proofs.Asking.{words_reached, close_reached}
-use Rattle.script_runs.proofs.Running.{AllIdle, ArePlaced, opening_words, closing_end, stays_open}
+use Rattle.script_runs.proofs.Running.{AllIdle, opening_words, closing_end, stays_open}
 use Rattle.script_runs.proofs.Running.{done_append, put_own, emptied_reached}
 use Rattle.script_runs.proofs.Running.{frames_reached, down_reached, are_after, at_time}
 use Rattle.script_runs.proofs.Running.{later_reached, over_reached}
 use Rattle.script_runs.proofs.Later.{LeaveAlone}
-use Rattle.script_runs.specs.Feeder.{downs_in_effect}
+use Rattle.made_runs.specs.Feeder.{downs_in_effect}
 use Rattle.script_lines.specs.declared.line.Down.{Down}
 
 -- ---- a log's dids

@@ -21,11 +21,10 @@ use Rattle.histories.specs.declared.histories.Histories.{Histories}
 use Rattle.histories.specs.History.{history, is_of}
 use Rattle.inspector_script.specs.Scripts.{ScriptValue, IsScript, IsBlock}
 use Rattle.script_runs.specs.Schedule.{IsSolo, run, setting_of}
-use Rattle.script_runs.specs.Entering.{card_at, card_of, cards, cards_from}
-use Rattle.script_runs.specs.Bounds.{AreSmall, AreShort, IsRead, AreRead}
+use Rattle.made_runs.specs.Entering.{card_at, card_of, cards, cards_from}
+use Rattle.made_runs.specs.Bounds.{AreSmall, AreShort, IsRead, AreRead}
 use Rattle.script_runs.proofs.Small.{Fits, AllFit, history_fits}
-use Rattle.script_runs.proofs.Bounded.{run_fits}
-use Rattle.script_runs.proofs.Datagrams.{Sizes, words_fit}
+use Rattle.script_runs.proofs.Bounded.{WordsFit, run_fits}
 
 -- entries whose histories are within bounds are so
 each_fits : (es : List Entry) → ((queue : ℕ) → AllFit (history queue es)) → AllFit es
@@ -53,14 +52,14 @@ short_each : (es : List Entry) → AllFit es →
 short_each [] fit = tt
 short_each (e ∷ es) fit = (λ port call request is. subst Fits is fit.0, short_each es fit.1)
 
-module _ (sizes : Sizes) (script : ScriptValue) (tables : List (List Rule)) (c : Capture)
+module _ (fit : WordsFit) (script : ScriptValue) (tables : List (List Rule)) (c : Capture)
     (h : Histories) (is : IsScript script)
     (frames : All (λ (f : Frame). length f.bytes ≤ longest_packet) c.frames)
     (solo : IsSolo script tables c h) where
   entries_fit : AllFit h.entries
   entries_fit =
       let fits : AllFit (run script tables c).entries =
-      run_fits (words_fit sizes) (setting_of script tables) script
+      run_fits fit (setting_of script tables) script
       (recursion_from_All IsBlock script.blocks is.each) c
       (recursion_from_All (λ (f : Frame). length f.bytes ≤ longest_packet) c.frames frames) in
       each_fits h.entries (λ queue. subst AllFit (sym (solo.entries.same queue))
@@ -71,66 +70,3 @@ module _ (sizes : Sizes) (script : ScriptValue) (tables : List (List Rule)) (c :
 
   pub payloads_short : AreShort h.entries
   payloads_short = All-from_recursion _ h.entries (short_each h.entries entries_fit)
-
--- ---- packets that enter
-
--- of the frames from this number on
-abbrev IsOwn : ℕ → ℕ → List Frame → Card → Type 0
-IsOwn link number fs card =
-    (number ≤ card.number) × ((place : ℕ) (f : Frame) → slice_get fs place ≡ Some f →
-    card.number ≡ number + place → IsRead link f card.bytes)
-
-first_own : (c : Capture) (number : ℕ) (g : Frame) (gs : List Frame) (o : Option LinkCut) →
-    cut_of c.link g.bytes ≡ o →
-    AllByRecursion (IsOwn c.link number (g ∷ gs))
-    (option_to_list (option_map (card_at c number g) o))
-first_own c number g gs None there = tt
-first_own c number g gs (Some cut) there = ((omega arith, by), tt)
-  where
-    by : (place : ℕ) (f : Frame) → slice_get (g ∷ gs) place ≡ Some f → number ≡ number + place →
-        IsRead c.link f (drop cut.length g.bytes)
-    by zero f got same =
-        let own : g ≡ f = cc in
-        subst (λ (k : Frame). IsRead c.link k (drop cut.length g.bytes)) own (cut, there, refl)
-    by (suc place) f got same = absurd (omega (arith, same))
-
-later_own : (link number : ℕ) (g : Frame) (gs : List Frame) (cards : List Card) →
-    AllByRecursion (IsOwn link (number + 1) gs) cards →
-    AllByRecursion (IsOwn link number (g ∷ gs)) cards
-later_own link number g gs [] all = tt
-later_own link number g gs (card ∷ cards) all =
-    ((omega (arith, all.0.0), by), later_own link number g gs cards all.1)
-  where
-    by : (place : ℕ) (f : Frame) → slice_get (g ∷ gs) place ≡ Some f →
-        card.number ≡ number + place → IsRead link f card.bytes
-    by zero f got same = absurd (omega (arith, same, all.0.0))
-    by (suc place) f got same = all.0.1 place f got (omega (arith, same))
-
-both_own : (P : Card → Type 0) (one two : List Card) → AllByRecursion P one → AllByRecursion P two →
-    AllByRecursion P (one ++ two)
-both_own P [] two first second = second
-both_own P (card ∷ one) two first second = (first.0, both_own P one two first.1 second)
-
-cards_own : (c : Capture) (number : ℕ) (fs : List Frame) →
-    AllByRecursion (IsOwn c.link number fs) (cards_from c number fs)
-cards_own c number [] = tt
-cards_own c number (g ∷ gs) =
-    both_own (IsOwn c.link number (g ∷ gs)) (option_to_list (card_of c number g))
-    (cards_from c (number + 1) gs)
-    (first_own c number g gs (cut_of c.link g.bytes) refl)
-    (later_own c.link number g gs (cards_from c (number + 1) gs) (cards_own c (number + 1) gs))
-
-read_each : (link : ℕ) (fs : List Frame) (cards : List Card) →
-    AllByRecursion (IsOwn link 1 fs) cards →
-    AllByRecursion (λ (card : Card). (place : ℕ) (f : Frame) → slice_get fs place ≡ Some f →
-    card.number ≡ place + 1 → IsRead link f card.bytes) cards
-read_each link fs [] all = tt
-read_each link fs (card ∷ cards) all = (
-  λ place f got same. all.0.1 place f got (omega (arith, same)),
-  read_each link fs cards all.1,
-)
-
-pub cards_read : (c : Capture) → AreRead c.link c.frames (cards c)
-cards_read c =
-    All-from_recursion _ (cards c)
-    (read_each c.link c.frames (cards c) (cards_own c 1 c.frames))

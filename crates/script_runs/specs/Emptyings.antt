@@ -11,7 +11,8 @@ use Rattle.inspector_script.specs.Scripts.{ScriptValue, closing}
 use Rattle.packet_moves.specs.declared.setting.Setting.{Setting}
 use Rattle.packet_moves.specs.World.{World}
 use Rattle.packet_moves.specs.Messages.{call_at}
-use Rattle.script_runs.specs.Sending.{sent, done, all_done, messages_in, bytes_of}
+use Rattle.script_runs.specs.Sending.{sent, done, all_done}
+use Rattle.made_runs.specs.Datagrams.{messages_in, bytes_of}
 use Rattle.script_runs.specs.Schedule.{Looked, round, emptied_in, frame_passed, frame_fed}
 use Rattle.script_runs.specs.Schedule.{is_pause, rounds_for, setting_of, until_open}
 use Rattle.script_runs.specs.Schedule.{until_fed, until_ends}

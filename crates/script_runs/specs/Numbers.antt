@@ -2,10 +2,6 @@
 use Rattle.std.specs.Prelude.{ℕ}
 use Rattle.packet_entry.specs.Numbers.{last_visit}
 
--- how many nanoseconds a microsecond has
-abbrev pub nanos_in_a_micro : ℕ
-nanos_in_a_micro = 1000
-
 -- enough arrivals for every packet: at its last visit it ends
 abbrev pub enough_arrivals : ℕ
 enough_arrivals = last_visit

@@ -25,8 +25,10 @@ use Rattle.packet_moves.specs.Planes.{beginning, entered, without_device}
 use Rattle.histories.specs.Grouping.{IsGrouped}
 use Rattle.packet_moves.specs.Logs.{logs_in}
 use Rattle.script_runs.specs.Numbers.{enough_arrivals, rounds_per_frame}
-use Rattle.script_runs.specs.Entering.{card_of}
-use Rattle.script_runs.specs.NoticeTexts.{told_exactly}
+use Rattle.made_runs.specs.Entering.{card_of}
+use Rattle.made_runs.specs.Feeder.{downs_after}
+use Rattle.made_runs.specs.Log.{is_received}
+use Rattle.made_runs.specs.NoticeTexts.{told_exactly}
 use Rattle.script_runs.specs.Sending.{all_done}
 
 -- what a run is made with
@@ -35,12 +37,6 @@ setting_of script tables =
     record { tables = tables; key = script.key; mail = script.mail }
 
 -- ---- a look into a mailbox
-
--- whether what a port did is that it received a notice
-abbrev pub is_received : Did → Bool
-is_received (Received queue number visit) = true
-is_received (Sent call ask answer) = false
-is_received Closed = false
 
 -- how many notices a port received, as its inspector counts them
 abbrev pub received_in : Option Port → ℕ
@@ -111,13 +107,7 @@ opened_all s script place [] w = w
 opened_all s script place (p ∷ ps) w =
     opened_all s script (place + 1) ps (all_done (λ v. v) s p (opening script place) w)
 
--- the devices that go down after the frame with this number, in the script's order
-abbrev pub is_after : ℕ → Down → Bool
-is_after number d = d.after == number
-
-abbrev pub downs_after : ScriptValue → ℕ → List Down
-downs_after script number = filter (is_after number) script.downs
-
+-- devices go down, one after the other
 abbrev pub all_down : List Down → World → World
 all_down [] w = w
 all_down (d ∷ ds) w = all_down ds (without_device w d.device)

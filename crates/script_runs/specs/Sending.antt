@@ -22,6 +22,8 @@ use Rattle.packet_moves.specs.World.{World, at_port, having_done}
 use Rattle.packet_moves.specs.Moving.{carry_on}
 use Rattle.packet_moves.specs.Messages.{words_of, answered, call_at, asking, with_ask}
 use Rattle.packet_moves.specs.Planes.{with_closed}
+use Rattle.made_runs.specs.Datagrams.{messages_in, bytes_of}
+use Rattle.made_runs.specs.Requests.{errno_in}
 use Rattle.script_runs.specs.Numbers.{enough_arrivals}
 
 -- ---- one message
@@ -38,12 +40,6 @@ carried_out s port call Nothing w = w
 carried_out s port call (Refused errno) w = w
 carried_out s port call (Asked request) w =
     all_moved s (all_handed (asking w port call request).left) (with_ask w port call request)
-
--- the errno of a reply; no other reply comes to a request
-abbrev pub errno_in : Reply → ℕ
-errno_in (Arrived outcome) = 0
-errno_in (Answer errno taken) = errno
-errno_in (Flushed taken) = 0
 
 -- the errno of a message
 abbrev pub errno_of : ℕ → ℕ → Decoded → World → ℕ
@@ -63,26 +59,6 @@ abbrev pub sent : Setting → ℕ → NetlinkMessage → World → World
 sent s port m w = sent_as s port (call_at (w.ports port)) m w
 
 -- ---- all messages of an ask
-
--- a message, and those that the bytes behind it begin with
-abbrev pub with_those_behind :
-    (List ℕ → List NetlinkMessage) → List ℕ → Option (NetlinkMessage × ℕ) → List NetlinkMessage
-with_those_behind cut bytes None = []
-with_those_behind cut bytes (Some (m, used)) = m ∷ cut (drop used bytes)
-
--- the messages that bytes begin with, one after the other, but no more than so many
-abbrev pub cut_in : ℕ → List ℕ → List NetlinkMessage
-cut_in zero bytes = []
-cut_in (suc looks) bytes = with_those_behind (cut_in looks) bytes (first_message bytes)
-
--- the messages of a datagram; each uses a byte at least
-abbrev pub messages_in : List ℕ → List NetlinkMessage
-messages_in bytes = cut_in (length bytes) bytes
-
--- the bytes of an ask, sent as the port's message with this number
-abbrev pub bytes_of : ℕ → ℕ → AskWords → List ℕ
-bytes_of port call (Plain request) = spelling port call request
-bytes_of port call (Raw bytes) = bytes
 
 -- Messages are sent, each in its turn; what happens after each of them is given.
 abbrev pub all_sent : (World → World) → Setting → ℕ → List NetlinkMessage → World → World

@@ -4,7 +4,8 @@ use Rattle.std.proofs.Common.{Option, Some, None, refl, sym, ap, arith}
 use Rattle.netlink_codec.specs.Messages.{NetlinkMessage, first_message}
 use Rattle.packet_moves.specs.declared.setting.Setting.{Setting}
 use Rattle.packet_moves.specs.World.{World}
-use Rattle.script_runs.specs.Sending.{all_sent, cut_in, with_those_behind}
+use Rattle.script_runs.specs.Sending.{all_sent}
+use Rattle.made_runs.specs.Datagrams.{cut_in, with_those_behind}
 use Rattle.solo_run.specs.RunState.{SendsFirst}
 use Rattle.solo_run.proofs.Sent.{first_uses}
 

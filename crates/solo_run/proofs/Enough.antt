@@ -31,7 +31,8 @@ use Rattle.packet_moves.specs.Messages.{CarriesOut, IsSent, Sends, call_at, word
 use Rattle.packet_moves.specs.Messages.{asking, with_ask}
 use Rattle.packet_moves.specs.HandedOn.{is_out_of_time, AreInTime, LeavesAlone, WaitInTime}
 use Rattle.script_runs.specs.Numbers.{enough_arrivals}
-use Rattle.script_runs.specs.Sending.{all_moved, carried_out, errno_of, errno_in, sent}
+use Rattle.script_runs.specs.Sending.{all_moved, carried_out, errno_of, sent}
+use Rattle.made_runs.specs.Requests.{errno_in}
 use Rattle.solo_run.specs.RunState.{SendsFirst}
 
 -- ---- what is lost stays lost

@@ -11,7 +11,7 @@ use Rattle.script_lines.specs.declared.ask.Ask.{Ask}
 use Rattle.inspector_script.specs.Scripts.{ScriptValue, opening, closing}
 use Rattle.packet_moves.specs.declared.setting.Setting.{Setting}
 use Rattle.packet_moves.specs.World.{World}
-use Rattle.script_runs.specs.Entering.{card_of, cards_from}
+use Rattle.made_runs.specs.Entering.{card_of, cards_from}
 use Rattle.script_runs.specs.Schedule.{opened_all, ended_all, emptied_in}
 use Rattle.script_runs.specs.Sending.{all_done}
 use Rattle.solo_run.specs.RunState.{AreOpen, KeepsBut, port_at}

@@ -18,7 +18,8 @@ use Rattle.packet_moves.specs.Moving.{Carried}
 use Rattle.packet_moves.specs.Planes.{IsFed, entered, with_closed, without_device}
 use Rattle.packet_moves.specs.Soundness.{IsSound}
 use Rattle.script_runs.specs.Numbers.{enough_arrivals}
-use Rattle.script_runs.specs.Schedule.{is_received, fed}
+use Rattle.made_runs.specs.Log.{is_received}
+use Rattle.script_runs.specs.Schedule.{fed}
 use Rattle.solo_run.specs.RunState.{IsGoing, Keeps, KeepsBut, mind_of, mind_at, port_at}
 use Rattle.solo_run.specs.declared.inspector.Inspector.{Inspector}
 use Rattle.solo_run.proofs.Enough.{GoesOnInTime, carry_enough}

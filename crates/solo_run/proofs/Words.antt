@@ -20,7 +20,7 @@ use Rattle.inspector_script.specs.Blocks as block
 use Rattle.inspector_script.specs.declared.block.Block.{Block}
 use Rattle.packet_moves.specs.World.{World}
 use Rattle.script_runs.specs.Schedule.{asks_for, received_in}
-use Rattle.script_runs.specs.NoticeTexts.{told_exactly}
+use Rattle.made_runs.specs.NoticeTexts.{told_exactly}
 use Rattle.solo_run.specs.RunState.{AreWords, ClosesLast, ReceivesFirst}
 
 pub last_of_words : (asks : List Ask) → AreWords asks → ClosesLast asks

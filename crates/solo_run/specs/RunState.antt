@@ -14,7 +14,7 @@ use Rattle.packet_moves.specs.Soundness.{IsSound}
 use Rattle.solo_plane.specs.PlaneView as plane
 use Rattle.script_runs.specs.Sending.{sent}
 use Rattle.script_runs.specs.Schedule.{asks_for, received_in, is_open_port}
-use Rattle.script_runs.specs.NoticeTexts.{told_exactly}
+use Rattle.made_runs.specs.NoticeTexts.{told_exactly}
 use Rattle.solo_run.specs.declared.inspector.Inspector.{Inspector}
 use Rattle.solo_run.specs.declared.run.Run.{Run}
 

@@ -6,7 +6,7 @@ ghost use Rattle.std.specs.Prelude.{false, option_map};
 ghost use Rattle.nfqa_msgs.specs.NoticeMeaning.{notice_of};
 ghost use Rattle.script_lines.specs.Limits.{IsAsk};
 ghost use Rattle.inspector_script.specs.Scripts.{next_count};
-ghost use Rattle.script_runs.specs.NoticeTexts.{told_exactly};
+ghost use Rattle.made_runs.specs.NoticeTexts.{told_exactly};
 ghost use Rattle.script_runs.specs.Schedule.{asks_for};
 ghost use Rattle.packet_moves.specs.World.{opened};
 ghost use Rattle.packet_moves.specs.Calls.{after_this};

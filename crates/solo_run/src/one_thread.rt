@@ -6,7 +6,7 @@ ghost use Rattle.histories.specs.History.{AreLegal};
 ghost use Rattle.histories.specs.Journeys.{AreSound};
 ghost use Rattle.histories.specs.Listing.{listing};
 ghost use Rattle.packet_moves.specs.Planes.{beginning};
-ghost use Rattle.script_runs.specs.Entering.{cards};
+ghost use Rattle.made_runs.specs.Entering.{cards};
 ghost use Rattle.script_runs.specs.Schedule.{IsSolo, before_ends, until_end, until_ends};
 ghost use Rattle.script_runs.specs.Schedule as schedule;
 ghost use Rattle.solo_run.specs.Numbers.{most_frames};

@@ -5,7 +5,8 @@ ghost use Rattle.nfqa_msgs.specs.RequestWriting.{spelling};
 ghost use Rattle.script_lines.specs.Limits.{IsAsk, IsRequest, IsWords};
 ghost use Rattle.script_lines.specs.declared.ask.Ask.TheVariants.{Words};
 ghost use Rattle.packet_moves.specs.Messages.{call_at};
-ghost use Rattle.script_runs.specs.Sending.{all_done, all_sent, done, messages_in};
+ghost use Rattle.script_runs.specs.Sending.{all_done, all_sent, done};
+ghost use Rattle.made_runs.specs.Datagrams.{messages_in};
 ghost use Rattle.solo_run.specs.RunState.{AreWords, ClosesLast, Goes, IsWith, Keeps, KeepsBut};
 ghost use Rattle.solo_run.specs.RunState.{LeavesBy};
 ghost use Rattle.solo_run.specs.RunState.{is_open_at, port_at, setting_of, world_of};
@@ -17,7 +18,7 @@ use nfqa_msgs::{Request, encode_request};
 use packet_entry::NoMemory;
 use histories::AskWords;
 use script_lines::{Ask, Asks};
-use script_runs::datagrams_are_short;
+use made_runs::datagrams_are_short;
 use std::alloc::Global;
 use std::mem;
 

@@ -4,7 +4,7 @@ use Rattle.histories.specs.Numbers.{queue_count}
 use Rattle.histories.specs.declared.entry.Entry.{Entry}
 use Rattle.nfq_cli.proofs.Forming.{well_formed}
 use Rattle.histories.specs.declared.histories.Lost.{Lost}
-use Rattle.script_runs.specs.Entering.{cards}
+use Rattle.made_runs.specs.Entering.{cards}
 use Rattle.nfq_cli.specs.Account.{AreAccounted}
 use Rattle.run_files.specs.Outputs.{fates_of}
 use Rattle.fate_ledger.specs.Fates.{is_lost}

@@ -7,4 +7,4 @@ returns c = λ script tables capture is.
       entries = c.a_closed_port_has_no_queues.ensures.entries;
       none = c.a_closed_port_has_no_queues.ensures.none;
     }) c.each_packet_stays_or_leaves.ensures c.what_goes_on_is_in_time.ensures.arrival script tables
-    capture is.ports_differ
+    capture (c.each_port_has_its_place.ensures script is.ports_differ)

@@ -1,7 +1,7 @@
 use Rattle.std.proofs.Common.{◌∙◌, ap, List, map}
 use Rattle.histories.specs.declared.log.PortLog.{PortLog}
 use Rattle.script_runs.specs.Schedule.{run}
-use Rattle.script_runs.proofs.Ports.{ports_of_logs}
+use Rattle.script_runs.proofs.Logs.{ports_of_logs}
 use Rattle.script_runs.proofs.laws.each_port_has_its_log.Goals as goal
 
 pub returns : goal.returns

@@ -7,7 +7,7 @@ returns-clause-open_ports c = λ script tables capture is.
       entries = c.a_closed_port_has_no_queues.ensures.entries;
       none = c.a_closed_port_has_no_queues.ensures.none;
     }) c.each_packet_stays_or_leaves.ensures c.what_goes_on_is_in_time.ensures.arrival script tables
-    capture is.ports_differ
+    capture (c.each_port_has_its_place.ensures script is.ports_differ)
 
 pub returns-clause-every_port : goal.returns-clause-every_port
 returns-clause-every_port c = λ script tables capture h is solo small.
@@ -15,7 +15,7 @@ returns-clause-every_port c = λ script tables capture h is solo small.
       entries = c.a_closed_port_has_no_queues.ensures.entries;
       none = c.a_closed_port_has_no_queues.ensures.none;
     }) c.each_packet_stays_or_leaves.ensures c.what_goes_on_is_in_time.ensures.arrival script tables
-    capture h is.ports_differ solo small
+    capture h (c.each_port_has_its_place.ensures script is.ports_differ) solo small
 
 pub returns-clause-made : goal.returns-clause-made
 returns-clause-made c = λ script tables capture h is solo small.
@@ -23,5 +23,5 @@ returns-clause-made c = λ script tables capture h is solo small.
       entries = c.a_closed_port_has_no_queues.ensures.entries;
       none = c.a_closed_port_has_no_queues.ensures.none;
     }) c.each_packet_stays_or_leaves.ensures c.what_goes_on_is_in_time.ensures.arrival script tables
-    capture h is.ports_differ solo small
+    capture h (c.each_port_has_its_place.ensures script is.ports_differ) solo small
     (c.ports_do_what_the_script_says.ensures script tables capture h is solo)

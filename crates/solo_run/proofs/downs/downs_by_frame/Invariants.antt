@@ -1,6 +1,6 @@
 use Rattle.std.proofs.Common.{◌≡◌, ◌++◌, ℕ}
 use Rattle.std.specs.Prelude.{filter}
-use Rattle.script_runs.specs.Schedule.{downs_after, is_after}
+use Rattle.made_runs.specs.Feeder.{downs_after, is_after}
 use Rattle.solo_run.specs.Downs.{lines_after}
 use Rattle.solo_run.proofs.downs.downs_by_frame.Given as goal
 

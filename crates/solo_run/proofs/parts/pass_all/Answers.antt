@@ -4,7 +4,7 @@ use Rattle.packet_entry.specs.Numbers.{longest_packet}
 use Rattle.pcap_io.specs.declared.capture.Frame.{Frame}
 use Rattle.packet_moves.specs.declared.setting.Setting.{Setting}
 use Rattle.packet_moves.specs.World.{World}
-use Rattle.script_runs.specs.Entering.{cards, cards_from}
+use Rattle.made_runs.specs.Entering.{cards, cards_from}
 use Rattle.script_runs.specs.Schedule.{frame_passed, frames_passed, rounds_for}
 use Rattle.solo_run.specs.RunState.{setting_of, world_of}
 use Rattle.solo_run.proofs.Keeping.{same_both, with_both}

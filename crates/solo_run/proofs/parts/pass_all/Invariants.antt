@@ -1,7 +1,7 @@
 use Rattle.std.proofs.Common.{◌≡◌, ◌≤◌, ◌+◌, ◌++◌, length}
 use Rattle.std.specs.Prelude.{All}
 use Rattle.packet_entry.specs.Numbers.{longest_packet}
-use Rattle.script_runs.specs.Entering.{cards, cards_from}
+use Rattle.made_runs.specs.Entering.{cards, cards_from}
 use Rattle.script_runs.specs.Schedule.{frames_passed, rounds_for}
 use Rattle.solo_run.specs.RunState.{Goes, IsWith, SameOpen, setting_of, world_of}
 use Rattle.solo_run.proofs.parts.pass_all.Given as goal

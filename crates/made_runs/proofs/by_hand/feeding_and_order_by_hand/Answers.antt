@@ -1,0 +1,34 @@
+use Rattle.made_runs.proofs.FedByHand.{whole_fed, late_not_fed, backward_not_fed, whole_ordered}
+use Rattle.made_runs.proofs.FedByHand.{late_opening, early_end, wrong_closings}
+use Rattle.made_runs.proofs.FedByHand.{absent_fed, missed_not_fed, lineless_not_fed}
+use Rattle.made_runs.proofs.by_hand.feeding_and_order_by_hand.Goals as goal
+
+pub returns-clause-fed : goal.returns-clause-fed
+returns-clause-fed c = whole_fed
+
+pub returns-clause-absent : goal.returns-clause-absent
+returns-clause-absent c = absent_fed
+
+pub returns-clause-lineless : goal.returns-clause-lineless
+returns-clause-lineless c = lineless_not_fed
+
+pub returns-clause-missed : goal.returns-clause-missed
+returns-clause-missed c = missed_not_fed
+
+pub returns-clause-late : goal.returns-clause-late
+returns-clause-late c = late_not_fed
+
+pub returns-clause-backward : goal.returns-clause-backward
+returns-clause-backward c = backward_not_fed
+
+pub returns-clause-ordered : goal.returns-clause-ordered
+returns-clause-ordered c = whole_ordered
+
+pub returns-clause-opening : goal.returns-clause-opening
+returns-clause-opening c = late_opening
+
+pub returns-clause-ending : goal.returns-clause-ending
+returns-clause-ending c = early_end
+
+pub returns-clause-closings : goal.returns-clause-closings
+returns-clause-closings c = wrong_closings

@@ -1,0 +1,14 @@
+use Rattle.made_runs.proofs.HeardByHand.{unheard, roomless, wrong_errno, unasked}
+use Rattle.made_runs.proofs.by_hand.hearing_by_hand.Goals as goal
+
+pub returns-clause-unheard : goal.returns-clause-unheard
+returns-clause-unheard c = unheard
+
+pub returns-clause-roomless : goal.returns-clause-roomless
+returns-clause-roomless c = roomless
+
+pub returns-clause-errno : goal.returns-clause-errno
+returns-clause-errno c = wrong_errno
+
+pub returns-clause-unasked : goal.returns-clause-unasked
+returns-clause-unasked c = unasked

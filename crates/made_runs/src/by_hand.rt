@@ -1,0 +1,116 @@
+//! Logs, histories and runs, written out: what each part says of them.
+
+ghost use Rattle.std.specs.Prelude.{◌≡◌, ◌≤◌, ℕ, true, List, [], ◌∷◌};
+ghost use Rattle.std.specs.Prelude.{◌≢◌, None, Option, Some};
+ghost use Rattle.histories.specs.declared.histories.Histories.{Histories};
+ghost use Rattle.nfqa_msgs.specs.declared.request.Request.{Request};
+ghost use Rattle.histories.specs.declared.log.Did.{Did};
+ghost use Rattle.histories.specs.declared.log.Did.TheVariants.{Closed, Received, Sent};
+ghost use Rattle.made_runs.specs.Log.{Note, Shut, IsLog};
+ghost use Rattle.made_runs.specs.Requests.{AreRequests};
+ghost use Rattle.made_runs.specs.Closing.{IsClosing};
+ghost use Rattle.made_runs.specs.Examples.{closing_script, one_request, two_closings};
+ghost use Rattle.made_runs.specs.Examples.{logging, notes_by_7, notes_of_7, run_of_7};
+ghost use Rattle.made_runs.specs.Examples.{silence_of_7};
+ghost use Rattle.made_runs.specs.FedExamples.{down_5, whole, kinds_of_7, opens_7, ends_7};
+ghost use Rattle.made_runs.specs.FedExamples.{no_kinds, binds, asks, arrives, falls, shuts};
+ghost use Rattle.made_runs.specs.Feeder.{IsFed};
+ghost use Rattle.made_runs.specs.Order.{IsOrdered};
+ghost use Rattle.packet_entry.specs.declared.letter.Letter.{Letter};
+ghost use Rattle.histories.specs.declared.log.AskWords.{AskWords};
+ghost use Rattle.made_runs.specs.Run.{IsMadeBy};
+ghost use Rattle.made_runs.specs.Log.{Begun, Got, Spoke};
+ghost use Rattle.made_runs.specs.Run.{LogHolds, PortsHold, RequestsHold};
+ghost use Rattle.made_runs.specs.LoggedExamples.{ending_script, header, message, no_logs};
+ghost use Rattle.made_runs.specs.LoggedExamples.{opening_script};
+ghost use Rattle.histories.specs.declared.log.AskWords.TheVariants.{Raw};
+ghost use Rattle.made_runs.specs.Notices.{AreNotices};
+ghost use Rattle.made_runs.specs.Room.{AreRoomy};
+ghost use Rattle.made_runs.specs.HeardExamples.{binding, bound, taken, turned};
+ghost use Rattle.netlink_codec.specs.Messages.{NetlinkMessage};
+ghost use Rattle.nfqa_msgs.specs.RequestReading.{decoded};
+ghost use Rattle.nfqa_msgs.specs.declared.request.Decoded.TheVariants.{Asked};
+
+/// Examples of what a run has and hasn't. The log of a port that only closes is its closing, and
+/// not empty, and nothing stands behind the closing; no request stands in a history that no message
+/// asked for; and no port closes twice at one queue. The histories whose log is its closing are its
+/// run. Those whose log is empty are none, whatever is noted of the ports and whatever is left in
+/// their mailboxes.
+pub fn runs_of_one_port()
+    ensures log { IsLog closing_script 0 7 (Shut ∷ []) (Closed ∷ []) }
+    ensures not_empty { (notes : List Note) → IsLog closing_script 0 7 notes [] → ⊥ }
+    ensures nothing_behind { (did : Did) (notes : List Note) →
+        IsLog closing_script 0 7 notes (Closed ∷ did ∷ []) → ⊥ }
+    ensures request { (request : Request) → AreRequests (one_request request) 7 [] → ⊥ }
+    ensures closings { IsClosing 7 true two_closings → ⊥ }
+    ensures run { IsMadeBy closing_script 0 run_of_7 notes_of_7 (λ port. []) }
+    ensures no_run { (notes : ℕ → List Note) (left : ℕ → List Letter) →
+        IsMadeBy closing_script 0 silence_of_7 notes left → ⊥ }
+{}
+
+/// Logs, written out, whose port is the script's alone. A message of the opening is sent under
+/// number 1, and messages of the end in their order. A port that answers no notice sends none behind
+/// one; no other number is the first; the second message of the end isn't sent first; and a notice
+/// isn't received between an ask and its first message.
+pub fn logs_by_hand()
+    ensures opened { IsLog opening_script 0 7 (Begun ∷ Spoke 1 (message 1) 0 ∷ [])
+        (Sent 1 (Raw (header 1)) None ∷ []) }
+    ensures ended { IsLog ending_script 0 7
+        (Begun ∷ Spoke 1 (message 1) 0 ∷ Begun ∷ Spoke 2 (message 2) 0 ∷ [])
+        (Sent 1 (Raw (header 1)) None ∷ Sent 2 (Raw (header 2)) None ∷ []) }
+    ensures answer { (queue number visit call : ℕ) (ask : AskWords) (answer : Option ℕ)
+        (notes : List Note) → IsLog closing_script 0 7 notes
+        (Received queue number visit ∷ Sent call ask answer ∷ Closed ∷ []) → ⊥ }
+    ensures call { (call : ℕ) (ask : AskWords) (answer : Option ℕ) (notes : List Note) →
+        call ≢ 1 → IsLog opening_script 0 7 notes (Sent call ask answer ∷ []) → ⊥ }
+    ensures order { (one two : ℕ) (first second : Option ℕ) (notes : List Note) →
+        IsLog ending_script 0 7 notes
+        (Sent one (Raw (header 2)) first ∷ Sent two (Raw (header 1)) second ∷ []) → ⊥ }
+    ensures between { (l : Letter) (notes : List Note) (dids : List Did) →
+        IsLog ending_script 0 7 (Begun ∷ Got l ∷ notes) dids → ⊥ }
+{}
+
+/// Histories, written out, that one part alone refuses. Where the port has no log, its log is no
+/// fault. And where the log has an errno that the message hasn't, the log holds and the requests
+/// don't.
+pub fn parts_by_hand()
+    ensures missing { PortsHold closing_script no_logs → ⊥ }
+    ensures no_log { LogHolds closing_script no_logs (λ port. []) }
+    ensures answered { (errno : ℕ) →
+        RequestsHold opening_script (logging (Sent 1 (Raw (header 1)) (Some 16) ∷ []))
+        (notes_by_7 (Begun ∷ Spoke 1 (message 1) errno ∷ [])) → ⊥ }
+    ensures logged { (errno : ℕ) →
+        LogHolds opening_script (logging (Sent 1 (Raw (header 1)) (Some 16) ∷ []))
+        (notes_by_7 (Begun ∷ Spoke 1 (message 1) errno ∷ [])) }
+{}
+
+/// Histories of one queue, written out. A queue is bound by an opening message, two frames arrive
+/// with a device that goes down between them, and its port asks something at its end and closes:
+/// this is fed with that line, and in order. Where the queue is absent the line passes without an
+/// entry, but not where it is bound. A history isn't fed where a device goes down without a line or
+/// behind the first arrival of a later frame, or where a frame arrives twice, or behind a later one.
+/// And it isn't in order where an opening message stands behind an arrival, one of the end before
+/// one, or where the later of two ports closes first.
+pub fn feeding_and_order_by_hand()
+    ensures fed { (request : Request) → IsFed down_5 (whole request) }
+    ensures absent { IsFed down_5 (arrives 1 ∷ []) }
+    ensures lineless { IsFed [] (falls 5 ∷ []) → ⊥ }
+    ensures missed { IsFed down_5 (binds ∷ arrives 1 ∷ []) → ⊥ }
+    ensures late { IsFed down_5 (arrives 2 ∷ falls 5 ∷ []) → ⊥ }
+    ensures backward { (m n : ℕ) → n ≤ m → IsFed [] (arrives m ∷ arrives n ∷ []) → ⊥ }
+    ensures ordered { (request : Request) → IsOrdered (7 ∷ []) kinds_of_7 (whole request) }
+    ensures opening { IsOrdered (7 ∷ []) opens_7 (arrives 1 ∷ binds ∷ []) → ⊥ }
+    ensures ending { (request : Request) →
+        IsOrdered (7 ∷ []) ends_7 (asks request ∷ arrives 1 ∷ []) → ⊥ }
+    ensures closings { IsOrdered (7 ∷ 9 ∷ []) no_kinds (shuts 9 ∷ shuts 7 ∷ []) → ⊥ }
+{}
+
+/// Histories of one queue with what its port received and sent, which aren't told so.
+pub fn hearing_by_hand()
+    ensures unheard { AreNotices (bound 0 ∷ taken 1 ∷ []) 7 [] [] → ⊥ }
+    ensures roomless { AreRoomy 1 (bound 0 ∷ turned 1 ∷ []) 7 [] [] → ⊥ }
+    ensures errno { (m : NetlinkMessage) → decoded m ≡ Asked binding →
+        AreRequests (bound 16 ∷ []) 7 (Spoke 1 m 0 ∷ []) → ⊥ }
+    ensures unasked { (m : NetlinkMessage) → decoded m ≡ Asked binding →
+        AreRequests [] 7 (Spoke 1 m 0 ∷ []) → ⊥ }
+{}

@@ -1,0 +1,53 @@
+//! What is known of histories that a script made, of what enters, and of what is sent.
+
+ghost use Rattle.std.specs.Prelude.{◌≤◌, ℕ, List};
+ghost use Rattle.std.specs.Prelude.{◌≢◌, All, AllPairs, length};
+ghost use Rattle.pcap_io.specs.declared.capture.Capture.{Capture};
+ghost use Rattle.histories.specs.declared.histories.Histories.{Histories};
+ghost use Rattle.inspector_script.specs.Scripts.{ScriptValue};
+ghost use Rattle.made_runs.specs.Log.{Note};
+ghost use Rattle.packet_entry.specs.declared.letter.Letter.{Letter};
+ghost use Rattle.packet_entry.specs.Numbers.{longest_payload};
+ghost use Rattle.histories.specs.declared.log.AskWords.{AskWords};
+ghost use Rattle.script_lines.specs.Limits.{IsWords};
+ghost use Rattle.made_runs.specs.Datagrams.{bytes_of};
+ghost use Rattle.made_runs.specs.Entering.{cards};
+ghost use Rattle.made_runs.specs.Bounds.{AreRead};
+ghost use Rattle.made_runs.specs.Run.{IsMadeBy};
+ghost use Rattle.made_runs.specs.Run.{IsTold};
+ghost use Rattle.made_runs.specs.Ports.{HavePlaces};
+ghost use Rattle.made_runs.specs.Datagrams.{AsksWell, messages_in};
+
+use netlink_codec::{written_attributes_are_walked, written_message_is_in_front};
+
+/// Ports that differ have one place each.
+pub fn each_port_has_its_place()
+    ensures { (script : ScriptValue) → AllPairs (λ p q. p ≢ q) script.ports → HavePlaces script }
+{}
+
+/// Each log of histories that a script made is what is told of its port, with the answers.
+pub fn each_log_is_what_is_told()
+    ensures { (script : ScriptValue) (frames : ℕ) (h : Histories) (notes : ℕ → List Note)
+        (left : ℕ → List Letter) → AllPairs (λ p q. p ≢ q) script.ports →
+        IsMadeBy script frames h notes left → All (IsTold script notes) h.logs }
+{}
+
+/// The bytes of an ask are no longer than one attribute may be. So none of its messages asks for a
+/// payload that is longer, nor does any message of a datagram that isn't longer.
+pub fn datagrams_are_short()
+    ensures bytes { (port call : ℕ) (words : AskWords) → IsWords words →
+        length (bytes_of port call words) ≤ longest_payload }
+    ensures words { (port call : ℕ) (words : AskWords) → IsWords words →
+        All AsksWell (messages_in (bytes_of port call words)) }
+    ensures payloads { (bytes : List ℕ) → length bytes ≤ longest_payload →
+        All AsksWell (messages_in bytes) }
+{
+    written_message_is_in_front();
+    written_attributes_are_walked();
+}
+
+/// A packet that enters with the number of a frame, counted from 1, has that frame's bytes from
+/// where the packet starts.
+pub fn packets_are_read_with_their_frames()
+    ensures { (c : Capture) → AreRead c.link c.frames (cards c) }
+{}

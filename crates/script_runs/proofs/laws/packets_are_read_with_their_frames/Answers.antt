@@ -1,5 +1,0 @@
-use Rattle.script_runs.proofs.Withins.{cards_read}
-use Rattle.script_runs.proofs.laws.packets_are_read_with_their_frames.Goals as goal
-
-pub returns : goal.returns
-returns c = cards_read
