@@ -8,7 +8,7 @@ use Rattle.std.proofs.lemmas.Bool.{cases_Bool, eq-eqb, eqb-true, eqb-false, ne_e
 use Rattle.std.proofs.lemmas.List.{append-nil}
 use Rattle.std.proofs.lemmas.List.Sums.{sum_by-append, sum_by-cons}
 use Rattle.packet_entry.specs.declared.packet.Card.{Card}
-use Rattle.hook_chain.specs.declared.rule.Rule.{Rule}
+use Rattle.hook_chain.specs.Rules.{RuleTables}
 use Rattle.hook_chain.specs.declared.chain.Next.{Next}
 use Rattle.hook_chain.specs.declared.chain.Next.TheVariants.{Released, To}
 use Rattle.hook_chain.specs.declared.chain.Decision.TheVariants.{Accept}
@@ -253,7 +253,7 @@ asked_some_once : (test : ℕ → ℕ → Bool) (route : Option Next) (card : Ca
 asked_some_once test None card visit = omega arith
 asked_some_once test (Some route) card visit = asked_once test route card visit
 
-module _ (tables : List (List Rule)) (key : ℕ) where
+module _ (tables : RuleTables) (key : ℕ) where
   -- the test of the visit before
   abbrev next_visit : (ℕ → ℕ → Bool) → ℕ → ℕ → Bool
   next_visit test number visit = test number (visit + 1)

@@ -21,7 +21,7 @@ use Rattle.ip_fields.specs.Frame.{tagged_type, is_ip_type}
 use Rattle.ip_fields.specs.Numbers.{link_ethernet, link_raw, link_ipv4, link_ipv6, vlan_type}
 use Rattle.ip_fields.specs.Numbers.{ipv4_version, ipv6_version}
 use Rattle.ip_fields.specs.Packet.{version_of}
-use Rattle.hook_chain.specs.declared.rule.Rule.{Rule}
+use Rattle.hook_chain.specs.Rules.{RuleTables}
 use Rattle.histories.specs.declared.histories.Lost.{Lost}
 use Rattle.histories.specs.declared.histories.Histories.{Histories}
 use Rattle.histories.specs.Journeys.{AreSound}
@@ -274,7 +274,7 @@ module _ (link : ℕ) (hs : List Happening) (lost : List Lost) where
   line_good number (g ∷ fs) good (suc place) f l there line =
       line_good (number + 1) fs good.1 place f l there line
 
-module _ (tables : List (List Rule)) (key link : ℕ) (entered : List Card) (h : Histories)
+module _ (tables : RuleTables) (key link : ℕ) (entered : List Card) (h : Histories)
     (frames : List Frame) (read : AreRead link frames entered) (short : AreShort h.entries)
     (sound : AreSound tables key entered h.entries h.lost) where
   read_of : (place : ℕ) (f : Frame) → slice_get frames place ≡ Some f → (number : ℕ) →
@@ -327,7 +327,7 @@ module _ (tables : List (List Rule)) (key link : ℕ) (entered : List Card) (h :
       (released_small link (happenings h.entries) h.lost 1 frames
       (recursion_from_All (λ (f : Frame). length f.bytes ≤ longest_packet) frames small) all_good)
 
-pub released_held : (tables : List (List Rule)) (key : ℕ) (entered : List Card) (h : Histories)
+pub released_held : (tables : RuleTables) (key : ℕ) (entered : List Card) (h : Histories)
     (c : Capture) → AreRead c.link c.frames entered → AreShort h.entries →
     AreSound tables key entered h.entries h.lost → IsHeld c →
     IsHeld (text.released c (fates h c.frames))

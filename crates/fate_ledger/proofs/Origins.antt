@@ -8,7 +8,7 @@ use Rattle.std.proofs.lemmas.Bool.{eq-eqb, eqb-true}
 use Rattle.std.proofs.lemmas.List.Sums.{sum_by-append, sum_by-cons}
 use Rattle.packet_entry.specs.declared.packet.Card.{Card}
 use Rattle.packet_entry.specs.Numbers.{longest_payload}
-use Rattle.hook_chain.specs.declared.rule.Rule.{Rule}
+use Rattle.hook_chain.specs.Rules.{RuleTables}
 use Rattle.hook_chain.specs.declared.chain.Next.{Next}
 use Rattle.hook_chain.specs.declared.chain.Next.TheVariants.{Released, To}
 use Rattle.hook_chain.specs.declared.chain.Decision.TheVariants.{Accept}
@@ -97,7 +97,7 @@ module _ (test : ℕ → List ℕ → Bool)
   some_right visit None card at holds = refl
   some_right visit (Some route) card at holds = asked_right visit route card at holds
 
-  module _ (tables : List (List Rule)) (key : ℕ) where
+  module _ (tables : RuleTables) (key : ℕ) where
     going_right : (visit : ℕ) (card : Card) (way : Way) → Before visit card →
         count_by (wrong visit) (going_on tables key (card, way)) ≡ 0
     going_right visit card Gone holds = refl

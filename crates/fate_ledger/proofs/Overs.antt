@@ -10,7 +10,7 @@ use Rattle.std.proofs.lemmas.List.{append-nil}
 use Rattle.std.proofs.lemmas.List.Elements.{All-head, All-tail}
 use Rattle.std.proofs.lemmas.List.Sums.{sum_by-append, sum_by-cons}
 use Rattle.packet_entry.specs.declared.packet.Card.{Card}
-use Rattle.hook_chain.specs.declared.rule.Rule.{Rule}
+use Rattle.hook_chain.specs.Rules.{RuleTables}
 use Rattle.hook_chain.specs.declared.chain.Next.{Next}
 use Rattle.hook_chain.specs.declared.chain.Next.TheVariants.{Released, To}
 use Rattle.hook_chain.specs.declared.chain.Decision.TheVariants.{Accept}
@@ -92,7 +92,7 @@ module _ (number visit : ℕ) where
 
   -- ---- what went on was asked for
 
-  module _ (tables : List (List Rule)) (key : ℕ) where
+  module _ (tables : RuleTables) (key : ℕ) where
     some_goes : (route : Option Next) (card : Card) → card.number ≡ number →
         card.visit + 1 ≡ visit →
         is_nothing (asked_by_some route card (card.visit + 1)) ≡ false →
@@ -243,7 +243,7 @@ module _ (number : ℕ) (es : List Entry) (h : Happening) (last : IsLastEvent es
             (happenings_after (last.before ++ last.entry ∷ []) last.after) last.latest)),
       ))
 
-  pub left_for_good : (tables : List (List Rule)) (key : ℕ) (entered : List Card)
+  pub left_for_good : (tables : RuleTables) (key : ℕ) (entered : List Card)
       (lost : List Lost) → AreSound tables key entered es lost → is_lost lost number ≡ false →
       LeftThere es h → LeftForGood tables key es h
   left_for_good tables key entered lost sound kept there = record {

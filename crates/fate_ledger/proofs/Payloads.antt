@@ -5,7 +5,7 @@ use Rattle.std.specs.List.{AllByRecursion}
 use Rattle.std.proofs.lemmas.List.Elements.{recursion_from_All, All-from_recursion}
 use Rattle.packet_entry.specs.declared.packet.Card.{Card}
 use Rattle.packet_entry.specs.Numbers.{longest_payload}
-use Rattle.hook_chain.specs.declared.rule.Rule.{Rule}
+use Rattle.hook_chain.specs.Rules.{RuleTables}
 use Rattle.nfqa_msgs.specs.declared.request.Request.{Request}
 use Rattle.nfqa_msgs.specs.RequestReading.{PayloadFits}
 use Rattle.queue_core.specs.declared.event.Event.{Event}
@@ -36,7 +36,7 @@ asks_short : (es : List Entry) → AllByRecursion AsksShort es → AllAskShort e
 asks_short [] short = tt
 asks_short (e ∷ es) short = (ask_short e.event short.0, asks_short es short.1)
 
-module _ (tables : List (List Rule)) (key : ℕ) (entered : List Card) (es : List Entry)
+module _ (tables : RuleTables) (key : ℕ) (entered : List Card) (es : List Entry)
     (lost : List Lost) (test : ℕ → List ℕ → Bool)
     (given : (number : ℕ) (bytes : List ℕ) → length bytes ≤ longest_payload →
     test number bytes ≡ true)

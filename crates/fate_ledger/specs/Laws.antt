@@ -17,7 +17,7 @@ use Rattle.histories.specs.declared.histories.Histories.{Histories}
 use Rattle.histories.specs.History.{history, replay}
 use Rattle.histories.specs.Stays.{arrivals}
 use Rattle.histories.specs.Endings.{is_over}
-use Rattle.hook_chain.specs.declared.rule.Rule.{Rule}
+use Rattle.hook_chain.specs.Rules.{RuleTables}
 use Rattle.fate_ledger.specs.declared.happening.Happening.{Happening}
 use Rattle.fate_ledger.specs.declared.fate.Fate.{Fate}
 use Rattle.fate_ledger.specs.declared.fate.Fate.TheVariants as fate
@@ -147,7 +147,7 @@ abbrev pub DifferInNumber : List Card → Type 0
 DifferInNumber entered = (number : ℕ) → count_by (λ (c : Card). c.number == number) entered ≤ 1
 
 -- the packet of an event left in that event's step, and goes nowhere from there
-pub record LeftForGood (tables : List (List Rule)) (key : ℕ) (es : List Entry) (h : Happening)
+pub record LeftForGood (tables : RuleTables) (key : ℕ) (es : List Entry) (h : Happening)
     : Type 0 where
   pub before : List Entry
   pub entry : Entry

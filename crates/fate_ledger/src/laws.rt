@@ -9,7 +9,7 @@ ghost use Rattle.fate_ledger.specs.Fates.{happenings};
 ghost use Rattle.fate_ledger.specs.Payloads.{AreRead, AreShort, IsPayload};
 ghost use Rattle.std.specs.List.{zip};
 ghost use Rattle.packet_entry.specs.declared.packet.Card.{Card as ACard};
-ghost use Rattle.hook_chain.specs.declared.rule.Rule.{Rule as ARule};
+ghost use Rattle.hook_chain.specs.Rules.{RuleTables};
 ghost use Rattle.histories.specs.declared.histories.Lost.{Lost as ALost};
 ghost use Rattle.histories.specs.Journeys.{AreSound};
 ghost use Rattle.pcap_io.specs.declared.capture.Frame.{Frame as AFrame};
@@ -60,7 +60,7 @@ pub fn the_last_event_is_where_it_left_or_waits()
 /// In sound histories no two arrivals are of one packet at one visit, where the packets that
 /// entered have numbers of their own, as those of a capture's frames.
 pub fn no_visit_arrives_twice()
-    ensures { (tables : List (List ARule)) (key : ℕ) (entered : List ACard)
+    ensures { (tables : RuleTables) (key : ℕ) (entered : List ACard)
         (es : List AnEntry) (lost : List ALost) → DifferInNumber entered →
         AreSound tables key entered es lost → AreApart es }
 {
@@ -83,7 +83,7 @@ pub fn released_frames_are_those_let_go()
 /// What holds of the number and the bytes of each packet that entered, and of each payload that may
 /// come with a verdict, holds of the packet of each event in sound histories.
 pub fn what_holds_of_packets_stays_so()
-    ensures { (tables : List (List ARule)) (key : ℕ) (entered : List ACard)
+    ensures { (tables : RuleTables) (key : ℕ) (entered : List ACard)
         (es : List AnEntry) (lost : List ALost) (test : ℕ → List ℕ → Bool) →
         ((number : ℕ) (bytes : List ℕ) → length bytes ≤ longest_payload →
         test number bytes ≡ true) →
@@ -98,17 +98,17 @@ pub fn what_holds_of_packets_stays_so()
 /// is a released frame, which is as it was read or has the payload behind its link header: the
 /// released capture can be written.
 pub fn payloads_were_read_or_given()
-    ensures each { (tables : List (List ARule)) (key link : ℕ) (entered : List ACard)
+    ensures each { (tables : RuleTables) (key link : ℕ) (entered : List ACard)
         (h : AllHistories) (frames : List AFrame) → AreRead link frames entered →
         AreShort h.entries → AreSound tables key entered h.entries h.lost →
         (place : ℕ) (f : AFrame) (l : ALine) → slice_get frames place ≡ Some f →
         slice_get (fates h frames) place ≡ Some l → IsPayload link f l }
-    ensures fit { (tables : List (List ARule)) (key link : ℕ) (entered : List ACard)
+    ensures fit { (tables : RuleTables) (key link : ℕ) (entered : List ACard)
         (h : AllHistories) (frames : List AFrame) → AreRead link frames entered →
         AreShort h.entries → AreSound tables key entered h.entries h.lost →
         All (λ (f : AFrame). length f.bytes ≤ longest_packet) frames →
         All (λ (l : ALine). length l.payload ≤ longest_packet) (fates h frames) }
-    ensures held { (tables : List (List ARule)) (key : ℕ) (entered : List ACard)
+    ensures held { (tables : RuleTables) (key : ℕ) (entered : List ACard)
         (h : AllHistories) (c : ACapture) → AreRead c.link c.frames entered →
         AreShort h.entries → AreSound tables key entered h.entries h.lost → IsHeld c →
         IsHeld (released.released c (fates h c.frames)) }
@@ -117,7 +117,7 @@ pub fn payloads_were_read_or_given()
 /// What left last is over: in sound histories the packet of a last event that left there goes
 /// nowhere from there, unless it was lost.
 pub fn what_left_last_is_over()
-    ensures over { (tables : List (List ARule)) (key number : ℕ) (entered : List ACard)
+    ensures over { (tables : RuleTables) (key number : ℕ) (entered : List ACard)
         (es : List AnEntry) (lost : List ALost) (h : AHappening) →
         AreSound tables key entered es lost → is_lost lost number ≡ false →
         IsLastEvent es number h → LeftThere es h → LeftForGood tables key es h }

@@ -46,15 +46,18 @@ block_is = record {
 
 pub rules_file : IsRulesFile rules_text values.tables
 unfolding rules_text only_block
-rules_file = record {
-  blocks = only_block ∷ [];
-  last = [];
-  lines_are = refl;
-  blocks_are = All-cons IsBlock only_block [] block_is (All-nil IsBlock);
-  last_are = All-nil (λ l. IsLine l Nothing);
-  tables_are = refl;
-  few_tables = lit≤ tt;
-  few_rules = All-cons (λ b. length b.rules ≤ most_rules) only_block [] (lit≤ tt)
-      (All-nil (λ (b : Block). length b.rules ≤ most_rules));
-  names_differ = λ i j d less within. absurd (omega arith);
-}
+rules_file = (
+  record {
+    blocks = only_block ∷ [];
+    last = [];
+    lines_are = refl;
+    blocks_are = All-cons IsBlock only_block [] block_is (All-nil IsBlock);
+    last_are = All-nil (λ l. IsLine l Nothing);
+    tables_are = refl;
+    few_tables = lit≤ tt;
+    few_rules = All-cons (λ b. length b.rules ≤ most_rules) only_block [] (lit≤ tt)
+        (All-nil (λ (b : Block). length b.rules ≤ most_rules));
+    names_differ = λ i j d less within. absurd (omega arith);
+  },
+  refl,
+)

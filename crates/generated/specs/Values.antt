@@ -3,6 +3,7 @@ use Rattle.std.specs.Prelude.{ℕ, false, List, [], ◌∷◌, map, Some, None}
 use Rattle.nfqa_msgs.specs.Numbers.{command_bind, copy_packet}
 use Rattle.hook_chain.specs.Numbers.{udp}
 use Rattle.hook_chain.specs.declared.rule.Rule.{Rule}
+use Rattle.hook_chain.specs.Rules.{RuleTables, with_one_feeder}
 use Rattle.hook_chain.specs.declared.rule.Pick.TheVariants.{Balance}
 use Rattle.queue_core.specs.Numbers.{verdict_accept, verdict_drop}
 use Rattle.histories.specs.declared.log.AskWords.{AskWords}
@@ -25,11 +26,11 @@ use Rattle.generated.specs.Texts.{even_queue, odd_queue, port_of}
 
 -- every packet matches, and goes to one of eight queues from 0 on
 abbrev pub rule : Rule
-rule = record { protocol = None; mark = None; pick = Balance 0 8; bypass = false }
+rule = record { protocol = None; mark = None; pick = Balance 0 8; bypass = false; fanout = false }
 
 -- one table of this one rule
-abbrev pub tables : List (List Rule)
-tables = (rule ∷ []) ∷ []
+abbrev pub tables : RuleTables
+tables = with_one_feeder ((rule ∷ []) ∷ [])
 
 -- ---- the script
 

@@ -8,7 +8,7 @@ use Rattle.std.proofs.lemmas.Bool.{cases_Bool, eqb-true}
 use Rattle.std.proofs.lemmas.List.Elements.{recursion_from_All}
 use Rattle.std.proofs.lemmas.List.Sums.{sum_by-append, sum_by-cons, sum_by_push}
 use Rattle.packet_entry.specs.declared.packet.Card.{Card}
-use Rattle.hook_chain.specs.declared.rule.Rule.{Rule}
+use Rattle.hook_chain.specs.Rules.{RuleTables}
 use Rattle.hook_chain.specs.declared.chain.Next.{Next}
 use Rattle.hook_chain.specs.declared.chain.Next.TheVariants.{Released, To}
 use Rattle.hook_chain.specs.declared.chain.Decision.TheVariants.{Accept}
@@ -232,13 +232,13 @@ by_route n visit c None = omega arith
 by_route n visit c (Some Released) = omega arith
 by_route n visit c (Some (To queue bypass table)) = omega arith
 
-one_each : (tables : List (List Rule)) (key n : ℕ) (l : Card × Way) →
+one_each : (tables : RuleTables) (key n : ℕ) (l : Card × Way) →
     Splits (going_on tables key l) n l.0
 one_each tables key n (c, Gone) = omega arith
 one_each tables key n (c, Open) = by_route n (c.visit + 1) c (onward_of tables key c Accept)
 one_each tables key n (c, Decided d) = by_route n (c.visit + 1) c (onward_of tables key c d)
 
-left_split : (tables : List (List Rule)) (key n : ℕ) (ls : List (Card × Way)) →
+left_split : (tables : RuleTables) (key n : ℕ) (ls : List (Card × Way)) →
     count_by (λ (l : Card × Way). l.0.number == n) ls
     ≡ count_by (numbered n) (flat_map (going_on tables key) ls)
     + count_by (λ (l : Card × Way). is_over tables key l && (l.0.number == n)) ls
@@ -253,7 +253,7 @@ left_split tables key n (l ∷ ls) = omega (
   left_split tables key n ls,
 )
 
-moves_split : (tables : List (List Rule)) (key n : ℕ) (ms : List Move) →
+moves_split : (tables : RuleTables) (key n : ℕ) (ms : List Move) →
     sum_by (left_in n) ms
     ≡ sum_by (λ m. count_by (numbered n) (asks tables key m)) ms + times_over tables key n ms
 moves_split tables key n [] = refl
@@ -271,7 +271,7 @@ moves_split tables key n (m ∷ ms) = omega (
 
 pub once_each : ((es : List Entry) (test : ℕ → ℕ → Bool) →
     times test (waiting_in (replay es)) + times test (departures es) ≡ times test (arrivals es)) →
-    (tables : List (List Rule)) (key number : ℕ) (queues : List ℕ) (entered : List Card)
+    (tables : RuleTables) (key number : ℕ) (queues : List ℕ) (entered : List Card)
     (es : List Entry) (lost : List Lost)
     → AreQueuesOf es queues → AreSound tables key entered es lost
     → times_waiting number queues es + count_by (λ (l : Lost). l.number == number) lost

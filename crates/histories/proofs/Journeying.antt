@@ -5,7 +5,7 @@ use Rattle.std.specs.Prelude.{count_by, ◌==◌}
 use Rattle.std.proofs.lemmas.Bool.{ne_eqb}
 use Rattle.std.proofs.lemmas.List.Sums.{sum_by-append, sum_by-cons, sum_by_push}
 use Rattle.packet_entry.specs.declared.packet.Card.{Card}
-use Rattle.hook_chain.specs.declared.rule.Rule.{Rule}
+use Rattle.hook_chain.specs.Rules.{RuleTables}
 use Rattle.histories.specs.declared.histories.Lost.{Lost}
 use Rattle.histories.specs.declared.entry.Entry.{Entry}
 use Rattle.histories.specs.Moves.{Move, move_after, moves_after, moves}
@@ -31,7 +31,7 @@ moves_on es e = after [] es
         (append_assoc before (d ∷ []) es))
 
 -- nothing has happened
-pub nothing_yet : (tables : List (List Rule)) (key : ℕ) → IsSoundBut tables key [] [] [] []
+pub nothing_yet : (tables : RuleTables) (key : ℕ) → IsSoundBut tables key [] [] [] []
 nothing_yet tables key = record {
   asked = λ test. omega arith;
   met = λ test. refl;
@@ -39,7 +39,7 @@ nothing_yet tables key = record {
 }
 
 -- a packet enters, and its first arrival is owed
-pub enters : (tables : List (List Rule)) (key : ℕ) (card : Card) (owed : List Arrival)
+pub enters : (tables : RuleTables) (key : ℕ) (card : Card) (owed : List Arrival)
     (entered : List Card) (ms : List Move) (lost : List Lost) →
     IsSoundBut tables key owed entered ms lost →
     IsSoundBut tables key (entering tables key card ++ owed) (entered ++ card ∷ []) ms lost
@@ -64,7 +64,7 @@ enters tables key card owed entered ms lost is = record {
     both test = sum_by-append _ (entering tables key card) owed
 
 -- an owed arrival comes, and what its move asks for is owed
-pub moves_one : (tables : List (List Rule)) (key : ℕ) (m : Move) (owed : List Arrival)
+pub moves_one : (tables : RuleTables) (key : ℕ) (m : Move) (owed : List Arrival)
     (entered : List Card) (ms : List Move) (lost : List Lost) →
     IsSoundBut tables key (came m ++ owed) entered ms lost →
     IsSoundBut tables key (asks tables key m ++ owed) entered (ms ++ m ∷ []) lost
@@ -97,7 +97,7 @@ moves_one tables key m owed entered ms lost is = record {
     asks_both test = sum_by-append _ (asks tables key m) owed
 
 -- an owed arrival that isn't a first one is lost
-pub loses : (tables : List (List Rule)) (key : ℕ) (a : Arrival) (owed : List Arrival)
+pub loses : (tables : RuleTables) (key : ℕ) (a : Arrival) (owed : List Arrival)
     (entered : List Card) (ms : List Move) (lost : List Lost) → a.card.visit ≢ 1 →
     IsSoundBut tables key (a ∷ owed) entered ms lost →
     IsSoundBut tables key owed entered ms (lost ++ visit_of a ∷ [])

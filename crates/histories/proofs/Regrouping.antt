@@ -6,7 +6,7 @@ use Rattle.std.specs.Prelude.{filter, sum_by, count_by, not}
 use Rattle.std.proofs.lemmas.Bool.{eq-eqb, cases_Bool, eqb-true}
 use Rattle.std.proofs.lemmas.List.Sums.{sum_by-cons}
 use Rattle.packet_entry.specs.declared.packet.Card.{Card}
-use Rattle.hook_chain.specs.declared.rule.Rule.{Rule}
+use Rattle.hook_chain.specs.Rules.{RuleTables}
 use Rattle.queue_core.specs.Step.{step}
 use Rattle.histories.specs.declared.histories.Lost.{Lost}
 use Rattle.histories.specs.declared.entry.Entry.{Entry}
@@ -172,7 +172,7 @@ same_moves es gs same f =
     (λ queue. part_is queue [] gs ∙ ap moves (same queue) ∙ sym (part_is queue [] es))
 
 -- what was sound stays so
-pub grouped_sound : (tables : List (List Rule)) (key : ℕ) (fed : List Card) (es gs : List Entry)
+pub grouped_sound : (tables : RuleTables) (key : ℕ) (fed : List Card) (es gs : List Entry)
     (lost : List Lost) → ((queue : ℕ) → history queue gs ≡ history queue es) →
     AreSound tables key fed es lost → AreSound tables key fed gs lost
 grouped_sound tables key fed es gs lost same sound =

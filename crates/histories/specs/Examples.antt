@@ -1,7 +1,7 @@
 -- A history written out by hand, to read the definitions against.
 use Rattle.std.specs.Prelude.{ℕ, List, [], ◌∷◌, ◌++◌, Some, None, true, false}
 use Rattle.packet_entry.specs.declared.packet.Card.{Card}
-use Rattle.hook_chain.specs.declared.rule.Rule.{Rule}
+use Rattle.hook_chain.specs.Rules.{RuleTables, with_one_feeder}
 use Rattle.hook_chain.specs.declared.rule.Pick.TheVariants.{Number}
 use Rattle.nfqa_msgs.specs.declared.request.Request.TheVariants.{Config, Verdict, Batch}
 use Rattle.queue_core.specs.declared.offers.Outcome.TheVariants.{Taken}
@@ -61,9 +61,11 @@ altered_history = told (Answer 0 0)
 -- ---- the same as journeys
 
 -- one table with one rule, which queues every packet at queue 0
-abbrev pub one_rule : List (List Rule)
+abbrev pub one_rule : RuleTables
 one_rule =
-    (record { protocol = None; mark = None; pick = Number 0; bypass = false } ∷ []) ∷ []
+    with_one_feeder
+    ((record { protocol = None; mark = None; pick = Number 0; bypass = false; fanout = false }
+    ∷ []) ∷ [])
 
 -- the packet with this number before it meets a table
 abbrev pub entering_packet : ℕ → Card

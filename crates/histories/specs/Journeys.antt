@@ -4,7 +4,7 @@
 use Rattle.std.specs.Prelude.{◌≡◌, ◌≤◌, ℕ, ◌+◌, List, [], ◌∷◌, Option, Some, None, Bool, ◌==◌}
 use Rattle.std.specs.Prelude.{count_by, sum_by, flat_map}
 use Rattle.packet_entry.specs.declared.packet.Card.{Card}
-use Rattle.hook_chain.specs.declared.rule.Rule.{Rule}
+use Rattle.hook_chain.specs.Rules.{RuleTables}
 use Rattle.hook_chain.specs.declared.chain.Next.{Next}
 use Rattle.hook_chain.specs.declared.chain.Next.TheVariants.{Released, To}
 use Rattle.hook_chain.specs.declared.chain.Decision.TheVariants.{Accept}
@@ -41,12 +41,12 @@ asked_by_some None card visit = []
 asked_by_some (Some route) card visit = asked_by route card visit
 
 -- a packet that enters goes through the tables from the first on
-abbrev pub entering : List (List Rule) → ℕ → Card → List Arrival
+abbrev pub entering : RuleTables → ℕ → Card → List Arrival
 entering tables key card = asked_by (next tables key card 1) card 1
 
 -- A packet that leaves a queue goes on as its verdict decided, or with the next table where it was
 -- let through; what is destroyed goes nowhere.
-abbrev pub going_on : List (List Rule) → ℕ → Card × Way → List Arrival
+abbrev pub going_on : RuleTables → ℕ → Card × Way → List Arrival
 going_on tables key (card, Gone) = []
 going_on tables key (card, Open) =
     asked_by_some (onward_of tables key card Accept) card (card.visit + 1)
@@ -54,7 +54,7 @@ going_on tables key (card, Decided decision) =
     asked_by_some (onward_of tables key card decision) card (card.visit + 1)
 
 -- what a move asks for
-abbrev pub asks : List (List Rule) → ℕ → Move → List Arrival
+abbrev pub asks : RuleTables → ℕ → Move → List Arrival
 asks tables key m = flat_map (going_on tables key) m.left
 
 -- ---- arrivals that come
@@ -79,14 +79,14 @@ abbrev pub times_came : (Arrival → Bool) → List Move → ℕ
 times_came test ms = sum_by (λ m. count_by test (came m)) ms
 
 -- how many pass it of those that the packets that entered and these moves ask for
-abbrev pub times_asked : List (List Rule) → ℕ → (Arrival → Bool) → List Card → List Move → ℕ
+abbrev pub times_asked : RuleTables → ℕ → (Arrival → Bool) → List Card → List Move → ℕ
 times_asked tables key test entered ms =
     sum_by (λ c. count_by test (entering tables key c)) entered
     + sum_by (λ m. count_by test (asks tables key m)) ms
 
 -- Moves are sound for the packets that entered and those that were lost, but for arrivals that are
 -- still owed.
-pub record IsSoundBut (tables : List (List Rule)) (key : ℕ) (owed : List Arrival)
+pub record IsSoundBut (tables : RuleTables) (key : ℕ) (owed : List Arrival)
     (entered : List Card) (ms : List Move) (lost : List Lost) : Type 0 where
   -- whatever test tells arrivals apart, no more came or are owed than were asked for
   pub asked : (test : Arrival → Bool) →
@@ -100,5 +100,5 @@ pub record IsSoundBut (tables : List (List Rule)) (key : ℕ) (owed : List Arriv
   pub first : count_by (λ (l : Lost). l.visit == 1) lost ≡ 0
 
 -- entries are sound for the packets that entered and those that were lost
-abbrev pub AreSound : List (List Rule) → ℕ → List Card → List Entry → List Lost → Type 0
+abbrev pub AreSound : RuleTables → ℕ → List Card → List Entry → List Lost → Type 0
 AreSound tables key entered es lost = IsSoundBut tables key [] entered (moves es) lost

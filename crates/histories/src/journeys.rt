@@ -2,7 +2,7 @@
 
 ghost use Rattle.std.specs.Prelude.{◌≡◌, ◌≢◌, ℕ, ◌+◌, ◌==◌, List, [], ◌∷◌, ◌++◌, count_by};
 ghost use Rattle.packet_entry.specs.declared.packet.Card.{Card};
-ghost use Rattle.hook_chain.specs.declared.rule.Rule.{Rule};
+ghost use Rattle.hook_chain.specs.Rules.{RuleTables};
 ghost use Rattle.histories.specs.declared.entry.Entry.{Entry};
 ghost use Rattle.histories.specs.declared.histories.Lost.{Lost};
 ghost use Rattle.histories.specs.Moves.{Move, moves, move_after};
@@ -24,16 +24,16 @@ pub fn an_entry_is_a_move()
 /// as an owed arrival comes, and what leaves in its step is owed; and as an owed arrival is lost
 /// that isn't a first one. Where nothing is owed any more, the moves are sound.
 pub fn soundness_is_kept_move_by_move()
-    ensures nothing { (tables : List (List Rule)) (key : ℕ) → IsSoundBut tables key [] [] [] [] }
-    ensures enters { (tables : List (List Rule)) (key : ℕ) (card : Card) (owed : List Arrival)
+    ensures nothing { (tables : RuleTables) (key : ℕ) → IsSoundBut tables key [] [] [] [] }
+    ensures enters { (tables : RuleTables) (key : ℕ) (card : Card) (owed : List Arrival)
         (entered : List Card) (ms : List Move) (lost : List Lost) →
         IsSoundBut tables key owed entered ms lost →
         IsSoundBut tables key (entering tables key card ++ owed) (entered ++ card ∷ []) ms lost }
-    ensures comes { (tables : List (List Rule)) (key : ℕ) (m : Move) (owed : List Arrival)
+    ensures comes { (tables : RuleTables) (key : ℕ) (m : Move) (owed : List Arrival)
         (entered : List Card) (ms : List Move) (lost : List Lost) →
         IsSoundBut tables key (came m ++ owed) entered ms lost →
         IsSoundBut tables key (asks tables key m ++ owed) entered (ms ++ m ∷ []) lost }
-    ensures lost { (tables : List (List Rule)) (key : ℕ) (a : Arrival) (owed : List Arrival)
+    ensures lost { (tables : RuleTables) (key : ℕ) (a : Arrival) (owed : List Arrival)
         (entered : List Card) (ms : List Move) (lost : List Lost) → a.card.visit ≢ 1 →
         IsSoundBut tables key (a ∷ owed) entered ms lost →
         IsSoundBut tables key owed entered ms (lost ++ visit_of a ∷ []) }
@@ -42,7 +42,7 @@ pub fn soundness_is_kept_move_by_move()
 /// Each packet that entered and was queued waits, was lost, or is over: in sound histories it is
 /// just one of the three, once for each time that it entered, whichever queues it went through.
 pub fn each_packet_waits_is_lost_or_is_over()
-    ensures { (tables : List (List Rule)) (key number : ℕ) (queues : List ℕ)
+    ensures { (tables : RuleTables) (key number : ℕ) (queues : List ℕ)
         (entered : List Card) (es : List Entry) (lost : List Lost) →
         AreQueuesOf es queues → AreSound tables key entered es lost →
         times_waiting number queues es + count_by (λ (l : Lost). l.number == number) lost
@@ -55,7 +55,7 @@ pub fn each_packet_waits_is_lost_or_is_over()
 /// Soundness is a matter of each queue's history: it doesn't depend on how the entries of several
 /// queues interleave.
 pub fn soundness_is_of_each_queue()
-    ensures { (tables : List (List Rule)) (key : ℕ) (entered : List Card) (es gs : List Entry)
+    ensures { (tables : RuleTables) (key : ℕ) (entered : List Card) (es gs : List Entry)
         (lost : List Lost) → ((queue : ℕ) → history queue gs ≡ history queue es) →
         AreSound tables key entered es lost → AreSound tables key entered gs lost }
 {}

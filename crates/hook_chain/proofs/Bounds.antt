@@ -21,11 +21,11 @@ use Rattle.hook_chain.specs.declared.reading.Stop.{Stop}
 use Rattle.hook_chain.specs.declared.reading.Stop.TheVariants.{Refused, NoMemory}
 use Rattle.hook_chain.specs.Reading.{IsSound, Moves, fault_of, opens, opens_table, takes_memory}
 use Rattle.hook_chain.specs.RulesFile.{Answers, Place, start, may_open, after, line_leads_to}
-use Rattle.hook_chain.specs.RulesFile.{tables_from, tables_of}
+use Rattle.hook_chain.specs.RulesFile.{tables_from, rules_of}
 use Rattle.hook_chain.proofs.Picks.{SaysPick, says_if}
 
 pub record IsRead (text : List ℕ) (line_number : ℕ) (p : Place) (rest : List ℕ) : Type 0 where
-  pub answer : tables_of text ≡ tables_from line_number p (lines rest)
+  pub answer : rules_of text ≡ tables_from line_number p (lines rest)
   pub sound : IsSound p
   pub count : line_number + length rest ≤ length text + 1
   pub plain : list_any opens_table (lines text) ≡ false →
@@ -131,7 +131,7 @@ sound_after_line p q line s e =
     subst (λ (o : Option Place). IfSome o IsSound) e (sound_line p (says line) s (says_if line))
 
 pub is_read_first : (text : List ℕ) (p : Place) → p ≡ start → IsRead text 1 p text
-unfolding tables_of
+unfolding rules_of
 is_read_first text p e =
     rw e (record {
       answer = refl;
@@ -177,7 +177,7 @@ is_read_next text line_number p q rest line later r first shorter e = record {
 
 pub is_refused : (text : List ℕ) (line_number : ℕ) (p : Place) (rest line later : List ℕ) →
     IsRead text line_number p rest → lines rest ≡ line ∷ lines later → line_leads_to p line ≡ None →
-    tables_of text ≡ Err line_number
+    rules_of text ≡ Err line_number
 is_refused text line_number p rest line later r first e =
     rw (r.answer, first) (tables_from-off line_number p line (lines later) e)
 
@@ -185,7 +185,7 @@ pub is_fault : (stop : Stop) (text : List ℕ) (line_number : ℕ) (p q : Place)
     (rest line later : List ℕ) →
     IsRead text line_number p rest → lines rest ≡ line ∷ lines later →
     Moves {A = Unit {0}} (takes_memory p (says line)) (Err stop) (line_leads_to p line) q →
-    Answers (Err (fault_of stop line_number)) (tables_of text)
+    Answers (Err (fault_of stop line_number)) (rules_of text)
 is_fault Refused text line_number p q rest line later r first e =
     is_refused text line_number p rest line later r first e
 is_fault NoMemory text line_number p q rest line later r first e = tt

@@ -21,10 +21,10 @@ use Rattle.hook_chain.specs.Line.{Says, Nothing, Opens, Policy, Adds, Closes}
 use Rattle.hook_chain.specs.Rules.{IsTable}
 use Rattle.hook_chain.specs.Reading.{IsSound}
 use Rattle.hook_chain.specs.RulesFile.{Answers, Place, start, may_open, after, tables_from}
-use Rattle.hook_chain.specs.RulesFile.{tables_of}
+use Rattle.hook_chain.specs.RulesFile.{rules_of}
 use Rattle.text_lines.specs.Refusals.{BeginFile, IsBadLine, EndsEarly}
 use Rattle.hook_chain.specs.Grammar.{IsLine, Block, AreFileLines}
-use Rattle.hook_chain.specs.Grammar.{IsRulesFile, IsFirstRefused}
+use Rattle.hook_chain.specs.Grammar.{IsFileOf, IsFirstRefused}
 use Rattle.hook_chain.proofs.RuleForm.{word_is}
 use Rattle.hook_chain.proofs.OptionForm.{no_value}
 use Rattle.hook_chain.proofs.Bounds.{sound_start, sound_after_line}
@@ -131,17 +131,17 @@ file_of_leads ls q h out =
     }
 
 -- what is read of a file is in the grammar
-pub file_found : (text : List ℕ) (tables : List (List Rule)) → tables_of text ≡ Ok tables →
-    IsRulesFile text tables
-unfolding tables_of
+pub file_found : (text : List ℕ) (tables : List (List Rule)) → rules_of text ≡ Ok tables →
+    IsFileOf text tables
+unfolding rules_of
 file_found text tables e =
     let led = leads_on 1 start (lines text) tables e in
     file_of_leads (lines text) (place led.0 tables None) led.1 refl
 
 -- what is in the grammar is read
-pub file_read : (text : List ℕ) (tables : List (List Rule)) → IsRulesFile text tables →
-    tables_of text ≡ Ok tables
-unfolding tables_of
+pub file_read : (text : List ℕ) (tables : List (List Rule)) → IsFileOf text tables →
+    rules_of text ≡ Ok tables
+unfolding rules_of
 file_read text tables h =
     let led = leads_of_file (lines text) tables h in
     answer_of 1 start (place led.0 tables None) (lines text) led.1 refl
@@ -200,7 +200,7 @@ not_begun p front line h refused begin =
     refused last.0 last.1 last.2 last.3
 
 refused_where : (text : List ℕ) (line_number : ℕ) (front rest : List (List ℕ)) (p : Place) →
-    tables_of text ≡ Err line_number → lines text ≡ front ++ rest → length front + 1 ≡ line_number →
+    rules_of text ≡ Err line_number → lines text ≡ front ++ rest → length front + 1 ≡ line_number →
     Leads start front p → IsStuck p rest → IsFirstRefused text line_number
 refused_where text line_number front [] p answer e count h stuck =
     let whole : lines text ≡ front = e ∙ append-nil front in
@@ -222,8 +222,8 @@ refused_where text line_number front (line ∷ rest) p answer e count h stuck =
     })
 
 -- what is refused is refused at the first line that may not stand
-pub file_refused : (text : List ℕ) (line : ℕ) → tables_of text ≡ Err line → IsFirstRefused text line
-unfolding tables_of
+pub file_refused : (text : List ℕ) (line : ℕ) → rules_of text ≡ Err line → IsFirstRefused text line
+unfolding rules_of
 file_refused text line e =
     let found = stops_at 1 line start (lines text) e in
     let stop = found.2 in
@@ -231,8 +231,8 @@ file_refused text line e =
     stop.6
 
 bad_line : (text : List ℕ) (line_number : ℕ) → IsBadLine AreFileLines text line_number →
-    tables_of text ≡ Err line_number
-unfolding tables_of
+    rules_of text ≡ Err line_number
+unfolding rules_of
 bad_line text line_number h =
     let led = begin_leads h.front h.begin in
     let stuck : IsStuck led.0 (h.line ∷ h.rest) =
@@ -250,8 +250,8 @@ stuck_inside text line_number p h led =
     ] refl
 
 ends_early : (text : List ℕ) (line_number : ℕ) → EndsEarly AreFileLines text line_number →
-    tables_of text ≡ Err line_number
-unfolding tables_of
+    rules_of text ≡ Err line_number
+unfolding rules_of
 ends_early text line_number h =
     let led = begin_leads (lines text) h.begin in
     let same : 1 + length (lines text) ≡ line_number = omega (arith, h.count) in
@@ -261,29 +261,29 @@ ends_early text line_number h =
     subst (λ ls. tables_from 1 start ls ≡ Err line_number) (append-nil (lines text)) all
 
 -- what has such a line is refused there
-pub file_stuck : (text : List ℕ) (line : ℕ) → IsFirstRefused text line → tables_of text ≡ Err line
+pub file_stuck : (text : List ℕ) (line : ℕ) → IsFirstRefused text line → rules_of text ≡ Err line
 file_stuck text line (inl h) = bad_line text line h
 file_stuck text line (inr h) = ends_early text line h
 
 -- the same of an answer
 pub found_by : (r : Result (List (List Rule)) LineFault) (text : List ℕ) →
-    Answers r (tables_of text) → IfOk r (IsRulesFile text)
+    Answers r (rules_of text) → IfOk r (IsFileOf text)
 found_by (Ok tables) text h = file_found text tables h
 found_by (Err fault) text h = tt
 
 pub refused_by : (r : Result (List (List Rule)) LineFault) (text : List ℕ) (line : ℕ) →
-    Answers r (tables_of text) → r ≡ Err (Bad line) → IsFirstRefused text line
+    Answers r (rules_of text) → r ≡ Err (Bad line) → IsFirstRefused text line
 refused_by r text line h e =
     file_refused text line
-    (subst (λ (s : Result (List (List Rule)) LineFault). Answers s (tables_of text)) e h)
+    (subst (λ (s : Result (List (List Rule)) LineFault). Answers s (rules_of text)) e h)
 
 pub answered_by : (r : Result (List (List Rule)) LineFault) (text : List ℕ)
-    (read : Result (List (List Rule)) ℕ) → tables_of text ≡ read → Answers r (tables_of text) →
+    (read : Result (List (List Rule)) ℕ) → rules_of text ≡ read → Answers r (rules_of text) →
     Answers r read
 answered_by r text read e h = subst (Answers r) e h
 
-pub same_tables : (text : List ℕ) (a b : List (List Rule)) → IsRulesFile text a →
-    IsRulesFile text b → a ≡ b
+pub same_tables : (text : List ℕ) (a b : List (List Rule)) → IsFileOf text a →
+    IsFileOf text b → a ≡ b
 same_tables text a b h g =
     let both : ◌≡◌ {A = Result (List (List Rule)) ℕ} (Ok a) (Ok b) =
     sym (file_read text a h) ∙ file_read text b g in
@@ -295,17 +295,17 @@ same_line text a b h g =
     sym (file_stuck text a h) ∙ file_stuck text b g in
     cc
 
-pub never_both : (text : List ℕ) (tables : List (List Rule)) (line : ℕ) → IsRulesFile text tables →
+pub never_both : (text : List ℕ) (tables : List (List Rule)) (line : ℕ) → IsFileOf text tables →
     IsFirstRefused text line → ⊥
 never_both text tables line h g =
     two_answers tables line (sym (file_read text tables h) ∙ file_stuck text line g)
 
 pub one_of_two : (text : List ℕ) →
-    ((tables : List (List Rule)) × IsRulesFile text tables)
+    ((tables : List (List Rule)) × IsFileOf text tables)
     ⊎ ((line : ℕ) × IsFirstRefused text line)
 one_of_two text =
-    elim (tables_of text) as (λ r. tables_of text ≡ r →
-    ((tables : List (List Rule)) × IsRulesFile text tables)
+    elim (rules_of text) as (λ r. rules_of text ≡ r →
+    ((tables : List (List Rule)) × IsFileOf text tables)
     ⊎ ((line : ℕ) × IsFirstRefused text line)) [
       | Ok tables ↦ λ e. inl (tables, file_found text tables e)
       | Err line ↦ λ e. inr (line, file_refused text line e)

@@ -15,7 +15,8 @@ use Rattle.text_lines.specs.Digits.{below, decimal, decimal_below}
 use Rattle.hook_chain.specs.Numbers.{most_queues}
 use Rattle.hook_chain.specs.Rules.{IsPick}
 use Rattle.hook_chain.specs.RuleLine.{range_of, pick_of, options_after, rule_of, protocol_match}
-use Rattle.hook_chain.specs.RuleLine.{mark_match}
+use Rattle.hook_chain.specs.RuleLine.{mark_match, is_balance, options_said}
+use Rattle.hook_chain.specs.declared.rule_line.RuleOptions.{RuleOptions}
 use Rattle.hook_chain.specs.Line.{Says, Nothing, Opens, Policy, Adds, Closes, opening, policy}
 use Rattle.hook_chain.specs.Line.{says_by, says, is_table_name, is_chain_name, is_counters}
 
@@ -77,26 +78,35 @@ pick_if option value =
     (λ e. cond_if (bytes_eq option (codes "--queue-balance")) (range_of value) None IsPick
     (λ f. range_if value) (λ f. tt))
 
-abbrev Picked : (Pick × Bool) → Type 0
-Picked x = IsPick x.0
+abbrev Picked : RuleOptions → Type 0
+Picked x = IsPick x.pick
 
 default_if : (pick : Option Pick) → IfSome pick IsPick → IsPick (unwrap_or pick (Number 0))
 default_if None h = lit< tt
 default_if (Some p) h = h
 
-options_if : (pick : Option Pick) (bypass : Bool) (words : List (List ℕ)) → IfSome pick IsPick →
-    IfSome (options_after pick bypass words) Picked
+said_if : (pick : Option Pick) (bypass fanout : Bool) → IfSome pick IsPick →
+    IfSome (options_said pick bypass fanout) Picked
+said_if pick bypass fanout h =
+    cond_if (fanout && not (is_balance pick)) None _ Picked (λ e. tt) (λ e. default_if pick h)
+
+options_if : (pick : Option Pick) (bypass fanout : Bool) (words : List (List ℕ)) →
+    IfSome pick IsPick → IfSome (options_after pick bypass fanout words) Picked
 unfolding options_after
-options_if pick bypass [] h = default_if pick h
-options_if pick bypass (w ∷ []) h =
-    cond_if (bytes_eq w (codes "--queue-bypass") && not bypass) _ None Picked
-    (λ e. default_if pick h) (λ e. tt)
-options_if pick bypass (w ∷ v ∷ ws) h =
+options_if pick bypass fanout [] h = said_if pick bypass fanout h
+options_if pick bypass fanout (w ∷ []) h =
     cond_if (bytes_eq w (codes "--queue-bypass") && not bypass) _ _ Picked
-    (λ e. options_if pick true (v ∷ ws) h)
-    (λ e. cond_if (is_none pick) _ None Picked
-    (λ f. bind_from (pick_of w v) _ IsPick Picked (pick_if w v)
-    (λ p g. options_if (Some p) bypass ws g)) (λ f. tt))
+    (λ e. said_if pick true fanout h)
+    (λ e. cond_if (bytes_eq w (codes "--queue-cpu-fanout") && not fanout) _ None Picked
+    (λ f. said_if pick bypass true h) (λ f. tt))
+options_if pick bypass fanout (w ∷ v ∷ ws) h =
+    cond_if (bytes_eq w (codes "--queue-bypass") && not bypass) _ _ Picked
+    (λ e. options_if pick true fanout (v ∷ ws) h)
+    (λ e. cond_if (bytes_eq w (codes "--queue-cpu-fanout") && not fanout) _ _ Picked
+    (λ f. options_if pick bypass true (v ∷ ws) h)
+    (λ f. cond_if (is_none pick) _ None Picked
+    (λ g. bind_from (pick_of w v) _ IsPick Picked (pick_if w v)
+    (λ p k. options_if (Some p) bypass fanout ws k)) (λ g. tt)))
 
 rule_if : (words : List (List ℕ)) → IfSome (rule_of words) (λ r. IsPick r.pick)
 unfolding rule_of
@@ -105,7 +115,8 @@ rule_if words =
     bind_if (protocol_match matches) _ _ (λ protocol.
     bind_if (mark_match protocol.1) _ _ (λ mark.
     bind_if (words_after (codes "-j") mark.1 >>= words_after (codes "NFQUEUE")) _ _ (λ options.
-    bind_from (options_after None false options) _ Picked _ (options_if None false options tt)
+    bind_from (options_after None false false options) _ Picked _
+    (options_if None false false options tt)
     (λ option g. g)))))
 
 -- what a line says is a rule that picks queues that there are, if it is a rule

@@ -11,7 +11,7 @@ use Rattle.hook_chain.specs.RuleLine.{mark_match}
 use Rattle.hook_chain.specs.Grammar.{IsProtocolMatch, negation, IsMarkMatch, IsRuleLine}
 use Rattle.hook_chain.proofs.RuleForm.{bind_some, words_after_some, protocol_match_some}
 use Rattle.hook_chain.proofs.RuleForm.{mark_match_some}
-use Rattle.hook_chain.proofs.OptionForm.{options_some, options_again}
+use Rattle.hook_chain.proofs.FanoutForm.{options_some, options_again}
 
 -- what is read of a rule is in the grammar
 pub rule_some : (words : List (List ℕ)) (r : Rule) → rule_of words ≡ Some r →
@@ -27,7 +27,7 @@ rule_some words r e =
     let jump =
     bind_some (words_after (codes "-j") (mark.0).1) (words_after (codes "NFQUEUE")) options.0
     options.1 in
-    let option = bind_some (options_after None false options.0) _ r options.2 in
+    let option = bind_some (options_after None false false options.0) _ r options.2 in
     let first = protocol_match_some matches.0 protocol.0 protocol.1 in
     let second = mark_match_some (protocol.0).1 mark.0 mark.1 in
     let target : (mark.0).1 ≡ codes "-j" ∷ codes "NFQUEUE" ∷ options.0 =
@@ -93,5 +93,5 @@ rule_again words r h =
     protocol_again h.protocol (h.mark ++ target) r.protocol h.protocol_is
     (no_protocol h.mark target r.mark h.mark_is refl) in
     let second = mark_again h.mark target r.mark h.mark_is refl in
-    let third = options_again h.options r.pick r.bypass h.options_are in
+    let third = options_again h.options r.pick r.bypass r.fanout h.options_are in
     (codes "FORWARD" ∷ (h.protocol ++ (h.mark ++ target)), h.line, rw (first, second, third) refl)

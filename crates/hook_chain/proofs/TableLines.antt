@@ -13,8 +13,8 @@ use Rattle.text_lines.specs.declared.fault.LineFault.{LineFault}
 use Rattle.text_lines.specs.declared.fault.LineFault.TheVariants.{Bad, NoMemory}
 use Rattle.hook_chain.specs.Line.{Says, Nothing, Opens, Policy, Adds, Closes, says}
 use Rattle.hook_chain.specs.Reading.{opens, opens_table}
-use Rattle.hook_chain.specs.RulesFile.{Answers, tables_of}
-use Rattle.hook_chain.specs.Grammar.{IsLine, BeginsTable, AreSilent, Block, lines_of, IsRulesFile}
+use Rattle.hook_chain.specs.RulesFile.{Answers, rules_of}
+use Rattle.hook_chain.specs.Grammar.{IsLine, BeginsTable, AreSilent, Block, lines_of, IsFileOf}
 use Rattle.hook_chain.proofs.LineForm.{says_some, says_again}
 use Rattle.hook_chain.proofs.Leads.{two_answers}
 use Rattle.hook_chain.proofs.Blocks.{tables_in}
@@ -61,7 +61,7 @@ no_blocks ls last [] e none silent = All-same (λ l. IsLine l Nothing) ls last e
 no_blocks ls last (b ∷ bs) e none silent = absurd (some_tables b bs none)
 
 -- a file without tables has no line that begins one
-none_begins : (text : List ℕ) → IsRulesFile text [] → Any BeginsTable (lines text) → ⊥
+none_begins : (text : List ℕ) → IsFileOf text [] → Any BeginsTable (lines text) → ⊥
 none_begins text h found =
     let silent = no_blocks (lines text) h.last h.blocks h.lines_are h.tables_are h.last_are in
     silent_begins found.1 (All-contains (λ l. IsLine l Nothing) (lines text) found.1 silent
@@ -69,8 +69,8 @@ none_begins text h found =
 
 -- memory never runs out of a file without tables
 pub always_read : (r : Result (List (List Rule)) LineFault) (text : List ℕ) →
-    Answers r (tables_of text) → (r ≡ Err NoMemory → Any BeginsTable (lines text)) →
-    IsRulesFile text [] → IsOk r
+    Answers r (rules_of text) → (r ≡ Err NoMemory → Any BeginsTable (lines text)) →
+    IsFileOf text [] → IsOk r
 always_read (Ok tables) text a m h = refl
 always_read (Err (Bad line)) text a m h =
     absurd (two_answers [] line (sym (file_read text [] h) ∙ a))

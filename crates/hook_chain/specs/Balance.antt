@@ -59,3 +59,8 @@ packet_hash key (Some f) =
 -- the queue, of `total` from `first` on
 unfoldable pub balanced : ℕ → Option IpFields → ℕ → ℕ → ℕ
 balanced key fields first total = first + packet_hash key fields * total / 2 ^ 32
+
+-- --queue-cpu-fanout: the queue of the processor that a packet is on. Packets are fed by the feeders
+-- in turn, and stay on the feeder's processor.
+abbrev pub fanned_out : ℕ → ℕ → ℕ → ℕ → ℕ
+fanned_out feeders number first total = first + (number - 1) % feeders % total

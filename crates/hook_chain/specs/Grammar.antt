@@ -3,13 +3,14 @@
 -- comments say that a part may be missing. Nothing here reads: a production says which words stand
 -- for a value.
 use Rattle.std.specs.Prelude.{ℕ, ◌≡◌, ◌≢◌, ◌≤◌, ◌⊎◌, Bool, true, false, IsTrue, List, [], ◌∷◌}
-use Rattle.std.specs.Prelude.{◌++◌, length, map, flat_map, All, AllPairs, Option, Some, None, codes}
+use Rattle.std.specs.Prelude.{◌++◌, length, map, flat_map, All, AllPairs, Option, Some, None, codes, ⊤}
 use Rattle.std.specs.List.{list_all}
 use Rattle.std.specs.Str.Lines.{lines}
 use Rattle.hook_chain.specs.declared.rule.Rule.{Rule}
 use Rattle.hook_chain.specs.declared.rule.MarkTest.{MarkTest}
 use Rattle.hook_chain.specs.declared.rule.Pick.{Pick}
-use Rattle.hook_chain.specs.declared.rule.Pick.TheVariants.{Number}
+use Rattle.hook_chain.specs.declared.rule.Pick.TheVariants.{Number, Balance}
+use Rattle.hook_chain.specs.Rules.{RuleTables}
 use Rattle.hook_chain.specs.Numbers.{most_tables, most_rules}
 use Rattle.text_lines.specs.Refusals as refusals
 use Rattle.text_lines.specs.Words.{IsPassedOver, is_printable, words_of}
@@ -44,11 +45,30 @@ IsPickOption (option ∷ value ∷ []) pick = pick_of option value ≡ Some pick
 IsPickOption (option ∷ value ∷ more ∷ words) pick = ⊥
 
 -- the option that picks the queue and [--queue-bypass], in either order
-abbrev pub AreOptions : List (List ℕ) → Pick → Bool → Type 0
-AreOptions words pick false = IsPickOption words pick
-AreOptions words pick true =
+abbrev pub AreQueueOptions : List (List ℕ) → Pick → Bool → Type 0
+AreQueueOptions words pick false = IsPickOption words pick
+AreQueueOptions words pick true =
     (other : List (List ℕ)) × IsPickOption other pick
     × ((words ≡ codes "--queue-bypass" ∷ other) ⊎ (words ≡ other ++ codes "--queue-bypass" ∷ []))
+
+abbrev pub IsBalance : Pick → Type 0
+IsBalance (Number queue) = ⊥
+IsBalance (Balance first total) = ⊤
+
+-- --queue-cpu-fanout before, between or after these options, of which one is --queue-balance A:B:
+-- the words before it are options, and so are these and those after it together
+pub record IsFannedOut (words : List (List ℕ)) (pick : Pick) (bypass : Bool) : Type 0 where
+  pub before : List (List ℕ)
+  pub after : List (List ℕ)
+  pub words_are : words ≡ before ++ codes "--queue-cpu-fanout" ∷ after
+  pub options_before : (p : Pick) × (b : Bool) × AreQueueOptions before p b
+  pub options : AreQueueOptions (before ++ after) pick bypass
+  pub balance : IsBalance pick
+
+-- the options in any order
+abbrev pub AreOptions : List (List ℕ) → Pick → Bool → Bool → Type 0
+AreOptions words pick bypass false = AreQueueOptions words pick bypass
+AreOptions words pick bypass true = IsFannedOut words pick bypass
 
 -- -A FORWARD MATCHES -j NFQUEUE OPTIONS
 pub record IsRuleLine (words : List (List ℕ)) (r : Rule) : Type 0 where
@@ -57,7 +77,7 @@ pub record IsRuleLine (words : List (List ℕ)) (r : Rule) : Type 0 where
   pub options : List (List ℕ)
   pub protocol_is : IsProtocolMatch protocol r.protocol
   pub mark_is : IsMarkMatch mark r.mark
-  pub options_are : AreOptions options r.pick r.bypass
+  pub options_are : AreOptions options r.pick r.bypass r.fanout
   pub line : words ≡ codes "-A" ∷ codes "FORWARD"
       ∷ (protocol ++ (mark ++ codes "-j" ∷ codes "NFQUEUE" ∷ options))
 
@@ -131,9 +151,13 @@ pub record AreFileLines (text_lines : List (List ℕ)) (tables : List (List Rule
   pub few_rules : All (λ b. length b.rules ≤ most_rules) blocks
   pub names_differ : AllPairs (λ a b. a ≢ b) (map (λ b. b.name) blocks)
 
--- a rules file of these tables
-abbrev pub IsRulesFile : List ℕ → List (List Rule) → Type 0
-IsRulesFile text tables = AreFileLines (lines text) tables
+-- a file of these rules, table by table
+abbrev pub IsFileOf : List ℕ → List (List Rule) → Type 0
+IsFileOf text rules = AreFileLines (lines text) rules
+
+-- a rules file of these tables; it says nothing of feeders, so that there is one
+abbrev pub IsRulesFile : List ℕ → RuleTables → Type 0
+IsRulesFile text tables = IsFileOf text tables.rules × (tables.feeders ≡ 1)
 
 -- The number of the first line that is refused: the lines before it begin a rules file, and with it
 -- they don't. Or the number of the one that is missing after the last, where the text ends inside

@@ -18,6 +18,10 @@ longest_name = 31
 abbrev pub most_queues : ℕ
 most_queues = 65535
 
+-- the most feeders; it is this project's own
+abbrev pub most_feeders : ℕ
+most_feeders = 16
+
 -- the protocols that a rule can name: IANA's Assigned Internet Protocol Numbers
 abbrev pub icmp : ℕ
 icmp = 1

@@ -15,7 +15,8 @@ use Rattle.hook_chain.specs.declared.chain.Next.{Next}
 use Rattle.hook_chain.specs.declared.chain.Next.TheVariants.{Released, To}
 use Rattle.hook_chain.specs.declared.chain.Decision.{Decision}
 use Rattle.hook_chain.specs.declared.chain.Decision.TheVariants.{Drop, Accept, Repeat, Stop, Queue}
-use Rattle.hook_chain.specs.Balance.{balanced}
+use Rattle.hook_chain.specs.Balance.{balanced, fanned_out}
+use Rattle.hook_chain.specs.Rules.{RuleTables}
 
 -- -p: the fields of the bytes that are there have this protocol
 abbrev pub has_protocol : Option IpFields → ℕ → Bool
@@ -32,25 +33,30 @@ abbrev pub matches : ℕ → Option IpFields → Rule → Bool
 matches mark fields r =
     option_map_or (has_protocol fields) r.protocol true && option_map_or (has_mark mark) r.mark true
 
-abbrev pub queue_of : ℕ → Option IpFields → Pick → ℕ
-queue_of key fields (Number queue) = queue
-queue_of key fields (Balance first total) = balanced key fields first total
+-- the queue that a rule's options pick for the packet of this number with these fields; `fanout`
+-- is --queue-cpu-fanout
+abbrev pub queue_of : ℕ → ℕ → ℕ → Option IpFields → Pick → Bool → ℕ
+queue_of feeders key number fields (Number queue) fanout = queue
+queue_of feeders key number fields (Balance first total) fanout =
+    if fanout then fanned_out feeders number first total else balanced key fields first total
 
 -- In each table the first rule that matches queues the packet; after the last table it is released.
 -- `table` is the number of the first of these tables.
-unfoldable pub next_of : ℕ → ℕ → Option IpFields → ℕ → List (List Rule) → Next
-next_of key mark fields table [] = Released
-next_of key mark fields table (rules ∷ tables) =
-    option_map_or (λ r. To (queue_of key fields r.pick) r.bypass table)
-    (find (matches mark fields) rules) (next_of key mark fields (table + 1) tables)
+unfoldable pub next_of : ℕ → ℕ → ℕ → ℕ → Option IpFields → ℕ → List (List Rule) → Next
+next_of feeders key number mark fields table [] = Released
+next_of feeders key number mark fields table (rules ∷ tables) =
+    option_map_or (λ r. To (queue_of feeders key number fields r.pick r.fanout) r.bypass table)
+    (find (matches mark fields) rules)
+    (next_of feeders key number mark fields (table + 1) tables)
 
 -- the tables from number `from` on; they count from 1, and 0 takes all as well
-unfoldable pub next : List (List Rule) → ℕ → Card → ℕ → Next
+unfoldable pub next : RuleTables → ℕ → Card → ℕ → Next
 next tables key c from =
-    next_of key c.mark (fields_of c.bytes) (max from 1) (drop (max from 1 - 1) tables)
+    next_of tables.feeders key c.number c.mark (fields_of c.bytes) (max from 1)
+    (drop (max from 1 - 1) tables.rules)
 
 -- what a verdict's decision means for a packet that its table had queued
-abbrev pub onward_of : List (List Rule) → ℕ → Card → Decision → Option Next
+abbrev pub onward_of : RuleTables → ℕ → Card → Decision → Option Next
 onward_of tables key c Drop = None
 onward_of tables key c Accept = Some (next tables key c (c.table + 1))
 onward_of tables key c Repeat = Some (next tables key c c.table)

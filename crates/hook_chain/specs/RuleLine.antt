@@ -8,6 +8,7 @@ use Rattle.hook_chain.specs.declared.rule.Rule.{Rule}
 use Rattle.hook_chain.specs.declared.rule.MarkTest.{MarkTest}
 use Rattle.hook_chain.specs.declared.rule.Pick.{Pick}
 use Rattle.hook_chain.specs.declared.rule.Pick.TheVariants.{Number, Balance}
+use Rattle.hook_chain.specs.declared.rule_line.RuleOptions.{RuleOptions}
 use Rattle.text_lines.specs.Words.{◌>>=◌, byte, first_word, words_after, cut_at}
 use Rattle.hook_chain.specs.Numbers.{tcp, udp, icmp, ipv6_icmp, all_bits, most_queues}
 use Rattle.text_lines.specs.Digits.{decimal_below, wide}
@@ -68,16 +69,32 @@ pick_of option value =
     else if bytes_eq option (codes "--queue-balance") then range_of value
     else None
 
--- The options in any order, each at most once, and at most one that picks the queue, which else is
--- 0. `pick` and `bypass` were said before these words.
-unfoldable pub options_after : Option Pick → Bool → List (List ℕ) → Option (Pick × Bool)
-options_after pick bypass [] = Some (unwrap_or pick (Number 0), bypass)
-options_after pick bypass (w ∷ []) =
-    if bytes_eq w (codes "--queue-bypass") && not bypass then Some (unwrap_or pick (Number 0), true)
-    else None
-options_after pick bypass (w ∷ v ∷ ws) =
-    if bytes_eq w (codes "--queue-bypass") && not bypass then options_after pick true (v ∷ ws)
-    else if is_none pick then (pick_of w v >>= λ p. options_after (Some p) bypass ws)
+abbrev pub is_balance : Option Pick → Bool
+is_balance None = false
+is_balance (Some (Number queue)) = false
+is_balance (Some (Balance first total)) = true
+
+-- what these options say together: without one that picks the queue it is 0, and the fan-out stands
+-- beside a balance alone
+abbrev pub options_said : Option Pick → Bool → Bool → Option RuleOptions
+options_said pick bypass fanout =
+    if fanout && not (is_balance pick) then None
+    else Some (record { pick = unwrap_or pick (Number 0); bypass = bypass; fanout = fanout })
+
+-- The options in any order, each at most once, and at most one that picks the queue. `pick`,
+-- `bypass` and `fanout` were said before these words.
+unfoldable pub options_after : Option Pick → Bool → Bool → List (List ℕ) → Option RuleOptions
+options_after pick bypass fanout [] = options_said pick bypass fanout
+options_after pick bypass fanout (w ∷ []) =
+    if bytes_eq w (codes "--queue-bypass") && not bypass then options_said pick true fanout
+    else if bytes_eq w (codes "--queue-cpu-fanout") && not fanout
+        then options_said pick bypass true else None
+options_after pick bypass fanout (w ∷ v ∷ ws) =
+    if bytes_eq w (codes "--queue-bypass") && not bypass
+        then options_after pick true fanout (v ∷ ws)
+    else if bytes_eq w (codes "--queue-cpu-fanout") && not fanout
+        then options_after pick bypass true (v ∷ ws)
+    else if is_none pick then (pick_of w v >>= λ p. options_after (Some p) bypass fanout ws)
     else None
 
 -- the words after `-A`
@@ -87,5 +104,11 @@ rule_of words = do
   protocol ← protocol_match matches
   mark ← mark_match protocol.1
   options ← (words_after (codes "-j") mark.1 >>= words_after (codes "NFQUEUE"))
-  option ← options_after None false options
-  Some (record { protocol = protocol.0; mark = mark.0; pick = option.0; bypass = option.1 })
+  option ← options_after None false false options
+  Some (record {
+    protocol = protocol.0;
+    mark = mark.0;
+    pick = option.pick;
+    bypass = option.bypass;
+    fanout = option.fanout;
+  })

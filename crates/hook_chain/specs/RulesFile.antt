@@ -11,6 +11,7 @@ use Rattle.text_lines.specs.declared.fault.LineFault.{LineFault}
 use Rattle.text_lines.specs.declared.fault.LineFault.TheVariants.{Bad, NoMemory}
 use Rattle.hook_chain.specs.Numbers.{most_tables, most_rules}
 use Rattle.text_lines.specs.Words.{◌>>=◌}
+use Rattle.hook_chain.specs.Rules.{RuleTables, for_one_feeder}
 use Rattle.hook_chain.specs.Line.{Says, Nothing, Opens, Policy, Adds, Closes, says}
 
 -- Where a reader stands: the names of the tables that were opened, the tables that were closed, and
@@ -57,13 +58,17 @@ tables_from line_number p (line ∷ rest) =
     option_map_or (λ q. tables_from (line_number + 1) q rest) (line_leads_to p line)
     (Err line_number)
 
--- The tables of a text, or its first line that is refused. Lines are ended by LF, which may be
+-- The rules of a text, or its first line that is refused. Lines are ended by LF, which may be
 -- missing at the end; one CR before LF is dropped.
-unfoldable pub tables_of : List ℕ → Result (List (List Rule)) ℕ
-tables_of text = tables_from 1 start (lines text)
+unfoldable pub rules_of : List ℕ → Result (List (List Rule)) ℕ
+rules_of text = tables_from 1 start (lines text)
+
+-- its tables, with one feeder
+abbrev pub tables_of : List ℕ → Result RuleTables ℕ
+tables_of text = for_one_feeder (rules_of text)
 
 -- what a reader answers, unless memory runs out
-abbrev pub Answers : Result (List (List Rule)) LineFault → Result (List (List Rule)) ℕ → Type 0
+abbrev pub Answers : {T : Type 0} → Result T LineFault → Result T ℕ → Type 0
 Answers (Ok tables) read = read ≡ Ok tables
 Answers (Err (Bad line)) read = read ≡ Err line
 Answers (Err NoMemory) read = ⊤

@@ -1,10 +1,11 @@
 //! Where a packet goes next.
 
-ghost use Rattle.std.specs.Prelude.{◌≡◌, ◌≤◌, IfSome, All, find, max, option_copied};
+ghost use Rattle.std.specs.Prelude.{◌≡◌, ◌≤◌, ◌+◌, ◌^◌, IfSome, All, find, max, option_copied};
 ghost use Rattle.ip_fields.specs.Packet.{IsAddressed, fields_of};
 ghost use Rattle.hook_chain.specs.Rules.{IsPick};
 ghost use Rattle.hook_chain.specs.Route.{has_mark, has_protocol, matches, next, onward_of};
 ghost use Rattle.hook_chain.specs.Route.{queue_of};
+ghost use Rattle.hook_chain.specs.Balance.{fanned_out};
 
 use crate::flow::balance;
 use crate::rule::{MarkTest, Pick, Rule};
@@ -44,6 +45,7 @@ pub enum Decision {
 /// What the rules look at.
 #[derive(Clone, Copy)]
 struct Look {
+    number: u32,
     mark: u32,
     fields: Option<IpFields>,
 }
@@ -94,11 +96,12 @@ fn enter(tables: &Tables, key: u32, packet: &Packet, from: usize) -> Next
     ensures { result ≡ next tables.now key packet.now from }
 {
     let look = Look::at(packet);
+    let feeders = tables.feeders();
     let tables = tables.as_slice();
     for at in from - 1..tables.len() {
         if let Some(rule) = look.first_match(tables[at].rules()) {
             return Next::To {
-                queue: look.queue(key, &rule.pick),
+                queue: look.queue(feeders, key, &rule.pick, rule.fanout),
                 bypass: rule.bypass,
                 table: at as u16 + 1,
             };
@@ -109,11 +112,14 @@ fn enter(tables: &Tables, key: u32, packet: &Packet, from: usize) -> Next
 
 impl Look {
     fn at(packet: &Packet) -> Look
+        ensures number { result.number ≡ packet.now.number }
+        ensures counted { 1 ≤ result.number }
         ensures mark { result.mark ≡ packet.now.mark }
         ensures fields { result.fields ≡ fields_of packet.now.bytes }
         ensures addressed { IfSome result.fields IsAddressed }
     {
         Look {
+            number: packet.number(),
             mark: packet.mark(),
             fields: fields(packet.bytes()),
         }
@@ -150,14 +156,28 @@ impl Look {
         (self.mark & test.mask == test.value) != test.negated
     }
 
-    fn queue(&self, key: u32, pick: &Pick) -> u16
+    fn queue(&self, feeders: u32, key: u32, pick: &Pick, fanout: bool) -> u16
         requires pick { IsPick pick.now }
         requires addressed { IfSome self.now.fields IsAddressed }
-        ensures { result ≡ queue_of key self.now.fields pick.now }
+        requires feeders { 1 ≤ feeders }
+        requires number { 1 ≤ self.now.number }
+        ensures { result ≡ queue_of feeders key self.now.number self.now.fields pick.now fanout }
     {
         match *pick {
             Pick::Number { queue } => queue,
+            Pick::Balance { first, total } if fanout => self.fanned_out(feeders, first, total),
             Pick::Balance { first, total } => balance(key, self.fields.as_ref(), first, total),
         }
+    }
+
+    /// Of these queues the one of the packet's feeder. Packets are fed by the feeders in turn.
+    fn fanned_out(&self, feeders: u32, first: u16, total: u32) -> u16
+        requires total { (1 ≤ total) × (first + total ≤ 2 ^ 16) }
+        requires feeders { 1 ≤ feeders }
+        requires number { 1 ≤ self.now.number }
+        ensures { result ≡ fanned_out feeders self.now.number first total }
+    {
+        let offset = (self.number - 1) % feeders % total;
+        first + offset as u16
     }
 }

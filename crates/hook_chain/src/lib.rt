@@ -17,7 +17,9 @@ mod tables;
 
 pub use chain::{Decision, Next, onward, route};
 pub use flow::balance;
-pub use laws::{one_refused_line, one_value, value_or_refused_line};
+pub use laws::{
+    fanout_takes_one_of_the_queues, one_refused_line, one_value, value_or_refused_line,
+};
 pub use reading::read_tables;
 pub use rule::{MarkTest, Pick, Rule};
 pub use tables::Tables;

@@ -5,18 +5,19 @@ ghost use Rattle.std.specs.Prelude.{[], ◌+◌, ◌-◌, ◌^◌, ◌<◌, leng
 ghost use Rattle.std.specs.Str.Lines.{lines};
 ghost use Rattle.std.specs.List.{list_any};
 ghost use Rattle.hook_chain.specs.declared.reading.Stop.TheVariants.{NoMemory};
-ghost use Rattle.hook_chain.specs.Rules.{AreTables};
+ghost use Rattle.hook_chain.specs.Rules.{AreRuleTables, AreTables, RuleTables, for_one_feeder};
+ghost use Rattle.hook_chain.specs.Rules.{with_one_feeder};
 ghost use Rattle.hook_chain.specs.Grammar.{BeginsTable, IsFirstRefused, IsRulesFile};
 ghost use Rattle.hook_chain.specs.declared.rule.Rule.{Rule};
 ghost use Rattle.hook_chain.specs.Line.{Adds, Closes, Opens, Policy, said, says};
 ghost use Rattle.hook_chain.specs.RulesFile.{Answers, after, line_leads_to, may_open, start};
-ghost use Rattle.hook_chain.specs.RulesFile.{tables_from, tables_of};
+ghost use Rattle.hook_chain.specs.RulesFile.{rules_of, tables_from, tables_of};
 ghost use Rattle.hook_chain.specs.Reading.{IsSound, Moves, fault_of, opens_table, place_of};
 ghost use Rattle.hook_chain.specs.Reading.{takes_memory};
 
 use crate::line::{Line, read_line};
 use crate::rule::Rule;
-use crate::tables::{Table, Tables};
+use crate::tables::{Table, TableList, Tables};
 use std::alloc::{AllocError, AllocFailed, Global};
 use text_lines::{LineFault, is_word, next_line};
 
@@ -45,7 +46,7 @@ pub fn read_tables(alloc: Global, bytes: &[u8]) -> Result<Tables, LineFault>
 
     // What is read is in the grammar, and what is in the grammar is read, unless memory runs out.
     ensures found { IfOk result (IsRulesFile bytes.now) }
-    ensures only { (tables : List (List Rule)) → IsRulesFile bytes.now tables →
+    ensures only { (tables : RuleTables) → IsRulesFile bytes.now tables →
         Answers result (Ok tables) }
 
     // What is refused is refused at the first line that may not stand, or at the one that is
@@ -56,19 +57,31 @@ pub fn read_tables(alloc: Global, bytes: &[u8]) -> Result<Tables, LineFault>
 
     // Memory is taken from the first table on: a file without tables is always read.
     ensures memory { result ≡ Err LineFault.NoMemory → Any BeginsTable (lines bytes.now) }
-    ensures without_tables { IsRulesFile bytes.now [] → IsOk result }
+    ensures without_tables { IsRulesFile bytes.now (with_one_feeder []) → IsOk result }
 
     // Both at once, as a function of the text.
     ensures exact { Answers result (tables_of bytes.now) }
-    ensures bounds { IfOk result AreTables }
+    ensures bounds { IfOk result AreRuleTables }
 {
-    read_lines(alloc, bytes)
+    for_one_feeder(read_lines(alloc, bytes))
+}
+
+/// What was read of a file, which says nothing of feeders.
+fn for_one_feeder(read: Result<TableList, LineFault>) -> Result<Tables, LineFault>
+    requires { IfOk read AreTables }
+    ensures read { result ≡ for_one_feeder read }
+    ensures bounds { IfOk result AreRuleTables }
+{
+    match read {
+        Ok(list) => Ok(Tables::of_list(list)),
+        Err(fault) => Err(fault),
+    }
 }
 
 /// Reads line after line.
-fn read_lines(alloc: Global, bytes: &[u8]) -> Result<Tables, LineFault>
+fn read_lines(alloc: Global, bytes: &[u8]) -> Result<TableList, LineFault>
     requires { length bytes.now < 2 ^ 32 - 1 }
-    ensures exact { Answers result (tables_of bytes.now) }
+    ensures exact { Answers result (rules_of bytes.now) }
     ensures memory { result ≡ Err LineFault.NoMemory →
         list_any opens_table (lines bytes.now) ≡ true }
     ensures bounds { IfOk result AreTables }
@@ -149,7 +162,7 @@ impl<'a> Reader<'a> {
 
     /// The tables of a file that ends here; `line_number` is the number of its lines plus 1.
     #[tactic(auto, unfolding(crate::specs::RulesFile::tables_from))]
-    fn finish(self, line_number: u32) -> Result<Tables, LineFault>
+    fn finish(self, line_number: u32) -> Result<TableList, LineFault>
         requires { IsSound (place_of self) }
         ensures exact { Answers result (tables_from line_number (place_of self.entry) []) }
         ensures memory { result ≢ Err LineFault.NoMemory }
@@ -160,7 +173,7 @@ impl<'a> Reader<'a> {
             inside,
         } = self;
         match inside {
-            None => Ok(Tables::from_vec(closed)),
+            None => Ok(TableList::from_vec(closed)),
             Some(_table) => Err(LineFault::Bad { line: line_number }),
         }
     }

@@ -31,4 +31,7 @@ pub struct Rule {
     pub pick: Pick,
     /// `--queue-bypass`: where nobody is bound to the queue, the packet goes on.
     pub bypass: bool,
+    /// `--queue-cpu-fanout`: of the queues of a balance the one of the processor that the packet is
+    /// on, which its feeder stands for.
+    pub fanout: bool,
 }

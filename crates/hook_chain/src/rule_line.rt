@@ -1,8 +1,9 @@
 //! A rule by the words of its line: `-A FORWARD MATCHES -j NFQUEUE OPTIONS`.
 
-ghost use Rattle.std.specs.Prelude.{◌≡◌, false, option_map};
+ghost use Rattle.std.specs.Prelude.{◌≡◌, ◌&&◌, false, not, bytes_eq, option_map};
 ghost use Rattle.text_lines.specs.Words.{words_of};
-ghost use Rattle.hook_chain.specs.RuleLine.{mark_match, options_after, pick_of, protocol_match};
+ghost use Rattle.hook_chain.specs.RuleLine.{is_balance, mark_match, options_after, options_said};
+ghost use Rattle.hook_chain.specs.RuleLine.{pick_of, protocol_match};
 ghost use Rattle.hook_chain.specs.RuleLine.{protocol_of, range_of, rule_of, value_and_mask};
 
 use crate::rule::{MarkTest, Pick, Rule};
@@ -31,12 +32,17 @@ pub(crate) fn rule(line: &[u8]) -> Option<Rule>
     let (mark, rest) = mark_test(rest)?;
     let rest = rest_after(rest, b"-j")?;
     let rest = rest_after(rest, b"NFQUEUE")?;
-    let (pick, bypass) = options(rest)?;
+    let RuleOptions {
+        pick,
+        bypass,
+        fanout,
+    } = options(rest)?;
     Some(Rule {
         protocol,
         mark,
         pick,
         bypass,
+        fanout,
     })
 }
 
@@ -105,17 +111,29 @@ fn value_and_mask(word: &[u8]) -> Option<(u32, u32)>
     }
 }
 
+/// What the options after `-j NFQUEUE` say together.
+#[derive(Clone, Copy)]
+struct RuleOptions {
+    pick: Pick,
+    bypass: bool,
+    fanout: bool,
+}
+
 /// The options after `-j NFQUEUE`, to the end of the line.
 #[tactic(auto, unfolding(crate::specs::RuleLine::options_after))]
-fn options(line: &[u8]) -> Option<(Pick, bool)>
-    ensures { result ≡ options_after None false (words_of line.now) }
+fn options(line: &[u8]) -> Option<RuleOptions>
+    ensures { result ≡ options_after None false false (words_of line.now) }
 {
     let mut pick = None;
     let mut bypass = false;
+    let mut fanout = false;
     let mut line = line;
     while let Some((option, rest)) = next_word(line) {
-        if is_word(option, b"--queue-bypass") && !bypass {
+        if is_first(option, b"--queue-bypass", bypass) {
             bypass = true;
+            line = rest;
+        } else if is_first(option, b"--queue-cpu-fanout", fanout) {
+            fanout = true;
             line = rest;
         } else if pick.is_none() {
             let (value, rest) = next_word(rest)?;
@@ -125,7 +143,37 @@ fn options(line: &[u8]) -> Option<(Pick, bool)>
             return None;
         }
     }
-    Some((pick.unwrap_or(Pick::Number { queue: 0 }), bypass))
+    said(pick, bypass, fanout)
+}
+
+/// The option has this name, and wasn't said before.
+fn is_first(option: &[u8], name: &[u8], said: bool) -> bool
+    ensures { result ≡ (bytes_eq option.now name.now && not said) }
+{
+    is_word(option, name) && !said
+}
+
+/// What these options say together; the fan-out stands beside a balance alone.
+fn said(pick: Option<Pick>, bypass: bool, fanout: bool) -> Option<RuleOptions>
+    ensures { result ≡ options_said pick bypass fanout }
+{
+    if fanout && !is_balance(pick) {
+        return None;
+    }
+    Some(RuleOptions {
+        pick: pick.unwrap_or(Pick::Number { queue: 0 }),
+        bypass,
+        fanout,
+    })
+}
+
+fn is_balance(pick: Option<Pick>) -> bool
+    ensures { result ≡ is_balance pick }
+{
+    match pick {
+        Some(Pick::Balance { first: _, total: _ }) => true,
+        Some(Pick::Number { queue: _ }) | None => false,
+    }
 }
 
 /// `--queue-num N` or `--queue-balance A:B`.

@@ -1,7 +1,8 @@
 //! The tables of a rules file.
 
-ghost use Rattle.std.specs.Prelude.{◌≡◌, length, [], ◌∷◌, ◌++◌, OnOk};
-ghost use Rattle.hook_chain.specs.Rules.{AreTables};
+ghost use Rattle.std.specs.Prelude.{◌≡◌, ◌≤◌, length, [], ◌∷◌, ◌++◌, OnOk};
+ghost use Rattle.hook_chain.specs.Numbers.{most_feeders};
+ghost use Rattle.hook_chain.specs.Rules.{AreTables, with_one_feeder};
 
 use crate::rule::Rule;
 use std::alloc::{AllocError, Global};
@@ -51,13 +52,13 @@ impl Table {
     }
 }
 
-/// The tables of a rules file, in their order; the first has number 1.
+/// The tables of a rules file, in their order.
 #[derive(Drop)]
-pub struct Tables {
+pub(crate) struct TableList {
     tables: Vec<Table>,
 }
 
-impl Model for Tables {
+impl Model for TableList {
     ghost use Rattle.std.specs.Prelude.{List};
     ghost use Rattle.hook_chain.specs.declared.rule.Rule.{Rule};
     ghost use Rattle.hook_chain.specs.Rules.{AreTables};
@@ -69,19 +70,69 @@ impl Model for Tables {
     ghost invariant = { λ t. AreTables t.tables.items };
 }
 
-impl Tables {
+impl TableList {
     /// The tables of a whole file.
-    pub(crate) fn from_vec(tables: Vec<Table>) -> Tables
+    pub(crate) fn from_vec(tables: Vec<Table>) -> TableList
         requires { AreTables tables.items }
         ensures { result ≡ tables.items }
     {
-        Tables { tables }
+        TableList { tables }
     }
 
-    pub(crate) fn as_slice(&self) -> &[Table]
+    fn as_slice(&self) -> &[Table]
         ensures value { result.now ≡ self.now }
         ensures bounds { AreTables self.now }
     {
         self.tables.as_slice()
+    }
+}
+
+/// The tables of a rules file, in their order, the first of which has number 1, and how many
+/// feeders take turns at feeding the packets, 1 where nothing else is said.
+#[derive(Drop)]
+pub struct Tables {
+    list: TableList,
+    feeders: u32,
+}
+
+impl Model for Tables {
+    ghost use Rattle.hook_chain.specs.Rules.{AreRuleTables, RuleTables};
+
+    ghost Value = { RuleTables };
+
+    ghost view = { λ t. record { rules = t.list; feeders = t.feeders } };
+
+    ghost invariant = { λ t. AreRuleTables (record { rules = t.list; feeders = t.feeders }) };
+}
+
+impl Tables {
+    /// With one feeder.
+    pub(crate) fn of_list(list: TableList) -> Tables
+        requires { AreTables list }
+        ensures { result ≡ with_one_feeder list }
+    {
+        Tables { list, feeders: 1 }
+    }
+
+    /// The same tables with this many feeders.
+    pub fn with_feeders(self, feeders: u32) -> Tables
+        requires { (1 ≤ feeders) × (feeders ≤ most_feeders) }
+        ensures { result ≡ record self { feeders = feeders } }
+    {
+        Tables { feeders, ..self }
+    }
+
+    pub(crate) fn feeders(&self) -> u32
+        ensures value { result ≡ self.now.feeders }
+        ensures some { 1 ≤ result }
+    {
+        self.feeders
+    }
+
+    pub(crate) fn as_slice(&self) -> &[Table]
+        ensures value { result.now ≡ self.now.rules }
+        ensures bounds { AreTables self.now.rules }
+    {
+        self.list.as_slice()
     }
 }

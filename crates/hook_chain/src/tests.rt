@@ -16,6 +16,7 @@ fn rule(protocol: Option<u8>, mark: Option<MarkTest>, pick: Pick, bypass: bool) 
         mark,
         pick,
         bypass,
+        fanout: false,
     }
 }
 
@@ -157,8 +158,27 @@ fn each_kind_of_option_is_read(rt: HostRuntime) -> Result<(), Fail> {
     Ok(())
 }
 
+/// Options with the fan-out in each place, and whether the bypass is among them.
+const FANNED_OUT: [(&[u8], bool); 5] = [
+    (b"--queue-balance 2:5 --queue-cpu-fanout", false),
+    (b"--queue-cpu-fanout --queue-balance 2:5", false),
+    (b"--queue-bypass --queue-cpu-fanout --queue-balance 2:5", true),
+    (b"--queue-balance 2:5 --queue-cpu-fanout --queue-bypass", true),
+    (b"--queue-cpu-fanout --queue-bypass --queue-balance 2:5", true),
+];
+
+#[test]
+fn the_fanout_is_read_in_each_place(rt: HostRuntime) -> Result<(), Fail> {
+    for &(text, bypass) in &FANNED_OUT {
+        let mut wanted = rule(None, None, among(2, 4), bypass);
+        wanted.fanout = true;
+        assert_eq!(rt; rule_of(rt.alloc(), OPTIONS, text)?, Some(wanted));
+    }
+    Ok(())
+}
+
 /// Options of a rule that are refused, and why.
-const BAD_OPTIONS: [(&[u8], &str); 10] = [
+const BAD_OPTIONS: [(&[u8], &str); 13] = [
     (b"--queue-num 1 --queue-num 1", "an option twice"),
     (b"--queue-balance 0:65535", "65,536 queues"),
     (b"--queue-balance 3:3", "one queue"),
@@ -168,7 +188,10 @@ const BAD_OPTIONS: [(&[u8], &str); 10] = [
     (b"--queue-num 01", "a leading zero"),
     (b"--queue-num 65536", "a queue above 65,535"),
     (b"--queue-num", "no number"),
-    (b"--queue-cpu-fanout", "fanout"),
+    (b"--queue-cpu-fanout", "the fan-out without a balance"),
+    (b"--queue-num 0 --queue-cpu-fanout", "the fan-out beside one queue"),
+    (b"--queue-balance 0:2 --queue-cpu-fanout --queue-cpu-fanout", "the fan-out twice"),
+    (b"--queue-balance --queue-cpu-fanout 0:2", "the fan-out inside of an option"),
 ];
 
 /// Matches of a rule that are refused, and why.
@@ -520,6 +543,42 @@ fn both_directions_of_a_flow_go_to_one_queue(rt: HostRuntime) -> Result<(), Fail
         let wanted = to(queue, false, 1);
         assert_eq!(rt; spread(alloc, key, IPV6, &ipv6(1, 2))?, wanted);
         assert_eq!(rt; spread(alloc, key, IPV6, &ipv6(2, 1))?, wanted);
+    }
+    Ok(())
+}
+
+/// Three queues, of which the packet's feeder has one.
+const FANOUT: &[u8] = b"*filter
+-A FORWARD -j NFQUEUE --queue-balance 0:2 --queue-cpu-fanout
+COMMIT
+";
+
+/// Where the packet of this record goes, with this many feeders.
+fn fanned_out(alloc: Global, feeders: u32, number: u32) -> Result<Next, Fail>
+    requires feeders { (1 ≤ feeders) × (feeders ≤ 16) }
+    requires number { (1 ≤ number) × (number ≤ 200_000) }
+{
+    let rules: &[u8] = FANOUT;
+    if rules.len() > 200 {
+        return Err("the rules are too long".into());
+    }
+    let tables = read_tables(alloc, rules)?.with_feeders(feeders);
+    let packet = Packet::new(alloc, number, 0, 0, IPV4, &[], &IPV4_BYTES)?;
+    let next = route(&tables, 0, &packet, 1);
+    packet.destroy();
+    Ok(next)
+}
+
+#[test]
+fn records_are_fanned_out_by_their_feeders(rt: HostRuntime) -> Result<(), Fail> {
+    // How many feeders, and the queues of the records 1, 2 and 3.
+    const ROWS: [(u32, [u16; 3]); 3] = [(3, [0, 1, 2]), (2, [0, 1, 0]), (1, [0, 0, 0])];
+    for &(feeders, queues) in &ROWS {
+        assert!(rt; 1 <= feeders && feeders <= 16);
+        for (number, queue) in (1..4).zip(queues) {
+            let next = fanned_out(rt.alloc(), feeders, number)?;
+            assert_eq!(rt; next, to(queue, false, 1));
+        }
     }
     Ok(())
 }

@@ -3,7 +3,7 @@ use Rattle.std.specs.Prelude.{◌≡◌, ◌≢◌, ℕ, ◌+◌, List, [], Some
 use Rattle.std.specs.List.{zip}
 use Rattle.pcap_io.specs.declared.capture.Capture.{Capture}
 use Rattle.pcap_io.specs.declared.capture.Frame.{Frame}
-use Rattle.hook_chain.specs.declared.rule.Rule.{Rule}
+use Rattle.hook_chain.specs.Rules.{RuleTables}
 use Rattle.histories.specs.declared.histories.Histories.{Histories}
 use Rattle.histories.specs.History.{AreLegal}
 use Rattle.histories.specs.Moves.{moves}
@@ -26,7 +26,7 @@ use Rattle.run_files.specs.Outputs.{fates_of}
 -- Each frame's line is that of its packet's last event in these histories, or that of a frame whose
 -- packet has none. Where the line doesn't say that the packet waits, it left in that event's step,
 -- for good; where it does, the packet still waits at that event's queue.
-pub record AreLinesOf (tables : List (List Rule)) (key : ℕ) (c : Capture) (h : Histories)
+pub record AreLinesOf (tables : RuleTables) (key : ℕ) (c : Capture) (h : Histories)
     : Type 0 where
   pub named : (place : ℕ) (f : Frame) (l : FateLine) → slice_get c.frames place ≡ Some f →
       slice_get (fates_of c h) place ≡ Some l → IsLineOf h (place + 1) f l
@@ -37,7 +37,7 @@ pub record AreLinesOf (tables : List (List Rule)) (key : ℕ) (c : Capture) (h :
 
 -- Each packet that met a queue is over or still waits, just one of the two and just once, whichever
 -- queues it went through.
-abbrev pub IsEachOnce : List (List Rule) → ScriptValue → Capture → Histories → Type 0
+abbrev pub IsEachOnce : RuleTables → ScriptValue → Capture → Histories → Type 0
 IsEachOnce tables script c h =
     (number : ℕ) (queues : List ℕ) → AreQueuesOf h.entries queues →
     times_waiting number queues h.entries
@@ -52,7 +52,7 @@ AreReleased c h =
     (filter (λ p. is_release p.1.fate) (zip c.frames (fates_of c h)))
 
 -- Histories of a run of this script over this capture, under these rules, in which nothing is lost.
-pub record AreAccounted (tables : List (List Rule)) (script : ScriptValue) (c : Capture)
+pub record AreAccounted (tables : RuleTables) (script : ScriptValue) (c : Capture)
     (h : Histories) : Type 0 where
   pub nothing_lost : h.lost ≡ []
   -- at each queue, each event may happen in the state that the sequential queue reaches by the
@@ -74,7 +74,7 @@ pub record AreAccounted (tables : List (List Rule)) (script : ScriptValue) (c : 
   pub released : AreReleased c h
 
 -- And those of the run on one thread: its schedule has no others.
-pub record IsAccounted (tables : List (List Rule)) (script : ScriptValue) (c : Capture)
+pub record IsAccounted (tables : RuleTables) (script : ScriptValue) (c : Capture)
     (h : Histories) : Type 0 where
   pub schedule : IsSolo script tables c h
   pub only : (g : Histories) → IsSolo script tables c g → g ≡ h

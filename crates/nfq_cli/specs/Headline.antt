@@ -1,6 +1,6 @@
 -- The headline: what stands in the files after a command.
 use Rattle.std.specs.Prelude.{◌≡◌, ℕ, ⊤, List, [], ◌∷◌, Some, IsSomeAnd}
-use Rattle.hook_chain.specs.declared.rule.Rule.{Rule}
+use Rattle.hook_chain.specs.Rules.{RuleTables}
 use Rattle.hook_chain.specs.Grammar.{IsRulesFile}
 use Rattle.inspector_script.specs.Grammar.{IsScriptFile}
 use Rattle.inspector_script.specs.Scripts.{ScriptValue}
@@ -25,7 +25,7 @@ use Rattle.run_files.specs.Outputs.{output_text, ledger_text, journal_text, coun
 -- once, by the event that its ledger line names, or still waits; and the written capture is exactly
 -- the frames that were released, in input order, each as it was read or with its last payload.
 pub record IsPlayed (f : PlayFiles) (old new : Contents) : Type 0 where
-  pub tables : List (List Rule)
+  pub tables : RuleTables
   pub script : ScriptValue
   pub capture : Capture
   pub histories : Histories
@@ -47,7 +47,7 @@ texts_as f output ledger journal =
 -- written before it is whole.
 pub record IsCutShort (f : PlayFiles) (old_count new_count : Counts) (old new : Contents) : Type 0
   where
-    pub tables : List (List Rule)
+    pub tables : RuleTables
     pub script : ScriptValue
     pub capture : Capture
     pub histories : Histories
@@ -61,7 +61,7 @@ pub record IsCutShort (f : PlayFiles) (old_count new_count : Counts) (old new : 
 -- The output is the listing of the queues of such a run as they stand before the ports end: all
 -- frames have passed and the mailboxes were emptied.
 pub record IsListed (f : ListFiles) (old new : Contents) : Type 0 where
-  pub tables : List (List Rule)
+  pub tables : RuleTables
   pub script : ScriptValue
   pub capture : Capture
   pub inputs : AreRead f.inputs old tables script capture
@@ -89,7 +89,7 @@ IsGenerated g new = AreWritten (gen_texts g) new
 
 -- A text is that of the counts of a run like that of `play` on the generated inputs.
 pub record IsCounted (s : Sample) (text : List ℕ) : Type 0 where
-  pub tables : List (List Rule)
+  pub tables : RuleTables
   pub script : ScriptValue
   pub histories : Histories
   pub rules_say : IsRulesFile rules_text tables

@@ -1,7 +1,7 @@
 //! The histories of a run, and what is known of them.
 
 ghost use Rattle.std.specs.Prelude.{◌<◌, ◌≤◌, List, length, All, IfOk};
-ghost use Rattle.hook_chain.specs.declared.rule.Rule.{Rule};
+ghost use Rattle.hook_chain.specs.Rules.{RuleTables};
 ghost use Rattle.inspector_script.specs.Scripts.{ScriptValue, IsScript};
 ghost use Rattle.packet_entry.specs.Numbers.{longest_packet};
 ghost use Rattle.pcap_io.specs.declared.capture.Capture.{Capture as ACapture};
@@ -63,15 +63,15 @@ pub fn histories_of(
 /// `solo_run::solo` answers are and do. What is released of a capture that the format can hold can be
 /// written again.
 fn each_packet_is_accounted_for()
-    ensures account { (tables : List (List Rule)) (script : ScriptValue) (c : ACapture)
+    ensures account { (tables : RuleTables) (script : ScriptValue) (c : ACapture)
         (h : AHistories) → IsScript script → IsSolo script tables c h → AreLegal h.entries →
         Fit h → AreSound tables script.key (cards c) h.entries h.lost →
         IsAccounted tables script c h }
-    ensures fit { (tables : List (List Rule)) (script : ScriptValue) (c : ACapture)
+    ensures fit { (tables : RuleTables) (script : ScriptValue) (c : ACapture)
         (h : AHistories) → IsScript script → IsHeld c → IsSolo script tables c h →
         AreSound tables script.key (cards c) h.entries h.lost →
         All (λ l. length l.payload ≤ longest_packet) (fates_of c h) }
-    ensures held { (tables : List (List Rule)) (script : ScriptValue) (c : ACapture)
+    ensures held { (tables : RuleTables) (script : ScriptValue) (c : ACapture)
         (h : AHistories) → IsScript script → IsHeld c → IsSolo script tables c h →
         AreSound tables script.key (cards c) h.entries h.lost →
         IsHeld (released c (fates_of c h)) }

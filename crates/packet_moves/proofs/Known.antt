@@ -1,7 +1,7 @@
 -- The laws of the crates below on which the proofs here stand.
 use Rattle.std.proofs.Common.{◌≡◌, ◌≢◌, ℕ, List, [], ◌∷◌, ◌++◌, Option}
 use Rattle.packet_entry.specs.declared.packet.Card.{Card}
-use Rattle.hook_chain.specs.declared.rule.Rule.{Rule}
+use Rattle.hook_chain.specs.Rules.{RuleTables}
 use Rattle.queue_core.specs.declared.event.Event.{Event}
 use Rattle.queue_core.specs.State.{Bound}
 use Rattle.queue_core.specs.Step.{ConfigAsk, config, port_closed, device_down}
@@ -22,15 +22,15 @@ pub record Laws : Type 0 where
       moves (es ++ e ∷ []) ≡ moves es ++ move_after es e ∷ []
   pub goes_on : (es : List Entry) (e : Entry) → AreLegal es →
       IsStep (replay (history e.queue es)) e → AreLegal (es ++ e ∷ [])
-  pub enters : (tables : List (List Rule)) (key : ℕ) (card : Card) (owed : List Arrival)
+  pub enters : (tables : RuleTables) (key : ℕ) (card : Card) (owed : List Arrival)
       (entered : List Card) (ms : List Move) (lost : List Lost) →
       IsSoundBut tables key owed entered ms lost →
       IsSoundBut tables key (entering tables key card ++ owed) (entered ++ card ∷ []) ms lost
-  pub comes : (tables : List (List Rule)) (key : ℕ) (m : Move) (owed : List Arrival)
+  pub comes : (tables : RuleTables) (key : ℕ) (m : Move) (owed : List Arrival)
       (entered : List Card) (ms : List Move) (lost : List Lost) →
       IsSoundBut tables key (came m ++ owed) entered ms lost →
       IsSoundBut tables key (asks tables key m ++ owed) entered (ms ++ m ∷ []) lost
-  pub loses : (tables : List (List Rule)) (key : ℕ) (a : Arrival) (owed : List Arrival)
+  pub loses : (tables : RuleTables) (key : ℕ) (a : Arrival) (owed : List Arrival)
       (entered : List Card) (ms : List Move) (lost : List Lost) → a.card.visit ≢ 1 →
       IsSoundBut tables key (a ∷ owed) entered ms lost →
       IsSoundBut tables key owed entered ms (lost ++ visit_of a ∷ [])

@@ -2,7 +2,7 @@
 use Rattle.std.proofs.Common.{◌≡◌, ◌≤◌, ◌<◌, ◌∙◌, ℕ, List, Option, Some, None, Result, Ok, Err}
 use Rattle.std.proofs.Common.{refl, sym, ap, subst, length, arith}
 use Rattle.std.specs.Prelude.{IsSomeAnd}
-use Rattle.hook_chain.specs.declared.rule.Rule.{Rule}
+use Rattle.hook_chain.specs.Rules.{RuleTables}
 use Rattle.hook_chain.specs.Grammar as rules
 use Rattle.hook_chain.specs.RulesFile as tables
 use Rattle.inspector_script.specs.Scripts.{ScriptValue}
@@ -64,10 +64,10 @@ too_large Says what most file stop.NoMemory is large only said says = tt
 
 -- ---- rules
 
-pub rules_taken : (text : List ℕ) (taken : List (List Rule)) → length text ≤ text_limit →
-    ((t : List (List Rule)) → rules.IsRulesFile text t → tables.Answers (Ok taken) (Ok t)) →
+pub rules_taken : (text : List ℕ) (taken : RuleTables) → length text ≤ text_limit →
+    ((t : RuleTables) → rules.IsRulesFile text t → tables.Answers (Ok taken) (Ok t)) →
     ((line : ℕ) → rules.IsFirstRefused text line → tables.Answers (Ok taken) (Err line)) →
-    (said : Result (List (List Rule)) Refusal) → RulesSay text said → said ≡ Ok taken
+    (said : Result RuleTables Refusal) → RulesSay text said → said ≡ Ok taken
 rules_taken text taken small only stuck (Ok t) says =
     same_ok Refusal t taken (only t says.1)
 rules_taken text taken small only stuck (Err (refusal.Rules n)) says =
@@ -81,16 +81,16 @@ rules_taken text taken small only stuck (Err (refusal.Script n)) says = absurd s
 rules_taken text taken small only stuck (Err (refusal.Capture f)) says = absurd says
 
 pub rules_refused : (text : List ℕ) (why : LineFault) → length text ≤ text_limit →
-    ((t : List (List Rule)) → rules.IsRulesFile text t → tables.Answers (Err why) (Ok t)) →
+    ((t : RuleTables) → rules.IsRulesFile text t → tables.Answers (Err why) (Ok t)) →
     ((line : ℕ) → rules.IsFirstRefused text line → tables.Answers (Err why) (Err line)) →
-    (said : Result (List (List Rule)) Refusal) → RulesSay text said →
+    (said : Result RuleTables Refusal) → RulesSay text said →
     IfStopRefuses (of_rules why) (λ w. said ≡ Err w)
 rules_refused text line.NoMemory small only stuck said says = tt
 rules_refused text (line.Bad number) small only stuck (Ok t) says =
     absurd (ok_is_no_err t number (only t says.1))
 rules_refused text (line.Bad number) small only stuck (Err (refusal.Rules n)) says =
     ap (λ (m : ℕ). Err (refusal.Rules m))
-    (same_err {A = List (List Rule)} n number (stuck n says.1))
+    (same_err {A = RuleTables} n number (stuck n says.1))
 rules_refused text (line.Bad number) small only stuck (Err (refusal.TooLarge limit.Rules)) says =
     absurd (omega (arith, small, says))
 rules_refused text (line.Bad number) small only stuck (Err (refusal.TooLarge limit.Script)) says =

@@ -1,6 +1,6 @@
 -- Why a command ends with its status, over the inputs in the order rules, script, capture.
 use Rattle.std.specs.Prelude.{◌≡◌, ◌⊎◌, ℕ, List, Ok, Err}
-use Rattle.hook_chain.specs.declared.rule.Rule.{Rule}
+use Rattle.hook_chain.specs.Rules.{RuleTables}
 use Rattle.inspector_script.specs.Scripts.{ScriptValue}
 use Rattle.pcap_io.specs.declared.capture.Capture.{Capture}
 use Rattle.host_io.specs.Host.{Rises}
@@ -12,7 +12,7 @@ use Rattle.run_files.specs.Printed.{line_of}
 use Rattle.run_files.specs.Statuses.{status_of_refusal}
 
 -- what the inputs say
-pub record AreRead (i : InputFiles) (old : Contents) (tables : List (List Rule))
+pub record AreRead (i : InputFiles) (old : Contents) (tables : RuleTables)
     (script : ScriptValue) (capture : Capture) : Type 0 where
   pub rules_say : Said RulesSay (old i.rules) (Ok tables)
   pub script_says : Said ScriptSays (old i.script) (Ok script)

@@ -1,6 +1,6 @@
 -- What the texts of the inputs say: what they are the files of, or why they are refused.
 use Rattle.std.specs.Prelude.{◌<◌, ◌≤◌, ℕ, List, length, Result, Ok, Err, Option, IsSomeAnd}
-use Rattle.hook_chain.specs.declared.rule.Rule.{Rule}
+use Rattle.hook_chain.specs.Rules.{RuleTables}
 use Rattle.hook_chain.specs.Grammar as rules
 use Rattle.inspector_script.specs.Scripts.{ScriptValue}
 use Rattle.inspector_script.specs.Grammar as script
@@ -19,7 +19,7 @@ Saying V = List ℕ → Result V Refusal → Type 0
 
 -- rules, of at most 1,048,576 bytes: their tables, or the first line that may not stand or that is
 -- missing at the end
-abbrev pub RulesSay : Saying (List (List Rule))
+abbrev pub RulesSay : Saying RuleTables
 RulesSay text (Ok tables) = (length text ≤ text_limit) × rules.IsRulesFile text tables
 RulesSay text (Err (refusal.Rules line)) =
     (length text ≤ text_limit) × rules.IsFirstRefused text line

@@ -4,7 +4,7 @@
 ghost use Rattle.std.specs.Prelude.{◌≡◌, ◌≤◌, ◌<◌, List, Some, Result, Ok, Err, length};
 ghost use Rattle.std.specs.Prelude.{IsTrue, IfOk, OnOk, IsErrOf, IsSomeAnd};
 ghost use Rattle.host_io.specs.Host.{Rises, IsLater, SameFiles};
-ghost use Rattle.hook_chain.specs.declared.rule.Rule.{Rule};
+ghost use Rattle.hook_chain.specs.Rules.{RuleTables};
 ghost use Rattle.inspector_script.specs.Scripts.{ScriptValue, IsScript};
 ghost use Rattle.pcap_io.specs.declared.capture.Capture.{Capture as ACapture};
 ghost use Rattle.pcap_io.specs.Text.{IsHeld};
@@ -109,7 +109,7 @@ fn read_rules<H: Host>(alloc: Global, name: &str, host: &mut H) -> Result<Tables
         Said RulesSay (H.content host.old name.now) (Ok tables)) }
     ensures refused { IfRefused result (λ why. IsTrue (H.tells host.old) →
         Said RulesSay (H.content host.old name.now) (Err why)) }
-    ensures only { (said : Result (List (List Rule)) ARefusal) → IsTrue (H.tells host.old) →
+    ensures only { (said : Result RuleTables ARefusal) → IsTrue (H.tells host.old) →
         Said RulesSay (H.content host.old name.now) said → Agrees result said }
     ensures read_fault { IsErrOf result Stop.ReadFault →
         Rises (H.read_faults host.old name.now) (H.read_faults host.new name.now) }

@@ -14,7 +14,7 @@ use Rattle.packet_entry.specs.declared.letter.Letter.{Letter}
 use Rattle.netlink_codec.specs.Messages.{NetlinkMessage}
 use Rattle.nfqa_msgs.specs.NoticeMeaning.{notice_of}
 use Rattle.nfqa_msgs.specs.NoticeWriting.{Told}
-use Rattle.hook_chain.specs.declared.rule.Rule.{Rule}
+use Rattle.hook_chain.specs.Rules.{RuleTables}
 use Rattle.hook_chain.specs.Route.{next}
 use Rattle.pcap_io.specs.declared.capture.Capture.{Capture}
 use Rattle.pcap_io.specs.declared.capture.Frame.{Frame}
@@ -465,7 +465,7 @@ abbrev pub at_first : ScriptValue → ℕ → Bool
 at_first script p = list_any (nat_eq p) script.ports
 
 pub opened_held : Laws → Conserve → LeaveAlone → (script : ScriptValue)
-    (tables : List (List Rule)) → HavePlaces script →
+    (tables : RuleTables) → HavePlaces script →
     HeldIn script.ports (at_first script) (until_open (setting_of script tables) script) 0
 opened_held laws conserve leaves script tables places =
     let s = setting_of script tables in
@@ -477,7 +477,7 @@ opened_held laws conserve leaves script tables places =
     (all_open script 0 script.ports places.placed) (begun_held script))
 
 pub before_last : Laws → Conserve → LeaveAlone → (script : ScriptValue)
-    (tables : List (List Rule)) (c : Capture) → HavePlaces script →
+    (tables : RuleTables) (c : Capture) → HavePlaces script →
     HeldIn script.ports (at_first script) (until_fed (setting_of script tables) script c)
     (0 + 32 * length c.frames)
 before_last laws conserve leaves script tables c places =
@@ -487,7 +487,7 @@ before_last laws conserve leaves script tables c places =
     (opened_held laws conserve leaves script tables places)
 
 pub before_end : (laws : Laws) (conserve : Conserve) (leaves : LeaveAlone) (script : ScriptValue)
-    (tables : List (List Rule)) (c : Capture) (places : HavePlaces script) →
+    (tables : RuleTables) (c : Capture) (places : HavePlaces script) →
     Ended laws conserve leaves (setting_of script tables) script places.apart
     (0 + 32 * length c.frames) script.ports (until_ends (setting_of script tables) script c)
 before_end laws conserve leaves script tables c places =
@@ -503,7 +503,7 @@ before_end laws conserve leaves script tables c places =
           (until_fed s script c) (before_last laws conserve leaves script tables c places);
     }
 
-run_ends : Laws → Conserve → LeaveAlone → (script : ScriptValue) (tables : List (List Rule))
+run_ends : Laws → Conserve → LeaveAlone → (script : ScriptValue) (tables : RuleTables)
     (c : Capture) → HavePlaces script → AtEnd script (run script tables c)
 run_ends laws conserve leaves script tables c places =
     let s = setting_of script tables in
@@ -516,7 +516,7 @@ run_ends laws conserve leaves script tables c places =
     record { o = last.o; b = b; held = last.calm.held; quiet = last.calm.quiet }
 
 pub open_boxes_empty : Laws → Conserve → LeaveAlone → (script : ScriptValue)
-    (tables : List (List Rule)) (c : Capture) → HavePlaces script →
+    (tables : RuleTables) (c : Capture) → HavePlaces script →
     (port : ℕ) → is_open_port ((run script tables c).ports port) ≡ true →
     left_in (run script tables c) port ≡ []
 open_boxes_empty laws conserve leaves script tables c places port op =
@@ -524,7 +524,7 @@ open_boxes_empty laws conserve leaves script tables c places port op =
     is.quiet port (sym (is.held.is_open port) ∙ op)
 
 pub all_boxes_empty : Laws → Conserve → LeaveAlone → (script : ScriptValue)
-    (tables : List (List Rule)) (c : Capture) (h : Histories) →
+    (tables : RuleTables) (c : Capture) (h : Histories) →
     HavePlaces script → IsSolo script tables c h →
     All (λ (e : Entry). e.queue < queue_count) h.entries → (port : ℕ) →
     left_in (run script tables c) port ≡ []
@@ -544,7 +544,7 @@ all_boxes_empty laws conserve leaves script tables c h places solo small port =
 
 -- so what the histories are made by, they are made by with nothing left
 pub made_with_nothing : Laws → Conserve → LeaveAlone → (script : ScriptValue)
-    (tables : List (List Rule)) (c : Capture) (h : Histories) →
+    (tables : RuleTables) (c : Capture) (h : Histories) →
     HavePlaces script → IsSolo script tables c h →
     All (λ (e : Entry). e.queue < queue_count) h.entries →
     (notes : ℕ → List Note) × IsMadeBy script (length c.frames) h notes

@@ -10,7 +10,7 @@ use Rattle.histories.specs.declared.log.Did.{Did}
 use Rattle.std.specs.List.{list_any}
 use Rattle.histories.specs.declared.entry.Entry.{Entry}
 use Rattle.pcap_io.specs.declared.capture.Capture.{Capture}
-use Rattle.hook_chain.specs.declared.rule.Rule.{Rule}
+use Rattle.hook_chain.specs.Rules.{RuleTables}
 use Rattle.histories.specs.History.{history}
 use Rattle.inspector_script.specs.Scripts.{ScriptValue}
 use Rattle.packet_moves.specs.World.{Port, opened}
@@ -137,7 +137,7 @@ nothing_ordered script = record {
   };
 }
 
-pub made_by_script : Laws → Below → (script : ScriptValue) (tables : List (List Rule)) (c : Capture)
+pub made_by_script : Laws → Below → (script : ScriptValue) (tables : RuleTables) (c : Capture)
     (h : Histories) → HavePlaces script → IsSolo script tables c h →
     (notes : ℕ → List Note) × IsMadeBy script (length c.frames) h notes (left_in
     (run script tables c))

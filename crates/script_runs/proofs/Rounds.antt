@@ -5,7 +5,7 @@ use Rattle.std.specs.Prelude.{◌≢◌, map, slice_get, All, AllPairs, if◌the
 use Rattle.std.specs.List.{AllByRecursion}
 use Rattle.std.proofs.lemmas.List.Elements.{All-from_recursion}
 use Rattle.netlink_codec.specs.Messages.{NetlinkMessage}
-use Rattle.hook_chain.specs.declared.rule.Rule.{Rule}
+use Rattle.hook_chain.specs.Rules.{RuleTables}
 use Rattle.pcap_io.specs.declared.capture.Capture.{Capture}
 use Rattle.pcap_io.specs.declared.capture.Frame.{Frame}
 use Rattle.histories.specs.declared.log.AskWords.{AskWords}
@@ -139,7 +139,7 @@ module _ (laws : Laws) (conserve : Conserve) (leaves : LeaveAlone) (s : Setting)
       (end_calm laws conserve leaves s script apart placed rounds b less place q qs w apart_qs is))
 
 pub emptyings_end : Laws → Conserve → LeaveAlone → (script : ScriptValue)
-    (tables : List (List Rule)) (c : Capture) → HavePlaces script →
+    (tables : RuleTables) (c : Capture) → HavePlaces script →
     All (FindsNothing (rounds_for c) (setting_of script tables) script)
     (emptyings script tables c)
 emptyings_end laws conserve leaves script tables c places =

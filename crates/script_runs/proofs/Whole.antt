@@ -7,7 +7,7 @@ use Rattle.std.specs.List.{list_any}
 use Rattle.std.proofs.lemmas.Bool.{eqb-true, ne_eqb, cases_Bool}
 use Rattle.std.proofs.lemmas.List.{map-append}
 use Rattle.pcap_io.specs.declared.capture.Capture.{Capture}
-use Rattle.hook_chain.specs.declared.rule.Rule.{Rule}
+use Rattle.hook_chain.specs.Rules.{RuleTables}
 use Rattle.histories.specs.declared.log.AskWords.{AskWords}
 use Rattle.script_lines.specs.declared.ask.Ask.{Ask}
 use Rattle.script_lines.specs.declared.ask.Ask.TheVariants.{Words, Close}
@@ -321,7 +321,7 @@ module _ (s : Setting) (script : ScriptValue) (f : ℕ → ℕ) (P : Staged) (K 
 
 -- ---- the whole
 
-module _ (script : ScriptValue) (tables : List (List Rule)) (c : Capture) (f : ℕ → ℕ) (P : Staged)
+module _ (script : ScriptValue) (tables : RuleTables) (c : Capture) (f : ℕ → ℕ) (P : Staged)
     (K : Goes (setting_of script tables) script f P) where
   -- the stage at which nothing has happened
   abbrev pub first_stage : Stage

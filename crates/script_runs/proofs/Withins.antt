@@ -15,7 +15,7 @@ use Rattle.pcap_io.specs.declared.capture.Frame.{Frame}
 use Rattle.queue_core.specs.declared.event.Event.TheVariants.{Arrive, Ask}
 use Rattle.packet_entry.specs.declared.packet.Card.{Card}
 use Rattle.nfqa_msgs.specs.declared.request.Request.{Request}
-use Rattle.hook_chain.specs.declared.rule.Rule.{Rule}
+use Rattle.hook_chain.specs.Rules.{RuleTables}
 use Rattle.histories.specs.declared.entry.Entry.{Entry}
 use Rattle.histories.specs.declared.histories.Histories.{Histories}
 use Rattle.histories.specs.History.{history, is_of}
@@ -52,7 +52,7 @@ short_each : (es : List Entry) → AllFit es →
 short_each [] fit = tt
 short_each (e ∷ es) fit = (λ port call request is. subst Fits is fit.0, short_each es fit.1)
 
-module _ (fit : WordsFit) (script : ScriptValue) (tables : List (List Rule)) (c : Capture)
+module _ (fit : WordsFit) (script : ScriptValue) (tables : RuleTables) (c : Capture)
     (h : Histories) (is : IsScript script)
     (frames : All (λ (f : Frame). length f.bytes ≤ longest_packet) c.frames)
     (solo : IsSolo script tables c h) where

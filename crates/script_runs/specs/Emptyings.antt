@@ -2,7 +2,7 @@
 use Rattle.std.specs.Prelude.{◌≡◌, ◌⊎◌, ℕ, zero, suc, ◌+◌, false, List, [], ◌∷◌, ◌++◌}
 use Rattle.std.specs.Prelude.{if◌then◌else◌}
 use Rattle.netlink_codec.specs.Messages.{NetlinkMessage}
-use Rattle.hook_chain.specs.declared.rule.Rule.{Rule}
+use Rattle.hook_chain.specs.Rules.{RuleTables}
 use Rattle.pcap_io.specs.declared.capture.Capture.{Capture}
 use Rattle.pcap_io.specs.declared.capture.Frame.{Frame}
 use Rattle.script_lines.specs.declared.ask.Ask.{Ask}
@@ -71,5 +71,5 @@ emptyings_in s script c =
     ++ (until_fed s script c
     ∷ at_ends (rounds_for c) s script 0 script.ports (until_ends s script c))
 
-abbrev pub emptyings : ScriptValue → List (List Rule) → Capture → List World
+abbrev pub emptyings : ScriptValue → RuleTables → Capture → List World
 emptyings script tables c = emptyings_in (setting_of script tables) script c

@@ -7,7 +7,7 @@ use Rattle.packet_entry.specs.declared.letter.Letter.{Letter}
 use Rattle.packet_entry.specs.declared.packet.Card.{Card}
 use Rattle.pcap_io.specs.declared.capture.Capture.{Capture}
 use Rattle.pcap_io.specs.declared.capture.Frame.{Frame}
-use Rattle.hook_chain.specs.declared.rule.Rule.{Rule}
+use Rattle.hook_chain.specs.Rules.{RuleTables}
 use Rattle.hook_chain.specs.Route.{next}
 use Rattle.nfqa_msgs.specs.NoticeMeaning.{notice_of}
 use Rattle.nfqa_msgs.specs.NoticeWriting.{Told}
@@ -32,7 +32,7 @@ use Rattle.made_runs.specs.NoticeTexts.{told_exactly}
 use Rattle.script_runs.specs.Sending.{all_done}
 
 -- what a run is made with
-abbrev pub setting_of : ScriptValue → List (List Rule) → Setting
+abbrev pub setting_of : ScriptValue → RuleTables → Setting
 setting_of script tables =
     record { tables = tables; key = script.key; mail = script.mail }
 
@@ -175,17 +175,17 @@ abbrev pub until_end : Setting → ScriptValue → Capture → World
 until_end s script c =
     ended_all (rounds_for c) s script 0 script.ports (until_ends s script c)
 
-abbrev pub before_ends : ScriptValue → List (List Rule) → Capture → World
+abbrev pub before_ends : ScriptValue → RuleTables → Capture → World
 before_ends script tables c = until_ends (setting_of script tables) script c
 
-abbrev pub run : ScriptValue → List (List Rule) → Capture → World
+abbrev pub run : ScriptValue → RuleTables → Capture → World
 run script tables c = until_end (setting_of script tables) script c
 
 -- ---- its histories
 
 -- These are the histories that the run leaves: by ascending queue, with a log for each port in the
 -- script's order, and nothing is lost.
-pub record IsSolo (script : ScriptValue) (tables : List (List Rule)) (c : Capture) (h : Histories) :
+pub record IsSolo (script : ScriptValue) (tables : RuleTables) (c : Capture) (h : Histories) :
     Type 0 where
   pub entries : IsGrouped (run script tables c).entries h.entries
   pub logs : h.logs ≡ logs_in script.ports (run script tables c)

@@ -2,7 +2,7 @@
 
 ghost use Rattle.std.specs.Prelude.{◌≡◌, ◌≤◌, ℕ, true, List, [], map};
 ghost use Rattle.std.specs.Prelude.{◌<◌, All, length};
-ghost use Rattle.hook_chain.specs.declared.rule.Rule.{Rule};
+ghost use Rattle.hook_chain.specs.Rules.{RuleTables};
 ghost use Rattle.pcap_io.specs.declared.capture.Capture.{Capture};
 ghost use Rattle.histories.specs.Numbers.{queue_count};
 ghost use Rattle.histories.specs.declared.entry.Entry.{Entry};
@@ -27,7 +27,7 @@ use queue_core::each_packet_stays_or_leaves;
 
 /// There is one log for each port of the script, in the script's order, and no other.
 pub fn each_port_has_its_log()
-    ensures ports { (script : ScriptValue) (tables : List (List Rule)) (c : Capture)
+    ensures ports { (script : ScriptValue) (tables : RuleTables) (c : Capture)
         (h : Histories) → IsSolo script tables c h →
         map (λ (l : PortLog). l.port) h.logs ≡ script.ports }
 {}
@@ -46,7 +46,7 @@ pub fn each_port_has_its_log()
 /// all else, and what they ask as they end, with their closings, behind all that was fed, each in
 /// the order of the ports.
 pub fn ports_do_what_the_script_says()
-    ensures { (script : ScriptValue) (tables : List (List Rule)) (c : Capture) (h : Histories) →
+    ensures { (script : ScriptValue) (tables : RuleTables) (c : Capture) (h : Histories) →
         IsScript script → IsSolo script tables c h →
         (notes : ℕ → List Note)
         × IsMadeBy script (length c.frames) h notes (left_in (run script tables c)) }
@@ -61,10 +61,10 @@ pub fn ports_do_what_the_script_says()
 /// No packet that arrives is longer than a frame may be, and no payload that is asked for longer
 /// than one attribute may be, where the frames of the capture aren't longer than they may be.
 pub fn packets_and_payloads_are_within_bounds()
-    ensures packets { (script : ScriptValue) (tables : List (List Rule)) (c : Capture)
+    ensures packets { (script : ScriptValue) (tables : RuleTables) (c : Capture)
         (h : Histories) → IsScript script → All (λ f. length f.bytes ≤ longest_packet) c.frames →
         IsSolo script tables c h → AreSmall h.entries }
-    ensures payloads { (script : ScriptValue) (tables : List (List Rule)) (c : Capture)
+    ensures payloads { (script : ScriptValue) (tables : RuleTables) (c : Capture)
         (h : Histories) → IsScript script → All (λ f. length f.bytes ≤ longest_packet) c.frames →
         IsSolo script tables c h → AreShort h.entries }
 {
@@ -76,15 +76,15 @@ pub fn packets_and_payloads_are_within_bounds()
 /// bits, as `Entry` has them. So the ports received all notices of the arrivals that their queues
 /// took, and the histories are made by the script with nothing left.
 pub fn no_notice_is_left()
-    ensures open_ports { (script : ScriptValue) (tables : List (List Rule)) (c : Capture) →
+    ensures open_ports { (script : ScriptValue) (tables : RuleTables) (c : Capture) →
         IsScript script → (port : ℕ) →
         is_open_port ((run script tables c).ports port) ≡ true →
         left_in (run script tables c) port ≡ [] }
-    ensures every_port { (script : ScriptValue) (tables : List (List Rule)) (c : Capture)
+    ensures every_port { (script : ScriptValue) (tables : RuleTables) (c : Capture)
         (h : Histories) → IsScript script → IsSolo script tables c h →
         All (λ (e : Entry). e.queue < queue_count) h.entries →
         (port : ℕ) → left_in (run script tables c) port ≡ [] }
-    ensures made { (script : ScriptValue) (tables : List (List Rule)) (c : Capture)
+    ensures made { (script : ScriptValue) (tables : RuleTables) (c : Capture)
         (h : Histories) → IsScript script → IsSolo script tables c h →
         All (λ (e : Entry). e.queue < queue_count) h.entries →
         (notes : ℕ → List Note) × IsMadeBy script (length c.frames) h notes (λ port. []) }
@@ -99,7 +99,7 @@ pub fn no_notice_is_left()
 /// Each emptying of the mailboxes ends by a round that finds nothing, and none is ended by the count
 /// of its rounds: at each pause, once all frames have passed, and behind each message of an end.
 pub fn each_emptying_ends_by_itself()
-    ensures { (script : ScriptValue) (tables : List (List Rule)) (c : Capture) →
+    ensures { (script : ScriptValue) (tables : RuleTables) (c : Capture) →
         IsScript script →
         All (FindsNothing (rounds_for c) (setting_of script tables) script)
         (emptyings script tables c) }
@@ -112,6 +112,6 @@ pub fn each_emptying_ends_by_itself()
 
 /// A schedule has one run: no two values of histories are its.
 pub fn a_schedule_has_one_run()
-    ensures entries { (script : ScriptValue) (tables : List (List Rule)) (c : Capture)
+    ensures entries { (script : ScriptValue) (tables : RuleTables) (c : Capture)
         (h g : Histories) → IsSolo script tables c h → IsSolo script tables c g → h ≡ g }
 {}

@@ -5,5 +5,6 @@ use Rattle.hook_chain.proofs.chain.enter.Given as goal
 -- the tables that are left give the answer of all
 abbrev pub invariant-loop-at : goal.invariant-loop-at
 invariant-loop-at l =
-    next l.tables-2 l.key l.packet l.from
-    ≡ next_of l.key l.look.mark l.look.fields (l.at + 1) (drop l.at l.tables)
+    next l.fn.tables l.key l.packet l.from
+    ≡ next_of l.feeders l.key l.look.number l.look.mark l.look.fields (l.at + 1)
+    (drop l.at l.tables)

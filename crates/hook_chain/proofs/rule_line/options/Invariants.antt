@@ -6,8 +6,8 @@ use Rattle.hook_chain.proofs.rule_line.options.Given as goal
 -- the words that are left say what all of them say
 abbrev pub invariant-loop-option : goal.invariant-loop-option
 invariant-loop-option l =
-    options_after l.initial.pick l.initial.bypass (words_of l.initial.line)
-    ≡ options_after l.pick l.bypass (words_of l.line)
+    options_after l.initial.pick l.initial.bypass l.initial.fanout (words_of l.initial.line)
+    ≡ options_after l.pick l.bypass l.fanout (words_of l.line)
 
 abbrev pub decreases-loop-option : goal.decreases-loop-option
 decreases-loop-option l = length l.line
