@@ -9,6 +9,7 @@ pub mod LastEvents
 pub mod Releasing
 pub mod Waiting
 pub mod Apart
+pub mod Said
 pub mod Overs
 pub mod Holding
 pub mod Origins

@@ -3,7 +3,7 @@ use Rattle.std.proofs.Common.{◌≡◌, ℕ, zero, suc, ◌+◌, ◌≤◌, ◌
 use Rattle.std.proofs.Common.{Option, Some, None}
 use Rattle.std.proofs.Common.{Bool, true, false, cond, refl, sym, ap, ◌∙◌, arith, inl, inr, subst}
 use Rattle.std.proofs.Common.{append_assoc, get_or}
-use Rattle.std.specs.Prelude.{◌==◌, ◌&&◌, ◌||◌, count_by, sum_by, flat_map, All, Contains}
+use Rattle.std.specs.Prelude.{◌≢◌, ◌==◌, ◌&&◌, ◌||◌, count_by, sum_by, flat_map, All, Contains}
 use Rattle.std.specs.List.{AllByRecursion}
 use Rattle.std.proofs.lemmas.Bool.{cases_Bool, eq-eqb, eqb-true, ne_eqb}
 use Rattle.std.proofs.lemmas.List.{append-nil}
@@ -29,7 +29,11 @@ use Rattle.queue_core.specs.declared.event.Reply.{Reply}
 use Rattle.queue_core.specs.Step.{Stepped}
 use Rattle.fate_ledger.specs.declared.fate.Fate.{Fate}
 use Rattle.fate_ledger.specs.Fates.{happens_after, happenings, happenings_after, is_lost}
-use Rattle.fate_ledger.specs.Laws.{step_after, IsLastEvent, LeftForGood, LeftThere, Tells}
+use Rattle.fate_ledger.specs.Laws.{step_after, IsLastEvent, LeftForGood, Tells}
+use Rattle.fate_ledger.specs.declared.fate.Fate.TheVariants as fate
+use Rattle.histories.specs.History.{AreLegal}
+use Rattle.fate_ledger.proofs.Underway.{step_at}
+use Rattle.fate_ledger.proofs.Said.{Laws, leaves_so, is_said}
 use Rattle.fate_ledger.proofs.Waiting.{once}
 
 module _ (number visit : ℕ) where
@@ -243,19 +247,25 @@ module _ (number : ℕ) (es : List Entry) (h : Happening) (last : IsLastEvent es
             (happenings_after (last.before ++ last.entry ∷ []) last.after) last.latest)),
       ))
 
-  pub left_for_good : (tables : RuleTables) (key : ℕ) (entered : List Card)
-      (lost : List Lost) → AreSound tables key entered es lost → is_lost lost number ≡ false →
-      LeftThere es h → LeftForGood tables key es h
-  left_for_good tables key entered lost sound kept there = record {
-    before = there.before;
-    entry = there.entry;
-    after = there.after;
-    split = there.split;
-    queue = there.queue;
-    at = there.at;
-    way = there.way;
-    leaves = there.leaves;
-    over = is_done number (h.card.visit + 1) tables key entered es lost sound kept all_low
-        there.before there.entry there.after there.split h.card there.way there.leaves
-        last.number_is refl;
-  }
+  -- its packet left for good, as its fate says
+  pub left_for_good : Laws → (tables : RuleTables) (key : ℕ) (entered : List Card)
+      (lost : List Lost) → AreLegal es → AreSound tables key entered es lost →
+      is_lost lost number ≡ false → h.fate ≢ fate.Waiting → LeftForGood tables key es h
+  left_for_good laws tables key entered lost legal sound kept not_ =
+      let is = step_at last.before last.after last.entry (subst AreLegal last.split legal) in
+      let left = leaves_so laws last.before last.entry h is last.entry.event refl last.event.tells
+      not_ in
+      let over = is_done number (h.card.visit + 1) tables key entered es lost sound kept all_low
+      last.before last.entry last.after last.split h.card left.way left.leaves last.number_is
+      refl in record {
+        before = last.before;
+        entry = last.entry;
+        after = last.after;
+        split = last.split;
+        queue = last.event.queue;
+        at = last.event.at;
+        way = left.way;
+        leaves = left.leaves;
+        over = over;
+        said = is_said tables key h.fate h.card left.way left.agrees over;
+      }

@@ -379,7 +379,7 @@ module _ (counts : (q : Option Bound) (ev : Event) →
           (subst (λ q. times mine (waiting_in (replay (history q es))) ≡ 1)
           (sym last.event.queue) (by_event e.event refl last.event.tells waiting))
 
-  leaves_by : (before : List Entry) (e : Entry) (h : Happening) → IsStep (replay
+  pub leaves_by : (before : List Entry) (e : Entry) (h : Happening) → IsStep (replay
       (history e.queue before)) e → (ev : Event) → e.event ≡ ev →
       Tells ev e.reply (step_after before e) h.card h.fate → (h.fate ≡ fate.Waiting → ⊥) →
       (way : Way) × Leaves (step_after before e) h.card way

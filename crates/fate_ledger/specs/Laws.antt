@@ -1,6 +1,7 @@
 -- What a frame's line says of the histories, in the words of packets and entries.
 use Rattle.std.specs.Prelude.{◌≡◌, ◌≢◌, ◌≤◌, ◌<◌, ◌⊎◌, ℕ, ◌+◌, List, [], ◌∷◌, ◌++◌, length}
-use Rattle.std.specs.Prelude.{Some, None, Bool, true, All, Contains, take, drop, ◌==◌, ◌&&◌, count_by}
+use Rattle.std.specs.Prelude.{Option, Some, None, Bool, true, false, All, Contains, take, drop}
+use Rattle.std.specs.Prelude.{◌==◌, ◌&&◌, count_by}
 use Rattle.ip_fields.specs.declared.frame.LinkCut.{LinkCut}
 use Rattle.ip_fields.specs.Frame.{cut_of}
 use Rattle.packet_entry.specs.declared.packet.Card.{Card}
@@ -11,13 +12,18 @@ use Rattle.queue_core.specs.declared.event.Reply.{Reply}
 use Rattle.queue_core.specs.declared.event.Reply.TheVariants.{Arrived}
 use Rattle.queue_core.specs.declared.offers.Outcome.{Outcome}
 use Rattle.queue_core.specs.Laws.{times, waiting_in}
-use Rattle.queue_core.specs.Step.{Way, Stepped, step}
+use Rattle.queue_core.specs.Step.{Way, Gone, Open, Decided, Stepped, step}
 use Rattle.histories.specs.declared.entry.Entry.{Entry}
 use Rattle.histories.specs.declared.histories.Histories.{Histories}
 use Rattle.histories.specs.History.{history, replay}
 use Rattle.histories.specs.Stays.{arrivals}
 use Rattle.histories.specs.Endings.{is_over}
 use Rattle.hook_chain.specs.Rules.{RuleTables}
+use Rattle.hook_chain.specs.declared.chain.Next.{Next}
+use Rattle.hook_chain.specs.declared.chain.Next.TheVariants.{Released}
+use Rattle.hook_chain.specs.declared.chain.Decision.TheVariants.{Accept}
+use Rattle.hook_chain.specs.Route.{onward_of}
+use Rattle.fate_ledger.specs.Ledger.{is_release}
 use Rattle.fate_ledger.specs.declared.happening.Happening.{Happening}
 use Rattle.fate_ledger.specs.declared.fate.Fate.{Fate}
 use Rattle.fate_ledger.specs.declared.fate.Fate.TheVariants as fate
@@ -146,7 +152,21 @@ pub record LeftThere (es : List Entry) (h : Happening) : Type 0 where
 abbrev pub DifferInNumber : List Card → Type 0
 DifferInNumber entered = (number : ℕ) → count_by (λ (c : Card). c.number == number) entered ≤ 1
 
--- the packet of an event left in that event's step, and goes nowhere from there
+-- where a packet that left by this way goes on, if it does: what was let through goes on with the
+-- next table, and what a verdict decided as that says
+abbrev pub route_by : RuleTables → ℕ → Card × Way → Option Next
+route_by tables key (card, Gone) = None
+route_by tables key (card, Open) = onward_of tables key card Accept
+route_by tables key (card, Decided decided) = onward_of tables key card decided
+
+-- What a fate says of that: a release, that no further table queued the packet and it was released;
+-- any other fate, that it was destroyed.
+pub record IsSaidBy (f : Fate) (route : Option Next) : Type 0 where
+  pub released : is_release f ≡ true → route ≡ Some Released
+  pub destroyed : is_release f ≡ false → route ≡ None
+
+-- The packet of an event left in that event's step, and goes nowhere from there: it was released or
+-- destroyed, as its fate says.
 pub record LeftForGood (tables : RuleTables) (key : ℕ) (es : List Entry) (h : Happening)
     : Type 0 where
   pub before : List Entry
@@ -158,3 +178,4 @@ pub record LeftForGood (tables : RuleTables) (key : ℕ) (es : List Entry) (h : 
   pub way : Way
   pub leaves : Leaves (step_after before entry) h.card way
   pub over : is_over tables key (h.card, way) ≡ true
+  pub said : IsSaidBy h.fate (route_by tables key (h.card, way))

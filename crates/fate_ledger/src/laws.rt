@@ -28,7 +28,9 @@ ghost use Rattle.fate_ledger.specs.declared.fate.FateLine.{FateLine as ALine};
 ghost use Rattle.fate_ledger.specs.declared.happening.Happening.{Happening as AHappening};
 
 use histories::each_stay_ends_once;
-use queue_core::replies_tell_how_many_left;
+use queue_core::{
+    an_arrival_leaves_as_its_outcome_says, replies_tell_how_many_left, what_is_flushed_is_destroyed,
+};
 
 /// Each line is that of the last event of its frame's packet: of an entry whose arrival is the
 /// packet's, or in whose step the packet left, with its queue, its place, and the packet there
@@ -114,11 +116,16 @@ pub fn payloads_were_read_or_given()
         IsHeld (released.released c (fates h c.frames)) }
 {}
 
-/// What left last is over: in sound histories the packet of a last event that left there goes
-/// nowhere from there, unless it was lost.
+/// What left last is over, and its fate says how: in legal and sound histories the packet of a last
+/// event left there for good, unless it waits or was lost. It was released where the fate is one of
+/// the six releases, and destroyed where it is another.
 pub fn what_left_last_is_over()
     ensures over { (tables : RuleTables) (key number : ℕ) (entered : List ACard)
-        (es : List AnEntry) (lost : List ALost) (h : AHappening) →
+        (es : List AnEntry) (lost : List ALost) (h : AHappening) → AreLegal es →
         AreSound tables key entered es lost → is_lost lost number ≡ false →
-        IsLastEvent es number h → LeftThere es h → LeftForGood tables key es h }
-{}
+        IsLastEvent es number h → h.fate ≢ Waiting → LeftForGood tables key es h }
+{
+    replies_tell_how_many_left();
+    what_is_flushed_is_destroyed();
+    an_arrival_leaves_as_its_outcome_says();
+}

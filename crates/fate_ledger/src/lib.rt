@@ -20,7 +20,8 @@ pub use counts::counts_text;
 pub use fate::{Fate, FateLine, FateLines};
 pub use fate_lines::fates;
 pub use happening::Happening;
-pub use journals::{JournalFault, journal_text, read_journal};
+pub use journal_reading::{JournalFault, read_journal};
+pub use journals::journal_text;
 pub use laws::{
     each_line_names_the_last_event, no_visit_arrives_twice, payloads_were_read_or_given,
     released_frames_are_those_let_go, the_last_event_is_where_it_left_or_waits,

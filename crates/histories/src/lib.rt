@@ -8,6 +8,7 @@ mod histories;
 mod journeys;
 mod laws;
 mod log;
+mod requests;
 
 pub use entry::{Entries, Entry};
 pub use grouping::grouped;
@@ -24,6 +25,7 @@ pub use laws::{
 };
 pub use log::{AskWords, Did, Dids, PortLog};
 pub use queue_core::{Event, Reply};
+pub use requests::queue_of;
 
 #[cfg(test)]
 mod tests;

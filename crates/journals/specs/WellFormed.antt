@@ -24,6 +24,7 @@ use Rattle.histories.specs.declared.log.AskWords.{AskWords}
 use Rattle.histories.specs.declared.log.AskWords.TheVariants.{Plain, Raw}
 use Rattle.histories.specs.declared.log.PortLog.{PortLog}
 use Rattle.histories.specs.declared.histories.Histories.{Histories}
+use Rattle.histories.specs.Happenings.{queue_of}
 
 -- ---- what fields hold
 
@@ -90,12 +91,6 @@ FitsOutcome CopyNone = ⊤
 FitsOutcome Loop = ⊤
 
 -- ---- entries
-
--- the queue that a request names
-abbrev pub queue_of : Request → ℕ
-queue_of (Config queue command params maxlen flags mask) = queue
-queue_of (Verdict queue head mark payload) = queue
-queue_of (Batch queue head mark) = queue
 
 -- the values of an event fit, and a request is of the entry's queue
 abbrev pub IsEventAt : ℕ → Event → Type 0

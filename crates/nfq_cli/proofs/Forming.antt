@@ -233,16 +233,11 @@ all_own queue (e ∷ es) = by (is_of queue e) refl (all_own queue es)
 
 -- ---- entries
 
-same_queue : (r : Request) → formed.queue_of r ≡ place.queue_of r
-same_queue (Config queue command params maxlen flags mask) = refl
-same_queue (Verdict queue head mark payload) = refl
-same_queue (Batch queue head mark) = refl
-
 event_at : (queue : ℕ) (event : Event) → FitsEvent event → OwnAsk queue event →
     IsEventAt queue event
 event_at queue (Arrive card bypass room) fit own = fit
 event_at queue (Ask port call request) fit own =
-    (fit.0, fit.1, fit.2, same_queue request ∙ own)
+    (fit.0, fit.1, fit.2, own)
 event_at queue (PortClosed port) fit own = fit
 event_at queue (DeviceDown device) fit own = fit
 

@@ -24,8 +24,9 @@ use Rattle.journals.specs.WellFormed.{IsWellFormed}
 use Rattle.run_files.specs.Outputs.{fates_of}
 
 -- Each frame's line is that of its packet's last event in these histories, or that of a frame whose
--- packet has none. Where the line doesn't say that the packet waits, it left in that event's step,
--- for good; where it does, the packet still waits at that event's queue.
+-- packet has none. Where the line doesn't say that the packet waits, it left in that event's step
+-- for good, and was released or destroyed there as its fate says; where it does, the packet still
+-- waits at that event's queue.
 pub record AreLinesOf (tables : RuleTables) (key : ℕ) (c : Capture) (h : Histories)
     : Type 0 where
   pub named : (place : ℕ) (f : Frame) (l : FateLine) → slice_get c.frames place ≡ Some f →

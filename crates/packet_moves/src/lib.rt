@@ -12,4 +12,4 @@ pub use laws::{
     histories_stay_sound, only_feeding_feeds, what_goes_on_is_in_time, words_are_the_one_spelling,
 };
 pub use setting::Setting;
-pub use words::{queue_of, words_of};
+pub use words::words_of;

@@ -4,7 +4,6 @@ ghost use Rattle.std.specs.Prelude.{◌≡◌, IfOk, IsTrue, ◌==◌};
 ghost use Rattle.std.specs.Str.{bytes_eq};
 ghost use Rattle.nfqa_msgs.specs.RequestReading.{AskedFits, PayloadFits};
 ghost use Rattle.nfqa_msgs.specs.RequestWriting.{spelling};
-ghost use Rattle.histories.specs.Happenings.{queue_of};
 ghost use Rattle.packet_moves.specs.Messages.{words_of};
 
 use histories::AskWords;
@@ -50,15 +49,4 @@ fn is_spelling(
     let mut text = Vec::new(alloc);
     encode_request(port, call, request, &mut text)?;
     Ok(whole == text.as_slice())
-}
-
-/// The queue that a request names.
-pub fn queue_of(request: &Request) -> u16
-    ensures { result ≡ queue_of request.now }
-{
-    match request {
-        Request::Config { queue, .. }
-        | Request::Verdict { queue, .. }
-        | Request::Batch { queue, .. } => *queue,
-    }
 }

@@ -3,3 +3,4 @@ pub mod Places
 pub mod Shares
 pub mod Handing
 pub mod Tables
+pub mod Outcomes

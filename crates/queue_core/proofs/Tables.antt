@@ -44,7 +44,7 @@ use Rattle.queue_core.proofs.Places.{apart_without, apart_dropped}
 use Rattle.queue_core.proofs.Shares.{share_first}
 
 -- one test of a table: what holds of its line and of the lines after it holds of the table
-either : {X : Type 0} (P : X → Type 0) (b : Bool) (s t : X) → P s → P t → P (cond b s t)
+pub either : {X : Type 0} (P : X → Type 0) (b : Bool) (s t : X) → P s → P t → P (cond b s t)
 either P true s t h k = h
 either P false s t h k = k
 

@@ -9,10 +9,11 @@ use Rattle.queue_core.specs.declared.event.Event.TheVariants.{Arrive, Ask, PortC
 use Rattle.queue_core.specs.declared.event.Reply.{Reply}
 use Rattle.queue_core.specs.declared.event.Reply.TheVariants.{Arrived, Answer, Flushed}
 use Rattle.queue_core.specs.declared.offers.Outcome.{Outcome}
-use Rattle.queue_core.specs.declared.offers.Outcome.TheVariants.{Taken}
+use Rattle.queue_core.specs.declared.offers.Outcome.TheVariants.{Taken, Bypassed, OverflowOpen}
+use Rattle.queue_core.specs.declared.offers.Outcome.TheVariants.{UserFullOpen}
 use Rattle.queue_core.specs.Numbers.{id_count}
 use Rattle.queue_core.specs.State.{Bound}
-use Rattle.queue_core.specs.Step.{Gone, Stepped, step}
+use Rattle.queue_core.specs.Step.{Way, Gone, Open, Stepped, step}
 
 -- the packets that wait
 abbrev pub waiting_in : Option Bound → List Card
@@ -82,3 +83,10 @@ AreApart q = IfSome q (λ q. IsDistinct nat_eq (keys_of q.waiting))
 -- a queue whose last id is of 32 bits, and where fewer packets wait than there are ids
 abbrev pub HasIds : Option Bound → Type 0
 HasIds q = IfSome q (λ q. (q.last < id_count) × (length q.waiting < id_count))
+
+-- the way by which a packet that comes back of its arrival leaves: three outcomes let it through
+abbrev pub way_by : Outcome → Way
+way_by Bypassed = Open
+way_by OverflowOpen = Open
+way_by (UserFullOpen id) = Open
+way_by other = Gone

@@ -1,7 +1,7 @@
 //! Laws of the definitions, each the contract of a function that does nothing.
 
 ghost use Rattle.std.specs.Prelude.{◌≡◌, ◌≢◌, ◌<◌, ℕ, List, ◌∷◌, length, filter, not, Option, Some};
-ghost use Rattle.std.specs.Prelude.{Bool, false, true};
+ghost use Rattle.std.specs.Prelude.{Bool, false, true, Contains};
 ghost use Rattle.packet_entry.specs.declared.packet.Card.{Card};
 ghost use Rattle.nfqa_msgs.specs.Numbers.{eperm, enoent, ebusy, enodev};
 ghost use Rattle.nfqa_msgs.specs.declared.request.Request.{Request};
@@ -16,7 +16,10 @@ ghost use Rattle.queue_core.specs.Share.{share, IsLongestBefore, AscendFrom, Are
 ghost use Rattle.queue_core.specs.Step.{step, config, port_closed, device_down, ConfigAsk};
 ghost use Rattle.queue_core.specs.Step.{is_decided_early};
 ghost use Rattle.queue_core.specs.Laws.{IsConserving, Tells, AllAreGone, IsUntouched, AreApart};
-ghost use Rattle.queue_core.specs.Laws.{HasIds};
+ghost use Rattle.queue_core.specs.Laws.{HasIds, way_by};
+ghost use Rattle.queue_core.specs.declared.event.Reply.TheVariants.{Arrived};
+ghost use Rattle.queue_core.specs.declared.offers.Outcome.{Outcome};
+ghost use Rattle.queue_core.specs.Step.{Way};
 
 use crate::{
     ACCEPT, DEFAULT_MAXIMUM, DROP, EBUSY, ENODEV, ENOENT, EPERM, QUEUE, QUEUE_BYPASS, REPEAT,
@@ -86,6 +89,14 @@ pub fn another_port_changes_nothing()
 /// 2^32 and fewer than 2^32 packets wait.
 pub fn ids_stay_apart()
     ensures { (q : Option Bound) (e : Event) → HasIds q → AreApart q → AreApart (step q e).state }
+{}
+
+/// What leaves in an arrival's step is the packet that arrives, and it is let through or destroyed
+/// as the outcome says.
+pub fn an_arrival_leaves_as_its_outcome_says()
+    ensures { (q : Option Bound) (card : Card) (bypass room : Bool) (o : Outcome)
+        (l : Card × Way) → (step q (Arrive card bypass room)).reply ≡ Arrived o →
+        Contains (step q (Arrive card bypass room)).left l → l ≡ (card, way_by o) }
 {}
 
 /// The public numbers of this crate are those of the definitions.

@@ -13,7 +13,8 @@ use crate::held::Held;
 use hook_chain::onward;
 use nfqa_msgs::Request;
 use packet_entry::NoMemory;
-use packet_moves::{Setting, queue_of, what_goes_on_is_in_time};
+use histories::queue_of;
+use packet_moves::{Setting, what_goes_on_is_in_time};
 use queue_core::Handed;
 use std::alloc::Global;
 

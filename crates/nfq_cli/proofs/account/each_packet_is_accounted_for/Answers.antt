@@ -44,10 +44,8 @@ returns-clause-account c = λ tables script capture h is solo legal fit sound.
                 c.each_line_names_the_last_event.ensures h capture.frames place f l legal is_f is_l;
             left = λ number last is_last other.
                 c.what_left_last_is_over.ensures.over tables script.key number (cards capture)
-                h.entries h.lost last sound (ap (λ (ls : List Lost). is_lost ls number) solo.lost)
-                is_last
-                (c.the_last_event_is_where_it_left_or_waits.ensures.left h.entries number last legal
-                is_last other);
+                h.entries h.lost last legal sound
+                (ap (λ (ls : List Lost). is_lost ls number) solo.lost) is_last other;
             waits = λ number last is_last waiting.
                 c.the_last_event_is_where_it_left_or_waits.ensures.waits h.entries number last legal
                 apart is_last waiting;

@@ -1,0 +1,16 @@
+pub mod Ahead
+pub mod EachText
+pub mod FirstRefused
+pub mod Followed
+pub mod Formats
+pub mod Growth
+pub mod LineForm
+pub mod Lines
+pub mod OneLine
+pub mod OneValue
+pub mod Ports
+pub mod Requests
+pub mod Sound
+pub mod Spelt
+pub mod Underway
+pub mod Wording

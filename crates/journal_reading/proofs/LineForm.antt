@@ -1,0 +1,490 @@
+-- A line of a journal is read exactly where it is written.
+use Rattle.std.proofs.Common.{◌≡◌, ℕ, Bool, eqb, List}
+use Rattle.std.proofs.Common.{[], ◌∷◌, ◌++◌, Option, Some, None, ◌∙◌, refl, sym, ap, subst}
+use Rattle.std.proofs.Common.{append_assoc, decimal, eq-eqb}
+use Rattle.std.specs.Prelude.{codes, option_map, IfSome}
+use Rattle.std.proofs.lemmas.Bool.{eqb-true}
+use Rattle.std.proofs.lemmas.Option.{none-some, same_Some, cond_some}
+use Rattle.text_lines.specs.Words.{◌>>=◌, cut_at}
+use Rattle.text_lines.specs.Digits as digits
+use Rattle.packet_entry.specs.declared.packet.Card.{Card}
+use Rattle.nfqa_msgs.specs.declared.request.Request.{Request}
+use Rattle.queue_core.specs.declared.offers.Outcome.{Outcome}
+use Rattle.queue_core.specs.declared.event.Event.{Event}
+use Rattle.queue_core.specs.declared.event.Event.TheVariants.{Arrive, Ask, PortClosed, DeviceDown}
+use Rattle.queue_core.specs.declared.event.Reply.{Reply}
+use Rattle.queue_core.specs.declared.event.Reply.TheVariants.{Arrived, Answer, Flushed}
+use Rattle.histories.specs.declared.log.Did.{Did}
+use Rattle.histories.specs.declared.log.Did.TheVariants.{Received, Sent, Closed}
+use Rattle.histories.specs.declared.log.AskWords.{AskWords}
+use Rattle.journal_reading.specs.declared.line.Line.{Line}
+use Rattle.journal_reading.specs.declared.line.Line.TheVariants.{Heading, EntryLine, PortLine, DidLine}
+use Rattle.journal_reading.specs.declared.line.Line.TheVariants.{End}
+use Rattle.journals.specs.Journal as text
+use Rattle.journal_reading.specs.Lines.{FitsLine, line_text}
+use Rattle.journals.specs.WellFormed.{FitsAsk, FitsDid, FitsOutcome, FitsRequest}
+use Rattle.journals.specs.WellFormed.{IsEventAt, IsHalf, IsReplyTo, IsWide}
+use Rattle.histories.specs.Happenings.{queue_of}
+use Rattle.journal_reading.specs.Reading.{answered_in, arrival_in, ask_in, ask_made, asked_in, behind}
+use Rattle.journal_reading.specs.Reading.{both, card_in, device_down_in, field, half, last, line_by}
+use Rattle.journal_reading.specs.Reading.{line_in, outcome_in, port_closed_in, received_in, request_in}
+use Rattle.journal_reading.specs.Reading.{said_in, sent_in}
+use Rattle.journal_reading.proofs.Wording.{Laws, bind_some, cut_some, map_some, taken, uncut_append}
+use Rattle.journal_reading.proofs.Formats.{Any, BeforeEquals, IsField, IsWord, behind_some, both_is}
+use Rattle.journal_reading.proofs.Formats.{last_is}
+use Rattle.journal_reading.proofs.Spelt.{number_field, number_word, outcome_word, pick, said_text}
+use Rattle.journal_reading.proofs.Spelt.{said_word}
+use Rattle.journal_reading.proofs.Requests.{half_field, number_text, request_field, request_text}
+use Rattle.journal_reading.proofs.Lines.{FitsTold, Told, asked_field, asked_text, card_field}
+use Rattle.journal_reading.proofs.Lines.{card_text, card_told, fits_told, pair_field, spaced_ask}
+use Rattle.journal_reading.proofs.Lines.{spaced_request, told_fits}
+
+-- ---- arrivals
+
+abbrev Arrival : Type 0
+Arrival = (ℕ × Told) × Outcome
+
+abbrev arrival_read : List ℕ → Option Arrival
+arrival_read = last (both (field half) card_in) outcome_in
+
+abbrev arrival_text : Arrival → List ℕ
+arrival_text x = (number_text (x.0).0 ++ card_text (x.0).1) ++ text.outcome x.1
+
+abbrev FitsArrival : Arrival → Type 0
+FitsArrival x = (IsHalf (x.0).0 × FitsTold (x.0).1) × FitsOutcome x.1
+
+arrival_word : Laws → IsWord arrival_read arrival_text FitsArrival
+arrival_word laws =
+    last_is (both (field half) card_in) outcome_in (λ (p : ℕ × Told). number_text p.0
+    ++ card_text p.1) text.outcome (λ (p : ℕ × Told). IsHalf p.0 × FitsTold p.1) FitsOutcome Any
+    (both_is (field half) card_in number_text card_text IsHalf FitsTold Any Any (half_field laws)
+    (card_field laws) (λ y rest f a. tt)) (outcome_word laws) (λ y f. tt)
+
+-- ---- requests
+
+abbrev Caller : Type 0
+Caller = ℕ × (ℕ × ℕ)
+
+abbrev Pair : Type 0
+Pair = ℕ × ℕ
+
+abbrev Asking : Type 0
+Asking = (Caller × Request) × Pair
+
+abbrev caller_read : List ℕ → Option (Caller × List ℕ)
+caller_read = both (field half) (both (field digits.decimal) (field digits.decimal))
+
+abbrev caller_text : Caller → List ℕ
+caller_text p = number_text p.0 ++ (number_text (p.1).0 ++ number_text (p.1).1)
+
+abbrev FitsCaller : Caller → Type 0
+FitsCaller p = IsHalf p.0 × (IsWide (p.1).0 × IsWide (p.1).1)
+
+caller_field : Laws → IsField caller_read caller_text FitsCaller Any
+caller_field laws =
+    both_is (field half) (both (field digits.decimal) (field digits.decimal)) number_text
+    (λ (p : Pair). number_text p.0 ++ number_text p.1) IsHalf
+    (λ (p : Pair). IsWide p.0 × IsWide p.1) Any Any (half_field laws) (pair_field laws)
+    (λ y rest f a. tt)
+
+-- `ERRNO TAKEN`
+counts_word : Laws → IsWord (last (field half) digits.decimal)
+    (λ (p : Pair). number_text p.0 ++ decimal p.1) (λ (p : Pair). IsHalf p.0 × IsWide p.1)
+counts_word laws =
+    last_is (field half) digits.decimal number_text decimal IsHalf IsWide Any (half_field laws)
+    (number_word laws) (λ y f. tt)
+
+abbrev answered_text : Pair → List ℕ
+answered_text p = 61 ∷ 32 ∷ (number_text p.0 ++ decimal p.1)
+
+answered_word : Laws → IsWord answered_in answered_text (λ (p : Pair). IsHalf p.0 × IsWide p.1)
+answered_word laws = record {
+  again = λ x fits. (counts_word laws).again x fits;
+  spelled = λ word x e.
+      let rest = bind_some (behind (codes "=") word) (last (field half) digits.decimal) x e in
+      let s = (counts_word laws).spelled rest.0 x rest.2 in
+      (s.0, behind_some (codes "=") word rest.0 rest.1 ∙ ap (λ z. 61 ∷ 32 ∷ z) s.1);
+  one_line = λ x fits. uncut_append 10 (codes "= ") (number_text x.0 ++ decimal x.1) refl
+      ((counts_word laws).one_line x fits);
+}
+
+abbrev asking_read : List ℕ → Option Asking
+asking_read = last (both caller_read request_in) answered_in
+
+abbrev asking_text : Asking → List ℕ
+asking_text x = (caller_text (x.0).0 ++ request_text (x.0).1) ++ answered_text x.1
+
+abbrev FitsAsking : Asking → Type 0
+FitsAsking x = (FitsCaller (x.0).0 × FitsRequest (x.0).1) × (IsHalf (x.1).0 × IsWide (x.1).1)
+
+asking_word : Laws → IsWord asking_read asking_text FitsAsking
+asking_word laws =
+    last_is (both caller_read request_in) answered_in (λ (p : Caller × Request). caller_text p.0
+    ++ request_text p.1) answered_text (λ (p : Caller × Request). FitsCaller p.0
+    × FitsRequest p.1) (λ (p : Pair). IsHalf p.0 × IsWide p.1) BeforeEquals
+    (both_is caller_read request_in caller_text request_text FitsCaller FitsRequest Any BeforeEquals
+    (caller_field laws) (request_field laws) (λ y rest f a. tt)) (answered_word laws)
+    (λ y f. (number_text y.0 ++ decimal y.1, refl))
+
+-- ---- closed ports, devices, notices
+
+abbrev Triple : Type 0
+Triple = (ℕ × ℕ) × ℕ
+
+abbrev triple_read : List ℕ → Option Triple
+triple_read = last (both (field half) (field digits.decimal)) digits.decimal
+
+abbrev triple_text : Triple → List ℕ
+triple_text x = (number_text (x.0).0 ++ number_text (x.0).1) ++ decimal x.1
+
+abbrev FitsTriple : Triple → Type 0
+FitsTriple x = (IsHalf (x.0).0 × IsWide (x.0).1) × IsWide x.1
+
+triple_word : Laws → IsWord triple_read triple_text FitsTriple
+triple_word laws =
+    last_is (both (field half) (field digits.decimal)) digits.decimal (λ (p : Pair). number_text p.0
+    ++ number_text p.1) decimal (λ (p : Pair). IsHalf p.0 × IsWide p.1) IsWide Any
+    (both_is (field half) (field digits.decimal) number_text number_text IsHalf IsWide Any Any
+    (half_field laws) (number_field laws) (λ y rest f a. tt)) (number_word laws) (λ y f. tt)
+
+-- ---- messages
+
+abbrev Message : Type 0
+Message = (ℕ × AskWords) × Option ℕ
+
+abbrev message_read : List ℕ → Option Message
+message_read = last (both (field digits.decimal) asked_in) said_in
+
+abbrev message_text : Message → List ℕ
+message_text x = (number_text (x.0).0 ++ asked_text (x.0).1) ++ said_text x.1
+
+abbrev FitsMessage : Message → Type 0
+FitsMessage x = (IsWide (x.0).0 × FitsAsk (x.0).1) × IfSome x.1 IsHalf
+
+said_before : (o : Option ℕ) → BeforeEquals (said_text o)
+said_before None = (45 ∷ [], refl)
+said_before (Some n) = (decimal n, refl)
+
+message_word : Laws → IsWord message_read message_text FitsMessage
+message_word laws =
+    last_is (both (field digits.decimal) asked_in) said_in (λ (p : ℕ × AskWords). number_text p.0
+    ++ asked_text p.1) said_text (λ (p : ℕ × AskWords). IsWide p.0 × FitsAsk p.1)
+    (λ o. IfSome o IsHalf) BeforeEquals
+    (both_is (field digits.decimal) asked_in number_text asked_text IsWide FitsAsk Any BeforeEquals
+    (number_field laws) (asked_field laws) (λ y rest f a. tt)) (said_word laws)
+    (λ y f. said_before y)
+
+-- ---- the lines as they are written
+
+arrival_told : (q : ℕ) (c : Card) (b r : Bool) (o : Outcome) →
+    text.event q (Arrive c b r) ++ text.reply (Arrived o)
+    ≡ codes "A " ++ arrival_text ((q, (c, (b, r))), o)
+arrival_told q c b r o =
+    ap (λ w. (codes "A " ++ (decimal q ++ 32 ∷ []) ++ w) ++ text.outcome o) (card_told c b r)
+
+asking_regroup : (q p c r s z : List ℕ) → r ++ 32 ∷ z ≡ s ++ z →
+    ((((((q ++ 32 ∷ []) ++ p) ++ 32 ∷ []) ++ c) ++ 32 ∷ []) ++ r) ++ 32 ∷ z
+    ≡ (((q ++ 32 ∷ []) ++ ((p ++ 32 ∷ []) ++ (c ++ 32 ∷ []))) ++ s) ++ z
+asking_regroup q p c r s z spaced =
+    let h : List ℕ = ((((q ++ 32 ∷ []) ++ p) ++ 32 ∷ []) ++ c) ++ 32 ∷ [] in
+    let k : List ℕ = (q ++ 32 ∷ []) ++ ((p ++ 32 ∷ []) ++ (c ++ 32 ∷ [])) in
+    let same : h ≡ k = simp append_assoc in
+    append_assoc h r (32 ∷ z) ∙ ap (λ w. h ++ w) spaced ∙ sym (append_assoc h s z)
+    ∙ ap (λ w. (w ++ s) ++ z) same
+
+asking_told : (q p c : ℕ) (r : Request) (errno count : ℕ) →
+    text.event q (Ask p c r) ++ text.reply (Answer errno count)
+    ≡ codes "M " ++ asking_text (((q, (p, c)), r), (errno, count))
+asking_told q p c r errno count =
+    ap (λ w. codes "M " ++ w) (asking_regroup (decimal q) (decimal p) (decimal c) (text.request r)
+    (request_text r) (answered_text (errno, count)) (spaced_request r
+    (answered_text (errno, count))))
+
+triple_regroup : (q p t : List ℕ) → ((q ++ 32 ∷ []) ++ p) ++ 32 ∷ t
+    ≡ ((q ++ 32 ∷ []) ++ (p ++ 32 ∷ [])) ++ t
+triple_regroup q p t = simp append_assoc
+
+received_regroup : (q p t : List ℕ) → (((q ++ 32 ∷ []) ++ p) ++ 32 ∷ []) ++ t
+    ≡ ((q ++ 32 ∷ []) ++ (p ++ 32 ∷ [])) ++ t
+received_regroup q p t = simp append_assoc
+
+message_told : (c : ℕ) (a : AskWords) (o : Option ℕ) →
+    text.did_line (Sent c a o) ≡ codes "S " ++ message_text ((c, a), o)
+message_told c a None =
+    ap (λ w. codes "S " ++ w) (append_assoc (number_text c) (text.ask a) (32 ∷ codes "= -")
+    ∙ ap (λ w. number_text c ++ w) (spaced_ask a (codes "= -"))
+    ∙ sym (append_assoc (number_text c) (asked_text a) (codes "= -")))
+message_told c a (Some n) =
+    ap (λ w. codes "S " ++ w) (append_assoc (number_text c) (text.ask a)
+    (32 ∷ (codes "= " ++ decimal n))
+    ∙ ap (λ w. number_text c ++ w) (spaced_ask a (codes "= " ++ decimal n))
+    ∙ sym (append_assoc (number_text c) (asked_text a) (codes "= " ++ decimal n)))
+
+-- ---- and as they are read
+
+ask_again : Laws → (q p c : ℕ) (r : Request) (errno count : ℕ) →
+    FitsAsking (((q, (p, c)), r), (errno, count)) → queue_of r ≡ q →
+    ask_in (asking_text (((q, (p, c)), r), (errno, count)))
+    ≡ Some (record { queue = q; event = Ask p c r; reply = Answer errno count })
+unfolding ask_in
+ask_again laws q p c r errno count fits same =
+    ap (λ (o : Option Asking). o >>= ask_made)
+    ((asking_word laws).again (((q, (p, c)), r), (errno, count)) fits)
+    ∙ taken (eqb (queue_of r) q) _ None (eq-eqb (queue_of r) q same)
+
+entry_again : Laws → (q : ℕ) (event : Event) (reply : Reply) → IsHalf q → IsEventAt q event →
+    IsReplyTo event reply → line_in (text.event q event ++ text.reply reply)
+    ≡ Some (EntryLine (record { queue = q; event = event; reply = reply }))
+unfolding line_in line_by arrival_in port_closed_in device_down_in
+entry_again laws q (Arrive c b r) (Arrived o) qf ef rf =
+    ap line_in (arrival_told q c b r o)
+    ∙ ap (λ (x : Option Arrival). option_map EntryLine (option_map (λ (y : Arrival). record {
+      queue = (y.0).0;
+      event = Arrive ((y.0).1).0 (((y.0).1).1).0 (((y.0).1).1).1;
+      reply = Arrived y.1;
+    }) x)) ((arrival_word laws).again ((q, (c, (b, r))), o)
+    ((qf, fits_told (c, (b, r)) ef), rf))
+entry_again laws q (Arrive c b r) (Answer e t) qf ef rf = absurd rf
+entry_again laws q (Arrive c b r) (Flushed t) qf ef rf = absurd rf
+entry_again laws q (Ask p c r) (Arrived o) qf ef rf = absurd rf
+entry_again laws q (Ask p c r) (Answer e t) qf ef rf =
+    ap line_in (asking_told q p c r e t)
+    ∙ ap (option_map EntryLine) (ask_again laws q p c r e t
+    (((qf, (ef.0, ef.1)), ef.2), (rf.0, rf.1)) ef.3)
+entry_again laws q (Ask p c r) (Flushed t) qf ef rf = absurd rf
+entry_again laws q (PortClosed p) (Arrived o) qf ef rf = absurd rf
+entry_again laws q (PortClosed p) (Answer e t) qf ef rf = absurd rf
+entry_again laws q (PortClosed p) (Flushed t) qf ef rf =
+    ap (λ w. line_in (codes "C " ++ w)) (triple_regroup (decimal q) (decimal p) (decimal t))
+    ∙ ap (λ (x : Option Triple). option_map EntryLine (option_map (λ (y : Triple). record {
+      queue = (y.0).0;
+      event = PortClosed (y.0).1;
+      reply = Flushed y.1;
+    }) x)) ((triple_word laws).again ((q, p), t) ((qf, ef), rf))
+entry_again laws q (DeviceDown p) (Arrived o) qf ef rf = absurd rf
+entry_again laws q (DeviceDown p) (Answer e t) qf ef rf = absurd rf
+entry_again laws q (DeviceDown p) (Flushed t) qf ef rf =
+    ap (λ w. line_in (codes "D " ++ w)) (triple_regroup (decimal q) (decimal p) (decimal t))
+    ∙ ap (λ (x : Option Triple). option_map EntryLine (option_map (λ (y : Triple). record {
+      queue = (y.0).0;
+      event = DeviceDown (y.0).1;
+      reply = Flushed y.1;
+    }) x)) ((triple_word laws).again ((q, p), t) ((qf, ef), rf))
+
+did_again : Laws → (d : Did) → FitsDid d → line_in (text.did_line d) ≡ Some (DidLine d)
+unfolding line_in line_by received_in sent_in
+did_again laws (Received q n v) fits =
+    ap (λ w. line_in (codes "R " ++ w)) (received_regroup (decimal q) (decimal n) (decimal v))
+    ∙ ap (λ (x : Option Triple). option_map DidLine (option_map (λ (y : Triple).
+    Received (y.0).0 (y.0).1 y.1) x)) ((triple_word laws).again ((q, n), v)
+    ((fits.0, fits.1), fits.2))
+did_again laws (Sent c a o) fits =
+    ap line_in (message_told c a o)
+    ∙ ap (λ (x : Option Message). option_map DidLine (option_map (λ (y : Message).
+    Sent (y.0).0 (y.0).1 y.1) x)) ((message_word laws).again ((c, a), o)
+    ((fits.0, fits.1), fits.2))
+did_again laws Closed fits = refl
+
+line_again : Laws → (l : Line) → FitsLine l → line_in (line_text l) ≡ Some l
+unfolding line_in line_by
+line_again laws Heading fits = refl
+line_again laws (EntryLine e) fits =
+    entry_again laws e.queue e.event e.reply fits.queue fits.event fits.reply
+line_again laws (PortLine p) fits = ap (option_map PortLine) ((number_word laws).again p fits)
+line_again laws (DidLine d) fits = did_again laws d fits
+line_again laws End fits = refl
+
+-- ---- what is read is written so
+
+abbrev IsLineText : List ℕ → Line → Type 0
+IsLineText line l = FitsLine l × (line ≡ line_text l)
+
+arrival_spelled : Laws → (line rest : List ℕ) (l : Line) → line ≡ codes "A " ++ rest →
+    option_map EntryLine (arrival_in rest) ≡ Some l → IsLineText line l
+unfolding arrival_in
+arrival_spelled laws line rest l is e =
+    let entry = map_some EntryLine (arrival_in rest) l e in
+    let x = map_some _ (arrival_read rest) entry.0 entry.1 in
+    let s = (arrival_word laws).spelled rest x.0 x.1 in
+    let t = s.0 in
+    let told = (((x.0).0).1) in
+    subst (IsLineText line) (ap EntryLine x.2 ∙ entry.2) (
+      record { queue = (t.0).0; event = told_fits told (t.0).1; reply = t.1 },
+      is ∙ ap (λ w. codes "A " ++ w) s.1
+          ∙ sym (arrival_told ((x.0).0).0 told.0 (told.1).0 (told.1).1 (x.0).1),
+    )
+
+asking_spelled : Laws → (line rest : List ℕ) (l : Line) → line ≡ codes "M " ++ rest →
+    option_map EntryLine (ask_in rest) ≡ Some l → IsLineText line l
+unfolding ask_in
+asking_spelled laws line rest l is e =
+    let entry = map_some EntryLine (ask_in rest) l e in
+    let x = bind_some (asking_read rest) ask_made entry.0 entry.1 in
+    let s = (asking_word laws).spelled rest x.0 x.1 in
+    let t = s.0 in
+    let made = cond_some (eqb (queue_of ((x.0).0).1) (((x.0).0).0).0) _ entry.0 x.2 in
+    subst (IsLineText line) (ap EntryLine made.1 ∙ entry.2) (
+      record {
+        queue = ((t.0).0).0;
+        event = ((((t.0).0).1).0, (((t.0).0).1).1, (t.0).1, eqb-true _ _ made.0);
+        reply = ((t.1).0, (t.1).1);
+      },
+      is ∙ ap (λ w. codes "M " ++ w) s.1
+          ∙ sym (asking_told (((x.0).0).0).0 ((((x.0).0).0).1).0 ((((x.0).0).0).1).1 ((x.0).0).1
+          ((x.0).1).0 ((x.0).1).1),
+    )
+
+port_closed_spelled : Laws → (line rest : List ℕ) (l : Line) → line ≡ codes "C " ++ rest →
+    option_map EntryLine (port_closed_in rest) ≡ Some l → IsLineText line l
+unfolding port_closed_in
+port_closed_spelled laws line rest l is e =
+    let entry = map_some EntryLine (port_closed_in rest) l e in
+    let x = map_some _ (triple_read rest) entry.0 entry.1 in
+    let s = (triple_word laws).spelled rest x.0 x.1 in
+    let t = s.0 in
+    subst (IsLineText line) (ap EntryLine x.2 ∙ entry.2) (
+      record { queue = (t.0).0; event = (t.0).1; reply = t.1 },
+      is ∙ ap (λ w. codes "C " ++ w) (s.1
+          ∙ sym (triple_regroup (decimal ((x.0).0).0) (decimal ((x.0).0).1) (decimal (x.0).1))),
+    )
+
+device_down_spelled : Laws → (line rest : List ℕ) (l : Line) → line ≡ codes "D " ++ rest →
+    option_map EntryLine (device_down_in rest) ≡ Some l → IsLineText line l
+unfolding device_down_in
+device_down_spelled laws line rest l is e =
+    let entry = map_some EntryLine (device_down_in rest) l e in
+    let x = map_some _ (triple_read rest) entry.0 entry.1 in
+    let s = (triple_word laws).spelled rest x.0 x.1 in
+    let t = s.0 in
+    subst (IsLineText line) (ap EntryLine x.2 ∙ entry.2) (
+      record { queue = (t.0).0; event = (t.0).1; reply = t.1 },
+      is ∙ ap (λ w. codes "D " ++ w) (s.1
+          ∙ sym (triple_regroup (decimal ((x.0).0).0) (decimal ((x.0).0).1) (decimal (x.0).1))),
+    )
+
+received_spelled : Laws → (line rest : List ℕ) (l : Line) → line ≡ codes "R " ++ rest →
+    option_map DidLine (received_in rest) ≡ Some l → IsLineText line l
+unfolding received_in
+received_spelled laws line rest l is e =
+    let did = map_some DidLine (received_in rest) l e in
+    let x = map_some _ (triple_read rest) did.0 did.1 in
+    let s = (triple_word laws).spelled rest x.0 x.1 in
+    let t = s.0 in
+    subst (IsLineText line) (ap DidLine x.2 ∙ did.2) (
+      ((t.0).0, (t.0).1, t.1),
+      is ∙ ap (λ w. codes "R " ++ w) (s.1
+          ∙ sym (received_regroup (decimal ((x.0).0).0) (decimal ((x.0).0).1) (decimal (x.0).1))),
+    )
+
+sent_spelled : Laws → (line rest : List ℕ) (l : Line) → line ≡ codes "S " ++ rest →
+    option_map DidLine (sent_in rest) ≡ Some l → IsLineText line l
+unfolding sent_in
+sent_spelled laws line rest l is e =
+    let did = map_some DidLine (sent_in rest) l e in
+    let x = map_some _ (message_read rest) did.0 did.1 in
+    let s = (message_word laws).spelled rest x.0 x.1 in
+    let t = s.0 in
+    subst (IsLineText line) (ap DidLine x.2 ∙ did.2) (
+      ((t.0).0, (t.0).1, t.1),
+      is ∙ ap (λ w. codes "S " ++ w) s.1
+          ∙ sym (message_told ((x.0).0).0 ((x.0).0).1 (x.0).1),
+    )
+
+port_spelled : Laws → (line rest : List ℕ) (l : Line) → line ≡ codes "P " ++ rest →
+    option_map PortLine (digits.decimal rest) ≡ Some l → IsLineText line l
+port_spelled laws line rest l is e =
+    let port = map_some PortLine (digits.decimal rest) l e in
+    let s = (number_word laws).spelled rest port.0 port.1 in
+    subst (IsLineText line) port.2 (s.0, is ∙ ap (λ w. codes "P " ++ w) s.1)
+
+by_spelled : Laws → (line word rest : List ℕ) (l : Line) → line ≡ word ++ 32 ∷ rest →
+    line_by word rest ≡ Some l → IsLineText line l
+unfolding line_by
+by_spelled laws line word rest l is e =
+    let front = λ (name : List ℕ) (named : word ≡ name).
+    is ∙ ap (λ z. z ++ 32 ∷ rest) named in
+    pick word (codes "A") _ _ l (IsLineText line l) e
+    (λ n f. arrival_spelled laws line rest l (front (codes "A") n) f)
+    (λ e1. pick word (codes "M") _ _ l (IsLineText line l) e1
+    (λ n f. asking_spelled laws line rest l (front (codes "M") n) f)
+    (λ e2. pick word (codes "C") _ _ l (IsLineText line l) e2
+    (λ n f. port_closed_spelled laws line rest l (front (codes "C") n) f)
+    (λ e3. pick word (codes "D") _ _ l (IsLineText line l) e3
+    (λ n f. device_down_spelled laws line rest l (front (codes "D") n) f)
+    (λ e4. pick word (codes "R") _ _ l (IsLineText line l) e4
+    (λ n f. received_spelled laws line rest l (front (codes "R") n) f)
+    (λ e5. pick word (codes "S") _ _ l (IsLineText line l) e5
+    (λ n f. sent_spelled laws line rest l (front (codes "S") n) f)
+    (λ e6. pick word (codes "P") _ _ l (IsLineText line l) e6
+    (λ n f. port_spelled laws line rest l (front (codes "P") n) f)
+    (λ e7. absurd (none-some l e7))))))))
+
+line_spelled : Laws → (line : List ℕ) (l : Line) → line_in line ≡ Some l → IsLineText line l
+unfolding line_in
+line_spelled laws line l e =
+    pick line (codes "nfq-journal 1") _ _ l (IsLineText line l) e
+    (λ n f. subst (IsLineText line) (same_Some Heading l f) (tt, n))
+    (λ e1. pick line (codes "end") _ _ l (IsLineText line l) e1
+    (λ n f. subst (IsLineText line) (same_Some End l f) (tt, n))
+    (λ e2. pick line (codes "X") _ _ l (IsLineText line l) e2
+    (λ n f. subst (IsLineText line) (same_Some (DidLine Closed) l f) (tt, n))
+    (λ e3. let cut = bind_some (cut_at 32 line) _ l e3 in
+    by_spelled laws line (cut.0).0 (cut.0).1 l (cut_some 32 line cut.0 cut.1) cut.2)))
+
+-- ---- no line has a line's end in it
+
+entry_line : Laws → (q : ℕ) (event : Event) (reply : Reply) → IsHalf q → IsEventAt q event →
+    IsReplyTo event reply → cut_at 10 (text.event q event ++ text.reply reply) ≡ None
+entry_line laws q (Arrive c b r) (Arrived o) qf ef rf =
+    ap (cut_at 10) (arrival_told q c b r o)
+    ∙ uncut_append 10 (codes "A ") (arrival_text ((q, (c, (b, r))), o)) refl
+    ((arrival_word laws).one_line ((q, (c, (b, r))), o) ((qf, fits_told (c, (b, r)) ef), rf))
+entry_line laws q (Arrive c b r) (Answer e t) qf ef rf = absurd rf
+entry_line laws q (Arrive c b r) (Flushed t) qf ef rf = absurd rf
+entry_line laws q (Ask p c r) (Arrived o) qf ef rf = absurd rf
+entry_line laws q (Ask p c r) (Answer e t) qf ef rf =
+    ap (cut_at 10) (asking_told q p c r e t)
+    ∙ uncut_append 10 (codes "M ") (asking_text (((q, (p, c)), r), (e, t))) refl
+    ((asking_word laws).one_line (((q, (p, c)), r), (e, t))
+    (((qf, (ef.0, ef.1)), ef.2), (rf.0, rf.1)))
+entry_line laws q (Ask p c r) (Flushed t) qf ef rf = absurd rf
+entry_line laws q (PortClosed p) (Arrived o) qf ef rf = absurd rf
+entry_line laws q (PortClosed p) (Answer e t) qf ef rf = absurd rf
+entry_line laws q (PortClosed p) (Flushed t) qf ef rf =
+    ap (λ w. cut_at 10 (codes "C " ++ w)) (triple_regroup (decimal q) (decimal p) (decimal t))
+    ∙ uncut_append 10 (codes "C ") (triple_text ((q, p), t)) refl
+    ((triple_word laws).one_line ((q, p), t) ((qf, ef), rf))
+entry_line laws q (DeviceDown p) (Arrived o) qf ef rf = absurd rf
+entry_line laws q (DeviceDown p) (Answer e t) qf ef rf = absurd rf
+entry_line laws q (DeviceDown p) (Flushed t) qf ef rf =
+    ap (λ w. cut_at 10 (codes "D " ++ w)) (triple_regroup (decimal q) (decimal p) (decimal t))
+    ∙ uncut_append 10 (codes "D ") (triple_text ((q, p), t)) refl
+    ((triple_word laws).one_line ((q, p), t) ((qf, ef), rf))
+
+did_line : Laws → (d : Did) → FitsDid d → cut_at 10 (text.did_line d) ≡ None
+did_line laws (Received q n v) fits =
+    ap (λ w. cut_at 10 (codes "R " ++ w)) (received_regroup (decimal q) (decimal n) (decimal v))
+    ∙ uncut_append 10 (codes "R ") (triple_text ((q, n), v)) refl
+    ((triple_word laws).one_line ((q, n), v) ((fits.0, fits.1), fits.2))
+did_line laws (Sent c a o) fits =
+    ap (cut_at 10) (message_told c a o)
+    ∙ uncut_append 10 (codes "S ") (message_text ((c, a), o)) refl
+    ((message_word laws).one_line ((c, a), o) ((fits.0, fits.1), fits.2))
+did_line laws Closed fits = refl
+
+one_line : Laws → (l : Line) → FitsLine l → cut_at 10 (line_text l) ≡ None
+one_line laws Heading fits = refl
+one_line laws (EntryLine e) fits =
+    entry_line laws e.queue e.event e.reply fits.queue fits.event fits.reply
+one_line laws (PortLine p) fits =
+    uncut_append 10 (codes "P ") (decimal p) refl ((number_word laws).one_line p fits)
+one_line laws (DidLine d) fits = did_line laws d fits
+one_line laws End fits = refl
+
+-- what is read of a line is what it says
+pub line_word : Laws → IsWord line_in line_text FitsLine
+line_word laws = record {
+  again = line_again laws;
+  spelled = line_spelled laws;
+  one_line = one_line laws;
+}

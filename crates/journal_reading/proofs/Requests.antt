@@ -1,0 +1,472 @@
+-- The requests of a journal's lines are read exactly where they are written.
+use Rattle.std.proofs.Common.{◌≡◌, ℕ, cond, List, [], ◌∷◌}
+use Rattle.std.proofs.Common.{◌++◌, Option, Some, None, ◌∙◌, refl, ap, subst, arith}
+use Rattle.std.proofs.Common.{append_assoc, decimal}
+use Rattle.std.specs.Prelude.{◌^◌, bytes_eq, codes, option_map, IfSome}
+use Rattle.std.specs.Option.{option_map_or}
+use Rattle.std.proofs.lemmas.Option.{none-some, same_Some}
+use Rattle.hex.specs.Hex.{IsBytes}
+use Rattle.text_lines.specs.Words.{◌>>=◌, cut_at}
+use Rattle.text_lines.specs.Digits as digits
+use Rattle.text_lines.specs.Hexadecimal.{hexadecimal}
+use Rattle.nfqa_headers.specs.declared.params.Params.{Params}
+use Rattle.nfqa_headers.specs.declared.verdict_header.Head.{Head}
+use Rattle.nfqa_msgs.specs.declared.request.Request.{Request}
+use Rattle.nfqa_msgs.specs.declared.request.Request.TheVariants.{Config, Verdict, Batch}
+use Rattle.journals.specs.WellFormed.{FitsHead, FitsParams, FitsRequest, IsHalf, IsSmall}
+use Rattle.journals.specs.WellFormed.{IsWide}
+use Rattle.journal_reading.specs.Reading.{batch_in, batch_made, behind, both, bytes_in}
+use Rattle.journal_reading.specs.Reading.{config_in, config_made, field, half, head_in, head_made, made}
+use Rattle.journal_reading.specs.Reading.{params_in, params_made, part, request_by, request_in, small}
+use Rattle.journal_reading.specs.Reading.{verdict_in, verdict_made}
+use Rattle.journal_reading.proofs.Wording.{Laws, bind_some, cut_front, cut_some, map_some, passed}
+use Rattle.journal_reading.proofs.Wording.{uncut_append}
+use Rattle.journal_reading.proofs.Formats.{Any, BeforeEquals, IsField, NotBehind, apart, behind_some}
+use Rattle.journal_reading.proofs.Formats.{both_is, equals_apart, made_is, part_is, part_text, weaker}
+use Rattle.journal_reading.proofs.Spelt.{below_field, bytes_field, number_field, number_no_dash}
+use Rattle.journal_reading.proofs.Spelt.{number_unblank}
+use Rattle.journal_reading.proofs.Spelt.{pick}
+
+abbrev pub number_text : ℕ → List ℕ
+number_text n = decimal n ++ 32 ∷ []
+
+abbrev pub bytes_text : List ℕ → List ℕ
+bytes_text bs = hexadecimal bs ++ 32 ∷ []
+
+pub half_field : Laws → IsField (field half) number_text IsHalf Any
+half_field laws = below_field laws (2 ^ 16) (omega arith)
+
+small_field : Laws → IsField (field small) number_text IsSmall Any
+small_field laws = below_field laws (2 ^ 8) (omega arith)
+
+-- ---- copy modes with their range
+
+abbrev pub params_text : Params → List ℕ
+params_text p = number_text p.mode ++ number_text p.range
+
+params_pair : Laws → IsField (both (field small) (field digits.decimal))
+    (λ p. number_text p.0 ++ number_text p.1) (λ p. IsSmall p.0 × IsWide p.1) Any
+params_pair laws =
+    both_is (field small) (field digits.decimal) number_text number_text IsSmall IsWide Any Any
+    (small_field laws) (number_field laws) (λ y rest f a. tt)
+
+params_field : Laws → IsField params_in params_text FitsParams Any
+unfolding params_in
+params_field laws =
+    let h = made_is params_made (λ (p : Params). (p.mode, p.range))
+    (both (field small) (field digits.decimal)) (λ p. number_text p.0 ++ number_text p.1)
+    (λ p. IsSmall p.0 × IsWide p.1) Any (λ b. refl) (λ a. refl) (params_pair laws) in record {
+      again = λ x rest fits any. h.again x rest (fits.mode, fits.range) any;
+      spelled = λ front x rest e. let s = h.spelled front x rest e in
+          (record { mode = (s.0).0; range = (s.0).1 }, s.1);
+      one_line = λ x fits. h.one_line x (fits.mode, fits.range);
+    }
+
+-- ---- verdict headers
+
+abbrev pub head_text : Option Head → List ℕ
+head_text None = codes "- "
+head_text (Some h) = number_text h.verdict ++ number_text h.id
+
+abbrev FitsHeads : Option Head → Type 0
+FitsHeads o = IfSome o FitsHead
+
+head_pair : Laws → IsField (both (field digits.decimal) (field digits.decimal))
+    (λ p. number_text p.0 ++ number_text p.1) (λ p. IsWide p.0 × IsWide p.1) Any
+head_pair laws =
+    both_is (field digits.decimal) (field digits.decimal) number_text number_text IsWide IsWide Any
+    Any (number_field laws) (number_field laws) (λ y rest f a. tt)
+
+number_not_dash : Laws → (n : ℕ) (rest : List ℕ) → IsWide n →
+    NotBehind (codes "-") (decimal n ++ 32 ∷ rest)
+number_not_dash laws n rest fits =
+    ap (λ (o : Option (List ℕ × List ℕ)). o >>= λ parts. cond (bytes_eq parts.0 (codes "-"))
+    (Some parts.1) None) (cut_front 32 (decimal n) rest (number_unblank laws n fits))
+    ∙ passed (bytes_eq (decimal n) (codes "-")) (Some rest) None (number_no_dash laws n fits)
+
+head_again : Laws → (o : Option Head) (rest : List ℕ) → FitsHeads o →
+    head_in (head_text o ++ rest) ≡ Some (o, rest)
+unfolding head_in
+head_again laws None rest fits = refl
+head_again laws (Some h) rest fits =
+    let regroup : (number_text h.verdict ++ number_text h.id) ++ rest
+    ≡ decimal h.verdict ++ 32 ∷ (number_text h.id ++ rest) =
+    append_assoc (number_text h.verdict) (number_text h.id) rest
+    ∙ append_assoc (decimal h.verdict) (32 ∷ []) (number_text h.id ++ rest) in
+    let absent : behind (codes "-") ((number_text h.verdict ++ number_text h.id) ++ rest) ≡ None =
+    ap (behind (codes "-")) regroup
+    ∙ number_not_dash laws h.verdict (number_text h.id ++ rest) fits.verdict in
+    ap (λ (o : Option (List ℕ)). option_map_or {T = List ℕ} {U = Option (Option Head × List ℕ)}
+    (λ more. Some (None, more)) o (made (λ (x : ℕ × ℕ). Some (head_made x))
+    (both (field digits.decimal) (field digits.decimal))
+    ((number_text h.verdict ++ number_text h.id) ++ rest))) absent
+    ∙ ap (option_map (λ (x : (ℕ × ℕ) × List ℕ). (Some (head_made x.0), x.1)))
+    ((head_pair laws).again (h.verdict, h.id) rest (fits.verdict, fits.id) tt)
+
+head_spelled : Laws → (front : List ℕ) (o : Option Head) (rest : List ℕ) →
+    head_in front ≡ Some (o, rest) → FitsHeads o × (front ≡ head_text o ++ rest)
+unfolding head_in
+head_spelled laws front o rest e =
+    elim (behind (codes "-") front) as (λ b. behind (codes "-") front ≡ b →
+    option_map_or {T = List ℕ} {U = Option (Option Head × List ℕ)} (λ more. Some (None, more)) b
+    (made (λ (x : ℕ × ℕ). Some (head_made x)) (both (field digits.decimal) (field digits.decimal))
+    front) ≡ Some (o, rest) → FitsHeads o × (front ≡ head_text o ++ rest)) [
+      | None ↦ λ is f.
+          let x = map_some (λ (y : (ℕ × ℕ) × List ℕ). (Some (head_made y.0), y.1))
+          (both (field digits.decimal) (field digits.decimal) front) (o, rest) f in
+          let s = (head_pair laws).spelled front (x.0).0 (x.0).1 x.1 in
+          subst (λ (p : Option Head × List ℕ). FitsHeads p.0 × (front ≡ head_text p.0 ++ p.1)) x.2
+          (record { verdict = (s.0).0; id = (s.0).1 }, s.1)
+      | Some more ↦ λ is f.
+          subst (λ (p : Option Head × List ℕ). FitsHeads p.0 × (front ≡ head_text p.0 ++ p.1))
+          (same_Some (None, more) (o, rest) f)
+          (tt, behind_some (codes "-") front more is)
+    ] refl e
+
+head_line : Laws → (o : Option Head) → FitsHeads o → cut_at 10 (head_text o) ≡ None
+head_line laws None fits = refl
+head_line laws (Some h) fits =
+    (head_pair laws).one_line (h.verdict, h.id) (fits.verdict, fits.id)
+
+head_field : Laws → IsField head_in head_text FitsHeads Any
+head_field laws = record {
+  again = λ x rest fits any. head_again laws x rest fits;
+  spelled = head_spelled laws;
+  one_line = head_line laws;
+}
+
+-- ---- parts that may be missing
+
+number_part : Laws → (name : List ℕ) → cut_at 32 name ≡ None → cut_at 10 name ≡ None →
+    IsField (part name (field digits.decimal)) (part_text name number_text)
+    (λ o. IfSome o IsWide) (NotBehind name)
+number_part laws name a b =
+    part_is name (field digits.decimal) number_text IsWide a b (number_field laws)
+
+last_part : Laws → (name : List ℕ) → cut_at 32 name ≡ None → cut_at 10 name ≡ None →
+    ((z : List ℕ) → NotBehind name (61 ∷ 32 ∷ z)) →
+    IsField (part name (field digits.decimal)) (part_text name number_text)
+    (λ o. IfSome o IsWide) BeforeEquals
+last_part laws name a b other =
+    weaker (part name (field digits.decimal)) (part_text name number_text) (λ o. IfSome o IsWide)
+    (NotBehind name) BeforeEquals (number_part laws name a b)
+    (λ rest before. equals_apart name rest other before)
+
+abbrev flags_read : List ℕ → Option ((Option ℕ × Option ℕ) × List ℕ)
+flags_read = both (part (codes "flags") (field digits.decimal))
+    (part (codes "mask") (field digits.decimal))
+
+abbrev flags_text : (Option ℕ × Option ℕ) → List ℕ
+flags_text p = part_text (codes "flags") number_text p.0 ++ part_text (codes "mask") number_text p.1
+
+abbrev FitsFlags : (Option ℕ × Option ℕ) → Type 0
+FitsFlags p = IfSome p.0 IsWide × IfSome p.1 IsWide
+
+flags_field : Laws → IsField flags_read flags_text FitsFlags BeforeEquals
+flags_field laws =
+    both_is (part (codes "flags") (field digits.decimal))
+    (part (codes "mask") (field digits.decimal)) (part_text (codes "flags") number_text)
+    (part_text (codes "mask") number_text) (λ o. IfSome o IsWide) (λ o. IfSome o IsWide)
+    (NotBehind (codes "flags")) BeforeEquals (number_part laws (codes "flags") refl refl)
+    (last_part laws (codes "mask") refl refl (λ z. refl))
+    (λ y rest fits before. apart (codes "flags") (codes "mask") number_text y rest (λ z. refl)
+    (equals_apart (codes "flags") rest (λ z. refl) before))
+
+-- a name that none of the two parts has
+flags_apart : (name rest : List ℕ) (p : Option ℕ × Option ℕ) →
+    ((z : List ℕ) → NotBehind name (codes "flags " ++ z)) →
+    ((z : List ℕ) → NotBehind name (codes "mask " ++ z)) →
+    ((z : List ℕ) → NotBehind name (61 ∷ 32 ∷ z)) → BeforeEquals rest →
+    NotBehind name (flags_text p ++ rest)
+flags_apart name rest p a b c before =
+    ap (behind name) (append_assoc (part_text (codes "flags") number_text p.0)
+    (part_text (codes "mask") number_text p.1) rest)
+    ∙ apart name (codes "flags") number_text p.0 _ a
+    (apart name (codes "mask") number_text p.1 rest b (equals_apart name rest c before))
+
+abbrev Lengths : Type 0
+Lengths = Option ℕ × (Option ℕ × Option ℕ)
+
+abbrev lengths_read : List ℕ → Option (Lengths × List ℕ)
+lengths_read = both (part (codes "maxlen") (field digits.decimal)) flags_read
+
+abbrev lengths_text : Lengths → List ℕ
+lengths_text p = part_text (codes "maxlen") number_text p.0 ++ flags_text p.1
+
+abbrev FitsLengths : Lengths → Type 0
+FitsLengths p = IfSome p.0 IsWide × FitsFlags p.1
+
+lengths_field : Laws → IsField lengths_read lengths_text FitsLengths BeforeEquals
+lengths_field laws =
+    both_is (part (codes "maxlen") (field digits.decimal)) flags_read
+    (part_text (codes "maxlen") number_text) flags_text (λ o. IfSome o IsWide) FitsFlags
+    (NotBehind (codes "maxlen")) BeforeEquals (number_part laws (codes "maxlen") refl refl)
+    (flags_field laws) (λ y rest fits before. flags_apart (codes "maxlen") rest y (λ z. refl)
+    (λ z. refl) (λ z. refl) before)
+
+lengths_apart : (name rest : List ℕ) (p : Lengths) →
+    ((z : List ℕ) → NotBehind name (codes "maxlen " ++ z)) →
+    ((z : List ℕ) → NotBehind name (codes "flags " ++ z)) →
+    ((z : List ℕ) → NotBehind name (codes "mask " ++ z)) →
+    ((z : List ℕ) → NotBehind name (61 ∷ 32 ∷ z)) → BeforeEquals rest →
+    NotBehind name (lengths_text p ++ rest)
+lengths_apart name rest p a b c d before =
+    ap (behind name) (append_assoc (part_text (codes "maxlen") number_text p.0) (flags_text p.1)
+    rest)
+    ∙ apart name (codes "maxlen") number_text p.0 _ a (flags_apart name rest p.1 b c d before)
+
+abbrev Settings : Type 0
+Settings = Option Params × Lengths
+
+abbrev settings_read : List ℕ → Option (Settings × List ℕ)
+settings_read = both (part (codes "params") params_in) lengths_read
+
+abbrev settings_text : Settings → List ℕ
+settings_text p = part_text (codes "params") params_text p.0 ++ lengths_text p.1
+
+abbrev FitsSettings : Settings → Type 0
+FitsSettings p = IfSome p.0 FitsParams × FitsLengths p.1
+
+settings_field : Laws → IsField settings_read settings_text FitsSettings BeforeEquals
+settings_field laws =
+    both_is (part (codes "params") params_in) lengths_read
+    (part_text (codes "params") params_text) lengths_text (λ o. IfSome o FitsParams) FitsLengths
+    (NotBehind (codes "params")) BeforeEquals
+    (part_is (codes "params") params_in params_text FitsParams refl refl (params_field laws))
+    (lengths_field laws) (λ y rest fits before. lengths_apart (codes "params") rest y (λ z. refl)
+    (λ z. refl) (λ z. refl) (λ z. refl) before)
+
+settings_apart : (rest : List ℕ) (p : Settings) → BeforeEquals rest →
+    NotBehind (codes "cmd") (settings_text p ++ rest)
+settings_apart rest p before =
+    ap (behind (codes "cmd")) (append_assoc (part_text (codes "params") params_text p.0)
+    (lengths_text p.1) rest)
+    ∙ apart (codes "cmd") (codes "params") params_text p.0 _ (λ z. refl)
+    (lengths_apart (codes "cmd") rest p.1 (λ z. refl) (λ z. refl) (λ z. refl) (λ z. refl) before)
+
+abbrev Command : Type 0
+Command = Option ℕ × Settings
+
+abbrev command_read : List ℕ → Option (Command × List ℕ)
+command_read = both (part (codes "cmd") (field small)) settings_read
+
+abbrev command_text : Command → List ℕ
+command_text p = part_text (codes "cmd") number_text p.0 ++ settings_text p.1
+
+abbrev FitsCommand : Command → Type 0
+FitsCommand p = IfSome p.0 IsSmall × FitsSettings p.1
+
+command_field : Laws → IsField command_read command_text FitsCommand BeforeEquals
+command_field laws =
+    both_is (part (codes "cmd") (field small)) settings_read (part_text (codes "cmd") number_text)
+    settings_text (λ o. IfSome o IsSmall) FitsSettings (NotBehind (codes "cmd")) BeforeEquals
+    (part_is (codes "cmd") (field small) number_text IsSmall refl refl (small_field laws))
+    (settings_field laws) (λ y rest fits before. settings_apart rest y before)
+
+abbrev config_read : List ℕ → Option ((ℕ × Command) × List ℕ)
+config_read = both (field half) command_read
+
+abbrev config_text : (ℕ × Command) → List ℕ
+config_text p = number_text p.0 ++ command_text p.1
+
+abbrev FitsConfigs : (ℕ × Command) → Type 0
+FitsConfigs p = IsHalf p.0 × FitsCommand p.1
+
+config_field : Laws → IsField config_read config_text FitsConfigs BeforeEquals
+config_field laws =
+    both_is (field half) command_read number_text command_text IsHalf FitsCommand Any BeforeEquals
+    (half_field laws) (command_field laws) (λ y rest fits before. tt)
+
+-- ---- verdicts and batches
+
+abbrev headed_read : List ℕ → Option ((ℕ × Option Head) × List ℕ)
+headed_read = both (field half) head_in
+
+abbrev headed_text : (ℕ × Option Head) → List ℕ
+headed_text p = number_text p.0 ++ head_text p.1
+
+abbrev FitsHeaded : (ℕ × Option Head) → Type 0
+FitsHeaded p = IsHalf p.0 × FitsHeads p.1
+
+headed_field : Laws → IsField headed_read headed_text FitsHeaded Any
+headed_field laws =
+    both_is (field half) head_in number_text head_text IsHalf FitsHeads Any Any (half_field laws)
+    (head_field laws) (λ y rest fits any. tt)
+
+abbrev body_read : List ℕ → Option ((Option ℕ × Option (List ℕ)) × List ℕ)
+body_read =
+    both (part (codes "mark") (field digits.decimal)) (part (codes "payload") (field bytes_in))
+
+abbrev body_text : (Option ℕ × Option (List ℕ)) → List ℕ
+body_text p = part_text (codes "mark") number_text p.0 ++ part_text (codes "payload") bytes_text p.1
+
+abbrev FitsBody : (Option ℕ × Option (List ℕ)) → Type 0
+FitsBody p = IfSome p.0 IsWide × IfSome p.1 IsBytes
+
+body_field : Laws → IsField body_read body_text FitsBody BeforeEquals
+body_field laws =
+    both_is (part (codes "mark") (field digits.decimal)) (part (codes "payload") (field bytes_in))
+    (part_text (codes "mark") number_text) (part_text (codes "payload") bytes_text)
+    (λ o. IfSome o IsWide) (λ o. IfSome o IsBytes) (NotBehind (codes "mark")) BeforeEquals
+    (number_part laws (codes "mark") refl refl)
+    (weaker (part (codes "payload") (field bytes_in)) (part_text (codes "payload") bytes_text)
+    (λ o. IfSome o IsBytes) (NotBehind (codes "payload")) BeforeEquals
+    (part_is (codes "payload") (field bytes_in) bytes_text IsBytes refl refl (bytes_field laws))
+    (λ rest before. equals_apart (codes "payload") rest (λ z. refl) before))
+    (λ y rest fits before. apart (codes "mark") (codes "payload") bytes_text y rest (λ z. refl)
+    (equals_apart (codes "mark") rest (λ z. refl) before))
+
+verdict_field : Laws → IsField (both headed_read body_read)
+    (λ p. headed_text p.0 ++ body_text p.1) (λ p. FitsHeaded p.0 × FitsBody p.1) BeforeEquals
+verdict_field laws =
+    both_is headed_read body_read headed_text body_text FitsHeaded FitsBody Any BeforeEquals
+    (headed_field laws) (body_field laws) (λ y rest fits before. tt)
+
+batch_field : Laws →
+    IsField (both headed_read (part (codes "mark") (field digits.decimal)))
+    (λ p. headed_text p.0 ++ part_text (codes "mark") number_text p.1)
+    (λ p. FitsHeaded p.0 × IfSome p.1 IsWide) BeforeEquals
+batch_field laws =
+    both_is headed_read (part (codes "mark") (field digits.decimal)) headed_text
+    (part_text (codes "mark") number_text) FitsHeaded (λ o. IfSome o IsWide) Any BeforeEquals
+    (headed_field laws) (last_part laws (codes "mark") refl refl (λ z. refl))
+    (λ y rest fits before. tt)
+
+-- ---- requests
+
+-- a request's words, each with the blank behind it
+abbrev pub request_text : Request → List ℕ
+request_text (Config q c p l f m) = codes "config " ++ config_text (q, (c, (p, (l, (f, m)))))
+request_text (Verdict q h m b) = codes "verdict " ++ (headed_text (q, h) ++ body_text (m, b))
+request_text (Batch q h m) =
+    codes "batch " ++ (headed_text (q, h) ++ part_text (codes "mark") number_text m)
+
+request_again : Laws → (r : Request) (rest : List ℕ) → FitsRequest r → BeforeEquals rest →
+    request_in (request_text r ++ rest) ≡ Some (r, rest)
+unfolding request_in request_by config_in verdict_in batch_in
+request_again laws (Config q c p l f m) rest fits before =
+    ap (option_map (λ (x : (ℕ × Command) × List ℕ). (config_made x.0, x.1)))
+    ((config_field laws).again (q, (c, (p, (l, (f, m))))) rest (
+      fits.queue_fits,
+      (
+        fits.command_fits,
+        (
+          fits.params_fit,
+          (
+            fits.maxlen_fits,
+            (
+              fits.flags_fits,
+              fits.mask_fits,
+            ),
+          ),
+        ),
+      ),
+    ) before)
+request_again laws (Verdict q h m b) rest fits before =
+    ap (option_map (λ (x : ((ℕ × Option Head) × (Option ℕ × Option (List ℕ))) × List ℕ).
+    (verdict_made x.0, x.1)))
+    ((verdict_field laws).again ((q, h), (m, b)) rest
+    ((fits.queue_fits, fits.head_fits), (fits.mark_fits, fits.payload_fits)) before)
+request_again laws (Batch q h m) rest fits before =
+    ap (option_map (λ (x : ((ℕ × Option Head) × Option ℕ) × List ℕ). (batch_made x.0, x.1)))
+    ((batch_field laws).again ((q, h), m) rest
+    ((fits.queue_fits, fits.head_fits), fits.mark_fits) before)
+
+abbrev IsRequestText : List ℕ → (Request × List ℕ) → Type 0
+IsRequestText front p = FitsRequest p.0 × (front ≡ request_text p.0 ++ p.1)
+
+request_by_spelled : Laws → (front word more : List ℕ) (p : Request × List ℕ) →
+    front ≡ word ++ 32 ∷ more → request_by word more ≡ Some p → IsRequestText front p
+unfolding request_by config_in verdict_in batch_in
+request_by_spelled laws front word more p is e =
+    pick word (codes "config") _ _ p (IsRequestText front p) e
+    (λ named f.
+    let x = map_some (λ (y : (ℕ × Command) × List ℕ). (config_made y.0, y.1)) (config_read more) p
+    f in
+    let s = (config_field laws).spelled more (x.0).0 (x.0).1 x.1 in
+    let t = s.0 in
+    subst (IsRequestText front) x.2 (
+      record {
+        queue_fits = t.0;
+        command_fits = (t.1).0;
+        params_fit = ((t.1).1).0;
+        maxlen_fits = (((t.1).1).1).0;
+        flags_fits = ((((t.1).1).1).1).0;
+        mask_fits = ((((t.1).1).1).1).1;
+      },
+      is ∙ ap (λ z. z ++ 32 ∷ more) named ∙ ap (λ z. codes "config " ++ z) s.1,
+    ))
+    (λ g. pick word (codes "verdict") _ _ p (IsRequestText front p) g
+    (λ named f.
+    let x = map_some (λ (y : ((ℕ × Option Head) × (Option ℕ × Option (List ℕ))) × List ℕ).
+    (verdict_made y.0, y.1)) (both headed_read body_read more) p f in
+    let s = (verdict_field laws).spelled more (x.0).0 (x.0).1 x.1 in
+    let t = s.0 in
+    subst (IsRequestText front) x.2 (
+      record {
+        queue_fits = (t.0).0;
+        head_fits = (t.0).1;
+        mark_fits = (t.1).0;
+        payload_fits = (t.1).1;
+      },
+      is ∙ ap (λ z. z ++ 32 ∷ more) named ∙ ap (λ z. codes "verdict " ++ z) s.1,
+    ))
+    (λ h. pick word (codes "batch") _ _ p (IsRequestText front p) h
+    (λ named f.
+    let x = map_some (λ (y : ((ℕ × Option Head) × Option ℕ) × List ℕ). (batch_made y.0, y.1))
+    (both headed_read (part (codes "mark") (field digits.decimal)) more) p f in
+    let s = (batch_field laws).spelled more (x.0).0 (x.0).1 x.1 in
+    let t = s.0 in
+    subst (IsRequestText front) x.2 (
+      record {
+        queue_fits = (t.0).0;
+        head_fits = (t.0).1;
+        mark_fits = t.1;
+        payload_fits = tt;
+      },
+      is ∙ ap (λ z. z ++ 32 ∷ more) named ∙ ap (λ z. codes "batch " ++ z) s.1,
+    ))
+    (λ i. absurd (none-some p i))))
+
+request_spelled : Laws → (front : List ℕ) (r : Request) (rest : List ℕ) →
+    request_in front ≡ Some (r, rest) → FitsRequest r × (front ≡ request_text r ++ rest)
+unfolding request_in
+request_spelled laws front r rest e =
+    let cut = bind_some (cut_at 32 front) _ (r, rest) e in
+    request_by_spelled laws front (cut.0).0 (cut.0).1 (r, rest) (cut_some 32 front cut.0 cut.1)
+    cut.2
+
+request_line : Laws → (r : Request) → FitsRequest r → cut_at 10 (request_text r) ≡ None
+request_line laws (Config q c p l f m) fits =
+    uncut_append 10 (codes "config ") (config_text (q, (c, (p, (l, (f, m)))))) refl
+    ((config_field laws).one_line (q, (c, (p, (l, (f, m))))) (
+      fits.queue_fits,
+      (
+        fits.command_fits,
+        (
+          fits.params_fit,
+          (
+            fits.maxlen_fits,
+            (
+              fits.flags_fits,
+              fits.mask_fits,
+            ),
+          ),
+        ),
+      ),
+    ))
+request_line laws (Verdict q h m b) fits =
+    uncut_append 10 (codes "verdict ") (headed_text (q, h) ++ body_text (m, b)) refl
+    ((verdict_field laws).one_line ((q, h), (m, b))
+    ((fits.queue_fits, fits.head_fits), (fits.mark_fits, fits.payload_fits)))
+request_line laws (Batch q h m) fits =
+    uncut_append 10 (codes "batch ") (headed_text (q, h) ++ part_text (codes "mark") number_text m)
+    refl ((batch_field laws).one_line ((q, h), m)
+    ((fits.queue_fits, fits.head_fits), fits.mark_fits))
+
+pub request_field : Laws → IsField request_in request_text FitsRequest BeforeEquals
+request_field laws = record {
+  again = request_again laws;
+  spelled = request_spelled laws;
+  one_line = request_line laws;
+}

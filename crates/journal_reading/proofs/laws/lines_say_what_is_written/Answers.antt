@@ -1,0 +1,16 @@
+use Rattle.std.proofs.Common.{◌∙◌, ap}
+use Rattle.journal_reading.specs.Reading.{line_in}
+use Rattle.journal_reading.proofs.Wording.{Laws}
+use Rattle.journal_reading.proofs.LineForm.{line_word}
+use Rattle.journal_reading.proofs.laws.lines_say_what_is_written.Goals as goal
+
+pub returns : goal.returns
+returns c =
+    let laws : Laws = record {
+      numerals = c.numbers_are_spelled.ensures;
+      bytes = c.bytes_are_spelled.ensures;
+    } in
+    λ line said. (
+      λ e. (line_word laws).spelled line said e,
+      λ h. ap line_in h.1 ∙ (line_word laws).again said h.0,
+    )

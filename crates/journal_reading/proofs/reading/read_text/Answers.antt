@@ -1,0 +1,17 @@
+use Rattle.std.proofs.Common.{sym}
+use Rattle.journal_reading.proofs.FirstRefused.{no_heading, no_line}
+use Rattle.journal_reading.proofs.Underway.{heading_is}
+use Rattle.journal_reading.proofs.reading.read_text.Goals as goal
+
+pub read_lines-requires-clause-heading : goal.read_lines-requires-clause-heading
+read_lines-requires-clause-heading c =
+    heading_is c.args.bytes.now c.in-Some.line.now c.in-Some.rest.now (sym c.in-Some.ensures)
+    (sym c.if-is_word.ensures)
+
+pub returns-else-is_word : goal.returns-else-is_word
+returns-else-is_word c =
+    no_heading c.args.bytes.now c.in-Some.line.now c.in-Some.rest.now (sym c.in-Some.ensures)
+    (sym c.if-is_word.ensures)
+
+pub returns-in-None : goal.returns-in-None
+returns-in-None c = no_line c.args.bytes.now (sym c.in-None.ensures)

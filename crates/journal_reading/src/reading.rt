@@ -1,0 +1,103 @@
+//! From a journal's text to histories.
+
+ghost use Rattle.std.specs.Prelude.{◌≡◌, ◌++◌, ◌<◌, ◌-◌, ◌^◌, ℕ, Err, IfOk, codes, length};
+ghost use Rattle.histories.specs.declared.histories.Histories as value;
+ghost use Rattle.journal_reading.specs.declared.fault.JournalFault.TheVariants as fault;
+ghost use Rattle.journal_reading.specs.JournalFile.{Answers, Closes, IsAnswer, IsFirstRefused, IsJournal};
+ghost use Rattle.journal_reading.specs.JournalFile.{IsRefusedAt, place_of};
+
+use crate::fault::JournalFault;
+use crate::reader::Reader;
+use packet_entry::NoMemory;
+use histories::Histories;
+use std::alloc::Global;
+use text_lines::{bytes_are_spelled, cut, is_word, numbers_are_spelled};
+
+/// The byte that ends a line.
+const LINE_FEED: u8 = b'\n';
+/// The first line.
+const HEADING: &[u8] = b"nfq-journal 1";
+
+/// The histories whose journal a text is: they are well formed, and the text is exactly what
+/// [`journal_text`](crate::journal_text) writes of them.
+///
+/// `Bad` comes only where there are none, and there it comes unless memory runs out: with the first
+/// line at whose end the text no longer begins a journal, or with the number of line ends plus 1
+/// where the text ends too early. `NoMemory` comes when out of memory. The lines are read one after
+/// the other, each once.
+pub fn read_journal(alloc: Global, bytes: &[u8]) -> Result<Histories, JournalFault>
+    requires { length bytes.now < 2 ^ 32 - 1 }
+
+    // What is read is what the text is a journal of, and a journal is read, unless memory runs out.
+    ensures found { IfOk result (IsJournal bytes.now) }
+    ensures only { (h : value.Histories) → IsJournal bytes.now h → Answers result h }
+
+    // What is refused is no journal, and is refused at the first line that can't stand in one, or
+    // at the one that is missing at the end. What has such a line is refused there, unless memory
+    // runs out.
+    ensures refused { (line : ℕ) → result ≡ Err (fault.Bad line) → IsFirstRefused bytes.now line }
+    ensures stuck { (line : ℕ) → IsFirstRefused bytes.now line → IsRefusedAt result line }
+{
+    read_text(alloc, bytes)
+}
+
+/// Reads the heading, and what stands behind it.
+fn read_text(alloc: Global, bytes: &[u8]) -> Result<Histories, JournalFault>
+    requires { length bytes.now < 2 ^ 32 - 1 }
+    ensures { IsAnswer result bytes.now }
+{
+    match cut(bytes, LINE_FEED) {
+        Some((line, rest)) => {
+            if is_word(line, HEADING) {
+                read_lines(alloc, bytes, rest)
+            } else {
+                Err(JournalFault::Bad { line: 1 })
+            }
+        }
+        None => Err(JournalFault::Bad { line: 1 }),
+    }
+}
+
+/// Reads line after line, behind the heading.
+fn read_lines(alloc: Global, bytes: &[u8], first: &[u8]) -> Result<Histories, JournalFault>
+    requires few { length bytes.now < 2 ^ 32 - 1 }
+    requires heading { bytes.now ≡ codes "nfq-journal 1\n" ++ first.now }
+    ensures { IsAnswer result bytes.now }
+{
+    numbers_are_spelled();
+    bytes_are_spelled();
+    let mut reader = Reader::new(alloc);
+    let mut rest = first;
+    let mut line_number: u32 = 2;
+    while let Some((line, later)) = cut(rest, LINE_FEED) {
+        match reader.read(alloc, line) {
+            Err(stop) => return Err(stop.at(line_number)),
+            Ok(true) => return finish(alloc, reader, later, line_number),
+            Ok(false) => {}
+        }
+        rest = later;
+        line_number += 1;
+    }
+    Err(JournalFault::Bad { line: line_number })
+}
+
+/// The histories of a text whose line `end` is this one, where nothing stands behind it.
+fn finish(
+    alloc: Global,
+    reader: Reader,
+    behind: &[u8],
+    line_number: u32,
+) -> Result<Histories, JournalFault>
+    requires { line_number < 2 ^ 32 - 1 }
+    ensures { Closes result (place_of reader) behind.now line_number }
+{
+    if !behind.is_empty() {
+        return Err(JournalFault::Bad {
+            line: line_number + 1,
+        });
+    }
+    match reader.finish(alloc) {
+        Ok(histories) => Ok(histories),
+        Err(NoMemory) => Err(JournalFault::NoMemory),
+    }
+}

@@ -1,5 +1,0 @@
-use Rattle.journals.proofs.OneLine.{same_line}
-use Rattle.journals.proofs.laws.a_text_has_one_refused_line.Goals as goal
-
-pub returns : goal.returns
-returns c = same_line

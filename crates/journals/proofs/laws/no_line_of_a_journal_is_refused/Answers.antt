@@ -1,5 +1,0 @@
-use Rattle.journals.proofs.FirstRefused.{never_both}
-use Rattle.journals.proofs.laws.no_line_of_a_journal_is_refused.Goals as goal
-
-pub returns : goal.returns
-returns c = never_both
