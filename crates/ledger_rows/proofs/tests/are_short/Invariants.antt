@@ -1,7 +1,7 @@
 use Rattle.std.proofs.Common.{◌≤◌, length}
 use Rattle.std.specs.Prelude.{All}
 use Rattle.packet_entry.specs.Numbers.{longest_packet}
-use Rattle.fate_ledger.proofs.tests.are_short.Given as goal
+use Rattle.ledger_rows.proofs.tests.are_short.Given as goal
 
 -- where those that are left are short, all are
 abbrev pub invariant-loop-line : goal.invariant-loop-line

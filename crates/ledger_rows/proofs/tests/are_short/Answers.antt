@@ -3,7 +3,7 @@ use Rattle.std.specs.Prelude.{All}
 use Rattle.std.proofs.lemmas.List.Elements.{All-cons}
 use Rattle.packet_entry.specs.Numbers.{longest_packet}
 use Rattle.fate_ledger.specs.declared.fate.FateLine.{FateLine}
-use Rattle.fate_ledger.proofs.tests.are_short.Goals as goal
+use Rattle.ledger_rows.proofs.tests.are_short.Goals as goal
 
 abbrev Short : FateLine → Type 0
 Short k = length k.payload ≤ longest_packet

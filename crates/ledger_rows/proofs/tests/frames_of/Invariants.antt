@@ -1,5 +1,5 @@
 use Rattle.std.proofs.Common.{◌≡◌, length}
-use Rattle.fate_ledger.proofs.tests.frames_of.Given as goal
+use Rattle.ledger_rows.proofs.tests.frames_of.Given as goal
 
 -- so many frames so far
 abbrev pub invariant-loop-seconds : goal.invariant-loop-seconds

@@ -6,12 +6,19 @@ ghost use Rattle.packet_entry.specs.Numbers.{longest_packet, longest_payload};
 ghost use Rattle.place_history.specs.Calls.{IsOnly};
 ghost use Rattle.histories.specs.Happenings.{payload_of};
 
-use super::{BYTES, OTHER_BYTES};
 use nfqa_msgs::{BIND, Head, PACKET, Params, Request, UNBIND};
 use packet_entry::{Bytes, IPV4, NoMemory, Packet};
 use place_history::Place;
 use queue_core::{Begun, Handed, NoRoom, Settled};
 use std::alloc::Global;
+
+/// An IPv4 packet without content.
+pub const BYTES: [u8; 20] = [
+    0x45, 0, 0, 20, 0, 1, 0, 0, 0x40, 6, 0, 0, 10, 0, 0, 1, 10, 0, 0, 2,
+];
+/// Other bytes, all alike, from which most replaced payloads, long packets and Ethernet frames are
+/// cut.
+pub const OTHER_BYTES: [u8; 84] = [0x46; 84];
 
 /// The copy mode of whole packets.
 const WHOLE: Params = Params {
@@ -43,7 +50,7 @@ const BYPASS: Rule = Rule {
 
 /// What happens at a place that is the only one, whose queues are all of port 7.
 #[derive(Clone, Copy)]
-pub(super) enum Happens {
+pub enum Happens {
     /// At this queue the packet with this number arrives at this visit, and there is room in the
     /// port's mailbox.
     Arrives(u16, u32, u32),
@@ -61,11 +68,11 @@ pub(super) enum Happens {
 
 /// What the port asks.
 #[derive(Clone, Copy)]
-pub(super) enum Words {
+pub enum Words {
     Bind,
     /// Whole packets.
     Whole,
-    /// So many packets may wait.
+    /// This many packets may wait.
     Maximum(u32),
     /// Whole packets, of which so many may wait.
     Packets(u32),
@@ -246,7 +253,7 @@ fn ask(place: &mut Place, alloc: Global, asked: Request) -> Result<(), NoMemory>
 }
 
 /// Lets all these happen, one after the other.
-pub(super) fn happen_all(place: &mut Place, alloc: Global, all: &[Happens]) -> Result<(), NoMemory>
+pub fn happen_all(place: &mut Place, alloc: Global, all: &[Happens]) -> Result<(), NoMemory>
     requires { IsOnly place.old }
     ensures { IsOnly place.new }
 {
@@ -256,7 +263,7 @@ pub(super) fn happen_all(place: &mut Place, alloc: Global, all: &[Happens]) -> R
     Ok(())
 }
 
-pub(super) fn only(alloc: Global) -> Place
+pub fn only(alloc: Global) -> Place
     ensures { IsOnly result }
 {
     Place::new(alloc, 0, 1)
