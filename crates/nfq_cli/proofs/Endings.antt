@@ -1,16 +1,17 @@
 -- How a command ends: facts by cases on why it stopped, and over a longer time.
 use Rattle.std.proofs.Common.{◌≡◌, ◌≤◌, ◌⊎◌, ◌∙◌, ℕ, List, Option, Some, None, Result, Ok, Err}
 use Rattle.std.proofs.Common.{OnOk, OnErr, refl, sym, ap, subst, inl, inr, arith, [], ◌∷◌, map}
-use Rattle.std.specs.Prelude.{IfOk, IsErrAnd, IsSomeAnd}
+use Rattle.std.specs.Prelude.{IfSome, IsErrAnd, IsSomeAnd}
 use Rattle.std.proofs.lemmas.Result.{IfErr-at_err}
 use Rattle.host_io.specs.Host.{Rises, SameFiles}
 use Rattle.run_files.specs.declared.refusal.Refusal.{Refusal}
 use Rattle.run_files.specs.declared.refusal.Refusal.TheVariants as refusal
 use Rattle.run_files.specs.declared.stop.Stop.{Stop}
 use Rattle.run_files.specs.declared.stop.Stop.TheVariants as stop
-use Rattle.command_line.specs.Arguments.{Call, InputFiles, PlayFiles}
-use Rattle.run_files.specs.Causes.{IsAnswered, IsRefused, IsTurnedDown}
+use Rattle.command_line.specs.Arguments.{Call, InputFiles, inputs, PlayFiles}
+use Rattle.run_files.specs.Causes.{AreTaken, IsAnswered, IsRefused, IsTurnedDown}
 use Rattle.run_files.specs.Files.{Contents, Counts, IsPrinted, IsStoppedAfter, Stay, Text}
+use Rattle.nfq_cli.specs.Ending.{IsEnded, Span}
 use Rattle.nfq_cli.specs.Headline.{texts_as}
 use Rattle.run_files.specs.Printed.{line_of}
 use Rattle.run_files.specs.Statuses.{IfRefused, IfStopRefuses, IsStopFor, status_of}
@@ -23,9 +24,21 @@ pub on_ok_both : {T E : Type 0} (A B : Type 0) (r : Result T E) → OnOk r A →
 on_ok_both A B (Ok x) a b = (a, b)
 on_ok_both A B (Err e) a b = tt
 
+pub same_inputs : (o : Option InputFiles) (i named : InputFiles) → o ≡ Some i →
+    o ≡ Some named → i ≡ named
+same_inputs o i named is_i is_named = cc
+
 -- what was made isn't refused
 pub made_is_not_refused : {T E : Type 0} {x : T} {e : E} → ◌≡◌ {A = Result T E} (Err e) (Ok x) → ⊥
 made_is_not_refused same = IfErr-at_err (λ _. ⊥) (sym same) tt
+
+-- so the inputs that it was made from aren't refused
+pub none_is_refused : {T : Type 0} {x : T} (i named : InputFiles) (old : Contents)
+    (why : Refusal) → Some i ≡ Some named → IsRefused named old why →
+    (IsRefused i old why → ◌≡◌ {A = Result T Refusal} (Err why) (Ok x)) → ⊥
+none_is_refused i named old why is refused exact =
+    made_is_not_refused (exact (subst (λ (o : InputFiles). IsRefused o old why)
+    (same_inputs (Some i) named i is refl) refused))
 
 -- a call that fails in one way alone did nothing in any other
 pub in_no_other_way : {T : Type 0} (P : Type 0) (r : Result T Stop) (s : Stop) →
@@ -41,10 +54,6 @@ by_this_alone P (Err e) s only = λ other. absurd (other (ap Err only))
 pub same_call : (o : Option Call) (c named : Call) → o ≡ Some c → o ≡ Some named → named ≡ c
 same_call o c named is_c is_named = cc
 
-pub same_inputs : (o : Option InputFiles) (i named : InputFiles) → o ≡ Some i →
-    o ≡ Some named → i ≡ named
-same_inputs o i named is_i is_named = cc
-
 abbrev IsThere : {A : Type 0} → Option A → Type 0
 IsThere (Some x) = Unit {0}
 IsThere None = ⊥
@@ -58,14 +67,42 @@ none_read None i is_i is_none = some_is_no_none i (sym is_i)
 
 -- ---- why it stopped
 
--- a call that refuses nothing tells of each refusal whatever is asked
-pub never_refused : {T : Type 0} (P : Refusal → Type 0) (r : Result T Stop) →
-    IfRefused r (λ w. ⊥) → IfRefused r P
-never_refused P (Ok x) none = tt
-never_refused P (Err stop.ReadFault) none = tt
-never_refused P (Err stop.WriteFault) none = tt
-never_refused P (Err (stop.Refused w)) none = absurd none
-never_refused P (Err stop.NoMemory) none = tt
+-- a refusal is no other stop
+is_refusal : {T : Type 0} (w : Refusal) (s : Stop) → IfStopRefuses s (λ v. ⊥) →
+    ◌≡◌ {A = Result T Stop} (Err (stop.Refused w)) (Err s) → ⊥
+is_refusal {T} w s other is =
+    subst (λ (r : Result T Stop). IfRefused r (λ v. ⊥)) (sym is) other
+
+-- what is printed of a refusal doesn't change how the command ended
+pub refused_still : {T : Type 0} (c : Call) (before after : Span) (why : Refusal) →
+    before.tells ≡ after.tells → before.old ≡ after.old →
+    IsEnded {T = T} c before (Err (stop.Refused why)) →
+    IsEnded {T = T} c after (Err (stop.Refused why))
+refused_still c before after why same_tells same_old ended =
+    record {
+      done = tt;
+      refused = λ t. subst (λ (k : Contents). IsSomeAnd (inputs c) (λ i. IsRefused i k why))
+          same_old (ended.refused (rw same_tells t));
+      exact = λ i other is_i t refused. ended.exact i other is_i (rw same_tells t)
+          (subst (λ (k : Contents). IsRefused i k other) (sym same_old) refused);
+      only = λ t taken. ended.only (rw same_tells t)
+          (subst (λ (k : Contents). IfSome (inputs c) (λ i. AreTaken i k)) (sym same_old) taken);
+      read_fault = λ is. absurd (is_refusal why stop.ReadFault tt is);
+      unread = λ is. absurd (is_refusal why stop.ReadFault tt is);
+      write_fault = λ is. absurd (is_refusal why stop.WriteFault tt is);
+      stopped = λ is. absurd (is_refusal why stop.WriteFault tt is);
+      cut_short = λ is. absurd (is_refusal why stop.WriteFault tt is);
+    }
+
+-- a call that fails in writing alone refuses nothing, whatever is asked of a refusal
+pub writing_refuses_nothing : {T : Type 0} (P : Refusal → Type 0) (r : Result T Stop) →
+    OnErr r (r ≡ Err stop.WriteFault) → IfRefused r P
+writing_refuses_nothing P (Ok x) only = tt
+writing_refuses_nothing P (Err stop.ReadFault) only = tt
+writing_refuses_nothing P (Err stop.WriteFault) only = tt
+writing_refuses_nothing P (Err (stop.Refused w)) only =
+    absurd (is_refusal w stop.WriteFault tt only)
+writing_refuses_nothing P (Err stop.NoMemory) only = tt
 
 -- what holds of a refusal where the host tells its contents, which it does
 pub once_told : (s : Stop) (Tells : Type 0) (P : Refusal → Type 0) →

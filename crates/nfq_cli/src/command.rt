@@ -10,9 +10,10 @@ ghost use Rattle.command_line.specs.Arguments.{PlayFiles, Plays, Sample, standar
 ghost use Rattle.run_files.specs.Causes.{AreTaken, IsAnswered, IsRefused, IsTurnedDown, IsUnread};
 ghost use Rattle.run_files.specs.Files.{IsPrinted, IsStopped, OthersStay};
 ghost use Rattle.run_files.specs.Files.{ReadFaultRose, WriteFaultRose};
-ghost use Rattle.nfq_cli.specs.Headline.{IsCut, IsDone, IsGenerated, IsListed, IsPlayed, IsTried};
+ghost use Rattle.nfq_cli.specs.Ending.{IsEnded, span};
+ghost use Rattle.nfq_cli.specs.Headline.{IsCut, IsGenerated, IsListed, IsPlayed, IsTried};
 ghost use Rattle.run_files.specs.Printed.{line_of, usage_line};
-ghost use Rattle.run_files.specs.Statuses.{IfRefused, StopsFor};
+ghost use Rattle.run_files.specs.Statuses.{IfRefused};
 
 use crate::generation::generate;
 use crate::list::list_files;
@@ -118,33 +119,10 @@ pub fn play<H: Host>(alloc: Global, words: &[String], host: &mut H) -> u8
 /// Does the command, and prints why an input is refused.
 fn carry_out<H: Host>(alloc: Global, command: &Command<'_>, host: &mut H) -> Result<(), Stop>
     requires allowed { IsAllowed (call_of command.now) }
-    ensures done { OnOk result (IsTrue (H.tells host.old) →
-        IsDone (call_of command.now) (H.content host.old) (H.content host.new)) }
-    ensures refused { IfRefused result (λ why. IsTrue (H.tells host.old) →
-        IsSomeAnd (inputs (call_of command.now)) (λ i. IsRefused i (H.content host.old) why)) }
-    ensures exact { (i : InputFiles) (why : ARefusal) → inputs (call_of command.now) ≡ Some i →
-        IsTrue (H.tells host.old) → IsRefused i (H.content host.old) why → StopsFor why result }
-    ensures only { IsTrue (H.tells host.old) →
-        IfSome (inputs (call_of command.now)) (λ i. AreTaken i (H.content host.old)) →
-        IfRefused result (λ _. ⊥) }
+    ensures ended { IsEnded (call_of command.now)
+        (span H.tells H.content H.read_faults H.write_faults host.old host.new) result }
     ensures printed { IfRefused result (λ why. IsTrue (H.tells host.old) → IsPrinted (line_of why)
         (H.write_faults host.old) (H.write_faults host.new) (H.content host.new)) }
-    ensures read_fault { IsErrOf result Stop.ReadFault →
-        IsSomeAnd (inputs (call_of command.now)) (λ i.
-        ReadFaultRose i (H.read_faults host.old) (H.read_faults host.new)) }
-    ensures unread { IsErrOf result Stop.ReadFault → IsTrue (H.tells host.old) →
-        IsSomeAnd (inputs (call_of command.now)) (λ i.
-        IsUnread i (H.read_faults host.old) (H.read_faults host.new) (H.content host.old)) }
-    ensures write_fault { IsErrOf result Stop.WriteFault →
-        WriteFaultRose (outputs (call_of command.now))
-        (H.write_faults host.old) (H.write_faults host.new) }
-    ensures stopped { IsErrOf result Stop.WriteFault → IsStopped (outputs (call_of command.now))
-        (H.write_faults host.old) (H.write_faults host.new) (H.content host.old)
-        (H.content host.new) }
-    ensures cut_short { IsErrOf result Stop.WriteFault → IsTrue (H.tells host.old) →
-        IsCut (call_of command.now)
-        (H.write_faults host.old) (H.write_faults host.new) (H.content host.old)
-        (H.content host.new) }
     ensures untouched { OnErr result (¬ IsErrOf result Stop.WriteFault →
         ChangesOnly standard_output (H.content host.old) (H.content host.new)) }
     ensures quiet { IsErrOf result Stop.ReadFault ⊎ IsErrOf result Stop.NoMemory →
@@ -171,31 +149,8 @@ fn carry_out<H: Host>(alloc: Global, command: &Command<'_>, host: &mut H) -> Res
 /// Hands the command to the function that does it.
 fn dispatch<H: Host>(alloc: Global, command: &Command<'_>, host: &mut H) -> Result<(), Stop>
     requires allowed { IsAllowed (call_of command.now) }
-    ensures done { OnOk result (IsTrue (H.tells host.old) →
-        IsDone (call_of command.now) (H.content host.old) (H.content host.new)) }
-    ensures refused { IfRefused result (λ why. IsTrue (H.tells host.old) →
-        IsSomeAnd (inputs (call_of command.now)) (λ i. IsRefused i (H.content host.old) why)) }
-    ensures exact { (i : InputFiles) (why : ARefusal) → inputs (call_of command.now) ≡ Some i →
-        IsTrue (H.tells host.old) → IsRefused i (H.content host.old) why → StopsFor why result }
-    ensures only { IsTrue (H.tells host.old) →
-        IfSome (inputs (call_of command.now)) (λ i. AreTaken i (H.content host.old)) →
-        IfRefused result (λ _. ⊥) }
-    ensures read_fault { IsErrOf result Stop.ReadFault →
-        IsSomeAnd (inputs (call_of command.now)) (λ i.
-        ReadFaultRose i (H.read_faults host.old) (H.read_faults host.new)) }
-    ensures unread { IsErrOf result Stop.ReadFault → IsTrue (H.tells host.old) →
-        IsSomeAnd (inputs (call_of command.now)) (λ i.
-        IsUnread i (H.read_faults host.old) (H.read_faults host.new) (H.content host.old)) }
-    ensures write_fault { IsErrOf result Stop.WriteFault →
-        WriteFaultRose (outputs (call_of command.now))
-        (H.write_faults host.old) (H.write_faults host.new) }
-    ensures stopped { IsErrOf result Stop.WriteFault → IsStopped (outputs (call_of command.now))
-        (H.write_faults host.old) (H.write_faults host.new) (H.content host.old)
-        (H.content host.new) }
-    ensures cut_short { IsErrOf result Stop.WriteFault → IsTrue (H.tells host.old) →
-        IsCut (call_of command.now)
-        (H.write_faults host.old) (H.write_faults host.new) (H.content host.old)
-        (H.content host.new) }
+    ensures ended { IsEnded (call_of command.now)
+        (span H.tells H.content H.read_faults H.write_faults host.old host.new) result }
     ensures untouched { OnErr result (¬ IsErrOf result Stop.WriteFault →
         SameFiles (H.content host.old) (H.content host.new)) }
     ensures others { OthersStay (outputs (call_of command.now))

@@ -4,13 +4,13 @@ ghost use Rattle.std.specs.Prelude.{◌≡◌, IsTrue, IfOk, OnOk, OnErr, IsErrO
 ghost use Rattle.host_io.specs.Host.{IsLater, SameFiles};
 ghost use Rattle.pcap_io.specs.Text.{capture_text};
 ghost use Rattle.generated.specs.Captures.{generated_capture};
-ghost use Rattle.command_line.specs.Arguments.{are_inputs_apart, gen_files_of, gen_outputs};
+ghost use Rattle.command_line.specs.Arguments.{are_inputs_apart, gen_files_of, gen_outputs, Generates};
 ghost use Rattle.command_line.specs.Arguments.{input_names, inputs_of, IsGenAllowed, IsSample};
 ghost use Rattle.command_line.specs.Arguments.{sample_of};
 ghost use Rattle.run_files.specs.Files.{AreWritten, IsStopped, IsStoppedAfter, OthersStay};
 ghost use Rattle.run_files.specs.Files.{WriteFaultRose};
-ghost use Rattle.nfq_cli.specs.Headline.{gen_texts, input_texts, IsGenerated};
-ghost use Rattle.run_files.specs.Statuses.{IfRefused};
+ghost use Rattle.nfq_cli.specs.Ending.{IsEnded, span};
+ghost use Rattle.nfq_cli.specs.Headline.{input_texts};
 
 use command_line::{Generation, Inputs, Sample};
 use generated::{rules_text, script_text};
@@ -22,21 +22,8 @@ use std::alloc::Global;
 /// Makes the inputs and writes them.
 pub fn generate<H: Host>(alloc: Global, files: &Generation<'_>, host: &mut H) -> Result<(), Stop>
     requires allowed { IsGenAllowed (gen_files_of files.now) }
-    ensures generated { OnOk result (IsTrue (H.tells host.old) →
-        IsGenerated (gen_files_of files.now) (H.content host.new)) }
-    ensures no_refusal { IfRefused result (λ _. ⊥) }
-    ensures no_read { IsErrOf result Stop.ReadFault → ⊥ }
-    ensures write_fault { IsErrOf result Stop.WriteFault →
-        WriteFaultRose (gen_outputs (gen_files_of files.now))
-        (H.write_faults host.old) (H.write_faults host.new) }
-    ensures stopped { IsErrOf result Stop.WriteFault →
-        IsStopped (gen_outputs (gen_files_of files.now))
-        (H.write_faults host.old) (H.write_faults host.new) (H.content host.old)
-        (H.content host.new) }
-    ensures cut_short { IsErrOf result Stop.WriteFault → IsTrue (H.tells host.old) →
-        IsStoppedAfter (gen_texts (gen_files_of files.now))
-        (H.write_faults host.old) (H.write_faults host.new) (H.content host.old)
-        (H.content host.new) }
+    ensures ended { IsEnded (Generates (gen_files_of files.now))
+        (span H.tells H.content H.read_faults H.write_faults host.old host.new) result }
     ensures untouched { OnErr result (¬ IsErrOf result Stop.WriteFault →
         SameFiles (H.content host.old) (H.content host.new)) }
     ensures others { OthersStay (gen_outputs (gen_files_of files.now))

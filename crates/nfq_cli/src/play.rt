@@ -1,14 +1,12 @@
 //! The command `play`: three files are read, the run is made, and three files are written.
 
-ghost use Rattle.std.specs.Prelude.{◌≡◌, Some, IsTrue, OnOk, OnErr, IsErrOf, [], ◌∷◌, true};
+ghost use Rattle.std.specs.Prelude.{◌≡◌, Some, IsTrue, OnOk, OnErr, IsErrOf, true};
 ghost use Rattle.host_io.specs.Host.{IsLater, SameFiles};
-ghost use Rattle.run_files.specs.declared.refusal.Refusal.{Refusal as ARefusal};
-ghost use Rattle.command_line.specs.Arguments.{are_outputs_apart, files_of, play_outputs};
-ghost use Rattle.run_files.specs.Causes.{AreTaken, IsRefused, IsUnread};
+ghost use Rattle.command_line.specs.Arguments.{are_outputs_apart, files_of, play_outputs, Plays};
 ghost use Rattle.run_files.specs.Files.{IsStopped, IsStoppedAfter, OthersStay};
-ghost use Rattle.run_files.specs.Files.{ReadFaultRose, WriteFaultRose};
-ghost use Rattle.nfq_cli.specs.Headline.{IsCutShort, IsPlayed, texts_as};
-ghost use Rattle.run_files.specs.Statuses.{IfRefused, StopsFor};
+ghost use Rattle.run_files.specs.Files.{WriteFaultRose};
+ghost use Rattle.nfq_cli.specs.Ending.{IsEnded, span};
+ghost use Rattle.nfq_cli.specs.Headline.{texts_as};
 
 use crate::account::histories_of;
 use command_line::Play;
@@ -19,29 +17,8 @@ use std::alloc::Global;
 /// Reads the inputs, makes the run and writes the outputs.
 pub fn play_files<H: Host>(alloc: Global, files: &Play<'_>, host: &mut H) -> Result<(), Stop>
     requires apart { are_outputs_apart (files_of files.now) ≡ true }
-    ensures played { OnOk result (IsTrue (H.tells host.old) →
-        IsPlayed (files_of files.now) (H.content host.old) (H.content host.new)) }
-    ensures refused { IfRefused result (λ why. IsTrue (H.tells host.old) →
-        IsRefused (files_of files.now).inputs (H.content host.old) why) }
-    ensures exact { (why : ARefusal) → IsTrue (H.tells host.old) →
-        IsRefused (files_of files.now).inputs (H.content host.old) why → StopsFor why result }
-    ensures only { IsTrue (H.tells host.old) →
-        AreTaken (files_of files.now).inputs (H.content host.old) → IfRefused result (λ _. ⊥) }
-    ensures read_fault { IsErrOf result Stop.ReadFault → ReadFaultRose (files_of files.now).inputs
-        (H.read_faults host.old) (H.read_faults host.new) }
-    ensures unread { IsErrOf result Stop.ReadFault → IsTrue (H.tells host.old) →
-        IsUnread (files_of files.now).inputs
-        (H.read_faults host.old) (H.read_faults host.new) (H.content host.old) }
-    ensures write_fault { IsErrOf result Stop.WriteFault →
-        WriteFaultRose (play_outputs (files_of files.now))
-        (H.write_faults host.old) (H.write_faults host.new) }
-    ensures stopped { IsErrOf result Stop.WriteFault → IsStopped (play_outputs (files_of files.now))
-        (H.write_faults host.old) (H.write_faults host.new) (H.content host.old)
-        (H.content host.new) }
-    ensures cut_short { IsErrOf result Stop.WriteFault → IsTrue (H.tells host.old) →
-        IsCutShort (files_of files.now)
-        (H.write_faults host.old) (H.write_faults host.new) (H.content host.old)
-        (H.content host.new) }
+    ensures ended { IsEnded (Plays (files_of files.now))
+        (span H.tells H.content H.read_faults H.write_faults host.old host.new) result }
     ensures untouched { OnErr result (¬ IsErrOf result Stop.WriteFault →
         SameFiles (H.content host.old) (H.content host.new)) }
     ensures others { OthersStay (play_outputs (files_of files.now))

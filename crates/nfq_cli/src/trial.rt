@@ -1,11 +1,11 @@
 //! The command `trial`: the run on generated inputs, in memory, of which the counts are printed.
 
-ghost use Rattle.std.specs.Prelude.{◌≡◌, IsTrue, IfOk, OnOk, OnErr, IsErrOf};
+ghost use Rattle.std.specs.Prelude.{IfOk, OnErr, IsErrOf};
 ghost use Rattle.host_io.specs.Host.{IsLater, SameFiles};
-ghost use Rattle.command_line.specs.Arguments.{IsSample, sample_of, trial_outputs};
-ghost use Rattle.run_files.specs.Files.{IsStopped, OthersStay, WriteFaultRose};
-ghost use Rattle.nfq_cli.specs.Headline.{IsCounted, IsTried};
-ghost use Rattle.run_files.specs.Statuses.{IfRefused};
+ghost use Rattle.command_line.specs.Arguments.{IsSample, sample_of, trial_outputs, Tries};
+ghost use Rattle.run_files.specs.Files.{OthersStay};
+ghost use Rattle.nfq_cli.specs.Ending.{IsEnded, span};
+ghost use Rattle.nfq_cli.specs.Headline.{IsCounted};
 
 use crate::account::histories_of;
 use command_line::Sample;
@@ -18,15 +18,8 @@ use std::alloc::Global;
 /// Makes the run and prints its counts.
 pub fn try_out<H: Host>(alloc: Global, sample: Sample, host: &mut H) -> Result<(), Stop>
     requires sample { IsSample (sample_of sample) }
-    ensures tried { OnOk result (IsTrue (H.tells host.old) →
-        IsTried (sample_of sample) (H.content host.new)) }
-    ensures no_refusal { IfRefused result (λ _. ⊥) }
-    ensures no_read { IsErrOf result Stop.ReadFault → ⊥ }
-    ensures write_fault { IsErrOf result Stop.WriteFault → WriteFaultRose trial_outputs
-        (H.write_faults host.old) (H.write_faults host.new) }
-    ensures stopped { IsErrOf result Stop.WriteFault → IsStopped trial_outputs
-        (H.write_faults host.old) (H.write_faults host.new) (H.content host.old)
-        (H.content host.new) }
+    ensures ended { IsEnded (Tries (sample_of sample))
+        (span H.tells H.content H.read_faults H.write_faults host.old host.new) result }
     ensures untouched { OnErr result (¬ IsErrOf result Stop.WriteFault →
         SameFiles (H.content host.old) (H.content host.new)) }
     ensures others { OthersStay trial_outputs (H.content host.old) (H.content host.new) }

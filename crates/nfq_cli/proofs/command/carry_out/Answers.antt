@@ -1,15 +1,17 @@
-use Rattle.std.proofs.Common.{subst}
+use Rattle.std.proofs.Common.{Err, refl, subst}
+use Rattle.command_line.specs.Arguments.{call_of}
 use Rattle.run_files.specs.declared.stop.Stop.{Stop}
-use Rattle.run_files.specs.Statuses.{IsStopFor}
+use Rattle.nfq_cli.specs.Ending.{IsEnded, span}
+use Rattle.nfq_cli.proofs.Endings.{refused_still}
 use Rattle.nfq_cli.proofs.command.carry_out.Goals as goal
 
-pub returns-in_ok-line-in-Err-Refused-clause-exact :
-    goal.returns-in_ok-line-in-Err-Refused-clause-exact
-returns-in_ok-line-in-Err-Refused-clause-exact g c = λ i why is_i t refused.
-    subst (λ (s : Stop). IsStopFor why s) c.in-Err-Refused.field-0-is
-    (c.in-Err-Refused.ensures.exact i why is_i t refused)
-
-pub returns-in-Err-WriteFault-clause-exact : goal.returns-in-Err-WriteFault-clause-exact
-returns-in-Err-WriteFault-clause-exact g c = λ i why is_i t refused.
-    subst (λ (s : Stop). IsStopFor why s) c.in-Err-WriteFault.field-0-is
-    (c.in-Err-WriteFault.ensures.exact i why is_i t refused)
+pub returns-in_ok-line-in-Err-Refused-clause-ended :
+    goal.returns-in_ok-line-in-Err-Refused-clause-ended
+returns-in_ok-line-in-Err-Refused-clause-ended g c =
+    refused_still (call_of c.args.command.now)
+    (span g.H.Host.tells g.H.Host.content g.H.Host.read_faults g.H.Host.write_faults
+    c.args.host.now c.dispatch.new.host) _ c.in-Err-Refused.why refl refl
+    (subst (λ (s : Stop). IsEnded {T = Unit {0}} (call_of c.args.command.now)
+    (span g.H.Host.tells g.H.Host.content g.H.Host.read_faults g.H.Host.write_faults
+    c.args.host.now c.dispatch.new.host) (Err s)) c.in-Err-Refused.field-0-is
+    c.in-Err-Refused.ensures.ended)

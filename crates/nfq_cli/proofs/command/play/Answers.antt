@@ -9,31 +9,31 @@ use Rattle.nfq_cli.proofs.command.play.Goals as goal
 pub returns-in-Ok-clause-exact : goal.returns-in-Ok-clause-exact
 returns-in-Ok-clause-exact g c = λ k i why is_k is_i t refused.
     let same = same_call _ k _ is_k c.in-Some.ensures.call in
-    absurd (c.in-Ok.ensures.exact i why (ap inputs same ∙ is_i) t refused)
+    absurd (c.in-Ok.ensures.ended.exact i why (ap inputs same ∙ is_i) t refused)
 
 pub returns-in-Ok-clause-played : goal.returns-in-Ok-clause-played
 returns-in-Ok-clause-played g c = λ is_0 f is_f t.
     let same = same_call _ _ _ is_f c.in-Some.ensures.call in
     subst (λ (k : Call). IsDone k (g.H.Host.content c.args.host.now)
-    (g.H.Host.content c.carry_out.new.host)) same (c.in-Ok.ensures.done t)
+    (g.H.Host.content c.carry_out.new.host)) same (c.in-Ok.ensures.ended.done t)
 
 pub returns-in-Ok-clause-listed : goal.returns-in-Ok-clause-listed
 returns-in-Ok-clause-listed g c = λ is_0 f is_f t.
     let same = same_call _ _ _ is_f c.in-Some.ensures.call in
     subst (λ (k : Call). IsDone k (g.H.Host.content c.args.host.now)
-    (g.H.Host.content c.carry_out.new.host)) same (c.in-Ok.ensures.done t)
+    (g.H.Host.content c.carry_out.new.host)) same (c.in-Ok.ensures.ended.done t)
 
 pub returns-in-Ok-clause-generated : goal.returns-in-Ok-clause-generated
 returns-in-Ok-clause-generated g c = λ is_0 f is_f t.
     let same = same_call _ _ _ is_f c.in-Some.ensures.call in
     subst (λ (k : Call). IsDone k (g.H.Host.content c.args.host.now)
-    (g.H.Host.content c.carry_out.new.host)) same (c.in-Ok.ensures.done t)
+    (g.H.Host.content c.carry_out.new.host)) same (c.in-Ok.ensures.ended.done t)
 
 pub returns-in-Ok-clause-tried : goal.returns-in-Ok-clause-tried
 returns-in-Ok-clause-tried g c = λ is_0 f is_f t.
     let same = same_call _ _ _ is_f c.in-Some.ensures.call in
     subst (λ (k : Call). IsDone k (g.H.Host.content c.args.host.now)
-    (g.H.Host.content c.carry_out.new.host)) same (c.in-Ok.ensures.done t)
+    (g.H.Host.content c.carry_out.new.host)) same (c.in-Ok.ensures.ended.done t)
 
 pub returns-in-Err-clause-cut_short : goal.returns-in-Err-clause-cut_short
 returns-in-Err-clause-cut_short g c = λ is_3 k is_k t.
@@ -41,7 +41,7 @@ returns-in-Err-clause-cut_short g c = λ is_3 k is_k t.
     let is = is_write_fault c.in-Err.stop (sym c.status.ensures ∙ is_3) in
     subst (λ (k : Call). IsCut k (g.H.Host.write_faults c.args.host.now)
     (g.H.Host.write_faults c.carry_out.new.host) (g.H.Host.content c.args.host.now)
-    (g.H.Host.content c.carry_out.new.host)) same (c.in-Err.ensures.cut_short (ap Err is) t)
+    (g.H.Host.content c.carry_out.new.host)) same (c.in-Err.ensures.ended.cut_short (ap Err is) t)
 
 pub returns-in-Err-clause-refused : goal.returns-in-Err-clause-refused
 returns-in-Err-clause-refused g c = λ least most k is_k t.
@@ -50,7 +50,7 @@ returns-in-Err-clause-refused g c = λ least most k is_k t.
     (g.H.Host.write_faults c.args.host.now) (g.H.Host.write_faults c.carry_out.new.host)
     (g.H.Host.content c.args.host.now) (g.H.Host.content c.carry_out.new.host)
     (subst (λ n. 4 ≤ n) c.status.ensures least) (subst (λ n. n ≤ 7) c.status.ensures most)
-    (once_told c.in-Err.stop _ _ c.in-Err.ensures.refused t)
+    (once_told c.in-Err.stop _ _ c.in-Err.ensures.ended.refused t)
     (once_told c.in-Err.stop _ _ c.in-Err.ensures.printed t) in
     subst (λ (k : Call). IsSomeAnd (inputs k) (λ i. IsTurnedDown i c.status.result
     (g.H.Host.write_faults c.args.host.now) (g.H.Host.write_faults c.carry_out.new.host)
@@ -66,9 +66,9 @@ returns-in-Err-clause-exact g c = λ k i why is_k is_i t refused.
     (g.H.Host.write_faults c.carry_out.new.host) (g.H.Host.content c.carry_out.new.host)
     (IsUnread i (g.H.Host.read_faults c.args.host.now)
     (g.H.Host.read_faults c.carry_out.new.host) (g.H.Host.content c.args.host.now))
-    (c.in-Err.ensures.exact i why there t refused)
+    (c.in-Err.ensures.ended.exact i why there t refused)
     (once_told c.in-Err.stop _ _ c.in-Err.ensures.printed t)
     (λ is. subst (λ (o : Option InputFiles). IsSomeAnd o (λ j. IsUnread j
     (g.H.Host.read_faults c.args.host.now)
     (g.H.Host.read_faults c.carry_out.new.host) (g.H.Host.content c.args.host.now))) there
-    (c.in-Err.ensures.unread (ap Err is) t)))
+    (c.in-Err.ensures.ended.unread (ap Err is) t)))

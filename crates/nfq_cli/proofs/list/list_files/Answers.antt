@@ -1,10 +1,23 @@
+use Rattle.std.proofs.Common.{rules}
 use Rattle.run_files.specs.declared.stop.Stop.TheVariants as stop
-use Rattle.nfq_cli.proofs.Endings.{by_this_alone, made_is_not_refused}
+use Rattle.nfq_cli.proofs.Endings.{by_this_alone, none_is_refused}
 use Rattle.nfq_cli.proofs.list.list_files.Goals as goal
 
-pub returns-in_err-write_whole-clause-exact : goal.returns-in_err-write_whole-clause-exact
-returns-in_err-write_whole-clause-exact g c = λ why t refused.
-    absurd (made_is_not_refused (c.in_ok-made.ensures.exact why t refused))
+pub returns-in_err-write_whole-clause-ended : goal.returns-in_err-write_whole-clause-ended
+returns-in_err-write_whole-clause-ended g c =
+    record {
+      done = search rules;
+      refused = search rules;
+      exact = λ i why is_i t refused.
+          absurd (none_is_refused _ i (g.H.Host.content c.args.host.now) why is_i refused
+          (λ same. c.in_ok-made.ensures.exact why t same));
+      only = search rules;
+      read_fault = search rules;
+      unread = search rules;
+      write_fault = search rules;
+      stopped = search rules;
+      cut_short = search rules;
+    }
 
 pub returns-in_err-write_whole-clause-untouched :
     goal.returns-in_err-write_whole-clause-untouched
@@ -12,6 +25,18 @@ returns-in_err-write_whole-clause-untouched g c =
     by_this_alone _ c.from_residual-in_err-write_whole.result stop.WriteFault
     c.from_residual-in_err-write_whole.ensures.1
 
-pub returns-clause-exact : goal.returns-clause-exact
-returns-clause-exact g c = λ why t refused.
-    absurd (made_is_not_refused (c.in_ok-made.ensures.exact why t refused))
+pub returns-clause-ended : goal.returns-clause-ended
+returns-clause-ended g c =
+    record {
+      done = search rules;
+      refused = search rules;
+      exact = λ i why is_i t refused.
+          absurd (none_is_refused _ i (g.H.Host.content c.args.host.now) why is_i refused
+          (λ same. c.in_ok-made.ensures.exact why t same));
+      only = search rules;
+      read_fault = search rules;
+      unread = search rules;
+      write_fault = search rules;
+      stopped = search rules;
+      cut_short = search rules;
+    }
