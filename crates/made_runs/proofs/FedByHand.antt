@@ -17,7 +17,7 @@ use Rattle.made_runs.specs.Feeder.{Item, Was, Fell, Passed, entries_of, lines_of
 use Rattle.made_runs.specs.Feeder.{AreItemsFrom, IsNoDown, times_of_event}
 use Rattle.made_runs.specs.Order.{Kind, Opens, Answers, Ends, Marked, kinds_of, early_rank}
 use Rattle.made_runs.specs.Order.{late_ranks, IsOrdered}
-use Rattle.made_runs.specs.FedExamples.{binds, asks, arrives, falls}
+use Rattle.made_runs.specs.FedExamples.{binds, asks, arrives, falls, comes_again}
 use Rattle.made_runs.specs.FedExamples.{shuts, down_5, whole, kinds_of_7}
 use Rattle.made_runs.specs.FedExamples.{opens_7, ends_7, no_kinds}
 
@@ -215,10 +215,24 @@ early_end request is =
     by Opens l same on = let wrong = same in cc
     by Answers l same on = let wrong = same in cc
 
+pub early_closing : IsOrdered (7 ∷ []) no_kinds (shuts 7 ∷ arrives 1 ∷ []) → ⊥
+early_closing is =
+    let two = two_of (7 ∷ []) no_kinds (shuts 7) (arrives 1) is in
+    absurd (omega (arith, two.late.1.0))
+
 pub wrong_closings : IsOrdered (7 ∷ 9 ∷ []) no_kinds (shuts 9 ∷ shuts 7 ∷ []) → ⊥
 wrong_closings is =
     let two = two_of (7 ∷ 9 ∷ []) no_kinds (shuts 9) (shuts 7) is in
     absurd (omega (arith, two.late.1.0))
+
+pub again_fed : IsFed [] (arrives 1 ∷ arrives 2 ∷ comes_again 1 ∷ [])
+again_fed = record {
+  items = Was (arrives 1) ∷ Was (arrives 2) ∷ Was (comes_again 1) ∷ [];
+  entries = refl;
+  lines = refl;
+  each = (tt, (tt, (tt, tt)));
+  times = (omega arith, (omega arith, (omega arith, (omega arith, tt))));
+}
 
 -- ---- lines without an entry
 

@@ -1,5 +1,7 @@
 pub mod Placing
 pub mod Told
+pub mod Workers
+pub mod Feeders
 pub mod Entered
 pub mod Datagrams
 pub mod Written

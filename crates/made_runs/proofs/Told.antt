@@ -103,17 +103,17 @@ both_give : {X : Type 0} (P Q R : X → Type 0) → ((x : X) → P x → Q x →
 both_give P Q R on [] ps qs = tt
 both_give P Q R on (x ∷ xs) ps qs = (on x ps.0 qs.0, both_give P Q R on xs ps.1 qs.1)
 
-pub all_told : (script : ScriptValue) (frames : ℕ) (h : Histories) (notes : ℕ → List Note)
-    (left : ℕ → List Letter) → AllPairs (λ p q. p ≢ q) script.ports →
-    IsMadeBy script frames h notes left → All (IsTold script notes) h.logs
-all_told script frames h notes left differ made =
-    All-from_recursion (IsTold script notes) h.logs
+pub all_told : (workers feeders : ℕ) (script : ScriptValue) (frames : ℕ) (h : Histories)
+    (notes : ℕ → List Note) (left : ℕ → List Letter) → AllPairs (λ p q. p ≢ q) script.ports →
+    IsMadeBy workers feeders script frames h notes left → All (IsTold workers script notes) h.logs
+all_told workers feeders script frames h notes left differ made =
+    All-from_recursion (IsTold workers script notes) h.logs
     (both_give (λ l. list_any (nat_eq l.port) (map port_of h.logs) ≡ true)
-    (λ l. log_of l.port h.logs ≡ Some l.dids) (IsTold script notes) one h.logs (all_among h.logs)
+    (λ l. log_of l.port h.logs ≡ Some l.dids) (IsTold workers script notes) one h.logs (all_among h.logs)
     (all_found h.logs (subst AreApart (sym made.ports) (apart_so script.ports differ))))
   where
     one : (l : PortLog) → list_any (nat_eq l.port) (map port_of h.logs) ≡ true →
-        log_of l.port h.logs ≡ Some l.dids → IsTold script notes l
+        log_of l.port h.logs ≡ Some l.dids → IsTold workers script notes l
     one l among found =
         let i : is_port script l.port ≡ true =
         ap (list_any (nat_eq l.port)) (sym made.ports) ∙ among in

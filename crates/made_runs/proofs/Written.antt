@@ -24,36 +24,70 @@ use Rattle.made_runs.specs.LoggedExamples.{header, message, no_logs, opening_scr
 use Rattle.nfqa_msgs.specs.declared.request.Request.{Request}
 use Rattle.histories.specs.declared.log.Did.{Did}
 use Rattle.histories.specs.declared.log.Did.TheVariants.{Sent, Closed}
-use Rattle.made_runs.specs.Log.{Note, Got, Begun, Spoke, Shut, IsLog}
+use Rattle.made_runs.specs.Log.{Note, Got, Turned, Begun, Spoke, Shut, IsLog}
 use Rattle.made_runs.specs.Requests.{AreRequests}
 use Rattle.made_runs.specs.Closing.{IsClosing}
-use Rattle.made_runs.specs.Examples.{closing_script, one_request, two_closings}
+use Rattle.made_runs.specs.Examples.{closing_script, one_request, two_closings, another_asks}
+use Rattle.made_runs.specs.Examples.{one_closing}
+use Rattle.queue_core.specs.declared.event.Event.TheVariants.{Ask}
+use Rattle.queue_core.specs.declared.event.Reply.TheVariants.{Answer}
+use Rattle.made_runs.specs.Requests.{pleas_in}
 
-pub only_closing : IsLog closing_script 0 7 (Shut ∷ []) (Closed ∷ [])
+pub only_closing : IsLog 1 closing_script 0 7 (Shut ∷ []) (Closed ∷ [])
 only_closing =
-    record { noted = refl; next = ((refl, refl, refl), tt); owed = refl; ended = refl }
+    record {
+      noted = refl;
+      next = ((refl, refl, refl), tt);
+      owed = refl;
+      answered = refl;
+      ended = refl;
+    }
 
-pub not_empty : (notes : List Note) → IsLog closing_script 0 7 notes [] → ⊥
+no_turn : false ≡ true → ⊥
+no_turn wrong = cc
+
+pub not_empty : (notes : List Note) → IsLog 1 closing_script 0 7 notes [] → ⊥
 not_empty [] is = let wrong = is.ended in cc
 not_empty (Got l ∷ ns) is = let wrong = is.noted in cc
+not_empty (Turned ∷ ns) is = no_turn is.next.0.0
 not_empty (Begun ∷ ns) is = is.next.0.1
 not_empty (Spoke call m errno ∷ ns) is = let wrong = is.noted in cc
 not_empty (Shut ∷ ns) is = let wrong = is.noted in cc
 
 pub nothing_behind : (did : Did) (notes : List Note) →
-    IsLog closing_script 0 7 notes (Closed ∷ did ∷ []) → ⊥
+    IsLog 1 closing_script 0 7 notes (Closed ∷ did ∷ []) → ⊥
 nothing_behind did [] is = let wrong = is.noted in cc
 nothing_behind did (Got l ∷ ns) is = let wrong = is.noted in cc
+nothing_behind did (Turned ∷ ns) is = no_turn is.next.0.0
 nothing_behind did (Begun ∷ ns) is = is.next.0.1
 nothing_behind did (Spoke call m errno ∷ ns) is = let wrong = is.noted in cc
 nothing_behind did (Shut ∷ []) is = let wrong = is.noted in cc
 nothing_behind did (Shut ∷ Got l ∷ ns) is = let wrong = is.next.1.0.0 in cc
+nothing_behind did (Shut ∷ Turned ∷ ns) is = no_turn is.next.1.0.0
 nothing_behind did (Shut ∷ Begun ∷ ns) is = is.next.1.0.1
 nothing_behind did (Shut ∷ Spoke call m errno ∷ ns) is = let wrong = is.next.1.0.0 in cc
 nothing_behind did (Shut ∷ Shut ∷ ns) is = let wrong = is.next.1.0.0 in cc
 
 pub no_request : (request : Request) → AreRequests (one_request request) 7 [] → ⊥
 no_request request are = let wrong = are 3 in cc
+
+pub of_another : (request : Request) → AreRequests (one_request request) 9 []
+of_another request = λ queue. by (3 == queue)
+  where
+    by : (c : Bool) →
+        pleas_in 9 (if c then record { queue = 3; event = Ask 7 1 request; reply = Answer 0 0 } ∷ []
+        else []) ≡ []
+    by true = refl
+    by false = refl
+
+pub may_ask : IsClosing 7 true another_asks
+may_ask = record { last = refl; unbound = refl }
+
+pub not_unclosed : IsClosing 7 false one_closing → ⊥
+not_unclosed is = let wrong = is in cc
+
+pub another_closed : IsClosing 9 false one_closing
+another_closed = refl
 
 pub no_second : IsClosing 7 true two_closings → ⊥
 no_second is = let wrong = is.last in cc
@@ -79,7 +113,7 @@ others_of_7 notes port out = by (port == 7) out
 
 -- of histories in which port 7 alone has a log
 log_of_7 : (script : ScriptValue) (notes : List Note) (wrote : List Did) → script.ports ≡ 7 ∷ [] →
-    IsLog script 0 7 notes wrote → LogHolds script (logging wrote) (notes_by_7 notes)
+    IsLog 1 script 0 7 notes wrote → LogHolds 1 script (logging wrote) (notes_by_7 notes)
 log_of_7 script notes wrote only is = record {
   each = λ port dids i there.
       own port dids (is_7 port (ap (list_any (nat_eq port)) (sym only) ∙ i)) there;
@@ -95,15 +129,15 @@ log_of_7 script notes wrote only is = record {
 
     own : (port : ℕ) (dids : List Did) → port ≡ 7 →
         log_of port (logging wrote).logs ≡ Some dids →
-        IsLog script (place_in port script.ports) port (notes_by_7 notes port) dids
+        IsLog 1 script (place_in port script.ports) port (notes_by_7 notes port) dids
     own port dids same there =
         subst (λ p. log_of p (logging wrote).logs ≡ Some dids →
-        IsLog script (place_in p script.ports) p (notes_by_7 notes p) dids) (sym same)
+        IsLog 1 script (place_in p script.ports) p (notes_by_7 notes p) dids) (sym same)
         (λ at. let here : wrote ≡ dids = cc in
-        subst (λ ps. IsLog script (place_in 7 ps) 7 notes dids) (sym only)
-        (subst (IsLog script 0 7 notes) here is)) there
+        subst (λ ps. IsLog 1 script (place_in 7 ps) 7 notes dids) (sym only)
+        (subst (IsLog 1 script 0 7 notes) here is)) there
 
-pub run_made : IsMadeBy closing_script 0 run_of_7 notes_of_7 (λ port. [])
+pub run_made : IsMadeBy 1 1 closing_script 0 run_of_7 notes_of_7 (λ port. [])
 run_made = record {
   log = log_of_7 closing_script (Shut ∷ []) (Closed ∷ []) refl only_closing;
   requests = record {
@@ -121,15 +155,15 @@ run_made = record {
   feeder = λ queue below. record {
     items = [];
     entries = refl;
-    lines = refl;
+    lines = λ feeder one. refl;
     each = tt;
-    times = tt;
+    times = λ feeder one. tt;
   };
   order = λ queue below. record {
     marks = [];
     entries = refl;
     kinds = λ port. either_of_7 port
-        (λ ns. [] ≡ kinds_told closing_script queue port ns) refl refl;
+        (λ ns. [] ≡ kinds_told 1 closing_script queue port ns) refl refl;
     early = tt;
     late = tt;
   };
@@ -146,7 +180,7 @@ run_made = record {
     answers_of_7 port dids false wrong = absurd (cc)
 
 pub silence_not_made : (notes : ℕ → List Note) (left : ℕ → List Letter) →
-    IsMadeBy closing_script 0 silence_of_7 notes left → ⊥
+    IsMadeBy 1 1 closing_script 0 silence_of_7 notes left → ⊥
 silence_not_made notes left is = not_empty (notes 7) (is.log.each 7 [] refl refl)
 
 -- ---- one part alone
@@ -154,7 +188,7 @@ silence_not_made notes left is = not_empty (notes 7) (is.log.each 7 [] refl refl
 pub no_log_missing : PortsHold closing_script no_logs → ⊥
 no_log_missing is = cc
 
-pub no_log_holds : LogHolds closing_script no_logs (λ port. [])
+pub no_log_holds : LogHolds 1 closing_script no_logs (λ port. [])
 no_log_holds =
     record { each = λ port dids i wrong. absurd (cc); others = λ port out. refl }
 
@@ -170,7 +204,7 @@ wrong_answered errno is =
     cc
 
 pub wrong_answer_logged : (errno : ℕ) →
-    LogHolds opening_script (logging (Sent 1 (Raw (header 1)) (Some 16) ∷ []))
+    LogHolds 1 opening_script (logging (Sent 1 (Raw (header 1)) (Some 16) ∷ []))
     (notes_by_7 (Begun ∷ Spoke 1 (message 1) errno ∷ []))
 unfolding first_message decoded
 wrong_answer_logged errno =
@@ -179,5 +213,6 @@ wrong_answer_logged errno =
       noted = refl;
       next = ((refl, tt), ((refl, refl, refl), tt));
       owed = refl;
+      answered = refl;
       ended = refl;
     })

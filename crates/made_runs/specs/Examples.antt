@@ -1,5 +1,6 @@
 -- A script of one port, written out, and what its run may have and may not.
-use Rattle.std.specs.Prelude.{ℕ, true, List, [], ◌∷◌, ◌==◌, if◌then◌else◌}
+use Rattle.std.specs.Prelude.{ℕ, true, List, [], ◌∷◌, ◌==◌, Some, None, if◌then◌else◌}
+use Rattle.nfqa_msgs.specs.declared.request.Request.TheVariants.{Config}
 use Rattle.nfqa_msgs.specs.declared.request.Request.{Request}
 use Rattle.queue_core.specs.declared.event.Event.TheVariants.{Ask, PortClosed}
 use Rattle.queue_core.specs.declared.event.Reply.TheVariants.{Answer, Flushed}
@@ -26,6 +27,19 @@ abbrev pub two_closings : List Entry
 two_closings =
     record { queue = 3; event = PortClosed 7; reply = Flushed 0 }
     ∷ record { queue = 3; event = PortClosed 7; reply = Flushed 0 } ∷ []
+
+-- port 7 closes, and behind that port 9 binds the queue
+abbrev pub another_asks : List Entry
+another_asks =
+    record { queue = 3; event = PortClosed 7; reply = Flushed 0 }
+    ∷ record {
+      queue = 3;
+      event = Ask 9 1 (Config 3 (Some 1) None None None None);
+      reply = Answer 0 0;
+    } ∷ []
+
+abbrev pub one_closing : List Entry
+one_closing = record { queue = 3; event = PortClosed 7; reply = Flushed 0 } ∷ []
 
 -- the histories of its run, in which nothing happens at a queue, and others in which the port did
 -- nothing

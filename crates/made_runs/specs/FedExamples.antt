@@ -10,6 +10,7 @@ use Rattle.queue_core.specs.declared.offers.Outcome.TheVariants.{CopyNone}
 use Rattle.histories.specs.declared.entry.Entry.{Entry}
 use Rattle.histories.specs.Examples.{packet}
 use Rattle.script_lines.specs.declared.line.Down.{Down}
+use Rattle.inspector_script.specs.Scripts.{ScriptValue, held}
 use Rattle.made_runs.specs.Order.{Kind, Opens, Ends}
 
 -- an entry of queue 3
@@ -27,6 +28,11 @@ asks request = at_3 (Ask 7 2 request) (Answer 0 0)
 abbrev pub arrives : ℕ → Entry
 arrives number = at_3 (Arrive (packet number) false true) (Arrived CopyNone)
 
+-- it arrives once more, after it was queued and let go on
+abbrev pub comes_again : ℕ → Entry
+comes_again number =
+    at_3 (Arrive (record (packet number) { visit = 2 }) false true) (Arrived CopyNone)
+
 abbrev pub falls : ℕ → Entry
 falls device = at_3 (DeviceDown device) (Flushed 0)
 
@@ -36,6 +42,15 @@ shuts port = at_3 (PortClosed port) (Flushed 0)
 -- device 5 goes down after frame 1
 abbrev pub down_5 : List Down
 down_5 = record { device = 5; after = 1 } ∷ []
+
+-- devices 5 and 6 go down after frames 1 and 2, and device 7 before all frames
+abbrev pub three_downs : ScriptValue
+three_downs =
+    held 1 0 0
+    (record { device = 5; after = 1 }
+    ∷ record { device = 6; after = 2 }
+    ∷ record { device = 7; after = 0 } ∷ []) (7 ∷ [])
+    (record { opening = []; lines = []; closing = []; closes = false } ∷ [])
 
 -- Port 7 opens with the binding and ends with a request and its closing; two frames arrive, and
 -- between them the device goes down.

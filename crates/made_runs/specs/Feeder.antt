@@ -1,6 +1,6 @@
 -- The feeder: where frames arrive for the first time, and where devices go down between them.
 use Rattle.std.specs.Prelude.{◌≡◌, ◌<◌, ℕ, zero, suc, ◌+◌, ◌*◌, List, [], ◌∷◌, ◌++◌, flat_map}
-use Rattle.std.specs.Prelude.{Bool, filter, Option, None, ◌==◌, if◌then◌else◌}
+use Rattle.std.specs.Prelude.{◌-◌, ◌%◌, ◌||◌, Bool, filter, Option, None, ◌==◌, if◌then◌else◌}
 use Rattle.queue_core.specs.State.{Bound}
 use Rattle.queue_core.specs.declared.event.Event.{Event}
 use Rattle.queue_core.specs.declared.event.Event.TheVariants.{Arrive, Ask, PortClosed, DeviceDown}
@@ -93,7 +93,7 @@ times_of (Was e) = times_of_event e.event
 times_of (Fell d e) = falling_time d.after ∷ []
 times_of (Passed d) = falling_time d.after ∷ []
 
--- A queue's history was fed, with these lines, where they can be put in: each at one place, in
+-- A queue's history was fed by one feeder, with these lines, where they can be put in: each at one place, in
 -- their order, with the entry of its device or where the queue is absent; no other device goes
 -- down; and the times ascend. So first arrivals ascend by their frames' numbers, and a line stands
 -- behind those of all frames up to its own and before those of later ones.
@@ -104,7 +104,48 @@ pub record IsFed (downs : List Down) (h : List Entry) : Type 0 where
   pub each : AreItemsFrom None items
   pub times : Ascend (flat_map times_of items)
 
+-- ---- several feeders
+
+-- Of so many feeders this one feeds the frame with this number, or lets the lines after it take
+-- effect. The lines before the first frame belong to all.
+abbrev pub is_share : ℕ → ℕ → ℕ → Bool
+is_share feeders feeder number =
+    (number == 0) || ((number - 1) % feeders == feeder)
+
+abbrev pub is_line_of : ℕ → ℕ → Down → Bool
+is_line_of feeders feeder d = is_share feeders feeder d.after
+
+-- the times of what is in a feeder's share
+abbrev pub shared_times : ℕ → ℕ → Event → List ℕ
+shared_times feeders feeder (Arrive card bypass room) =
+    if is_share feeders feeder card.number
+    then times_of_event (Arrive card bypass room)
+    else []
+shared_times feeders feeder (Ask port call request) = []
+shared_times feeders feeder (PortClosed port) = []
+shared_times feeders feeder (DeviceDown device) = []
+
+abbrev pub times_in : ℕ → ℕ → Item → List ℕ
+times_in feeders feeder (Was e) = shared_times feeders feeder e.event
+times_in feeders feeder (Fell d e) =
+    if is_line_of feeders feeder d then falling_time d.after ∷ [] else []
+times_in feeders feeder (Passed d) =
+    if is_line_of feeders feeder d then falling_time d.after ∷ [] else []
+
+-- A queue's history was fed by so many feeders, where all lines can be put in, and of each feeder's
+-- share its lines stand in their order and the times ascend. Between the shares there is no order.
+pub record IsFedBy (feeders : ℕ) (downs : List Down) (h : List Entry) : Type 0 where
+  pub items : List Item
+  pub entries : flat_map entries_of items ≡ h
+  pub each : AreItemsFrom None items
+  pub lines : (feeder : ℕ) → feeder < feeders →
+      filter (is_line_of feeders feeder) (flat_map lines_of items)
+      ≡ filter (is_line_of feeders feeder) downs
+  pub times : (feeder : ℕ) → feeder < feeders →
+      Ascend (flat_map (times_in feeders feeder) items)
+
 -- so it is of each queue
-abbrev pub AreFed : ScriptValue → ℕ → List Entry → Type 0
-AreFed script frames es =
-    (queue : ℕ) → queue < queue_count → IsFed (downs_in_effect script frames) (history queue es)
+abbrev pub AreFed : ℕ → ScriptValue → ℕ → List Entry → Type 0
+AreFed feeders script frames es =
+    (queue : ℕ) → queue < queue_count →
+    IsFedBy feeders (downs_in_effect script frames) (history queue es)

@@ -1,8 +1,9 @@
 -- What a port's log may be: its opening messages, then blocks. A block is a notice with all the
--- messages that the script answers to it, or one message of the end. The closing is last, where the
--- script says it.
+-- messages that the script answers to it, or one message of the end. Behind a pool of workers the
+-- answers to a notice are a block of their own, which stands somewhere behind it, in the order of the
+-- notices. The closing is last, where the script says it.
 use Rattle.std.specs.Prelude.{◌≡◌, ℕ, Bool, true, false, List, [], ◌∷◌, ◌++◌, map, flat_map, min}
-use Rattle.std.specs.Prelude.{count_by, Option, Some, None}
+use Rattle.std.specs.Prelude.{count_by, nat_lt, Option, Some, None, if◌then◌else◌}
 use Rattle.packet_entry.specs.declared.letter.Letter.{Letter}
 use Rattle.netlink_codec.specs.Messages.{NetlinkMessage}
 use Rattle.nfqa_msgs.specs.RequestReading.{decoded}
@@ -22,10 +23,12 @@ use Rattle.made_runs.specs.Datagrams.{messages_in, bytes_of}
 -- ---- what a port does, told in full
 
 -- A log tells of a notice its queue, number and visit, and of a message how it was logged. Here
--- stand the whole notice and the message itself; and it is told where an ask was taken up, whose
--- bytes are then cut into messages.
+-- stand the whole notice and the message itself; it is told where an ask was taken up, whose bytes
+-- are then cut into messages; and, of a port whose answers a pool works out, where it turned to the
+-- answers of the next notice.
 pub data Note : Type 0 where
   Got : Letter → Note
+  Turned : Note
   Begun : Note
   Spoke : ℕ → NetlinkMessage → ℕ → Note
   Shut : Note
@@ -33,6 +36,7 @@ pub data Note : Type 0 where
 -- what a log has of it
 abbrev pub dids_by : ℕ → Note → List Did
 dids_by port (Got l) = Received l.queue l.number l.visit ∷ []
+dids_by port Turned = []
 dids_by port Begun = []
 dids_by port (Spoke call m errno) =
     Sent call (words_of port call m.whole (decoded m)) (answered m errno) ∷ []
@@ -49,11 +53,13 @@ pub data Due : Type 0 where
   Still : Ask → Due
   Message : NetlinkMessage → Due
 
--- Where a port stands: what it did, what it owes now, what it has to do at the end, whether it is
--- open, and whether it has just taken up an ask and sent none of its messages.
+-- Where a port stands: what it did, what it owes now, the answers to notices that it hasn't turned to
+-- yet, what it has to do at the end, whether it is open, and whether it has just taken up an ask and
+-- sent none of its messages.
 pub record Standing : Type 0 where
   pub dids : List Did
   pub owed : List Due
+  pub pending : List (List Due)
   pub ends : List Due
   pub is_open : Bool
   pub is_fresh : Bool
@@ -67,6 +73,7 @@ start script place =
     record {
       dids = [];
       owed = all_due (opening script place);
+      pending = [];
       ends = all_due (closing script place);
       is_open = true;
       is_fresh = false;
@@ -127,17 +134,44 @@ abbrev pub replaced : List Due → Standing → Standing
 replaced instead t =
     record t { owed = owed_then instead t.owed; ends = ends_then instead t.owed t.ends }
 
--- where the port stands after this
-abbrev pub after : ScriptValue → ℕ → ℕ → Standing → Note → Standing
-after script place port t (Got l) =
+-- whether a pool of so many workers works out a port's answers; one worker is none
+abbrev pub is_pool : ℕ → Bool
+is_pool workers = nat_lt 1 workers
+
+-- where the port stands once it has these answers to a notice: it owes them now, and behind a pool
+-- they wait until it turns to them
+abbrev pub answering : ℕ → List Due → Standing → Standing
+answering workers answers t =
+    if is_pool workers
+    then record t { pending = t.pending ++ answers ∷ [] }
+    else record t { owed = answers }
+
+abbrev pub first_group : List (List Due) → List Due
+first_group [] = []
+first_group (ds ∷ groups) = ds
+
+abbrev pub other_groups : List (List Due) → List (List Due)
+other_groups [] = []
+other_groups (ds ∷ groups) = groups
+
+abbrev pub is_some_group : List (List Due) → Bool
+is_some_group [] = false
+is_some_group (ds ∷ groups) = true
+
+-- where the port stands after this, with so many workers
+abbrev pub after : ℕ → ScriptValue → ℕ → ℕ → Standing → Note → Standing
+after workers script place port t (Got l) =
     let u = having port (Got l) t in
-    record u { owed = all_due (answer_to script place u.dids (told_exactly l.bytes)) }
-after script place port t Begun =
+    answering workers (all_due (answer_to script place u.dids (told_exactly l.bytes))) u
+after workers script place port t Turned =
+    record t { owed = first_group t.pending; pending = other_groups t.pending }
+after workers script place port t Begun =
     let messages = messages_of port t.dids (first_due t.owed t.ends) in
     record (replaced messages t) { is_fresh = is_some_due messages }
-after script place port t (Spoke call m errno) =
+after workers script place port t (Spoke call m errno) =
     record (having port (Spoke call m errno) (replaced [] t)) { is_fresh = false }
-after script place port t Shut = record (having port Shut t) { ends = []; is_open = false }
+after workers script place port t Shut =
+    record (having port Shut t) { ends = []; is_open = false }
 
 abbrev pub IsAskDue : Option Due → Type 0
 IsAskDue (Some (Still (Words words))) = Unit {0}
@@ -146,31 +180,40 @@ IsAskDue (Some (Message m)) = ⊥
 IsAskDue None = ⊥
 
 -- Whether a port may do this next. A notice is received where nothing is owed, and not between an
--- ask and its first message; a message is the first that is due, and counts one on; and the port
--- closes where nothing but that is left.
-abbrev pub IsNext : Standing → Note → Type 0
-IsNext t (Got l) = (t.is_open ≡ true) × (t.owed ≡ []) × (t.is_fresh ≡ false)
-IsNext t Begun = (t.is_open ≡ true) × IsAskDue (first_due t.owed t.ends)
-IsNext t (Spoke call m errno) =
+-- ask and its first message; in the same places a port behind a pool turns to the answers that wait
+-- first; a message is the first that is due, and counts one on; and the port closes where nothing
+-- but that is left.
+abbrev pub IsNext : ℕ → Standing → Note → Type 0
+IsNext workers t (Got l) = (t.is_open ≡ true) × (t.owed ≡ []) × (t.is_fresh ≡ false)
+IsNext workers t Turned =
+    (is_pool workers ≡ true)
+    × (t.is_open ≡ true)
+    × (t.owed ≡ [])
+    × (t.is_fresh ≡ false)
+    × (is_some_group t.pending ≡ true)
+IsNext workers t Begun = (t.is_open ≡ true) × IsAskDue (first_due t.owed t.ends)
+IsNext workers t (Spoke call m errno) =
     (t.is_open ≡ true)
     × (first_due t.owed t.ends ≡ Some (Message m))
     × (call ≡ next_call t.dids)
-IsNext t Shut = (t.is_open ≡ true) × (t.owed ≡ []) × (t.ends ≡ Still Close ∷ [])
+IsNext workers t Shut = (t.is_open ≡ true) × (t.owed ≡ []) × (t.ends ≡ Still Close ∷ [])
 
 -- from a standing on, each is next
-abbrev pub AreNextFrom : ScriptValue → ℕ → ℕ → Standing → List Note → Type 0
-AreNextFrom script place port t [] = Unit {0}
-AreNextFrom script place port t (n ∷ ns) =
-    IsNext t n × AreNextFrom script place port (after script place port t n) ns
+abbrev pub AreNextFrom : ℕ → ScriptValue → ℕ → ℕ → Standing → List Note → Type 0
+AreNextFrom workers script place port t [] = Unit {0}
+AreNextFrom workers script place port t (n ∷ ns) =
+    IsNext workers t n
+    × AreNextFrom workers script place port (after workers script place port t n) ns
 
 -- where these lead to
-abbrev pub standing_from : ScriptValue → ℕ → ℕ → Standing → List Note → Standing
-standing_from script place port t [] = t
-standing_from script place port t (n ∷ ns) =
-    standing_from script place port (after script place port t n) ns
+abbrev pub standing_from : ℕ → ScriptValue → ℕ → ℕ → Standing → List Note → Standing
+standing_from workers script place port t [] = t
+standing_from workers script place port t (n ∷ ns) =
+    standing_from workers script place port (after workers script place port t n) ns
 
-abbrev pub standing : ScriptValue → ℕ → ℕ → List Note → Standing
-standing script place port notes = standing_from script place port (start script place) notes
+abbrev pub standing : ℕ → ScriptValue → ℕ → ℕ → List Note → Standing
+standing workers script place port notes =
+    standing_from workers script place port (start script place) notes
 
 -- ---- a whole log
 
@@ -180,10 +223,12 @@ unanswered (Received queue number visit) = Received queue number visit
 unanswered (Sent call ask answer) = Sent call ask None
 unanswered Closed = Closed
 
--- The log of the script's port at this place: all that it did was next, and nothing is left to do.
-pub record IsLog (script : ScriptValue) (place port : ℕ) (notes : List Note) (dids : List Did)
-    : Type 0 where
+-- The log of the script's port at this place, behind a pool of so many workers: all that it did was
+-- next, and nothing is left to do.
+pub record IsLog (workers : ℕ) (script : ScriptValue) (place port : ℕ) (notes : List Note)
+    (dids : List Did) : Type 0 where
   pub noted : map unanswered dids ≡ map unanswered (logged port notes)
-  pub next : AreNextFrom script place port (start script place) notes
-  pub owed : (standing script place port notes).owed ≡ []
-  pub ended : (standing script place port notes).ends ≡ []
+  pub next : AreNextFrom workers script place port (start script place) notes
+  pub owed : (standing workers script place port notes).owed ≡ []
+  pub answered : (standing workers script place port notes).pending ≡ []
+  pub ended : (standing workers script place port notes).ends ≡ []

@@ -3,6 +3,8 @@ use Rattle.std.specs.Prelude.{ℕ, false, List, [], ◌∷◌}
 use Rattle.netlink_codec.specs.Messages.{NetlinkMessage}
 use Rattle.histories.specs.declared.log.AskWords.TheVariants.{Raw}
 use Rattle.histories.specs.declared.histories.Histories.{Histories}
+use Rattle.script_lines.specs.declared.condition.Condition.TheVariants.{Every}
+use Rattle.script_lines.specs.declared.template.Template.TheVariants as template
 use Rattle.inspector_script.specs.Scripts.{ScriptValue, held}
 
 -- a netlink message without a body, of this kind, which asks nothing of a queue: its length, its
@@ -36,6 +38,17 @@ ending_script =
       opening = [];
       lines = [];
       closing = Raw (header 1) ∷ Raw (header 2) ∷ [];
+      closes = false;
+    } ∷ [])
+
+-- port 7 sends message 1 in answer to every second notice
+abbrev pub every_second : ScriptValue
+every_second =
+    held 1 0 0 [] (7 ∷ [])
+    (record {
+      opening = [];
+      lines = record { conditions = Every 2 ∷ []; asks = template.Raw (header 1) ∷ [] } ∷ [];
+      closing = [];
       closes = false;
     } ∷ [])
 

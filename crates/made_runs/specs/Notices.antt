@@ -14,11 +14,12 @@ use Rattle.queue_core.specs.declared.offers.Outcome.{Outcome}
 use Rattle.queue_core.specs.declared.offers.Outcome.TheVariants.{Taken}
 use Rattle.histories.specs.declared.entry.Entry.{Entry}
 use Rattle.histories.specs.History.{history}
-use Rattle.made_runs.specs.Log.{Note, Got, Begun, Spoke, Shut}
+use Rattle.made_runs.specs.Log.{Note, Got, Turned, Begun, Spoke, Shut}
 
 -- the notices that a port received
 abbrev pub heard_by : Note → List Letter
 heard_by (Got l) = l ∷ []
+heard_by Turned = []
 heard_by Begun = []
 heard_by (Spoke call m errno) = []
 heard_by Shut = []

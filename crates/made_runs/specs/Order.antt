@@ -33,17 +33,18 @@ kind_by (d ∷ ds) false = Opens
 abbrev pub kind_at : Standing → Kind
 kind_at t = kind_by t.owed (list_any is_received t.dids)
 
--- the kinds of a port's messages that ask something of this queue, from where it stands on
-abbrev pub kinds_from : ScriptValue → ℕ → ℕ → ℕ → Standing → List Note → List Kind
-kinds_from script place queue port t [] = []
-kinds_from script place queue port t (n ∷ ns) =
+-- the kinds of a port's messages that ask something of this queue, from where it stands
+-- on, with so many workers
+abbrev pub kinds_from : ℕ → ScriptValue → ℕ → ℕ → ℕ → Standing → List Note → List Kind
+kinds_from workers script place queue port t [] = []
+kinds_from workers script place queue port t (n ∷ ns) =
     map (λ plea. kind_at t) (pleas_told queue n)
-    ++ kinds_from script place queue port (after script place port t n) ns
+    ++ kinds_from workers script place queue port (after workers script place port t n) ns
 
-abbrev pub kinds_told : ScriptValue → ℕ → ℕ → List Note → List Kind
-kinds_told script queue port notes =
+abbrev pub kinds_told : ℕ → ScriptValue → ℕ → ℕ → List Note → List Kind
+kinds_told workers script queue port notes =
     let place = place_in port script.ports in
-    kinds_from script place queue port (start script place) notes
+    kinds_from workers script place queue port (start script place) notes
 
 -- ---- a history with these kinds beside it
 
@@ -94,7 +95,8 @@ pub record IsOrdered (ports : List ℕ) (told : ℕ → List Kind) (h : List Ent
   pub late : Ascend (flat_map (late_ranks ports) marks)
 
 -- so it is of each queue
-abbrev pub AreOrdered : ScriptValue → (ℕ → List Note) → List Entry → Type 0
-AreOrdered script notes es =
+abbrev pub AreOrdered : ℕ → ScriptValue → (ℕ → List Note) → List Entry → Type 0
+AreOrdered workers script notes es =
     (queue : ℕ) → queue < queue_count →
-    IsOrdered script.ports (λ port. kinds_told script queue port (notes port)) (history queue es)
+    IsOrdered script.ports (λ port. kinds_told workers script queue port (notes port))
+    (history queue es)

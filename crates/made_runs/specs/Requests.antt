@@ -14,7 +14,7 @@ use Rattle.histories.specs.declared.log.Did.{Did}
 use Rattle.histories.specs.declared.log.Did.TheVariants.{Received, Sent, Closed}
 use Rattle.histories.specs.History.{history}
 use Rattle.histories.specs.Happenings.{queue_of}
-use Rattle.made_runs.specs.Log.{Note, Got, Begun, Spoke, Shut, logged}
+use Rattle.made_runs.specs.Log.{Note, Got, Turned, Begun, Spoke, Shut, logged}
 
 -- the errno of a reply; no other reply comes to a request
 abbrev pub errno_in : Reply → ℕ
@@ -56,6 +56,7 @@ plea_of queue call errno (Asked request) =
 
 abbrev pub pleas_told : ℕ → Note → List Plea
 pleas_told queue (Got l) = []
+pleas_told queue Turned = []
 pleas_told queue Begun = []
 pleas_told queue (Spoke call m errno) = plea_of queue call errno (decoded m)
 pleas_told queue Shut = []
@@ -79,6 +80,7 @@ IsErrno (Asked request) errno = Unit {0}
 abbrev pub AreErrnos : List Note → Type 0
 AreErrnos [] = Unit {0}
 AreErrnos (Got l ∷ ns) = AreErrnos ns
+AreErrnos (Turned ∷ ns) = AreErrnos ns
 AreErrnos (Begun ∷ ns) = AreErrnos ns
 AreErrnos (Spoke call m errno ∷ ns) = IsErrno (decoded m) errno × AreErrnos ns
 AreErrnos (Shut ∷ ns) = AreErrnos ns

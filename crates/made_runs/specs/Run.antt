@@ -15,12 +15,13 @@ use Rattle.made_runs.specs.Room.{AreRoomy}
 use Rattle.made_runs.specs.Feeder.{AreFed}
 use Rattle.made_runs.specs.Order.{AreOrdered}
 
--- The log of each of the script's ports that has one is what the script says, and of no other
--- number anything is told.
-pub record LogHolds (script : ScriptValue) (h : Histories) (notes : ℕ → List Note) : Type 0 where
+-- The log of each of the script's ports that has one is what the script says, behind a pool of so
+-- many workers, and of no other number anything is told.
+pub record LogHolds (workers : ℕ) (script : ScriptValue) (h : Histories) (notes : ℕ → List Note)
+    : Type 0 where
   pub each : (port : ℕ) (dids : List Did) → is_port script port ≡ true →
       log_of port h.logs ≡ Some dids →
-      IsLog script (place_in port script.ports) port (notes port) dids
+      IsLog workers script (place_in port script.ports) port (notes port) dids
   pub others : (port : ℕ) → is_port script port ≡ false → notes port ≡ []
 
 -- The requests in the queues' histories are those of the ports' messages, and of nobody else;
@@ -48,18 +49,18 @@ ClosingHolds script h notes =
     (port : ℕ) → is_port script port ≡ true →
     AreClosings h.entries port (logged port (notes port))
 
--- First arrivals come in the order of frames, and devices go down between them where the script
--- says it.
-abbrev pub FeederHolds : ScriptValue → ℕ → Histories → Type 0
-FeederHolds script frames h = AreFed script frames h.entries
+-- First arrivals of each feeder's frames come in their order, and devices go down between them where
+-- the script says it.
+abbrev pub FeederHolds : ℕ → ScriptValue → ℕ → Histories → Type 0
+FeederHolds feeders script frames h = AreFed feeders script frames h.entries
 
 -- There is one log for each port of the script, in its order, and no other log.
 abbrev pub PortsHold : ScriptValue → Histories → Type 0
 PortsHold script h = map (λ (l : PortLog). l.port) h.logs ≡ script.ports
 
 -- The ports open before all else and end behind all that was fed, each in their order.
-abbrev pub OrderHolds : ScriptValue → Histories → (ℕ → List Note) → Type 0
-OrderHolds script h notes = AreOrdered script notes h.entries
+abbrev pub OrderHolds : ℕ → ScriptValue → Histories → (ℕ → List Note) → Type 0
+OrderHolds workers script h notes = AreOrdered workers script notes h.entries
 
 -- An arrival found no room only where the port was sent as many notices as its mailbox holds.
 abbrev pub RoomHolds : ScriptValue → Histories → (ℕ → List Note) → (ℕ → List Letter) → Type 0
@@ -68,20 +69,22 @@ RoomHolds script h notes left =
     AreRoomy script.mail h.entries port (notes port) (left port)
 
 -- a log is what is told of its port, with the answers, and each of it was next
-pub record IsTold (script : ScriptValue) (notes : ℕ → List Note) (l : PortLog) : Type 0 where
+pub record IsTold (workers : ℕ) (script : ScriptValue) (notes : ℕ → List Note) (l : PortLog)
+    : Type 0 where
   pub whole : l.dids ≡ logged l.port (notes l.port)
-  pub next : AreNextFrom script (place_in l.port script.ports) l.port
+  pub next : AreNextFrom workers script (place_in l.port script.ports) l.port
       (start script (place_in l.port script.ports)) (notes l.port)
 
--- Histories that ports made by this script over so many frames, with what each port did told in
--- full, and with the notices that are left in its mailbox: all parts hold.
-pub record IsMadeBy (script : ScriptValue) (frames : ℕ) (h : Histories) (notes : ℕ → List Note)
-    (left : ℕ → List Letter) : Type 0 where
-  pub log : LogHolds script h notes
+-- Histories that ports made by this script over so many frames, each behind a pool of so many
+-- workers, with so many feeders; with what each port did told in full, and with the notices that are
+-- left in its mailbox: all parts hold.
+pub record IsMadeBy (workers feeders : ℕ) (script : ScriptValue) (frames : ℕ) (h : Histories)
+    (notes : ℕ → List Note) (left : ℕ → List Letter) : Type 0 where
+  pub log : LogHolds workers script h notes
   pub requests : RequestsHold script h notes
   pub notices : NoticesHold script h notes left
   pub closing : ClosingHolds script h notes
-  pub feeder : FeederHolds script frames h
+  pub feeder : FeederHolds feeders script frames h
   pub ports : PortsHold script h
-  pub order : OrderHolds script h notes
+  pub order : OrderHolds workers script h notes
   pub room : RoomHolds script h notes left

@@ -1,27 +1,31 @@
 //! Logs, histories and runs, written out: what each part says of them.
 
 ghost use Rattle.std.specs.Prelude.{◌≡◌, ◌≤◌, ℕ, true, List, [], ◌∷◌};
-ghost use Rattle.std.specs.Prelude.{◌≢◌, None, Option, Some};
+ghost use Rattle.std.specs.Prelude.{◌≢◌, false, None, Option, Some};
 ghost use Rattle.histories.specs.declared.histories.Histories.{Histories};
 ghost use Rattle.nfqa_msgs.specs.declared.request.Request.{Request};
 ghost use Rattle.histories.specs.declared.log.Did.{Did};
 ghost use Rattle.histories.specs.declared.log.Did.TheVariants.{Closed, Received, Sent};
-ghost use Rattle.made_runs.specs.Log.{Note, Shut, IsLog};
+ghost use Rattle.made_runs.specs.Log.{Note, Shut, IsLog, start};
 ghost use Rattle.made_runs.specs.Requests.{AreRequests};
 ghost use Rattle.made_runs.specs.Closing.{IsClosing};
-ghost use Rattle.made_runs.specs.Examples.{closing_script, one_request, two_closings};
+ghost use Rattle.made_runs.specs.Examples.{another_asks, closing_script, one_closing};
+ghost use Rattle.made_runs.specs.Examples.{one_request, two_closings};
 ghost use Rattle.made_runs.specs.Examples.{logging, notes_by_7, notes_of_7, run_of_7};
 ghost use Rattle.made_runs.specs.Examples.{silence_of_7};
 ghost use Rattle.made_runs.specs.FedExamples.{down_5, whole, kinds_of_7, opens_7, ends_7};
-ghost use Rattle.made_runs.specs.FedExamples.{no_kinds, binds, asks, arrives, falls, shuts};
-ghost use Rattle.made_runs.specs.Feeder.{IsFed};
-ghost use Rattle.made_runs.specs.Order.{IsOrdered};
+ghost use Rattle.made_runs.specs.FedExamples.{comes_again, no_kinds, three_downs};
+ghost use Rattle.made_runs.specs.FedExamples.{binds, asks, arrives, falls, shuts};
+ghost use Rattle.made_runs.specs.Feeder.{downs_in_effect, IsFed};
+ghost use Rattle.made_runs.specs.Order.{Ends, IsOrdered, kind_at, Opens};
 ghost use Rattle.packet_entry.specs.declared.letter.Letter.{Letter};
 ghost use Rattle.histories.specs.declared.log.AskWords.{AskWords};
 ghost use Rattle.made_runs.specs.Run.{IsMadeBy};
 ghost use Rattle.made_runs.specs.Log.{Begun, Got, Spoke};
 ghost use Rattle.made_runs.specs.Run.{LogHolds, PortsHold, RequestsHold};
-ghost use Rattle.made_runs.specs.LoggedExamples.{ending_script, header, message, no_logs};
+ghost use Rattle.made_runs.specs.LoggedExamples.{ending_script, every_second, header, message, no_logs};
+ghost use Rattle.made_runs.specs.NoticeTexts.{told_exactly};
+ghost use Rattle.nfqa_msgs.specs.NoticeWriting.{Told};
 ghost use Rattle.made_runs.specs.LoggedExamples.{opening_script};
 ghost use Rattle.histories.specs.declared.log.AskWords.TheVariants.{Raw};
 ghost use Rattle.made_runs.specs.Notices.{AreNotices};
@@ -37,15 +41,19 @@ ghost use Rattle.nfqa_msgs.specs.declared.request.Decoded.TheVariants.{Asked};
 /// run. Those whose log is empty are none, whatever is noted of the ports and whatever is left in
 /// their mailboxes.
 pub fn runs_of_one_port()
-    ensures log { IsLog closing_script 0 7 (Shut ∷ []) (Closed ∷ []) }
-    ensures not_empty { (notes : List Note) → IsLog closing_script 0 7 notes [] → ⊥ }
+    ensures log { IsLog 1 closing_script 0 7 (Shut ∷ []) (Closed ∷ []) }
+    ensures not_empty { (notes : List Note) → IsLog 1 closing_script 0 7 notes [] → ⊥ }
     ensures nothing_behind { (did : Did) (notes : List Note) →
-        IsLog closing_script 0 7 notes (Closed ∷ did ∷ []) → ⊥ }
+        IsLog 1 closing_script 0 7 notes (Closed ∷ did ∷ []) → ⊥ }
     ensures request { (request : Request) → AreRequests (one_request request) 7 [] → ⊥ }
+    ensures another { (request : Request) → AreRequests (one_request request) 9 [] }
     ensures closings { IsClosing 7 true two_closings → ⊥ }
-    ensures run { IsMadeBy closing_script 0 run_of_7 notes_of_7 (λ port. []) }
+    ensures behind { IsClosing 7 true another_asks }
+    ensures unclosed { IsClosing 7 false one_closing → ⊥ }
+    ensures closed_by { IsClosing 9 false one_closing }
+    ensures run { IsMadeBy 1 1 closing_script 0 run_of_7 notes_of_7 (λ port. []) }
     ensures no_run { (notes : ℕ → List Note) (left : ℕ → List Letter) →
-        IsMadeBy closing_script 0 silence_of_7 notes left → ⊥ }
+        IsMadeBy 1 1 closing_script 0 silence_of_7 notes left → ⊥ }
 {}
 
 /// Logs, written out, whose port is the script's alone. A message of the opening is sent under
@@ -53,21 +61,23 @@ pub fn runs_of_one_port()
 /// one; no other number is the first; the second message of the end isn't sent first; and a notice
 /// isn't received between an ask and its first message.
 pub fn logs_by_hand()
-    ensures opened { IsLog opening_script 0 7 (Begun ∷ Spoke 1 (message 1) 0 ∷ [])
+    ensures opened { IsLog 1 opening_script 0 7 (Begun ∷ Spoke 1 (message 1) 0 ∷ [])
         (Sent 1 (Raw (header 1)) None ∷ []) }
-    ensures ended { IsLog ending_script 0 7
+    ensures ended { IsLog 1 ending_script 0 7
         (Begun ∷ Spoke 1 (message 1) 0 ∷ Begun ∷ Spoke 2 (message 2) 0 ∷ [])
         (Sent 1 (Raw (header 1)) None ∷ Sent 2 (Raw (header 2)) None ∷ []) }
     ensures answer { (queue number visit call : ℕ) (ask : AskWords) (answer : Option ℕ)
-        (notes : List Note) → IsLog closing_script 0 7 notes
+        (notes : List Note) → IsLog 1 closing_script 0 7 notes
         (Received queue number visit ∷ Sent call ask answer ∷ Closed ∷ []) → ⊥ }
+    ensures count { (l : Letter) (told : Told) → told_exactly l.bytes ≡ Some told →
+        IsLog 1 every_second 0 7 (Got l ∷ []) (Received l.queue l.number l.visit ∷ []) }
     ensures call { (call : ℕ) (ask : AskWords) (answer : Option ℕ) (notes : List Note) →
-        call ≢ 1 → IsLog opening_script 0 7 notes (Sent call ask answer ∷ []) → ⊥ }
+        call ≢ 1 → IsLog 1 opening_script 0 7 notes (Sent call ask answer ∷ []) → ⊥ }
     ensures order { (one two : ℕ) (first second : Option ℕ) (notes : List Note) →
-        IsLog ending_script 0 7 notes
+        IsLog 1 ending_script 0 7 notes
         (Sent one (Raw (header 2)) first ∷ Sent two (Raw (header 1)) second ∷ []) → ⊥ }
     ensures between { (l : Letter) (notes : List Note) (dids : List Did) →
-        IsLog ending_script 0 7 (Begun ∷ Got l ∷ notes) dids → ⊥ }
+        IsLog 1 ending_script 0 7 (Begun ∷ Got l ∷ notes) dids → ⊥ }
 {}
 
 /// Histories, written out, that one part alone refuses. Where the port has no log, its log is no
@@ -75,12 +85,12 @@ pub fn logs_by_hand()
 /// don't.
 pub fn parts_by_hand()
     ensures missing { PortsHold closing_script no_logs → ⊥ }
-    ensures no_log { LogHolds closing_script no_logs (λ port. []) }
+    ensures no_log { LogHolds 1 closing_script no_logs (λ port. []) }
     ensures answered { (errno : ℕ) →
         RequestsHold opening_script (logging (Sent 1 (Raw (header 1)) (Some 16) ∷ []))
         (notes_by_7 (Begun ∷ Spoke 1 (message 1) errno ∷ [])) → ⊥ }
     ensures logged { (errno : ℕ) →
-        LogHolds opening_script (logging (Sent 1 (Raw (header 1)) (Some 16) ∷ []))
+        LogHolds 1 opening_script (logging (Sent 1 (Raw (header 1)) (Some 16) ∷ []))
         (notes_by_7 (Begun ∷ Spoke 1 (message 1) errno ∷ [])) }
 {}
 
@@ -95,6 +105,9 @@ pub fn feeding_and_order_by_hand()
     ensures fed { (request : Request) → IsFed down_5 (whole request) }
     ensures absent { IsFed down_5 (arrives 1 ∷ []) }
     ensures lineless { IsFed [] (falls 5 ∷ []) → ⊥ }
+    ensures again { IsFed [] (arrives 1 ∷ arrives 2 ∷ comes_again 1 ∷ []) }
+    ensures in_effect { downs_in_effect three_downs 1
+        ≡ record { device = 7; after = 0 } ∷ record { device = 5; after = 1 } ∷ [] }
     ensures missed { IsFed down_5 (binds ∷ arrives 1 ∷ []) → ⊥ }
     ensures late { IsFed down_5 (arrives 2 ∷ falls 5 ∷ []) → ⊥ }
     ensures backward { (m n : ℕ) → n ≤ m → IsFed [] (arrives m ∷ arrives n ∷ []) → ⊥ }
@@ -102,6 +115,9 @@ pub fn feeding_and_order_by_hand()
     ensures opening { IsOrdered (7 ∷ []) opens_7 (arrives 1 ∷ binds ∷ []) → ⊥ }
     ensures ending { (request : Request) →
         IsOrdered (7 ∷ []) ends_7 (asks request ∷ arrives 1 ∷ []) → ⊥ }
+    ensures closing { IsOrdered (7 ∷ []) no_kinds (shuts 7 ∷ arrives 1 ∷ []) → ⊥ }
+    ensures kinds { (kind_at (start opening_script 0) ≡ Opens)
+        × (kind_at (start ending_script 0) ≡ Ends) }
     ensures closings { IsOrdered (7 ∷ 9 ∷ []) no_kinds (shuts 9 ∷ shuts 7 ∷ []) → ⊥ }
 {}
 
@@ -109,6 +125,10 @@ pub fn feeding_and_order_by_hand()
 pub fn hearing_by_hand()
     ensures unheard { AreNotices (bound 0 ∷ taken 1 ∷ []) 7 [] [] → ⊥ }
     ensures roomless { AreRoomy 1 (bound 0 ∷ turned 1 ∷ []) 7 [] [] → ⊥ }
+    ensures another { AreNotices (bound 0 ∷ taken 1 ∷ []) 9 [] [] }
+    ensures room { AreRoomy 1 (bound 0 ∷ turned 1 ∷ []) 9 [] [] }
+    ensures told { (m : NetlinkMessage) → decoded m ≡ Asked binding →
+        AreRequests (bound 16 ∷ []) 7 (Spoke 1 m 16 ∷ []) }
     ensures errno { (m : NetlinkMessage) → decoded m ≡ Asked binding →
         AreRequests (bound 16 ∷ []) 7 (Spoke 1 m 0 ∷ []) → ⊥ }
     ensures unasked { (m : NetlinkMessage) → decoded m ≡ Asked binding →

@@ -1,11 +1,16 @@
 //! What is known of histories that a script made, of what enters, and of what is sent.
 
 ghost use Rattle.std.specs.Prelude.{◌≤◌, ℕ, List};
-ghost use Rattle.std.specs.Prelude.{◌≢◌, All, AllPairs, length};
+ghost use Rattle.std.specs.Prelude.{◌≡◌, ◌≢◌, [], All, AllPairs, length};
 ghost use Rattle.pcap_io.specs.declared.capture.Capture.{Capture};
 ghost use Rattle.histories.specs.declared.histories.Histories.{Histories};
 ghost use Rattle.inspector_script.specs.Scripts.{ScriptValue};
-ghost use Rattle.made_runs.specs.Log.{Note};
+ghost use Rattle.made_runs.specs.Log.{Note, Got, Turned, Standing, after, having, all_due, start};
+ghost use Rattle.made_runs.specs.Log.{answer_to, IsNext, AreNextFrom, standing};
+ghost use Rattle.made_runs.specs.NoticeTexts.{told_exactly};
+ghost use Rattle.made_runs.specs.Feeder.{IsFed, IsFedBy};
+ghost use Rattle.script_lines.specs.declared.line.Down.{Down};
+ghost use Rattle.histories.specs.declared.entry.Entry.{Entry};
 ghost use Rattle.packet_entry.specs.declared.letter.Letter.{Letter};
 ghost use Rattle.packet_entry.specs.Numbers.{longest_payload};
 ghost use Rattle.histories.specs.declared.log.AskWords.{AskWords};
@@ -27,9 +32,30 @@ pub fn each_port_has_its_place()
 
 /// Each log of histories that a script made is what is told of its port, with the answers.
 pub fn each_log_is_what_is_told()
-    ensures { (script : ScriptValue) (frames : ℕ) (h : Histories) (notes : ℕ → List Note)
-        (left : ℕ → List Letter) → AllPairs (λ p q. p ≢ q) script.ports →
-        IsMadeBy script frames h notes left → All (IsTold script notes) h.logs }
+    ensures { (workers feeders : ℕ) (script : ScriptValue) (frames : ℕ) (h : Histories)
+        (notes : ℕ → List Note) (left : ℕ → List Letter) → AllPairs (λ p q. p ≢ q) script.ports →
+        IsMadeBy workers feeders script frames h notes left → All (IsTold workers script notes) h.logs }
+{}
+
+/// With one worker no answers wait: a port owes the answers to a notice as soon as it has received
+/// it, and never turns to others.
+pub fn one_worker_is_no_pool()
+    ensures owed { (script : ScriptValue) (place port : ℕ) (t : Standing) (l : Letter) →
+        after 1 script place port t (Got l)
+        ≡ record (having port (Got l) t) {
+            owed = all_due (answer_to script place (having port (Got l) t).dids
+                (told_exactly l.bytes));
+        } }
+    ensures never_turns { (t : Standing) → IsNext 1 t Turned → ⊥ }
+    ensures nothing_waits { (script : ScriptValue) (place port : ℕ) (notes : List Note) →
+        AreNextFrom 1 script place port (start script place) notes →
+        (standing 1 script place port notes).pending ≡ [] }
+{}
+
+/// One feeder feeds all frames, in their order, and lets all lines take effect, in theirs.
+pub fn one_feeder_feeds_all()
+    ensures fed { (downs : List Down) (h : List Entry) → IsFed downs h → IsFedBy 1 downs h }
+    ensures all { (downs : List Down) (h : List Entry) → IsFedBy 1 downs h → IsFed downs h }
 {}
 
 /// The bytes of an ask are no longer than one attribute may be. So none of its messages asks for a

@@ -31,7 +31,7 @@ use Rattle.histories.specs.History.{history, is_of, AreLegal, IsLegalFrom}
 use Rattle.histories.specs.Happenings as place
 use Rattle.packet_entry.specs.declared.letter.Letter.{Letter}
 use Rattle.inspector_script.specs.Scripts.{ScriptValue, IsScript}
-use Rattle.made_runs.specs.Log.{Note, Got, Begun, Spoke, Shut, Standing, AreNextFrom}
+use Rattle.made_runs.specs.Log.{Note, Got, Turned, Begun, Spoke, Shut, Standing, AreNextFrom}
 use Rattle.made_runs.specs.Log.{after, logged, start}
 use Rattle.made_runs.specs.Requests.{Plea, pleas_of, pleas_in, pleas_told, plea_of}
 use Rattle.made_runs.specs.Run.{IsMadeBy, IsTold, RequestsHold}
@@ -149,6 +149,7 @@ told_names : (queue : ℕ) (notes : List Note) →
     AllByRecursion (Names queue) (flat_map (pleas_told queue) notes)
 told_names queue [] = tt
 told_names queue (Got l ∷ ns) = told_names queue ns
+told_names queue (Turned ∷ ns) = told_names queue ns
 told_names queue (Begun ∷ ns) = told_names queue ns
 told_names queue (Shut ∷ ns) = told_names queue ns
 told_names queue (Spoke call m errno ∷ ns) =
@@ -266,12 +267,14 @@ always : (A : Type 0) → A → (ds : List Did) → AllByRecursion (λ (b : Did)
 always A a [] = tt
 always A a (d ∷ ds) = (a, always A a ds)
 
-module _ (script : ScriptValue) (place port : ℕ) where
+module _ (workers : ℕ) (script : ScriptValue) (place port : ℕ) where
   shut_ends : (t : Standing) (ns : List Note) → t.is_open ≡ false →
-      AreNextFrom script place port t ns → ns ≡ []
+      AreNextFrom workers script place port t ns → ns ≡ []
   shut_ends t [] closed next = refl
   shut_ends t (Got l ∷ ns) closed next =
       let wrong : true ≡ false = sym next.0.0 ∙ closed in absurd (cc)
+  shut_ends t (Turned ∷ ns) closed next =
+      let wrong : true ≡ false = sym next.0.1 ∙ closed in absurd (cc)
   shut_ends t (Begun ∷ ns) closed next =
       let wrong : true ≡ false = sym next.0.0 ∙ closed in absurd (cc)
   shut_ends t (Spoke call m errno ∷ ns) closed next =
@@ -279,21 +282,23 @@ module _ (script : ScriptValue) (place port : ℕ) where
   shut_ends t (Shut ∷ ns) closed next =
       let wrong : true ≡ false = sym next.0.0 ∙ closed in absurd (cc)
 
-  last_only : (t : Standing) (ns : List Note) → AreNextFrom script place port t ns →
+  last_only : (t : Standing) (ns : List Note) → AreNextFrom workers script place port t ns →
       LastOnly (logged port ns)
   last_only t [] next = tt
   last_only t (Got l ∷ ns) next = (
     always (Received l.queue l.number l.visit ≢ Closed) (λ e. let wrong = e in cc)
         (logged port ns),
-    last_only (after script place port t (Got l)) ns next.1,
+    last_only (after workers script place port t (Got l)) ns next.1,
   )
-  last_only t (Begun ∷ ns) next = last_only (after script place port t Begun) ns next.1
+  last_only t (Turned ∷ ns) next =
+      last_only (after workers script place port t Turned) ns next.1
+  last_only t (Begun ∷ ns) next = last_only (after workers script place port t Begun) ns next.1
   last_only t (Spoke call m errno ∷ ns) next = (
     always (_ ≢ Closed) (λ e. let wrong = e in cc) (logged port ns),
-    last_only (after script place port t (Spoke call m errno)) ns next.1,
+    last_only (after workers script place port t (Spoke call m errno)) ns next.1,
   )
   last_only t (Shut ∷ ns) next =
-      let none : ns ≡ [] = shut_ends (after script place port t Shut) ns refl next.1 in
+      let none : ns ≡ [] = shut_ends (after workers script place port t Shut) ns refl next.1 in
       subst (λ gs. LastOnly (Closed ∷ logged port gs)) (sym none) (tt, tt)
 
 pairs : (ds : List Did) → LastOnly ds → AllPairs (λ a b. a ≢ Closed) ds
@@ -302,24 +307,24 @@ pairs (d ∷ ds) last =
     AllPairs-cons (λ (a b : Did). a ≢ Closed) d ds
     (All-from_recursion (λ (b : Did). d ≢ Closed) ds last.0) (pairs ds last.1)
 
-log_formed : (script : ScriptValue) (notes : ℕ → List Note) (l : PortLog) → FitsLog l →
-    IsTold script notes l → formed.IsLog l
-log_formed script notes l fit is = record {
+log_formed : (workers : ℕ) (script : ScriptValue) (notes : ℕ → List Note) (l : PortLog) → FitsLog l →
+    IsTold workers script notes l → formed.IsLog l
+log_formed workers script notes l fit is = record {
   port = fit.port;
   dids = fit.dids;
   closed_last = subst (λ ds. AllPairs (λ a b. a ≢ Closed) ds) (sym is.whole)
       (pairs (logged l.port (notes l.port))
-      (last_only script (place_in l.port script.ports) l.port
+      (last_only workers script (place_in l.port script.ports) l.port
       (start script (place_in l.port script.ports)) (notes l.port) is.next));
 }
 
 -- ---- all of it
 
-pub well_formed : Replies → (script : ScriptValue) (frames : ℕ) (h : Histories)
+pub well_formed : Replies → (workers feeders : ℕ) (script : ScriptValue) (frames : ℕ) (h : Histories)
     (notes : ℕ → List Note) (left : ℕ → List Letter) → IsScript script → Fit h → h.lost ≡ [] →
     (ws : List Entry) → IsGrouped ws h.entries → AreLegal h.entries →
-    IsMadeBy script frames h notes left → All (IsTold script notes) h.logs → IsWellFormed h
-well_formed replies script frames h notes left is fit kept ws grouped legal made told =
+    IsMadeBy workers feeders script frames h notes left → All (IsTold workers script notes) h.logs → IsWellFormed h
+well_formed replies workers feeders script frames h notes left is fit kept ws grouped legal made told =
     let kinds : AllByRecursion KindOf h.entries =
     from_histories KindOf h.entries
     (λ queue. kinds_from replies None (history queue h.entries) (legal queue)) in
@@ -351,9 +356,9 @@ well_formed replies script frames h notes left is fit kept ws grouped legal made
           (λ e f k. (f, k)) h.entries fits kinds) asks);
       queues_ascend = λ i j d low within. up i j d (omega (arith, low)) within;
       logs = All-from_recursion formed.IsLog h.logs
-          (both_hold FitsLog (IsTold script notes) formed.IsLog (log_formed script notes) h.logs
+          (both_hold FitsLog (IsTold workers script notes) formed.IsLog (log_formed workers script notes) h.logs
           (by_recursion FitsLog h.logs fit.logs)
-          (by_recursion (IsTold script notes) h.logs told));
+          (by_recursion (IsTold workers script notes) h.logs told));
       ports_differ = subst (λ ps. AllPairs (λ a b. a ≢ b) ps) (sym made.ports)
           is.ports_differ;
     }

@@ -64,7 +64,7 @@ pub record AreAccounted (tables : RuleTables) (script : ScriptValue) (c : Captur
   -- each port did what the script says, which is told in full, and received every notice that was
   -- for it
   pub notes : ℕ → List Note
-  pub made : IsMadeBy script (length c.frames) h notes (λ port. [])
+  pub made : IsMadeBy 1 1 script (length c.frames) h notes (λ port. [])
   -- a journal tells them in full, and is theirs alone: each value fits its field, entries stand by
   -- queue, and a port did nothing behind its closing
   pub formed : IsWellFormed h

@@ -121,7 +121,7 @@ pub record Goes (s : Setting) (script : ScriptValue) (f : ℕ → ℕ) (P : Stag
   pub speaks : (st : Stage) (w : World) (notes : ℕ → List Note) (port call : ℕ)
       (m : NetlinkMessage) (at_end : Bool) → is_in script f port ≡ true →
       is_open_port (w.ports port) ≡ true → MaySpeak script st (f port) at_end →
-      is_some_due (standing script (f port) port (notes port)).owed ≡ not at_end →
+      is_some_due (standing 1 script (f port) port (notes port)).owed ≡ not at_end →
       P st w.entries w.ports notes →
       P st (sent_as s port call m w).entries (sent_as s port call m w).ports
       (noted port (Spoke call m (errno_of port call (decoded m) w)) notes)
@@ -143,7 +143,7 @@ pub record Goes (s : Setting) (script : ScriptValue) (f : ℕ → ℕ) (P : Stag
   -- the last port has opened, and none owes anything
   pub opens_up : (st u : Stage) (es : List Entry) (ports : ℕ → Option Port)
       (notes : ℕ → List Note) → Follows script st u → IsOver script u →
-      ((p : ℕ) → is_in script f p ≡ true → (standing script (f p) p (notes p)).owed ≡ []) →
+      ((p : ℕ) → is_in script f p ≡ true → (standing 1 script (f p) p (notes p)).owed ≡ []) →
       P st es ports notes → P u es ports notes
 
 -- what each move keeps, whatever the stage
@@ -200,7 +200,7 @@ shut_stand = record { owed = []; ends = []; is_open = false; is_fresh = false }
 
 -- an ask is taken up
 begun_leads : (script : ScriptValue) (place port : ℕ) (held : Port) (x : Side) (words : AskWords)
-    (ds : List Due) → after script place port (full held (side x (Still (Words words) ∷ ds))) Begun
+    (ds : List Due) → after 1 script place port (full held (side x (Still (Words words) ∷ ds))) Begun
     ≡ full held
     (cut_side x (map Message (messages_in (bytes_of port (next_call held.dids) words)) ++ ds)
     (is_some_due (map Message (messages_in (bytes_of port (next_call held.dids) words)))))
@@ -208,7 +208,7 @@ begun_leads script place port held (Now ends) words ds = refl
 begun_leads script place port held AtEnd words ds = refl
 
 begun_may : (held : Port) (x : Side) (words : AskWords) (ds : List Due) →
-    IsNext (full held (side x (Still (Words words) ∷ ds))) Begun
+    IsNext 1 (full held (side x (Still (Words words) ∷ ds))) Begun
 begun_may held (Now ends) words ds = (refl, tt)
 begun_may held AtEnd words ds = (refl, tt)
 
@@ -223,7 +223,7 @@ cut_then x ms ds = cut_side x (map Message ms ++ ds) (is_some_due (map Message m
 -- a message is sent
 spoke_leads : (script : ScriptValue) (place port call : ℕ) (m : NetlinkMessage) (errno : ℕ)
     (held : Port) (x : Side) (ds : List Due) (fresh : Bool) →
-    after script place port (full held (cut_side x (Message m ∷ ds) fresh)) (Spoke call m errno)
+    after 1 script place port (full held (cut_side x (Message m ∷ ds) fresh)) (Spoke call m errno)
     ≡ full (having_done
     (Sent call (words_of port call m.whole (decoded m)) (answered m errno)) held) (side x ds)
 spoke_leads script place port call m errno held (Now ends) ds fresh = refl
@@ -231,7 +231,7 @@ spoke_leads script place port call m errno held AtEnd ds fresh = refl
 
 spoke_may : (held : Port) (x : Side) (m : NetlinkMessage) (ds : List Due) (call errno : ℕ)
     (fresh : Bool) → call ≡ next_call held.dids →
-    IsNext (full held (cut_side x (Message m ∷ ds) fresh)) (Spoke call m errno)
+    IsNext 1 (full held (cut_side x (Message m ∷ ds) fresh)) (Spoke call m errno)
 spoke_may held (Now ends) m ds call errno fresh is = (refl, refl, is)
 spoke_may held AtEnd m ds call errno fresh is = (refl, refl, is)
 
@@ -312,7 +312,7 @@ module _ (s : Setting) (script : ScriptValue) (f : ℕ → ℕ) (P : Staged) (K 
           (λ q. q) r.notes w.ports T r.are
           (λ held there shut. (
             begun_may held x words ds,
-            subst (λ o. after script (f port) port
+            subst (λ o. after 1 script (f port) port
                 (full held (side x (Still (Words words) ∷ ds))) Begun
                 ≡ full held (cut_then x (cut_of port o words) ds))
                 (sym there) (begun_leads script (f port) port held x words ds),

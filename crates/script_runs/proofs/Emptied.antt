@@ -547,13 +547,13 @@ pub made_with_nothing : Laws → Conserve → LeaveAlone → (script : ScriptVal
     (tables : RuleTables) (c : Capture) (h : Histories) →
     HavePlaces script → IsSolo script tables c h →
     All (λ (e : Entry). e.queue < queue_count) h.entries →
-    (notes : ℕ → List Note) × IsMadeBy script (length c.frames) h notes
+    (notes : ℕ → List Note) × IsMadeBy 1 1 script (length c.frames) h notes
     (left_in (run script tables c)) →
-    (notes : ℕ → List Note) × IsMadeBy script (length c.frames) h notes (λ port. [])
+    (notes : ℕ → List Note) × IsMadeBy 1 1 script (length c.frames) h notes (λ port. [])
 made_with_nothing laws conserve leaves script tables c h places solo small made =
     let none : left_in (run script tables c) ≡ (λ port. []) =
     fun_ext (λ port. all_boxes_empty laws conserve leaves script tables c h places solo small port)
     in (
       made.0,
-      subst (λ left. IsMadeBy script (length c.frames) h made.0 left) none made.1,
+      subst (λ left. IsMadeBy 1 1 script (length c.frames) h made.0 left) none made.1,
     )

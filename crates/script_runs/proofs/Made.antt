@@ -39,7 +39,8 @@ use Rattle.script_runs.proofs.Feeding.{Fed, nothing_fed}
 use Rattle.script_runs.proofs.Fed.{FedSo, fed_goes}
 use Rattle.script_runs.proofs.Ordering.{Ordered}
 use Rattle.script_runs.proofs.Ordered.{OrderSo, order_goes, told}
-use Rattle.made_runs.specs.Feeder.{IsFed, downs_in_effect}
+use Rattle.script_lines.specs.declared.line.Down.{Down}
+use Rattle.made_runs.specs.Feeder.{IsFed, IsFedBy, downs_in_effect}
 use Rattle.script_runs.proofs.Whole.{run_reached, run_dids, run_logged, closed_at, ended}
 use Rattle.script_runs.proofs.Whole.{last_stage}
 use Rattle.script_runs.proofs.Pleading.{AreEven, even_kept}
@@ -137,11 +138,15 @@ nothing_ordered script = record {
   };
 }
 
-pub made_by_script : Laws → Below → (script : ScriptValue) (tables : RuleTables) (c : Capture)
+-- what is known of one feeder
+abbrev pub FeedsAll : Type 0
+FeedsAll = (downs : List Down) (h : List Entry) → IsFed downs h → IsFedBy 1 downs h
+
+pub made_by_script : Laws → Below → FeedsAll → (script : ScriptValue) (tables : RuleTables) (c : Capture)
     (h : Histories) → HavePlaces script → IsSolo script tables c h →
-    (notes : ℕ → List Note) × IsMadeBy script (length c.frames) h notes (left_in
+    (notes : ℕ → List Note) × IsMadeBy 1 1 script (length c.frames) h notes (left_in
     (run script tables c))
-made_by_script laws below script tables c h places is =
+made_by_script laws below alone script tables c h places is =
     let s = setting_of script tables in
     let f = λ (p : ℕ). place_in p script.ports in
     let Even : Kept = λ es ports notes. AreEven es notes in
@@ -187,7 +192,7 @@ made_by_script laws below script tables c h places is =
       record {
         log = record {
           each = λ port dids i there.
-              subst (IsLog script (f port) port (r.notes port))
+              subst (IsLog 1 script (f port) port (r.notes port))
               (own port dids there) (run_logged script tables c f P K
               (last_stage script tables c f P K ran.time) r port i);
           others = r.none;
@@ -215,12 +220,14 @@ made_by_script laws below script tables c h places is =
             (subst (IsClosing port (is_shut (w.ports port)))
             (sym (is.entries.same queue)) (r.kept.0.1.0.each port queue below));
         feeder = λ queue below.
-            subst (IsFed (downs_in_effect script (length c.frames))) (sym (is.entries.same queue))
+            subst (IsFedBy 1 (downs_in_effect script (length c.frames)))
+            (sym (is.entries.same queue))
+            (alone (downs_in_effect script (length c.frames)) (history queue w.entries)
             (is_fed (last_stage script tables c f P K ran.time) (history queue w.entries)
-            (r.kept.1.0.fed.each queue below));
+            (r.kept.1.0.fed.each queue below)));
         order = λ queue below.
             subst (IsOrdered script.ports
-            (λ port. kinds_told script queue port (r.notes port))) (sym (is.entries.same queue))
+            (λ port. kinds_told 1 script queue port (r.notes port))) (sym (is.entries.same queue))
             (is_ordered script.ports (last_stage script tables c f P K ran.time)
             (told script r.notes queue) (history queue w.entries)
             (r.kept.1.1.order.each queue below));

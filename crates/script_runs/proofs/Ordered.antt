@@ -41,18 +41,18 @@ use Rattle.script_runs.proofs.Going.{either_so, asked_so}
 -- ---- one note more
 
 kinds_push : (script : ScriptValue) (place queue port : ℕ) (t : Standing) (ns : List Note)
-    (n : Note) → kinds_from script place queue port t (ns ++ n ∷ [])
-    ≡ kinds_from script place queue port t ns
-    ++ map (λ (x : Plea). kind_at (standing_from script place port t ns)) (pleas_told queue n)
+    (n : Note) → kinds_from 1 script place queue port t (ns ++ n ∷ [])
+    ≡ kinds_from 1 script place queue port t ns
+    ++ map (λ (x : Plea). kind_at (standing_from 1 script place port t ns)) (pleas_told queue n)
 kinds_push script place queue port t [] n =
     append-nil (map (λ (x : Plea). kind_at t) (pleas_told queue n))
 kinds_push script place queue port t (m ∷ ns) n =
     ap (λ ks. map (λ (x : Plea). kind_at t) (pleas_told queue m) ++ ks)
-    (kinds_push script place queue port (after script place port t m) ns n)
+    (kinds_push script place queue port (after 1 script place port t m) ns n)
     ∙ sym (append_assoc (map (λ (x : Plea). kind_at t) (pleas_told queue m))
-    (kinds_from script place queue port (after script place port t m) ns)
+    (kinds_from 1 script place queue port (after 1 script place port t m) ns)
     (map (λ (x : Plea).
-    kind_at (standing_from script place port (after script place port t m) ns))
+    kind_at (standing_from 1 script place port (after 1 script place port t m) ns))
     (pleas_told queue n)))
 
 -- the kind of a message that a port's request is
@@ -68,10 +68,10 @@ module _ (script : ScriptValue) where
   place p = place_in p script.ports
 
   abbrev pub told : (ℕ → List Note) → Told
-  told notes queue p = kinds_told script queue p (notes p)
+  told notes queue p = kinds_told 1 script queue p (notes p)
 
   abbrev kind_of : (ℕ → List Note) → ℕ → Kind
-  kind_of notes port = kind_at (standing script (place port) port (notes port))
+  kind_of notes port = kind_at (standing 1 script (place port) port (notes port))
 
   told_then : (notes : ℕ → List Note) (port : ℕ) (n : Note) (queue p : ℕ) →
       told notes queue p ++ own_kinds p port (kind_of notes port) (pleas_told queue n)
@@ -80,10 +80,10 @@ module _ (script : ScriptValue) where
     where
       own : (q : ℕ) → p ≡ q →
           told notes queue p ++ map (λ (x : Plea). kind_of notes q) (pleas_told queue n)
-          ≡ kinds_told script queue p (notes p ++ n ∷ [])
+          ≡ kinds_told 1 script queue p (notes p ++ n ∷ [])
       own q same = subst (λ q. told notes queue p
           ++ map (λ (x : Plea). kind_of notes q) (pleas_told queue n)
-          ≡ kinds_told script queue p (notes p ++ n ∷ [])) same
+          ≡ kinds_told 1 script queue p (notes p ++ n ∷ [])) same
           (sym (kinds_push script (place p) queue p (start script (place p)) (notes p) n))
 
       by : ((p == port) ≡ true) ⊎ ((p == port) ≡ false) →
@@ -248,14 +248,14 @@ module _ (script : ScriptValue) where
     speaks_order : (st : Stage) (w : World) (notes : ℕ → List Note) (port call : ℕ)
         (m : NetlinkMessage) (at_end : Bool) → is_in script place port ≡ true →
         MaySpeak script st (place port) at_end →
-        is_some_due (standing script (place port) port (notes port)).owed ≡ not at_end →
+        is_some_due (standing 1 script (place port) port (notes port)).owed ≡ not at_end →
         OrderSo st w.entries notes →
         OrderSo st (carried_out s port call (decoded m) w).entries
         (noted port (Spoke call m (errno_of port call (decoded m) w)) notes)
     speaks_order st w notes port call m at_end i may due is =
         let errno = errno_of port call (decoded m) w in
         let n = Spoke call m errno in
-        let t = standing script (place port) port (notes port) in
+        let t = standing 1 script (place port) port (notes port) in
         let k = kind_of notes port in
         let so = carried_order st (told notes) w port call k (decoded m)
         (either_so laws s script st (place port) at_end may)
@@ -276,7 +276,7 @@ module _ (script : ScriptValue) where
     quiet_order : (st : Stage) (es : List Entry) (notes : ℕ → List Note) (port : ℕ) (n : Note) →
         ((queue : ℕ) → pleas_told queue n ≡ []) →
         ((p : ℕ) (t : Standing) → Owes st.is_over t →
-        Owes st.is_over (after script (place p) p t n)) → OrderSo st es notes →
+        Owes st.is_over (after 1 script (place p) p t n)) → OrderSo st es notes →
         OrderSo st es (noted port n notes)
     quiet_order st es notes port n none owes is = record {
       none = is.none;
@@ -287,7 +287,7 @@ module _ (script : ScriptValue) where
     }
 
     got_over : (b : Bool) → b ≡ true → (l : Letter) (p : ℕ) (t : Standing) →
-        Owes b (after script (place p) p t (Got l))
+        Owes b (after 1 script (place p) p t (Got l))
     got_over true is l p t = got_owes script (place p) p t l
     got_over false wrong l p t = absurd (cc)
 

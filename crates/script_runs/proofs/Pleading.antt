@@ -20,7 +20,7 @@ use Rattle.packet_moves.specs.World.{World}
 use Rattle.packet_moves.specs.Moving.{arrived, room_for}
 use Rattle.packet_moves.specs.Messages.{asking, with_ask}
 use Rattle.script_runs.specs.Sending.{carried_out, errno_of}
-use Rattle.made_runs.specs.Log.{Note, Got, Begun, Spoke, Shut}
+use Rattle.made_runs.specs.Log.{Note, Got, Turned, Begun, Spoke, Shut}
 use Rattle.made_runs.specs.Requests.{Plea, pleas_of, pleas_in, plea_of, pleas_told}
 use Rattle.made_runs.specs.Requests.{IsErrno, AreErrnos}
 use Rattle.script_runs.proofs.Carrying.{all_moved_keeps}
@@ -141,6 +141,7 @@ errnos_push : (ns : List Note) (n : Note) → AreErrnos (n ∷ []) → AreErrnos
     AreErrnos (ns ++ n ∷ [])
 errnos_push [] n is all = is
 errnos_push (Got l ∷ ns) n is all = errnos_push ns n is all
+errnos_push (Turned ∷ ns) n is all = errnos_push ns n is all
 errnos_push (Begun ∷ ns) n is all = errnos_push ns n is all
 errnos_push (Spoke call m errno ∷ ns) n is all = (all.0, errnos_push ns n is all.1)
 errnos_push (Shut ∷ ns) n is all = errnos_push ns n is all

@@ -20,17 +20,17 @@ use Rattle.made_runs.specs.Log.{IsNext, AreNextFrom, standing_from, standing}
 -- ---- one note more
 
 module _ (script : ScriptValue) (place port : ℕ) where
-  next_push : (t : Standing) (ns : List Note) (n : Note) → AreNextFrom script place port t ns →
-      IsNext (standing_from script place port t ns) n →
-      AreNextFrom script place port t (ns ++ n ∷ [])
+  next_push : (t : Standing) (ns : List Note) (n : Note) → AreNextFrom 1 script place port t ns →
+      IsNext 1 (standing_from 1 script place port t ns) n →
+      AreNextFrom 1 script place port t (ns ++ n ∷ [])
   next_push t [] n are is = (is, tt)
-  next_push t (m ∷ ns) n are is = (are.0, next_push (after script place port t m) ns n are.1 is)
+  next_push t (m ∷ ns) n are is = (are.0, next_push (after 1 script place port t m) ns n are.1 is)
 
   pub standing_push : (t : Standing) (ns : List Note) (n : Note) →
-      standing_from script place port t (ns ++ n ∷ [])
-      ≡ after script place port (standing_from script place port t ns) n
+      standing_from 1 script place port t (ns ++ n ∷ [])
+      ≡ after 1 script place port (standing_from 1 script place port t ns) n
   standing_push t [] n = refl
-  standing_push t (m ∷ ns) n = standing_push (after script place port t m) ns n
+  standing_push t (m ∷ ns) n = standing_push (after 1 script place port t m) ns n
 
 -- ---- where a port stands in a run
 
@@ -46,6 +46,7 @@ abbrev pub full : Port → Stand → Standing
 full held t = record {
   dids = held.dids;
   owed = t.owed;
+  pending = [];
   ends = t.ends;
   is_open = t.is_open;
   is_fresh = t.is_fresh;
@@ -55,24 +56,24 @@ pub record IsAt (script : ScriptValue) (place port : ℕ) (notes : List Note) (o
     (t : Stand) : Type 0 where
   pub held : Port
   pub there : o ≡ Some held
-  pub next : AreNextFrom script place port (start script place) notes
-  pub stands : standing script place port notes ≡ full held t
+  pub next : AreNextFrom 1 script place port (start script place) notes
+  pub stands : standing 1 script place port notes ≡ full held t
   pub shut : held.is_closed ≡ not t.is_open
 
 -- it does one thing more
 at_push : (script : ScriptValue) (place port : ℕ) (notes : List Note) (o : Option Port)
     (t u : Stand) (n : Note) (g : Port → Port) → (is : IsAt script place port notes o t) →
-    IsNext (full is.held t) n →
-    after script place port (full is.held t) n ≡ full (g is.held) u →
+    IsNext 1 (full is.held t) n →
+    after 1 script place port (full is.held t) n ≡ full (g is.held) u →
     (g is.held).is_closed ≡ not u.is_open →
     IsAt script place port (notes ++ n ∷ []) (option_map g o) u
 at_push script place port notes o t u n g is may leads shut = record {
   held = g is.held;
   there = ap (option_map g) is.there;
   next = next_push script place port (start script place) notes n is.next
-      (subst (λ v. IsNext v n) (sym is.stands) may);
+      (subst (λ v. IsNext 1 v n) (sym is.stands) may);
   stands = standing_push script place port (start script place) notes n
-      ∙ ap (λ v. after script place port v n) is.stands ∙ leads;
+      ∙ ap (λ v. after 1 script place port v n) is.stands ∙ leads;
   shut = shut;
 }
 
@@ -110,8 +111,8 @@ module _ (script : ScriptValue) (f : ℕ → ℕ) where
   pub all_push : (port : ℕ) (t u : Stand) (n : Note) (g : Port → Port) (notes : ℕ → List Note)
       (ports : ℕ → Option Port) (T : ℕ → Stand) → AreAt notes ports (put port t T) →
       ((held : Port) → ports port ≡ Some held → held.is_closed ≡ not t.is_open →
-      IsNext (full held t) n
-      × (after script (f port) port (full held t) n ≡ full (g held) u)
+      IsNext 1 (full held t) n
+      × (after 1 script (f port) port (full held t) n ≡ full (g held) u)
       × ((g held).is_closed ≡ not u.is_open)) →
       AreAt (noted port n notes) (changed_at port g ports) (put port u T)
   all_push port t u n g notes ports T are may =
@@ -122,7 +123,7 @@ module _ (script : ScriptValue) (f : ℕ → ℕ) where
       own p same is =
           let m = may is.held (subst (λ q. ports q ≡ Some is.held) same is.there) is.shut in
           at_push script (f p) p (notes p) (ports p) t u n g is m.0
-          (subst (λ q. after script (f q) q (full is.held t) n ≡ full (g is.held) u) (sym same) m.1)
+          (subst (λ q. after 1 script (f q) q (full is.held t) n ≡ full (g is.held) u) (sym same) m.1)
           m.2
 
       by : (p : ℕ) → is_in p ≡ true → ((p == port) ≡ true) ⊎ ((p == port) ≡ false) →

@@ -208,18 +208,18 @@ module _ (s : Setting) (script : ScriptValue) (f : ℕ → ℕ) (P : Staged) (K 
       same_shut held is shut = rw is shut
 
       lead_one : (held : Port) → held.letters ≡ l ∷ ls →
-          after script (f port) port (full held (side (Now ends) [])) (Got l)
+          after 1 script (f port) port (full held (side (Now ends) [])) (Got l)
           ≡ full (received held) (side (Now ends)
           (all_due (answer_to script (f port) (received held).dids (told_exactly l.bytes))))
       lead_one held is =
-          subst (λ ms. after script (f port) port (full held (side (Now ends) [])) (Got l)
+          subst (λ ms. after 1 script (f port) port (full held (side (Now ends) [])) (Got l)
           ≡ full (received_from ms held) (side (Now ends)
           (all_due (answer_to script (f port) (received_from ms held).dids
           (told_exactly l.bytes)))))
           (sym is) refl
 
       leads : (one : Port) → w.ports port ≡ Some one → (held : Port) → w.ports port ≡ Some held →
-          after script (f port) port (full held (side (Now ends) [])) (Got l)
+          after 1 script (f port) port (full held (side (Now ends) [])) (Got l)
           ≡ full (received held) (side (Now ends)
           (all_due (answer_to script (f port) (received one).dids (told_exactly l.bytes))))
       leads one is held there =

@@ -24,7 +24,7 @@ use Rattle.script_runs.specs.Schedule.{before_ends, run, setting_of, rounds_for}
 use Rattle.packet_moves.specs.Logs.{dids_of}
 use Rattle.made_runs.specs.Log.{Note, Due, Still, Standing}
 use Rattle.made_runs.specs.Log.{all_due, start, logged, dids_by, after}
-use Rattle.made_runs.specs.Log.{standing_from, IsLog, unanswered, Got, Begun, Spoke, Shut}
+use Rattle.made_runs.specs.Log.{standing_from, IsLog, unanswered, Got, Turned, Begun, Spoke, Shut}
 use Rattle.made_runs.specs.Closing.{is_closed}
 use Rattle.script_runs.proofs.Shut.{is_shut}
 use Rattle.std.proofs.lemmas.List.Folds.{list_any-append}
@@ -44,17 +44,18 @@ use Rattle.script_lines.specs.declared.line.Down.{Down}
 
 module _ (script : ScriptValue) (place port : ℕ) where
   dids_after : (t : Standing) (n : Note) →
-      (after script place port t n).dids ≡ t.dids ++ dids_by port n
+      (after 1 script place port t n).dids ≡ t.dids ++ dids_by port n
   dids_after t (Got l) = refl
+  dids_after t Turned = sym (append-nil t.dids)
   dids_after t Begun = sym (append-nil t.dids)
   dids_after t (Spoke call m errno) = refl
   dids_after t Shut = refl
 
   dids_logged : (t : Standing) (ns : List Note) →
-      (standing_from script place port t ns).dids ≡ t.dids ++ logged port ns
+      (standing_from 1 script place port t ns).dids ≡ t.dids ++ logged port ns
   dids_logged t [] = sym (append-nil t.dids)
   dids_logged t (n ∷ ns) =
-      dids_logged (after script place port t n) ns
+      dids_logged (after 1 script place port t n) ns
       ∙ ap (λ ds. ds ++ logged port ns) (dids_after t n)
       ∙ append_assoc t.dids (dids_by port n) (logged port ns)
 
@@ -71,11 +72,12 @@ or_true false = refl
 -- a log has its port's closing exactly where the port isn't open any more
 module _ (script : ScriptValue) (place port : ℕ) where
   closed_after : (t : Standing) (n : Note) → list_any is_closed t.dids ≡ not t.is_open →
-      list_any is_closed (after script place port t n).dids
-      ≡ not (after script place port t n).is_open
+      list_any is_closed (after 1 script place port t n).dids
+      ≡ not (after 1 script place port t n).is_open
   closed_after t (Got l) is =
       list_any-append is_closed t.dids (dids_by port (Got l))
       ∙ or_false (list_any is_closed t.dids) false refl ∙ is
+  closed_after t Turned is = is
   closed_after t Begun is = is
   closed_after t (Spoke call m errno) is =
       list_any-append is_closed t.dids (dids_by port (Spoke call m errno))
@@ -84,10 +86,10 @@ module _ (script : ScriptValue) (place port : ℕ) where
       list_any-append is_closed t.dids (dids_by port Shut) ∙ or_true (list_any is_closed t.dids)
 
   pub closed_from : (t : Standing) (ns : List Note) → list_any is_closed t.dids ≡ not t.is_open →
-      list_any is_closed (standing_from script place port t ns).dids
-      ≡ not (standing_from script place port t ns).is_open
+      list_any is_closed (standing_from 1 script place port t ns).dids
+      ≡ not (standing_from 1 script place port t ns).is_open
   closed_from t [] is = is
-  closed_from t (n ∷ ns) is = closed_from (after script place port t n) ns (closed_after t n is)
+  closed_from t (n ∷ ns) is = closed_from (after 1 script place port t n) ns (closed_after t n is)
 
   -- so of a port that is there
   pub closed_at : (notes : List Note) (o : Option Port) (t : Stand) →
@@ -403,12 +405,13 @@ module _ (script : ScriptValue) (tables : RuleTables) (c : Capture) (f : ℕ →
 
   pub run_logged : (st : Stage) (r : At (setting_of script tables) script f P K st
       (run script tables c) (ended script f)) → (p : ℕ) → is_in script f p ≡ true →
-      IsLog script (f p) p (r.notes p) (dids_of ((run script tables c).ports p))
+      IsLog 1 script (f p) p (r.notes p) (dids_of ((run script tables c).ports p))
   run_logged st r p i =
       let here = r.are.at p i in
       record {
         noted = ap (map unanswered) (run_dids st r p i);
         next = here.next;
         owed = ap (λ (t : Standing). t.owed) here.stands;
+        answered = ap (λ (t : Standing). t.pending) here.stands;
         ended = ap (λ (t : Standing). t.ends) here.stands;
       }

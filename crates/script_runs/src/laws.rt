@@ -21,7 +21,7 @@ ghost use Rattle.made_runs.specs.LoggedExamples.{message};
 ghost use Rattle.made_runs.specs.HeardExamples.{bound};
 
 use histories::{a_closed_port_has_no_queues, a_device_that_packets_pass_leaves_nothing_waiting};
-use made_runs::{datagrams_are_short, each_port_has_its_place};
+use made_runs::{datagrams_are_short, each_port_has_its_place, one_feeder_feeds_all};
 use packet_moves::what_goes_on_is_in_time;
 use queue_core::each_packet_stays_or_leaves;
 
@@ -49,13 +49,14 @@ pub fn ports_do_what_the_script_says()
     ensures { (script : ScriptValue) (tables : RuleTables) (c : Capture) (h : Histories) →
         IsScript script → IsSolo script tables c h →
         (notes : ℕ → List Note)
-        × IsMadeBy script (length c.frames) h notes (left_in (run script tables c)) }
+        × IsMadeBy 1 1 script (length c.frames) h notes (left_in (run script tables c)) }
 {
     a_closed_port_has_no_queues();
     a_device_that_packets_pass_leaves_nothing_waiting();
     each_packet_stays_or_leaves();
     what_goes_on_is_in_time();
     each_port_has_its_place();
+    one_feeder_feeds_all();
 }
 
 /// No packet that arrives is longer than a frame may be, and no payload that is asked for longer
@@ -87,7 +88,7 @@ pub fn no_notice_is_left()
     ensures made { (script : ScriptValue) (tables : RuleTables) (c : Capture)
         (h : Histories) → IsScript script → IsSolo script tables c h →
         All (λ (e : Entry). e.queue < queue_count) h.entries →
-        (notes : ℕ → List Note) × IsMadeBy script (length c.frames) h notes (λ port. []) }
+        (notes : ℕ → List Note) × IsMadeBy 1 1 script (length c.frames) h notes (λ port. []) }
 {
     a_closed_port_has_no_queues();
     each_packet_stays_or_leaves();

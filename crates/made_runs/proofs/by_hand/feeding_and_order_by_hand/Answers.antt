@@ -1,5 +1,7 @@
 use Rattle.made_runs.proofs.FedByHand.{whole_fed, late_not_fed, backward_not_fed, whole_ordered}
 use Rattle.made_runs.proofs.FedByHand.{late_opening, early_end, wrong_closings}
+use Rattle.std.specs.Prelude.{refl}
+use Rattle.made_runs.proofs.FedByHand.{again_fed, early_closing}
 use Rattle.made_runs.proofs.FedByHand.{absent_fed, missed_not_fed, lineless_not_fed}
 use Rattle.made_runs.proofs.by_hand.feeding_and_order_by_hand.Goals as goal
 
@@ -32,3 +34,15 @@ returns-clause-ending c = early_end
 
 pub returns-clause-closings : goal.returns-clause-closings
 returns-clause-closings c = wrong_closings
+
+pub returns-clause-again : goal.returns-clause-again
+returns-clause-again c = again_fed
+
+pub returns-clause-in_effect : goal.returns-clause-in_effect
+returns-clause-in_effect c = refl
+
+pub returns-clause-closing : goal.returns-clause-closing
+returns-clause-closing c = early_closing
+
+pub returns-clause-kinds : goal.returns-clause-kinds
+returns-clause-kinds c = (refl, refl)

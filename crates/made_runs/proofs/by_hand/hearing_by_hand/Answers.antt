@@ -1,4 +1,5 @@
 use Rattle.made_runs.proofs.HeardByHand.{unheard, roomless, wrong_errno, unasked}
+use Rattle.made_runs.proofs.HeardByHand.{not_heard, other_room, told_errno}
 use Rattle.made_runs.proofs.by_hand.hearing_by_hand.Goals as goal
 
 pub returns-clause-unheard : goal.returns-clause-unheard
@@ -12,3 +13,12 @@ returns-clause-errno c = wrong_errno
 
 pub returns-clause-unasked : goal.returns-clause-unasked
 returns-clause-unasked c = unasked
+
+pub returns-clause-another : goal.returns-clause-another
+returns-clause-another c = not_heard
+
+pub returns-clause-room : goal.returns-clause-room
+returns-clause-room c = other_room
+
+pub returns-clause-told : goal.returns-clause-told
+returns-clause-told c = told_errno

@@ -1,5 +1,5 @@
 use Rattle.made_runs.proofs.LoggedByHand.{opening_logged, ends_logged, wrong_answer, wrong_call}
-use Rattle.made_runs.proofs.LoggedByHand.{wrong_order, notice_between}
+use Rattle.made_runs.proofs.LoggedByHand.{wrong_order, notice_between, not_the_first}
 use Rattle.made_runs.proofs.by_hand.logs_by_hand.Goals as goal
 
 pub returns-clause-opened : goal.returns-clause-opened
@@ -19,3 +19,6 @@ returns-clause-order c = wrong_order
 
 pub returns-clause-between : goal.returns-clause-between
 returns-clause-between c = notice_between
+
+pub returns-clause-count : goal.returns-clause-count
+returns-clause-count c = not_the_first

@@ -1,5 +1,6 @@
 use Rattle.made_runs.proofs.Written.{only_closing, not_empty, nothing_behind}
-use Rattle.made_runs.proofs.Written.{no_request, no_second}
+use Rattle.made_runs.proofs.Written.{no_request, no_second, of_another, may_ask, not_unclosed}
+use Rattle.made_runs.proofs.Written.{another_closed}
 use Rattle.made_runs.proofs.Written.{run_made, silence_not_made}
 use Rattle.made_runs.proofs.by_hand.runs_of_one_port.Goals as goal
 
@@ -23,3 +24,15 @@ returns-clause-run c = run_made
 
 pub returns-clause-no_run : goal.returns-clause-no_run
 returns-clause-no_run c = silence_not_made
+
+pub returns-clause-another : goal.returns-clause-another
+returns-clause-another c = of_another
+
+pub returns-clause-behind : goal.returns-clause-behind
+returns-clause-behind c = may_ask
+
+pub returns-clause-unclosed : goal.returns-clause-unclosed
+returns-clause-unclosed c = not_unclosed
+
+pub returns-clause-closed_by : goal.returns-clause-closed_by
+returns-clause-closed_by c = another_closed

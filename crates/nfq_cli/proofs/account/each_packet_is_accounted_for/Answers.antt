@@ -25,9 +25,9 @@ returns-clause-account c = λ tables script capture h is solo legal fit sound.
       sound = sound;
       notes = made.0;
       made = made.1;
-      formed = well_formed c.replies_tell_how_many_left.ensures script (length capture.frames) h
+      formed = well_formed c.replies_tell_how_many_left.ensures 1 1 script (length capture.frames) h
           made.0 (λ port. []) is fit solo.lost _ solo.entries legal made.1
-          (c.each_log_is_what_is_told.ensures script (length capture.frames) h made.0 (λ port. [])
+          (c.each_log_is_what_is_told.ensures 1 1 script (length capture.frames) h made.0 (λ port. [])
           is.ports_differ made.1);
       apart = apart;
       once = λ number queues are.

@@ -8,7 +8,7 @@ pub returns-clause-short : goal.returns-clause-short
 returns-clause-short c =
     let request = c.args.request.now in
     let text = spelling c.args.port c.args.call request in
-    let short = c.datagrams_are_short.ensures c.args.port c.args.call (Plain request) c.requires in
+    let short = c.datagrams_are_short.ensures.bytes c.args.port c.args.call (Plain request) c.requires in
     on_ok c.encode_request.result
     (c.encode_request.new.out.items ≡ c.clear.new.self.items ++ text)
     (length c.encode_request.new.out.items < 2 ^ 31)
