@@ -31,7 +31,9 @@ use Rattle.fate_ledger.specs.declared.fate.FateLine.{FateLine}
 use Rattle.fate_ledger.specs.Fates.{happenings, fates, fates_from, fate_line, is_lost, last_of}
 use Rattle.fate_ledger.specs.Fates.{later_of, is_later}
 use Rattle.fate_ledger.specs.Ledger.{is_release}
-use Rattle.fate_ledger.specs.Payloads.{AreShort, AreRead, IsRead, IsPayload}
+use Rattle.histories.specs.Lengths.{AreShort}
+use Rattle.pcap_io.specs.FramePackets.{AreRead, IsRead}
+use Rattle.fate_ledger.specs.Payloads.{IsPayload}
 use Rattle.fate_ledger.specs.Released as text
 use Rattle.fate_ledger.proofs.Origins.{HoldsOf}
 use Rattle.fate_ledger.proofs.Payloads.{each_right}

@@ -15,7 +15,7 @@ use Rattle.histories.specs.declared.histories.Lost.{Lost}
 use Rattle.histories.specs.Journeys.{AreSound}
 use Rattle.fate_ledger.specs.declared.happening.Happening.{Happening}
 use Rattle.fate_ledger.specs.Fates.{happenings}
-use Rattle.fate_ledger.specs.Payloads.{AreShort}
+use Rattle.histories.specs.Lengths.{AreShort}
 use Rattle.fate_ledger.proofs.Origins.{AskShort, AllAskShort, Holds, HoldsOf, all_hold}
 use Rattle.fate_ledger.proofs.Origins.{happenings_right}
 

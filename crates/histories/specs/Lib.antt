@@ -10,3 +10,4 @@ pub mod Listing
 pub mod Examples
 pub mod Sweeps
 pub mod Grouping
+pub mod Lengths

@@ -21,7 +21,8 @@ use Rattle.histories.specs.declared.histories.Histories.{Histories}
 use Rattle.histories.specs.History.{history, is_of}
 use Rattle.inspector_script.specs.Scripts.{ScriptValue, IsScript, IsBlock}
 use Rattle.made_runs.specs.Entering.{card_at, card_of, cards, cards_from}
-use Rattle.made_runs.specs.Bounds.{AreSmall, AreShort, IsRead, AreRead}
+use Rattle.histories.specs.Lengths.{AreSmall, AreShort}
+use Rattle.pcap_io.specs.FramePackets.{IsRead, AreRead}
 
 -- of the frames from this number on
 abbrev IsOwn : ℕ → ℕ → List Frame → Card → Type 0

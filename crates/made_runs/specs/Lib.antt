@@ -12,7 +12,6 @@ pub mod Ascending
 pub mod Feeder
 pub mod Order
 pub mod Run
-pub mod Bounds
 pub mod Examples
 pub mod FedExamples
 pub mod HeardExamples

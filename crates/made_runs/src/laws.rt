@@ -17,7 +17,7 @@ ghost use Rattle.histories.specs.declared.log.AskWords.{AskWords};
 ghost use Rattle.script_lines.specs.Limits.{IsWords};
 ghost use Rattle.made_runs.specs.Datagrams.{bytes_of};
 ghost use Rattle.made_runs.specs.Entering.{cards};
-ghost use Rattle.made_runs.specs.Bounds.{AreRead};
+ghost use Rattle.pcap_io.specs.FramePackets.{AreRead};
 ghost use Rattle.made_runs.specs.Run.{IsMadeBy};
 ghost use Rattle.made_runs.specs.Run.{IsTold};
 ghost use Rattle.made_runs.specs.Ports.{HavePlaces};

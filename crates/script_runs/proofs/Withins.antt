@@ -22,7 +22,8 @@ use Rattle.histories.specs.History.{history, is_of}
 use Rattle.inspector_script.specs.Scripts.{ScriptValue, IsScript, IsBlock}
 use Rattle.script_runs.specs.Schedule.{IsSolo, run, setting_of}
 use Rattle.made_runs.specs.Entering.{card_at, card_of, cards, cards_from}
-use Rattle.made_runs.specs.Bounds.{AreSmall, AreShort, IsRead, AreRead}
+use Rattle.histories.specs.Lengths.{AreSmall, AreShort}
+use Rattle.pcap_io.specs.FramePackets.{IsRead, AreRead}
 use Rattle.script_runs.proofs.Small.{Fits, AllFit, history_fits}
 use Rattle.script_runs.proofs.Bounded.{WordsFit, run_fits}
 

@@ -14,7 +14,7 @@ ghost use Rattle.script_runs.specs.Emptyings.{FindsNothing, emptyings};
 ghost use Rattle.made_runs.specs.Log.{Note};
 ghost use Rattle.made_runs.specs.FedExamples.{arrives};
 ghost use Rattle.packet_entry.specs.Numbers.{longest_packet};
-ghost use Rattle.made_runs.specs.Bounds.{AreShort, AreSmall};
+ghost use Rattle.histories.specs.Lengths.{AreShort, AreSmall};
 ghost use Rattle.script_runs.specs.LettersLeft.{left_in};
 ghost use Rattle.made_runs.specs.Run.{IsMadeBy};
 ghost use Rattle.made_runs.specs.LoggedExamples.{message};
