@@ -575,9 +575,9 @@ fn records_are_fanned_out_by_their_feeders(rt: HostRuntime) -> Result<(), Fail> 
     const ROWS: [(u32, [u16; 3]); 3] = [(3, [0, 1, 2]), (2, [0, 1, 0]), (1, [0, 0, 0])];
     for &(feeders, queues) in &ROWS {
         assert!(rt; 1 <= feeders && feeders <= 16);
-        for (number, queue) in (1..4).zip(queues) {
-            let next = fanned_out(rt.alloc(), feeders, number)?;
-            assert_eq!(rt; next, to(queue, false, 1));
+        for at in 0..3usize {
+            let next = fanned_out(rt.alloc(), feeders, at as u32 + 1)?;
+            assert_eq!(rt; next, to(queues[at], false, 1));
         }
     }
     Ok(())

@@ -72,9 +72,13 @@ pub record Machine : Type 0 where
   -- how many notices it received; it stops at its last value
   pub received : ℕ
 
+-- so many notices more
+abbrev pub count_after : ℕ → ℕ → ℕ
+count_after received n = min (received + n) largest_count
+
 -- one notice more
 abbrev pub next_count : ℕ → ℕ
-next_count received = min (received + 1) largest_count
+next_count received = count_after received 1
 
 -- what a block asks for, of the script's port at this place
 abbrev pub at_port : ScriptValue → ℕ → (Block → List Ask) → List Ask
@@ -88,11 +92,14 @@ opening s place = at_port s place block.opening
 abbrev pub answer : ScriptValue → ℕ → ℕ → Notice → List Ask
 answer s place received n = at_port s place (block.answer received n)
 
+-- no line of the block answers the port's `received`-th notice
+abbrev pub IsUnansweredAs : ScriptValue → ℕ → ℕ → Notice → Type 0
+IsUnansweredAs s place received n =
+    IfSome (slice_get s.blocks place) (λ b. block.line_for received n b.lines ≡ None)
+
 -- no line of its block answers the inspector's next notice
 abbrev pub IsUnanswered : ScriptValue → Machine → Notice → Type 0
-IsUnanswered s m n =
-    IfSome (slice_get s.blocks m.place)
-    (λ b. block.line_for (next_count m.received) n b.lines ≡ None)
+IsUnanswered s m n = IsUnansweredAs s m.place (next_count m.received) n
 
 -- what is asked for at the end
 abbrev pub closing : ScriptValue → ℕ → List Ask

@@ -1,9 +1,9 @@
 //! The inspector of one port.
 
-ghost use Rattle.std.specs.Prelude.{◌≡◌, ◌<◌, length, All, IfOk, IsOk, OnOk, OnErr};
+ghost use Rattle.std.specs.Prelude.{◌≡◌, ◌<◌, ◌≤◌, length, All, IfOk, IsOk, OnOk, OnErr};
 ghost use Rattle.script_lines.specs.Limits.{IsAsk};
-ghost use Rattle.inspector_script.specs.Scripts.{IsUnanswered, answer, closing, next_count};
-ghost use Rattle.inspector_script.specs.Scripts.{opening};
+ghost use Rattle.inspector_script.specs.Scripts.{IsUnanswered, IsUnansweredAs, answer, closing};
+ghost use Rattle.inspector_script.specs.Scripts.{count_after, next_count, opening};
 
 use crate::script::Script;
 use nfqa_msgs::Notice;
@@ -66,10 +66,43 @@ impl PortMachine {
         }
     }
 
-    /// Counts the notice, and says what it asks for in answer: the asks of the first `on` line
-    /// whose conditions all hold, or none. Each line is looked at once at most. The count stops at
-    /// 4,294,967,295. `NoMemory` leaves it as it was.
+    /// How many notices it counted.
+    pub fn counted(&self) -> u32
+        ensures { result ≡ self.now.received }
+    {
+        self.received
+    }
+
+    /// Counts so many notices more. The count stops at 4,294,967,295.
+    pub fn count(&mut self, n: u32)
+        ensures { self.new ≡ record self.old { received = count_after self.old.received n } }
+    {
+        self.received = self.received.saturating_add(n);
+    }
+
+    /// What it asks for in answer to this notice as the `n`-th, however many it counted: the asks
+    /// of the first `on` line whose conditions all hold, or none. Each line is looked at once at
+    /// most. Nothing is counted.
     #[tactic(auto, using(crate::proofs::Fitting::answer_fits))]
+    pub fn answer_as(
+        &self,
+        alloc: Global,
+        script: &Script,
+        n: u32,
+        notice: &Notice,
+    ) -> Result<Asks, NoMemory>
+        requires has_port { self.now.place < length script.now.ports }
+        requires some { 1 ≤ n }
+        ensures asks { IfOk result (λ asks. asks ≡ answer script.now self.now.place n notice.now) }
+        ensures fit { IfOk result (All IsAsk) }
+        // Where no line answers, no memory is taken.
+        ensures unanswered { IsUnansweredAs script.now self.now.place n notice.now → IsOk result }
+    {
+        script.block(self.place).answer(alloc, n, notice)
+    }
+
+    /// Counts the notice, and says what it asks for in answer: what `answer_as` says of it with the
+    /// count one more. The count stops at 4,294,967,295. `NoMemory` leaves it as it was.
     pub fn answer(
         &mut self,
         alloc: Global,
@@ -87,7 +120,7 @@ impl PortMachine {
         ensures err { OnErr result (self.new ≡ self.old) }
     {
         let received = self.received.saturating_add(1);
-        let asks = script.block(self.place).answer(alloc, received, notice)?;
+        let asks = self.answer_as(alloc, script, received, notice)?;
         self.received = received;
         Ok(asks)
     }

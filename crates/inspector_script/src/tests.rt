@@ -139,6 +139,32 @@ fn answered(alloc: Global, script: &Script) -> Result<String, Fail>
     Ok(format!(in alloc; "{first}.{second}")?)
 }
 
+/// The first port's count, once it counted one and three notices, and what it asks for in answer
+/// to the first, the second and the third notice, whatever it counted.
+fn counted(alloc: Global, script: &Script) -> Result<String, Fail>
+    requires { 0 < length script.now.ports }
+{
+    let mut machine = PortMachine::new(0);
+    machine.count(1);
+    machine.count(3);
+    let count = machine.counted();
+    let first = machine.answer_as(alloc, script, 1, &notice(alloc)?)?;
+    let second = machine.answer_as(alloc, script, 2, &notice(alloc)?)?;
+    let third = machine.answer_as(alloc, script, 3, &notice(alloc)?)?;
+    let first = all_said(alloc, &first)?;
+    let second = all_said(alloc, &second)?;
+    let third = all_said(alloc, &third)?;
+    Ok(format!(in alloc; "{count} {first}.{second}.{third}")?)
+}
+
+#[test]
+fn notices_are_answered_by_their_number(rt: HostRuntime) -> Result<(), Fail> {
+    let script = script_of(rt.alloc(), "port 7~on every 2 do raw 00~on every 3 do raw 01")?;
+    let said = counted(rt.alloc(), &script)?;
+    assert_eq!(rt; said.as_str(), "4 .raw [0];.raw [1];");
+    Ok(())
+}
+
 /// What the first port of a row's script asks for: at its opening, in answer to its first and its
 /// second notice, and at the end.
 fn told(alloc: Global, row: &str) -> Result<String, Fail> {

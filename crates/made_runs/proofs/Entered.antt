@@ -1,27 +1,16 @@
 -- Packets that enter have their frames' bytes.
-use Rattle.std.proofs.Common.{◌≡◌, ◌≤◌, ◌+◌, ℕ, zero, suc, List, [], ◌∷◌, ◌++◌, length}
+use Rattle.std.proofs.Common.{◌≡◌, ◌≤◌, ◌+◌, ℕ, zero, suc, List, [], ◌∷◌, ◌++◌}
 use Rattle.std.proofs.Common.{drop, Option}
-use Rattle.std.proofs.Common.{Some, None, Bool, true, false, cond, refl, sym, subst, arith}
-use Rattle.std.specs.Prelude.{All, slice_get, option_map, option_to_list}
+use Rattle.std.proofs.Common.{Some, None, refl, subst, arith}
+use Rattle.std.specs.Prelude.{slice_get, option_map, option_to_list}
 use Rattle.ip_fields.specs.declared.frame.LinkCut.{LinkCut}
 use Rattle.ip_fields.specs.Frame.{cut_of}
-use Rattle.nfqa_msgs.specs.RequestReading.{PayloadFits}
 use Rattle.std.specs.List.{AllByRecursion}
-use Rattle.std.proofs.lemmas.Bool.{eq-eqb}
-use Rattle.std.proofs.lemmas.List.Elements.{recursion_from_All, All-from_recursion}
-use Rattle.packet_entry.specs.Numbers.{longest_packet}
+use Rattle.std.proofs.lemmas.List.Elements.{All-from_recursion}
 use Rattle.pcap_io.specs.declared.capture.Capture.{Capture}
 use Rattle.pcap_io.specs.declared.capture.Frame.{Frame}
-use Rattle.queue_core.specs.declared.event.Event.TheVariants.{Arrive, Ask}
 use Rattle.packet_entry.specs.declared.packet.Card.{Card}
-use Rattle.nfqa_msgs.specs.declared.request.Request.{Request}
-use Rattle.hook_chain.specs.Rules.{RuleTables}
-use Rattle.histories.specs.declared.entry.Entry.{Entry}
-use Rattle.histories.specs.declared.histories.Histories.{Histories}
-use Rattle.histories.specs.History.{history, is_of}
-use Rattle.inspector_script.specs.Scripts.{ScriptValue, IsScript, IsBlock}
 use Rattle.made_runs.specs.Entering.{card_at, card_of, cards, cards_from}
-use Rattle.histories.specs.Lengths.{AreSmall, AreShort}
 use Rattle.pcap_io.specs.FramePackets.{IsRead, AreRead}
 
 -- of the frames from this number on

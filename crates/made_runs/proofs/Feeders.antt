@@ -2,7 +2,7 @@
 use Rattle.std.proofs.Common.{◌≡◌, ◌∙◌, ◌-◌, ◌%◌, ℕ, List, [], ◌∷◌, ◌++◌, Bool, true, false}
 use Rattle.std.proofs.Common.{refl, sym, ap, subst, arith}
 use Rattle.std.proofs.Math.Nat.{mod-one}
-use Rattle.std.specs.Prelude.{◌||◌, ◌==◌, flat_map, filter, if◌then◌else◌}
+use Rattle.std.specs.Prelude.{◌||◌, ◌==◌, flat_map, filter}
 use Rattle.std.proofs.lemmas.Bool.{eq-eqb}
 use Rattle.queue_core.specs.declared.event.Event.{Event}
 use Rattle.queue_core.specs.declared.event.Event.TheVariants.{Arrive, Ask, PortClosed, DeviceDown}

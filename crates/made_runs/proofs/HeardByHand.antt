@@ -5,14 +5,22 @@ use Rattle.std.specs.Prelude.{◌==◌, ◌≤◌, if◌then◌else◌}
 use Rattle.netlink_codec.specs.Messages.{NetlinkMessage}
 use Rattle.nfqa_msgs.specs.declared.request.Decoded.TheVariants.{Asked}
 use Rattle.nfqa_msgs.specs.RequestReading.{decoded}
-use Rattle.made_runs.specs.Log.{Spoke}
+use Rattle.made_runs.specs.Log.{Got, Spoke}
 use Rattle.made_runs.specs.Requests.{AreRequests, Plea, plea_of, pleas_in}
 use Rattle.made_runs.specs.Notices.{AreNotices, letters_from}
 use Rattle.made_runs.specs.Room.{AreRoomy, some_lacks}
-use Rattle.made_runs.specs.HeardExamples.{binding, bound, taken, turned}
+use Rattle.made_runs.specs.HeardExamples.{binding, bound, taken, turned, heard_1}
 
 pub unheard : AreNotices (bound 0 ∷ taken 1 ∷ []) 7 [] [] → ⊥
 unheard are = let wrong = are 3 in cc
+
+pub is_heard : AreNotices (bound 0 ∷ taken 1 ∷ []) 7 (Got heard_1 ∷ []) []
+is_heard = λ queue. by (3 == queue)
+  where
+    by : (c : Bool) → (if c then heard_1 ∷ [] else []) ≡ letters_from 7 None
+        (if c then bound 0 ∷ (if c then taken 1 ∷ [] else []) else (if c then taken 1 ∷ [] else []))
+    by true = refl
+    by false = refl
 
 pub not_heard : AreNotices (bound 0 ∷ taken 1 ∷ []) 9 [] []
 not_heard = λ queue. by (3 == queue)

@@ -109,7 +109,8 @@ pub all_told : (workers feeders : ℕ) (script : ScriptValue) (frames : ℕ) (h 
 all_told workers feeders script frames h notes left differ made =
     All-from_recursion (IsTold workers script notes) h.logs
     (both_give (λ l. list_any (nat_eq l.port) (map port_of h.logs) ≡ true)
-    (λ l. log_of l.port h.logs ≡ Some l.dids) (IsTold workers script notes) one h.logs (all_among h.logs)
+    (λ l. log_of l.port h.logs ≡ Some l.dids) (IsTold workers script notes) one h.logs
+    (all_among h.logs)
     (all_found h.logs (subst AreApart (sym made.ports) (apart_so script.ports differ))))
   where
     one : (l : PortLog) → list_any (nat_eq l.port) (map port_of h.logs) ≡ true →

@@ -1,5 +1,5 @@
 -- With one worker no answers wait.
-use Rattle.std.proofs.Common.{◌≡◌, ◌∙◌, ℕ, List, [], ◌∷◌, refl, true, false, ap}
+use Rattle.std.proofs.Common.{◌≡◌, ℕ, List, [], ◌∷◌, refl, true, false, ap}
 use Rattle.packet_entry.specs.declared.letter.Letter.{Letter}
 use Rattle.inspector_script.specs.Scripts.{ScriptValue}
 use Rattle.made_runs.specs.NoticeTexts.{told_exactly}

@@ -93,10 +93,10 @@ times_of (Was e) = times_of_event e.event
 times_of (Fell d e) = falling_time d.after ∷ []
 times_of (Passed d) = falling_time d.after ∷ []
 
--- A queue's history was fed by one feeder, with these lines, where they can be put in: each at one place, in
--- their order, with the entry of its device or where the queue is absent; no other device goes
--- down; and the times ascend. So first arrivals ascend by their frames' numbers, and a line stands
--- behind those of all frames up to its own and before those of later ones.
+-- A queue's history was fed by one feeder, with these lines, where they can be put in: each at one
+-- place, in their order, with the entry of its device or where the queue is absent; no other device
+-- goes down; and the times ascend. So first arrivals ascend by their frames' numbers, and a line
+-- stands behind those of all frames up to its own and before those of later ones.
 pub record IsFed (downs : List Down) (h : List Entry) : Type 0 where
   pub items : List Item
   pub entries : flat_map entries_of items ≡ h

@@ -1,7 +1,7 @@
 -- What a port's log may be: its opening messages, then blocks. A block is a notice with all the
--- messages that the script answers to it, or one message of the end. Behind a pool of workers the
--- answers to a notice are a block of their own, which stands somewhere behind it, in the order of the
--- notices. The closing is last, where the script says it.
+-- messages that the script answers to it, or one message of the end. Where a pool of workers works
+-- out the answers, those to a notice are a block of their own, somewhere behind it, in the order of
+-- the notices. The closing is last, where the script says it.
 use Rattle.std.specs.Prelude.{◌≡◌, ℕ, Bool, true, false, List, [], ◌∷◌, ◌++◌, map, flat_map, min}
 use Rattle.std.specs.Prelude.{count_by, nat_lt, Option, Some, None, if◌then◌else◌}
 use Rattle.packet_entry.specs.declared.letter.Letter.{Letter}
@@ -53,9 +53,9 @@ pub data Due : Type 0 where
   Still : Ask → Due
   Message : NetlinkMessage → Due
 
--- Where a port stands: what it did, what it owes now, the answers to notices that it hasn't turned to
--- yet, what it has to do at the end, whether it is open, and whether it has just taken up an ask and
--- sent none of its messages.
+-- Where a port stands: what it did, what it owes now, the answers to notices that it hasn't turned
+-- to yet, what it has to do at the end, whether it is open, and whether it has just taken up an ask
+-- and sent none of its messages.
 pub record Standing : Type 0 where
   pub dids : List Did
   pub owed : List Due

@@ -49,8 +49,8 @@ ClosingHolds script h notes =
     (port : ℕ) → is_port script port ≡ true →
     AreClosings h.entries port (logged port (notes port))
 
--- First arrivals of each feeder's frames come in their order, and devices go down between them where
--- the script says it.
+-- First arrivals of each feeder's frames come in their order, and devices go down between them
+-- where the script says it.
 abbrev pub FeederHolds : ℕ → ScriptValue → ℕ → Histories → Type 0
 FeederHolds feeders script frames h = AreFed feeders script frames h.entries
 
@@ -75,9 +75,9 @@ pub record IsTold (workers : ℕ) (script : ScriptValue) (notes : ℕ → List N
   pub next : AreNextFrom workers script (place_in l.port script.ports) l.port
       (start script (place_in l.port script.ports)) (notes l.port)
 
--- Histories that ports made by this script over so many frames, each behind a pool of so many
--- workers, with so many feeders; with what each port did told in full, and with the notices that are
--- left in its mailbox: all parts hold.
+-- Histories that ports made by this script over so many frames, each with a pool of so many workers,
+-- and with so many feeders; with what each port did told in full, and with the notices that are left
+-- in its mailbox: all parts hold.
 pub record IsMadeBy (workers feeders : ℕ) (script : ScriptValue) (frames : ℕ) (h : Histories)
     (notes : ℕ → List Note) (left : ℕ → List Letter) : Type 0 where
   pub log : LogHolds workers script h notes

@@ -34,7 +34,8 @@ pub fn each_port_has_its_place()
 pub fn each_log_is_what_is_told()
     ensures { (workers feeders : ℕ) (script : ScriptValue) (frames : ℕ) (h : Histories)
         (notes : ℕ → List Note) (left : ℕ → List Letter) → AllPairs (λ p q. p ≢ q) script.ports →
-        IsMadeBy workers feeders script frames h notes left → All (IsTold workers script notes) h.logs }
+        IsMadeBy workers feeders script frames h notes left →
+        All (IsTold workers script notes) h.logs }
 {}
 
 /// With one worker no answers wait: a port owes the answers to a notice as soon as it has received
@@ -43,8 +44,8 @@ pub fn one_worker_is_no_pool()
     ensures owed { (script : ScriptValue) (place port : ℕ) (t : Standing) (l : Letter) →
         after 1 script place port t (Got l)
         ≡ record (having port (Got l) t) {
-            owed = all_due (answer_to script place (having port (Got l) t).dids
-                (told_exactly l.bytes));
+          owed = all_due (answer_to script place (having port (Got l) t).dids
+              (told_exactly l.bytes));
         } }
     ensures never_turns { (t : Standing) → IsNext 1 t Turned → ⊥ }
     ensures nothing_waits { (script : ScriptValue) (place port : ℕ) (notes : List Note) →

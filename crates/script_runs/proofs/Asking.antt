@@ -18,7 +18,8 @@ use Rattle.script_lines.specs.declared.ask.Ask.TheVariants.{Words, Close}
 use Rattle.script_lines.specs.declared.line.Down.{Down}
 use Rattle.inspector_script.specs.Scripts.{ScriptValue}
 use Rattle.packet_moves.specs.declared.setting.Setting.{Setting}
-use Rattle.packet_moves.specs.World.{World, Port, at_port, changed_at, having_done, received, closed}
+use Rattle.packet_moves.specs.World.{World, Port, at_port, changed_at, having_done, received}
+use Rattle.packet_moves.specs.World.{closed}
 use Rattle.packet_moves.specs.Calls.{next_call}
 use Rattle.packet_moves.specs.Moving.{arrived, left_at_once, room_for}
 use Rattle.packet_moves.specs.Messages.{words_of, answered, call_at, asking, with_ask}
@@ -200,7 +201,8 @@ shut_stand = record { owed = []; ends = []; is_open = false; is_fresh = false }
 
 -- an ask is taken up
 begun_leads : (script : ScriptValue) (place port : ℕ) (held : Port) (x : Side) (words : AskWords)
-    (ds : List Due) → after 1 script place port (full held (side x (Still (Words words) ∷ ds))) Begun
+    (ds : List Due) →
+    after 1 script place port (full held (side x (Still (Words words) ∷ ds))) Begun
     ≡ full held
     (cut_side x (map Message (messages_in (bytes_of port (next_call held.dids) words)) ++ ds)
     (is_some_due (map Message (messages_in (bytes_of port (next_call held.dids) words)))))

@@ -33,7 +33,8 @@ use Rattle.histories.specs.Journeys.{Arrival}
 use Rattle.histories.specs.States.{state_of, entry_of, every_number}
 use Rattle.histories.specs.Happenings as happening
 use Rattle.packet_moves.specs.declared.setting.Setting.{Setting}
-use Rattle.packet_moves.specs.World.{World, Port, at_port, changed_at, delivered, having_done, closed}
+use Rattle.packet_moves.specs.World.{World, Port, at_port, changed_at, delivered, having_done}
+use Rattle.packet_moves.specs.World.{closed}
 use Rattle.packet_moves.specs.World.{received}
 use Rattle.packet_moves.specs.HandedOn.{LeavesAlone}
 use Rattle.packet_moves.specs.Moving.{arrived, arrival_to, left_at_once, room_for, turned_away}

@@ -142,10 +142,10 @@ nothing_ordered script = record {
 abbrev pub FeedsAll : Type 0
 FeedsAll = (downs : List Down) (h : List Entry) → IsFed downs h → IsFedBy 1 downs h
 
-pub made_by_script : Laws → Below → FeedsAll → (script : ScriptValue) (tables : RuleTables) (c : Capture)
-    (h : Histories) → HavePlaces script → IsSolo script tables c h →
-    (notes : ℕ → List Note) × IsMadeBy 1 1 script (length c.frames) h notes (left_in
-    (run script tables c))
+pub made_by_script : Laws → Below → FeedsAll → (script : ScriptValue) (tables : RuleTables)
+    (c : Capture) (h : Histories) → HavePlaces script → IsSolo script tables c h →
+    (notes : ℕ → List Note)
+    × IsMadeBy 1 1 script (length c.frames) h notes (left_in (run script tables c))
 made_by_script laws below alone script tables c h places is =
     let s = setting_of script tables in
     let f = λ (p : ℕ). place_in p script.ports in

@@ -123,7 +123,8 @@ module _ (script : ScriptValue) (f : ℕ → ℕ) where
       own p same is =
           let m = may is.held (subst (λ q. ports q ≡ Some is.held) same is.there) is.shut in
           at_push script (f p) p (notes p) (ports p) t u n g is m.0
-          (subst (λ q. after 1 script (f q) q (full is.held t) n ≡ full (g is.held) u) (sym same) m.1)
+          (subst (λ q. after 1 script (f q) q (full is.held t) n ≡ full (g is.held) u) (sym same)
+          m.1)
           m.2
 
       by : (p : ℕ) → is_in p ≡ true → ((p == port) ≡ true) ⊎ ((p == port) ≡ false) →

@@ -1,5 +1,5 @@
 use Rattle.made_runs.proofs.HeardByHand.{unheard, roomless, wrong_errno, unasked}
-use Rattle.made_runs.proofs.HeardByHand.{not_heard, other_room, told_errno}
+use Rattle.made_runs.proofs.HeardByHand.{is_heard, not_heard, other_room, told_errno}
 use Rattle.made_runs.proofs.by_hand.hearing_by_hand.Goals as goal
 
 pub returns-clause-unheard : goal.returns-clause-unheard
@@ -22,3 +22,6 @@ returns-clause-room c = other_room
 
 pub returns-clause-told : goal.returns-clause-told
 returns-clause-told c = told_errno
+
+pub returns-clause-heard : goal.returns-clause-heard
+returns-clause-heard c = is_heard

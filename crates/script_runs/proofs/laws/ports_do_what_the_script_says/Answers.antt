@@ -11,4 +11,5 @@ returns c = λ script tables capture h is solo.
       conserve = c.each_packet_stays_or_leaves.ensures;
       closings = c.a_closed_port_has_no_queues.ensures.entries;
       downs = c.a_device_that_packets_pass_leaves_nothing_waiting.ensures.entries;
-    }) c.one_feeder_feeds_all.ensures.fed script tables capture h (c.each_port_has_its_place.ensures script is.ports_differ) solo
+    }) c.one_feeder_feeds_all.ensures.fed script tables capture h
+    (c.each_port_has_its_place.ensures script is.ports_differ) solo
