@@ -11,9 +11,9 @@ ghost use Rattle.fate_ledger.specs.Following as following;
 use crate::following::Followed;
 use crate::happening::{Happening, Lasts};
 use crate::{Fate, FateLine, FateLines};
+use histories::{Entries, Entry, Histories, Losts};
 use packet_entry::NoMemory;
 use pcap_io::{Capture, Frame, Frames};
-use histories::{Entries, Entry, Histories, Losts};
 use std::alloc::Global;
 use std::collections::{BTreeMap, BTreeSet};
 

@@ -10,9 +10,9 @@ ghost use Rattle.fate_ledger.specs.Following as following;
 use crate::Fate;
 use crate::happening::{Happening, How, Lasts, note};
 use crate::waiting_list::WaitingList;
+use histories::{Entry, Event, Reply};
 use nfqa_msgs::{Head, Request};
 use packet_entry::{Bytes, Card, NoMemory};
-use histories::{Entry, Event, Reply};
 use queue_core::{ACCEPT, DROP, Outcome, QUEUE, REPEAT, VERDICT_MASK};
 use std::alloc::Global;
 

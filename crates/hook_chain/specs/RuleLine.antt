@@ -88,12 +88,12 @@ options_after pick bypass fanout [] = options_said pick bypass fanout
 options_after pick bypass fanout (w ∷ []) =
     if bytes_eq w (codes "--queue-bypass") && not bypass then options_said pick true fanout
     else if bytes_eq w (codes "--queue-cpu-fanout") && not fanout
-        then options_said pick bypass true else None
+    then options_said pick bypass true else None
 options_after pick bypass fanout (w ∷ v ∷ ws) =
     if bytes_eq w (codes "--queue-bypass") && not bypass
-        then options_after pick true fanout (v ∷ ws)
+    then options_after pick true fanout (v ∷ ws)
     else if bytes_eq w (codes "--queue-cpu-fanout") && not fanout
-        then options_after pick bypass true (v ∷ ws)
+    then options_after pick bypass true (v ∷ ws)
     else if is_none pick then (pick_of w v >>= λ p. options_after (Some p) bypass fanout ws)
     else None
 

@@ -162,9 +162,18 @@ fn each_kind_of_option_is_read(rt: HostRuntime) -> Result<(), Fail> {
 const FANNED_OUT: [(&[u8], bool); 5] = [
     (b"--queue-balance 2:5 --queue-cpu-fanout", false),
     (b"--queue-cpu-fanout --queue-balance 2:5", false),
-    (b"--queue-bypass --queue-cpu-fanout --queue-balance 2:5", true),
-    (b"--queue-balance 2:5 --queue-cpu-fanout --queue-bypass", true),
-    (b"--queue-cpu-fanout --queue-bypass --queue-balance 2:5", true),
+    (
+        b"--queue-bypass --queue-cpu-fanout --queue-balance 2:5",
+        true,
+    ),
+    (
+        b"--queue-balance 2:5 --queue-cpu-fanout --queue-bypass",
+        true,
+    ),
+    (
+        b"--queue-cpu-fanout --queue-bypass --queue-balance 2:5",
+        true,
+    ),
 ];
 
 #[test]
@@ -189,9 +198,18 @@ const BAD_OPTIONS: [(&[u8], &str); 13] = [
     (b"--queue-num 65536", "a queue above 65,535"),
     (b"--queue-num", "no number"),
     (b"--queue-cpu-fanout", "the fan-out without a balance"),
-    (b"--queue-num 0 --queue-cpu-fanout", "the fan-out beside one queue"),
-    (b"--queue-balance 0:2 --queue-cpu-fanout --queue-cpu-fanout", "the fan-out twice"),
-    (b"--queue-balance --queue-cpu-fanout 0:2", "the fan-out inside of an option"),
+    (
+        b"--queue-num 0 --queue-cpu-fanout",
+        "the fan-out beside one queue",
+    ),
+    (
+        b"--queue-balance 0:2 --queue-cpu-fanout --queue-cpu-fanout",
+        "the fan-out twice",
+    ),
+    (
+        b"--queue-balance --queue-cpu-fanout 0:2",
+        "the fan-out inside of an option",
+    ),
 ];
 
 /// Matches of a rule that are refused, and why.

@@ -3,9 +3,9 @@
 ghost use Rattle.std.specs.Prelude.{◌≡◌, ◌++◌, map, option_copied, None, IfOk, IsOk};
 ghost use Rattle.inspector_script.specs.Blocks.{answer, closing, line_for, opening};
 
+use histories::AskWords;
 use nfqa_msgs::Notice;
 use packet_entry::{NoMemory, Sequence};
-use histories::AskWords;
 use script_lines::{Ask, Asks, OnLine, put_words};
 use std::alloc::Global;
 

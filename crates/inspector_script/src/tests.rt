@@ -4,9 +4,9 @@
 ghost use Rattle.std.specs.Prelude.{◌<◌, ◌≡◌, length, IfOk};
 
 use super::*;
+use histories::AskWords;
 use nfqa_msgs::{Head, Notice, Request};
 use packet_entry::{Bytes, NoMemory};
-use histories::AskWords;
 use std::alloc::Global;
 use std::test::Fail;
 
@@ -159,7 +159,10 @@ fn counted(alloc: Global, script: &Script) -> Result<String, Fail>
 
 #[test]
 fn notices_are_answered_by_their_number(rt: HostRuntime) -> Result<(), Fail> {
-    let script = script_of(rt.alloc(), "port 7~on every 2 do raw 00~on every 3 do raw 01")?;
+    let script = script_of(
+        rt.alloc(),
+        "port 7~on every 2 do raw 00~on every 3 do raw 01",
+    )?;
     let said = counted(rt.alloc(), &script)?;
     assert_eq!(rt; said.as_str(), "4 .raw [0];.raw [1];");
     Ok(())

@@ -11,8 +11,8 @@ use crate::laws::lines_say_what_is_written;
 use crate::line::Line;
 use crate::line_reading::read_line;
 use crate::stop::Stop;
-use packet_entry::{NoMemory, Sequence};
 use histories::{Did, Entries, Entry, Histories, Logs, PortLog};
+use packet_entry::{NoMemory, Sequence};
 use std::alloc::Global;
 use std::collections::BTreeSet;
 

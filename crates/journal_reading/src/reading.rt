@@ -8,8 +8,8 @@ ghost use Rattle.journal_reading.specs.JournalFile.{IsRefusedAt, place_of};
 
 use crate::fault::JournalFault;
 use crate::reader::Reader;
-use packet_entry::NoMemory;
 use histories::Histories;
+use packet_entry::NoMemory;
 use std::alloc::Global;
 use text_lines::{bytes_are_spelled, cut, is_word, numbers_are_spelled};
 

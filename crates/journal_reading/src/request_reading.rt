@@ -7,9 +7,9 @@ ghost use Rattle.journal_reading.specs.Reading.{half, head_in, params_in, part, 
 ghost use Rattle.journal_reading.specs.Reading.{small, verdict_in};
 
 use crate::fields::{behind, bytes, half, small, wide, word};
+use histories::AskWords;
 use nfqa_msgs::{Head, Params, Request};
 use packet_entry::{Bytes, NoMemory};
-use histories::AskWords;
 use std::alloc::Global;
 use text_lines::is_word;
 

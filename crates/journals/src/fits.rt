@@ -6,9 +6,9 @@ ghost use Rattle.journals.specs.WellFormed.{Fit, FitsAsk, FitsCard, FitsDid, Fit
 ghost use Rattle.journals.specs.WellFormed.{FitsHead, FitsLog, FitsOutcome, FitsParams, FitsReply};
 ghost use Rattle.journals.specs.WellFormed.{FitsRequest, IsHalf, IsSmall, IsWide};
 
+use histories::{AskWords, Did, Dids, Entries, Entry, Event, Histories, Logs, PortLog, Reply};
 use nfqa_msgs::{Head, Params, Request};
 use packet_entry::{Bytes, Card};
-use histories::{AskWords, Did, Dids, Entries, Entry, Event, Histories, Logs, PortLog, Reply};
 use queue_core::Outcome;
 
 /// Each value fits its field.

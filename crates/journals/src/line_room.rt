@@ -6,9 +6,9 @@ ghost use Rattle.nfqa_msgs.specs.declared.request.Request.TheVariants.{Config};
 ghost use Rattle.journals.specs.Journal as text;
 
 use crate::writing::{DIGITS, yes_no};
+use histories::{Entry, Event, Reply};
 use nfqa_msgs::{Head, Params, Request};
 use packet_entry::{Bytes, Card};
-use histories::{Entry, Event, Reply};
 use queue_core::Outcome;
 
 /// What an arrival's line says of the packet has at most so many bytes beside the packet's own.

@@ -1,9 +1,9 @@
 //! How much memory a journal takes, so that it is taken at once.
 
 use crate::writing::DIGITS;
+use histories::{AskWords, Did, Entry, Event, Histories, Logs, PortLog};
 use nfqa_msgs::Request;
 use packet_entry::Bytes;
-use histories::{AskWords, Did, Entry, Event, Histories, Logs, PortLog};
 
 /// More bytes than a line has beside its byte texts, with numbers of a usual length.
 const LINE: usize = 96;

@@ -2,9 +2,9 @@
 //! it was written out by hand.
 
 use crate::journal_text;
+use histories::{AskWords, Did, Entry, Event, Histories, PortLog, Reply};
 use nfqa_msgs::{Head, Params, Request};
 use packet_entry::{Bytes, Card, NoMemory, Sequence};
-use histories::{AskWords, Did, Entry, Event, Histories, PortLog, Reply};
 use queue_core::Outcome;
 use std::alloc::Global;
 use std::test::Fail;

@@ -8,9 +8,9 @@ ghost use Rattle.journals.specs.Journal as text;
 
 use crate::appending::{append_number, append_text, append_word};
 use crate::room::{room_for, room_for_logs};
+use histories::{AskWords, Did, Dids, Entries, Entry, Event, Histories, Logs, PortLog, Reply};
 use nfqa_msgs::{Head, Params, Request};
 use packet_entry::{Bytes, Card, NoMemory};
-use histories::{AskWords, Did, Dids, Entries, Entry, Event, Histories, Logs, PortLog, Reply};
 use queue_core::Outcome;
 use std::alloc::{AllocError, Global};
 

@@ -61,7 +61,7 @@ module _ {V : Type 0} (role : V → Role) where
   sender_set vs me id k v w at sends number s =
       dite (ℕ_discrete id me)
       (λ e. let same : s.end ≡ v =
-          some-injective s.end v (sym s.there ∙ (ap (get_elem? vs) e ∙ at)) in record {
+      some-injective s.end v (sym s.there ∙ (ap (get_elem? vs) e ∙ at)) in record {
         end = w;
         there = ap (get_elem? (set vs me w)) e ∙ set_there vs me v w at;
         sends = sends ∙ (ap (λ u. (role u).sends) (sym same) ∙ s.sends);

@@ -123,13 +123,14 @@ of_known : (sent : ℕ → List Letter) (made : ℕ) (known : List ℕ) (whole :
     → ((k : ℕ) → made ≤ k → sent k ≡ []) → ((k : ℕ) → k < made → In k known)
     → (before got items : List Post) → whole ≡ before ++ (got ++ items) → AreOf got known
 of_known sent made known whole all unmade has before [] items e = tt
-of_known sent made known whole all unmade has before (p ∷ ps) items e =
-    (⊎_elim (λ (h : p.from < made). has p.from h)
-    (λ (h : made ≤ p.from). absurd (has_letter before (ps ++ items) p
-    (ap (letters_of p.from) (sym e) ∙ (all p.from ∙ unmade p.from h))))
-    (cases_lt p.from made),
-    of_known sent made known whole all unmade has (before ++ p ∷ []) ps items
-    (e ∙ sym (append_assoc before (p ∷ []) (ps ++ items))))
+of_known sent made known whole all unmade has before (p ∷ ps) items e = (
+  ⊎_elim (λ (h : p.from < made). has p.from h)
+      (λ (h : made ≤ p.from). absurd (has_letter before (ps ++ items) p
+      (ap (letters_of p.from) (sym e) ∙ (all p.from ∙ unmade p.from h))))
+      (cases_lt p.from made),
+  of_known sent made known whole all unmade has (before ++ p ∷ []) ps items
+      (e ∙ sym (append_assoc before (p ∷ []) (ps ++ items))),
+)
 
 -- what stands before nothing is nothing
 none_before : {A : Type 0} (xs ys : List A) → xs ++ ys ≡ [] → xs ≡ []

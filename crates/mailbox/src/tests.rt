@@ -67,7 +67,10 @@ fn each_sends_one(
         let Ok(mut sender) = mailbox.split(first) else {
             unreachable!()
         };
-        if mailbox.send(rt, &mut sender, letter(alloc, 0, number)).is_err() {
+        if mailbox
+            .send(rt, &mut sender, letter(alloc, 0, number))
+            .is_err()
+        {
             return false;
         }
         mailbox.join(receiver, sender);
@@ -92,7 +95,11 @@ fn comes_in_order(rt: &impl Wait, mailbox: &Mailbox, receiver: &mut Receiver) ->
 fn sixty_four_senders(rt: HostRuntime) -> Result<(), Fail> {
     let (mailbox, mut first, mut receiver) = Mailbox::new(rt.alloc(), 64)?;
     assert!(rt; each_sends_one(&rt, rt.alloc(), &mailbox, &mut first, &mut receiver));
-    assert!(rt; mailbox.send(&rt, &mut first, letter(rt.alloc(), 0, 64)).is_ok());
+    assert!(rt;
+        mailbox
+            .send(&rt, &mut first, letter(rt.alloc(), 0, 64))
+            .is_ok()
+    );
     mailbox.join(&mut receiver, first);
     assert!(rt; comes_in_order(&rt, &mailbox, &mut receiver));
     Ok(())

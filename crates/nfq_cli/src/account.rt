@@ -22,14 +22,14 @@ use fate_ledger::{
     released_frames_are_those_let_go, the_last_event_is_where_it_left_or_waits,
     what_left_last_is_over,
 };
+use histories::{Histories, each_packet_waits_is_lost_or_is_over};
 use hook_chain::Tables;
 use inspector_script::Script;
 use journals::histories_fit;
+use made_runs::{each_log_is_what_is_told, packets_are_read_with_their_frames};
 use packet_entry::NoMemory;
 use pcap_io::Capture;
-use histories::{Histories, each_packet_waits_is_lost_or_is_over};
 use queue_core::replies_tell_how_many_left;
-use made_runs::{each_log_is_what_is_told, packets_are_read_with_their_frames};
 use script_runs::{
     a_schedule_has_one_run, no_notice_is_left, packets_and_payloads_are_within_bounds,
 };

@@ -32,7 +32,7 @@ leaves card q p = record {
 
 waits : (card : Card) (q : Option Bound) (reply : Reply) →
     LeavesSo card (record { state = q; reply = reply; left = [] })
-waits card q reply = record { so = λ o l told left. absurd (omega (arith, left.1)); }
+waits card q reply = record { so = λ o l told left. absurd (omega (arith, left.1)) }
 
 pub leaves_so : (q : Option Bound) (card : Card) (bypass room : Bool) →
     LeavesSo card (arrive q card bypass room)

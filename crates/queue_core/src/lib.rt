@@ -19,9 +19,10 @@ pub use errno::{EBUSY, ENODEV, ENOENT, EPERM};
 pub use event::{Event, Reply};
 pub use handed::Handed;
 pub use laws::{
-    an_arrival_leaves_as_its_outcome_says, another_port_changes_nothing, each_packet_stays_or_leaves, first_free_id, ids_stay_apart,
-    public_numbers, replies_tell_how_many_left, room_matters_where_a_notice_is_offered,
-    share_is_the_longest, share_of_ascending_ids, what_is_flushed_is_destroyed,
+    an_arrival_leaves_as_its_outcome_says, another_port_changes_nothing,
+    each_packet_stays_or_leaves, first_free_id, ids_stay_apart, public_numbers,
+    replies_tell_how_many_left, room_matters_where_a_notice_is_offered, share_is_the_longest,
+    share_of_ascending_ids, what_is_flushed_is_destroyed,
 };
 pub use lines::{ConfigLine, config_line, ruling};
 pub use offers::{Begun, NoRoom, Outcome, Settled};

@@ -7,10 +7,10 @@ ghost use Rattle.journals.specs.Journal as text;
 ghost use Rattle.run_files.specs.Parts.{IsJournalReady, journal_of};
 
 use crate::part_writing::{PART, make_room, write_part};
+use histories::{Entries, Histories};
 use host_io::{Host, WriteFault, write_on};
 use journals::{append_entry, append_heading, entry_room, journal_tail};
 use packet_entry::NoMemory;
-use histories::{Entries, Histories};
 use std::alloc::Global;
 use std::marker::Model;
 

@@ -11,9 +11,9 @@ ghost use Rattle.run_files.specs.Outputs as text;
 use crate::capture_file::CaptureFile;
 use crate::journal_file::JournalFile;
 use fate_ledger::{FateLines, fates, ledger_text, released_capture};
+use histories::Histories;
 use packet_entry::NoMemory;
 use pcap_io::Capture;
-use histories::Histories;
 use std::alloc::Global;
 
 /// The three files that a run writes.

@@ -3,8 +3,8 @@
 ghost use Rattle.std.specs.Prelude.{◌≡◌, ◌++◌, map, IfOk, OnOk};
 ghost use Rattle.script_lines.specs.declared.ask.Ask.TheVariants.{Words};
 
-use packet_entry::{NoMemory, Sequence};
 use histories::AskWords;
+use packet_entry::{NoMemory, Sequence};
 
 /// One thing that an inspector asks for.
 #[derive(Debug, Drop)]

@@ -9,8 +9,8 @@ ghost use Rattle.script_lines.specs.Line.{set_up, without_notice};
 use crate::answering::OnLine;
 use crate::ask_line::{only_word, read_ask};
 use crate::on_line::read_on;
-use packet_entry::NoMemory;
 use histories::AskWords;
+use packet_entry::NoMemory;
 use std::alloc::Global;
 use text_lines::{are_printable, decimal, first_said, is_word, next_word, rest_after};
 

@@ -6,9 +6,9 @@ ghost use Rattle.script_lines.specs.Asking.{request_of, words_alone};
 ghost use Rattle.script_lines.specs.Limits.{IsTemplate, IsWords};
 
 use crate::ask::Ask;
+use histories::AskWords;
 use nfqa_msgs::{Head, Notice, Params, Request, share_payload};
 use packet_entry::{Bytes, NoMemory};
-use histories::AskWords;
 
 /// A number that an ask names: a queue's, or a packet's id.
 #[derive(Clone, Copy, Debug, PartialEq, Eq)]

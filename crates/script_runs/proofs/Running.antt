@@ -135,8 +135,8 @@ module _ (script : ScriptValue) (f : ℕ → ℕ) where
   abbrev pub AllIdle : (ℕ → Stand) → Type 0
   AllIdle T =
       (p : ℕ) → is_in script f p ≡ true → ((T p).owed ≡ []) × ((T p).is_fresh ≡ false)
-
   -- the ports from this place on
+
 -- all ports have opened
 module _ (s : Setting) (script : ScriptValue) (f : ℕ → ℕ) (P : Staged) (K : Goes s script f P)
     (st : Stage) (over : IsOver script st) where

@@ -21,10 +21,10 @@ ghost use Rattle.solo_plane.specs.OnTheWay.{IsCarried, WasToArrive};
 
 use crate::held::Held;
 use crate::ports;
-use packet_moves::{Fed, Setting};
+use histories::Lost;
 use hook_chain::{Decision, Next, onward};
 use packet_entry::{NoMemory, Packet};
-use histories::Lost;
+use packet_moves::{Fed, Setting};
 use queue_core::{Begun, NoRoom, Outcome, Settled};
 use std::alloc::Global;
 

@@ -10,10 +10,10 @@ ghost use Rattle.packet_moves.specs.HandedOn.{AreInTime, WaitInTime};
 
 use crate::arrivals::{Came, carry};
 use crate::held::Held;
+use histories::queue_of;
 use hook_chain::onward;
 use nfqa_msgs::Request;
 use packet_entry::NoMemory;
-use histories::queue_of;
 use packet_moves::{Setting, what_goes_on_is_in_time};
 use queue_core::Handed;
 use std::alloc::Global;

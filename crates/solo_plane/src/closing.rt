@@ -13,8 +13,8 @@ ghost use Rattle.packet_moves.specs.Logs.{dids_of};
 
 use crate::held::Held;
 use crate::ports::Ports;
-use packet_entry::{NoMemory, Sequence};
 use histories::{Dids, Histories, Logs, PortLog, grouped, soundness_is_of_each_queue};
+use packet_entry::{NoMemory, Sequence};
 use std::alloc::Global;
 
 /// What a plane gives as it ends: its entries by ascending queue number, the logs of its ports in

@@ -10,8 +10,8 @@ ghost use Rattle.packet_moves.specs.Planes.{with_closed, without_device};
 
 use crate::held::Held;
 use crate::ports;
-use packet_moves::histories_stay_sound;
 use packet_entry::NoMemory;
+use packet_moves::histories_stay_sound;
 use place_history::Place;
 
 /// The histories at a place are legal.

@@ -8,9 +8,9 @@ ghost use Rattle.packet_moves.specs.Planes.{IsFed};
 
 use crate::arrivals::{attempt, carry};
 use crate::held::Held;
-use packet_moves::{Fed, Refused, Setting};
 use hook_chain::route;
 use packet_entry::{NoMemory, Packet};
+use packet_moves::{Fed, Refused, Setting};
 use queue_core::NoRoom;
 use std::alloc::Global;
 

@@ -1,8 +1,8 @@
 //! What a plane holds.
 
 use crate::ports::Ports;
-use packet_entry::{Card, Stock};
 use histories::Lost;
+use packet_entry::{Card, Stock};
 use place_history::Place;
 
 /// What a plane holds.

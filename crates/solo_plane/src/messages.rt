@@ -17,10 +17,10 @@ ghost use Rattle.packet_moves.specs.HandedOn.{WaitInTime};
 use crate::asking::ask;
 use crate::held::Held;
 use crate::ports;
-use packet_moves::{Setting, words_of};
 use netlink_codec::{Message, ack, next_message, written_message_is_in_front};
 use nfqa_msgs::{Decoded, decode_request};
 use packet_entry::NoMemory;
+use packet_moves::{Setting, words_of};
 use std::alloc::Global;
 
 /// The most bytes of an acknowledgement before the message that it quotes: its header of 16 and an

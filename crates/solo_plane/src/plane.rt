@@ -16,11 +16,11 @@ ghost use Rattle.solo_plane.specs.Invariant.{IsPlane};
 use crate::endings::legal_at;
 use crate::held::Held;
 use crate::opening::open_ports;
-use packet_moves::{Fed, Refused, Setting, histories_stay_sound};
 use crate::{closing, endings, feeding, messages, ports};
+use histories::Histories;
 use hook_chain::Tables;
 use packet_entry::{Letter, NoMemory, Packet, Stock};
-use histories::Histories;
+use packet_moves::{Fed, Refused, Setting, histories_stay_sound};
 use place_history::Place;
 use std::alloc::Global;
 

@@ -5,8 +5,8 @@ ghost use Rattle.histories.specs.declared.log.Did.TheVariants.{Sent};
 ghost use Rattle.packet_moves.specs.Calls.{sent_in};
 
 use crate::mailbox::Mailbox;
-use packet_entry::{Letter, NoMemory, Stock};
 use histories::{AskWords, Did};
+use packet_entry::{Letter, NoMemory, Stock};
 use std::alloc::Global;
 
 /// A port: its mailbox, and what it did.

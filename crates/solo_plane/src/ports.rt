@@ -11,8 +11,8 @@ ghost use Rattle.solo_plane.specs.PortView.{ports_of, logs_of, OnPort};
 ghost use Rattle.packet_moves.specs.Messages.{call_at};
 
 use crate::port::PortState;
-use packet_entry::{Letter, NoMemory};
 use histories::AskWords;
+use packet_entry::{Letter, NoMemory};
 use std::collections::BTreeMap;
 
 /// The ports by number.

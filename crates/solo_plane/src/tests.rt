@@ -9,10 +9,10 @@ ghost use Rattle.solo_plane.specs.Numbers.{most_mail};
 mod worked;
 
 use crate::{Fed, Refused, SoloPlane, only_feeding_feeds};
+use histories::Histories;
 use hook_chain::read_tables;
 use nfqa_msgs::{BIND, Head, PACKET, Params, Request, encode_request};
 use packet_entry::{IPV4, Packet};
-use histories::Histories;
 use std::alloc::Global;
 use std::test::Fail;
 

@@ -16,11 +16,11 @@ use crate::downs::downs_by_frame;
 use crate::parts::{end_all, open_all, pass_all, rounds_for, take_down};
 use crate::rounds::empty;
 use crate::run::Run;
+use histories::Histories;
 use hook_chain::Tables;
 use inspector_script::Script;
 use packet_entry::NoMemory;
 use pcap_io::Capture;
-use histories::Histories;
 use std::alloc::Global;
 
 /// Runs a script over the packets of a capture, of at most 200,000 frames: the histories of the

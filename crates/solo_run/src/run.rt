@@ -16,10 +16,10 @@ ghost use Rattle.packet_moves.specs.Planes.{beginning, with_closed, without_devi
 ghost use Rattle.script_runs.specs.Schedule as schedule;
 
 use crate::inspector::{Inspector, asked, count_call, count_closing, inspectors};
+use histories::Histories;
 use hook_chain::Tables;
 use inspector_script::{Asks, Script};
 use packet_entry::{NoMemory, Packet};
-use histories::Histories;
 use packet_moves::{Refused, histories_stay_sound, what_goes_on_is_in_time};
 use solo_plane::SoloPlane;
 use std::alloc::Global;

@@ -13,12 +13,12 @@ ghost use Rattle.solo_run.specs.RunState.{is_open_at, port_at, setting_of, world
 
 use crate::between::Between;
 use crate::run::Run;
+use histories::AskWords;
 use inspector_script::Script;
+use made_runs::datagrams_are_short;
 use nfqa_msgs::{Request, encode_request};
 use packet_entry::NoMemory;
-use histories::AskWords;
 use script_lines::{Ask, Asks};
-use made_runs::datagrams_are_short;
 use std::alloc::Global;
 use std::mem;
 

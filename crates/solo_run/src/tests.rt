@@ -6,11 +6,11 @@ ghost use Rattle.packet_entry.specs.Numbers.{longest_packet};
 ghost use Rattle.solo_run.specs.Numbers.{most_frames};
 
 use crate::{list_before_ends, solo};
+use histories::Histories;
 use hook_chain::{Tables, read_tables};
 use inspector_script::{Script, read_script};
 use packet_entry::{Bytes, MAX_FRAME, NoMemory};
 use pcap_io::{Capture, Frame, Frames};
-use histories::Histories;
 use std::alloc::Global;
 use std::test::Fail;
 

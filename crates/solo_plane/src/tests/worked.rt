@@ -7,8 +7,8 @@ ghost use Rattle.solo_plane.specs.Numbers.{most_mail};
 
 use super::{Ask, ONE_RULE, feed, plane, receive, send, send_ask};
 use crate::{Fed, SoloPlane};
-use packet_entry::NoMemory;
 use histories::Entries;
+use packet_entry::NoMemory;
 use queue_core::{Event, Outcome, Reply};
 use std::alloc::Global;
 use std::test::Fail;
