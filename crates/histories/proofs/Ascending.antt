@@ -2,7 +2,7 @@
 use Rattle.std.proofs.Common.{◌≡◌, ℕ, ◌+◌, List, length, Bool, true, false, Some, refl, sym, ap}
 use Rattle.std.proofs.Common.{◌∙◌, arith}
 use Rattle.std.proofs.Math.Path.{fun_ext}
-use Rattle.std.specs.Prelude.{filter, nat_eq, ◌==◌, not, ◌&&◌}
+use Rattle.std.specs.Prelude.{filter, ◌==◌, not, ◌&&◌}
 use Rattle.std.specs.List.Sorted.{IsStableByKey, IsSortedByKey}
 use Rattle.std.specs.Ordering.{nat_cmp, is_lt, is_le, is_some_and}
 use Rattle.std.proofs.lemmas.Bool.Decides.{nat_tests}

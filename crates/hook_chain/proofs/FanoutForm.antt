@@ -2,7 +2,7 @@
 -- grammar has is read.
 use Rattle.std.proofs.Common.{◌≡◌, ℕ, Bool, true, false, not, ◌&&◌, ◌⊎◌, inl, inr, List, [], ◌∷◌}
 use Rattle.std.proofs.Common.{◌++◌, Option, Some, None, ◌∙◌, refl, sym, ap, subst}
-use Rattle.std.specs.Prelude.{bytes_eq, codes, unwrap_or, is_none, if◌then◌else◌}
+use Rattle.std.specs.Prelude.{codes, unwrap_or, is_none, if◌then◌else◌}
 use Rattle.std.proofs.lemmas.Option.{cond_some, same_Some}
 use Rattle.std.proofs.lemmas.Bool.{and_parts, false≢true, false_from_ne_true}
 use Rattle.text_lines.specs.Words.{◌>>=◌}
@@ -10,7 +10,7 @@ use Rattle.hook_chain.specs.declared.rule.Pick.{Pick}
 use Rattle.hook_chain.specs.declared.rule.Pick.TheVariants.{Number, Balance}
 use Rattle.hook_chain.specs.declared.rule_line.RuleOptions.{RuleOptions}
 use Rattle.hook_chain.specs.RuleLine.{pick_of, options_after, options_said}
-use Rattle.hook_chain.specs.Grammar.{AreQueueOptions, IsBalance, AreOptions}
+use Rattle.hook_chain.specs.Grammar.{IsBalance, AreOptions}
 use Rattle.hook_chain.proofs.Options.{is_bypass, is_fanout, never_again, plain, plain-bypass}
 use Rattle.hook_chain.proofs.Options.{plain-pick, options_after-bypass, options_after-pick}
 use Rattle.hook_chain.proofs.OptionForm.{chosen, no_value, plain_some, plain_again}

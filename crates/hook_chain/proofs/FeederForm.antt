@@ -11,7 +11,7 @@ use Rattle.hook_chain.specs.RulesFile.{Answers, rules_of, tables_of}
 use Rattle.hook_chain.specs.Grammar.{BeginsTable, IsFileOf, IsRulesFile, IsFirstRefused}
 use Rattle.hook_chain.proofs.FileForm.{file_found, file_read, file_stuck, refused_by, same_tables}
 use Rattle.hook_chain.proofs.FileForm.{never_both, one_of_two}
-use Rattle.hook_chain.proofs.TableLines.{always_read, some_begins}
+use Rattle.hook_chain.proofs.TableLines.{always_read}
 
 -- tables that have one feeder are those of their rules
 of_rules : (t : RuleTables) → t.feeders ≡ 1 → with_one_feeder t.rules ≡ t

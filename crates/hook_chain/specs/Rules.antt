@@ -1,5 +1,5 @@
 -- What a rule may pick, and the bounds of a rules file's tables.
-use Rattle.std.specs.Prelude.{ℕ, ◌+◌, ◌^◌, ◌<◌, ◌≤◌, List, [], length, All, Result, Ok, Err}
+use Rattle.std.specs.Prelude.{ℕ, ◌+◌, ◌^◌, ◌<◌, ◌≤◌, List, length, All, Result, Ok, Err}
 use Rattle.hook_chain.specs.Numbers.{most_queues, most_rules, most_tables, most_feeders}
 use Rattle.hook_chain.specs.declared.rule.Rule.{Rule}
 use Rattle.hook_chain.specs.declared.rule.Pick.{Pick}

@@ -1,9 +1,8 @@
-use Rattle.std.proofs.Common.{Ok, Err, subst, sym, ◌∙◌}
+use Rattle.std.proofs.Common.{subst, sym, ◌∙◌}
 use Rattle.std.specs.Prelude.{IfOk, IsOk}
 use Rattle.std.specs.Str.Lines.{lines}
 use Rattle.hook_chain.specs.RulesFile.{Answers, tables_of}
 use Rattle.hook_chain.specs.Grammar.{IsRulesFile}
-use Rattle.hook_chain.proofs.FileForm.{answered_by}
 use Rattle.hook_chain.proofs.FeederForm.{read_one, stuck_one, exact_one, found_one, refused_one}
 use Rattle.hook_chain.proofs.FeederForm.{memory_one, always_one}
 use Rattle.hook_chain.proofs.TableLines.{some_begins}
