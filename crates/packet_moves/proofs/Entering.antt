@@ -1,5 +1,5 @@
 -- No call but feeding adds to the packets that were fed.
-use Rattle.std.proofs.Common.{◌≡◌, ◌+◌, ℕ, zero, suc, List, []}
+use Rattle.std.proofs.Common.{◌≡◌, ℕ, zero, suc, List, []}
 use Rattle.std.proofs.Common.{◌∷◌, ◌++◌, Option, Some, None, refl, sym}
 use Rattle.std.proofs.Common.{ap, ◌∙◌}
 use Rattle.packet_entry.specs.declared.packet.Card.{Card}
@@ -19,7 +19,7 @@ use Rattle.packet_moves.specs.World.{World}
 use Rattle.packet_moves.specs.Moving.{Carried, arrival_to, arrived, turned_away, route_after, settled}
 use Rattle.packet_moves.specs.Moving.{carry, carry_on, CarriesAll}
 use Rattle.packet_moves.specs.Planes.{IsFed, entered}
-use Rattle.packet_moves.specs.Messages.{CarriesOut, IsSent, Sends, call_at, asking, with_ask}
+use Rattle.packet_moves.specs.Messages.{CarriesOut, Sends, call_at, asking, with_ask}
 
 abbrev pub Same : Setting → ℕ → Type 0
 Same s memory = (w : World) (card : Card) (route : Next) →

@@ -11,7 +11,6 @@ use Rattle.nfqa_msgs.specs.declared.request.Decoded.{Decoded}
 use Rattle.nfqa_msgs.specs.declared.request.Decoded.TheVariants.{Nothing, Refused, Asked}
 use Rattle.nfqa_msgs.specs.RequestReading.{decoded}
 use Rattle.nfqa_msgs.specs.RequestWriting.{spelling, spelled, FitsRequest}
-use Rattle.histories.specs.declared.log.AskWords.{AskWords}
 use Rattle.histories.specs.declared.log.AskWords.TheVariants.{Plain, Raw}
 use Rattle.packet_moves.specs.Messages.{words_of}
 

@@ -1,9 +1,7 @@
 use Rattle.std.proofs.Common.{ap, ◌∙◌, rules}
 use Rattle.mailbox.proofs.Gauging.{looks_for_letters}
-use Rattle.mailbox.specs.Fills.{freeing}
-use Rattle.mailbox.specs.Views.{receiver_empty, receiver_with}
-use Rattle.mailbox.proofs.Posting.{pops}
-use Rattle.mailbox.proofs.Keeping.{view_empty, view_got, whole_when_empty}
+use Rattle.mailbox.specs.Views.{receiver_empty}
+use Rattle.mailbox.proofs.Keeping.{view_empty, whole_when_empty}
 use Rattle.mailbox.proofs.mailbox.Mailbox.look.Goals as goal
 
 pub load-requires : goal.load-requires

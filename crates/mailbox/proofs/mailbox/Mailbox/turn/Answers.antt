@@ -1,9 +1,7 @@
-use Rattle.std.proofs.Common.{ap, ◌∙◌, rules}
-use Rattle.mailbox.proofs.Gauging.{looks_for_letters}
-use Rattle.mailbox.specs.Fills.{freeing}
-use Rattle.mailbox.specs.Views.{receiver_empty, receiver_with}
+use Rattle.std.proofs.Common.{ap, ◌∙◌}
+use Rattle.mailbox.specs.Views.{receiver_with}
 use Rattle.mailbox.proofs.Posting.{pops}
-use Rattle.mailbox.proofs.Keeping.{view_empty, view_same, view_got, whole_when_empty}
+use Rattle.mailbox.proofs.Keeping.{view_same, view_got}
 use Rattle.std.proofs.Common.{subst}
 use Rattle.mailbox.specs.Turns.{TurnTells}
 use Rattle.mailbox.proofs.mailbox.Mailbox.turn.Goals as goal
