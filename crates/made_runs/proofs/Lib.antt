@@ -1,5 +1,10 @@
 pub mod Placing
 pub mod Told
+pub mod Shutting
+pub mod Closings
+pub mod Rising
+pub mod Feeding
+pub mod Ordering
 pub mod Workers
 pub mod Feeders
 pub mod Entered

@@ -12,6 +12,7 @@ pub mod Ascending
 pub mod Feeder
 pub mod Order
 pub mod Run
+pub mod Underway
 pub mod Examples
 pub mod FedExamples
 pub mod HeardExamples

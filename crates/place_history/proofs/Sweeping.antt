@@ -1,8 +1,8 @@
 -- Going over all queues by ascending number, one bound queue after the other.
 use Rattle.std.proofs.Common.{◌≡◌, ◌≤◌, ◌<◌, ℕ, suc, zero, ◌+◌, ◌-◌, List, [], ◌∷◌, ◌++◌, Option}
-use Rattle.std.proofs.Common.{Some, None, Bool, true, false, refl, sym, ap, ◌∙◌, subst, arith}
-use Rattle.std.proofs.Common.{append_assoc, append-nil, cond, length, length-append}
-use Rattle.std.specs.Prelude.{sum_by, flat_map, ◌==◌, IsSome}
+use Rattle.std.proofs.Common.{Some, None, refl, sym, ap, ◌∙◌, subst, arith}
+use Rattle.std.proofs.Common.{append_assoc, append-nil, length, length-append}
+use Rattle.std.specs.Prelude.{sum_by, flat_map, IsSome}
 use Rattle.std.specs.List.{range_with_len}
 use Rattle.std.proofs.lemmas.Grind.{flat_map-append}
 use Rattle.std.proofs.lemmas.List.Elements.{filter-append}
@@ -12,10 +12,8 @@ use Rattle.queue_core.specs.State.{Bound}
 use Rattle.histories.specs.Numbers.{queue_count}
 use Rattle.histories.specs.declared.entry.Entry.{Entry}
 use Rattle.histories.specs.History.{replay, history, is_of}
-use Rattle.queue_core.specs.declared.event.Event.{Event}
-use Rattle.queue_core.specs.declared.event.Event.TheVariants.{PortClosed, DeviceDown}
 use Rattle.histories.specs.States.{state_of, every_number, told, taken_in, taken_by}
-use Rattle.histories.specs.States.{entry_in, one_if_bound, bound_in_all}
+use Rattle.histories.specs.States.{one_if_bound, bound_in_all}
 use Rattle.histories.specs.Happenings.{down_of}
 use Rattle.histories.specs.Sweeps.{OnlyAt, AsksAtOne, asked_at}
 

@@ -2,7 +2,7 @@
 //! is opened.
 
 ghost use Rattle.std.specs.Prelude.{◌≡◌, ◌≤◌, ◌<◌, List, Some, Result, Ok, Err, length};
-ghost use Rattle.std.specs.Prelude.{IsTrue, IfOk, OnOk, IsErrOf, IsSomeAnd};
+ghost use Rattle.std.specs.Prelude.{IsTrue, IfOk, IsErrOf, IsSomeAnd};
 ghost use Rattle.host_io.specs.Host.{Rises, IsLater, SameFiles};
 ghost use Rattle.hook_chain.specs.Rules.{RuleTables};
 ghost use Rattle.inspector_script.specs.Scripts.{ScriptValue, IsScript};

@@ -1,6 +1,6 @@
 //! Lines for standard output.
 
-ghost use Rattle.std.specs.Prelude.{◌≡◌, IsTrue};
+ghost use Rattle.std.specs.Prelude.{IsTrue};
 ghost use Rattle.host_io.specs.Host.{ChangesOnly, IsLater};
 ghost use Rattle.command_line.specs.Arguments.{standard_output};
 ghost use Rattle.run_files.specs.Files.{IsPrinted};

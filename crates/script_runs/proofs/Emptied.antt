@@ -3,8 +3,8 @@
 use Rattle.std.proofs.Common.{◌≡◌, ◌≤◌, ◌<◌, ◌⊎◌, ◌∙◌, ◌+◌, ◌*◌, ℕ, zero, suc, List, [], ◌∷◌}
 use Rattle.std.proofs.Common.{Option, Some, None, Bool, true, false, refl, sym, ap, subst, inl, inr}
 use Rattle.std.proofs.Common.{arith, length}
-use Rattle.std.specs.Prelude.{option_map, ◌==◌, ◌≢◌, map}
-use Rattle.std.specs.Prelude.{nat_eq, if◌then◌else◌, slice_get, All, AllPairs}
+use Rattle.std.specs.Prelude.{option_map, ◌==◌, map}
+use Rattle.std.specs.Prelude.{nat_eq, if◌then◌else◌, slice_get, All}
 use Rattle.std.specs.List.{list_any}
 use Rattle.std.proofs.lemmas.Bool.{cases_Bool, eq-eqb, eqb-true, ne_eqb}
 use Rattle.std.proofs.lemmas.List.Elements.{All-head, All-tail}

@@ -446,7 +446,7 @@ module _ (laws : Laws) (conserve : Conserve) (leaves : LeaveAlone) (s : Setting)
         few = omega arith;
         is_open = is.is_open;
         quiet = λ below. is.quiet (below_front w.entries (e ∷ []) below);
-        shut = asked_shut w.entries w.ports port e (is.is_open port ∙ op) (λ p. refl)
+        shut = asked_shut laws w.entries w.ports port e (is.is_open port ∙ op) (λ p. refl)
             (λ p other. (other, refl, tt)) is.shut;
       })
 

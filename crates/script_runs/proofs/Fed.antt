@@ -16,13 +16,11 @@ use Rattle.inspector_script.specs.Scripts.{ScriptValue}
 use Rattle.packet_moves.specs.declared.setting.Setting.{Setting}
 use Rattle.packet_moves.specs.World.{World}
 use Rattle.packet_moves.specs.Moving.{arrived, room_for}
+use Rattle.made_runs.specs.Underway.{AllFed, IsNow}
 use Rattle.script_runs.specs.Sending.{carried_out}
 use Rattle.made_runs.specs.Feeder.{times_of_event}
 use Rattle.script_runs.proofs.Asking.{Stage, IsOver, MayArrive, Goes, MayEnter, with_fed}
 use Rattle.script_runs.proofs.Zeros.{NoneWaits, none_less}
-use Rattle.script_runs.proofs.Rising.{IsNow}
-use Rattle.script_runs.proofs.Feeding.{AllFed, entry_fed, closings_fed}
-use Rattle.script_runs.proofs.Feeding.{downs_fed, all_later, entry_first_fed}
 use Rattle.script_runs.proofs.Going.{Below, arrival_none, ask_none, closings_none, downs_none}
 use Rattle.script_runs.proofs.Going.{either_so, asked_so}
 
@@ -51,7 +49,7 @@ module _ (laws : Below) (s : Setting) (script : ScriptValue) (f : ℕ → ℕ) w
       let room = room_for s w a in
       record {
         none = arrival_none laws s script st w a may.0.0 (omega (arith, may.1)) is.none;
-        fed = entry_fed st.time st.fallen w.entries
+        fed = laws.fed.entry st.time st.fallen w.entries
             (entry_of w.entries a.queue (happening.arrive a room)) tt
             (later_now st.time a room may.1) is.fed;
       }
@@ -62,7 +60,7 @@ module _ (laws : Below) (s : Setting) (script : ScriptValue) (f : ℕ → ℕ) w
       let room = room_for s w a in
       record {
         none = arrival_none laws s script st w a may.over.0 (omega (arith, may.visit)) is.none;
-        fed = entry_first_fed st.time a.card.number st.fallen w.entries
+        fed = laws.fed.first st.time a.card.number st.fallen w.entries
             (entry_of w.entries a.queue (happening.arrive a room)) tt
             (first_now a room may.visit) may.time is.fed;
       }
@@ -76,7 +74,7 @@ module _ (laws : Below) (s : Setting) (script : ScriptValue) (f : ℕ → ℕ) w
       asked_so laws s script st (λ es ports. FedSo st es) (λ v a may is. arrival_fed st v a may is)
       w port call r either is.none (record {
         none = ask_none laws s script st w port call r is.none;
-        fed = entry_fed st.time st.fallen w.entries
+        fed = laws.fed.entry st.time st.fallen w.entries
             (entry_of w.entries (happening.queue_of r) (Ask port call r)) tt (inl refl) is.fed;
       })
 
@@ -91,19 +89,19 @@ module _ (laws : Below) (s : Setting) (script : ScriptValue) (f : ℕ → ℕ) w
     gets = λ st w notes port held l ls i over there mail is. is;
     closes = λ st w notes port i op may is. record {
       none = closings_none laws s script st port w.entries is.none;
-      fed = closings_fed laws.closings st.time st.fallen port w.entries is.fed;
+      fed = laws.fed.closing st.time st.fallen port w.entries is.fed;
     };
     falls = λ st w notes d over late time is. record {
       none = downs_none laws s script st d.device w.entries is.none;
-      fed = downs_fed laws.downs st.time st.fallen d w.entries time is.fed;
+      fed = laws.fed.line st.time st.fallen d w.entries time is.fed;
     };
     goes_on = λ st u es ports notes follows same is. record {
       none = subst (λ b. NoneWaits b es) same is.none;
-      fed = all_later st.time u.time st.fallen u.fallen es follows.time follows.fallen is.fed;
+      fed = laws.fed.later st.time u.time st.fallen u.fallen es follows.time follows.fallen is.fed;
     };
     opens_up = λ st u es ports notes follows over idle is. record {
       none = subst (λ b. NoneWaits b es) (sym over.0) (opens st.is_over es refl is.none);
-      fed = all_later st.time u.time st.fallen u.fallen es follows.time follows.fallen is.fed;
+      fed = laws.fed.later st.time u.time st.fallen u.fallen es follows.time follows.fallen is.fed;
     };
   }
     where

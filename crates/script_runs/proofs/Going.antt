@@ -1,5 +1,5 @@
 -- What a message makes of the queues, where what is handed on comes to a later visit.
-use Rattle.std.proofs.Common.{◌≡◌, ◌≤◌, ◌⊎◌, ℕ, List, [], ◌∷◌, ◌++◌}
+use Rattle.std.proofs.Common.{◌≡◌, ◌≤◌, ◌⊎◌, ◌+◌, ◌*◌, suc, length, ℕ, List, [], ◌∷◌, ◌++◌}
 use Rattle.std.proofs.Common.{Bool, true, false, refl, sym, subst, inl, inr, arith}
 use Rattle.std.specs.Prelude.{◌==◌}
 use Rattle.std.proofs.lemmas.Bool.{ne_eqb}
@@ -10,6 +10,7 @@ use Rattle.nfqa_msgs.specs.declared.request.Decoded.TheVariants.{Asked}
 use Rattle.histories.specs.declared.entry.Entry.{Entry}
 use Rattle.queue_core.specs.Laws.{times}
 use Rattle.histories.specs.States.{entry_of, state_of, every_number}
+use Rattle.histories.specs.History.{is_of}
 use Rattle.histories.specs.Journeys.{Arrival}
 use Rattle.histories.specs.Happenings as happening
 use Rattle.inspector_script.specs.Scripts.{ScriptValue}
@@ -18,21 +19,68 @@ use Rattle.packet_moves.specs.World.{World}
 use Rattle.packet_moves.specs.Moving.{arrived, room_for}
 use Rattle.packet_moves.specs.Messages.{asking, with_ask}
 use Rattle.queue_core.specs.declared.event.Event.TheVariants.{Ask}
+use Rattle.script_lines.specs.declared.line.Down.{Down}
+use Rattle.made_runs.specs.Feeder.{IsFed, IsFedBy, IsNoDown, times_of_event}
+use Rattle.made_runs.specs.Order.{early_rank, IsOrdered, Kind, kinds_of, late_ranks, Marked}
+use Rattle.made_runs.specs.Ports.{place_in}
+use Rattle.made_runs.specs.Underway.{AllFed, AllOrdered, Fed, IsNow, Ordered, Told, unasked}
 use Rattle.script_runs.specs.Sending.{carried_out, all_moved}
 use Rattle.script_runs.proofs.Carrying.{Known, Of}
 use Rattle.script_runs.proofs.Asking.{Stage, IsOver, MayArrive, MaySpeak}
 use Rattle.script_runs.proofs.Later.{LeaveAlone, MayGo, moved_later}
-use Rattle.script_runs.proofs.Feeding.{ClosingLaw, DownLaw}
 use Rattle.script_runs.proofs.Zeros.{Conserve, NoneWaits, Brings, barred, test, none_then, one_free}
 use Rattle.script_runs.proofs.Zeros.{request_free, none_go, all_later, bring_all, closing_brings}
 use Rattle.script_runs.proofs.Zeros.{down_brings}
+
+-- how histories that were fed go on
+pub record FedLaws : Type 0 where
+  pub none : Fed 0 [] []
+  pub later : (time later : ℕ) (fallen more : List Down) (es : List Entry) → time ≤ later →
+      fallen ≡ more → AllFed time fallen es → AllFed later more es
+  pub first : (time number : ℕ) (fallen : List Down) (es : List Entry) (e : Entry) →
+      IsNoDown e.event → times_of_event e.event ≡ 2 * number ∷ (2 * number + 1) ∷ [] →
+      time ≤ 2 * number → AllFed time fallen es → AllFed (2 * number + 1) fallen (es ++ e ∷ [])
+  pub entry : (time : ℕ) (fallen : List Down) (es : List Entry) (e : Entry) →
+      IsNoDown e.event → IsNow time (times_of_event e.event) → AllFed time fallen es →
+      AllFed time fallen (es ++ e ∷ [])
+  pub closing : (time : ℕ) (fallen : List Down) (port : ℕ) (es : List Entry) →
+      AllFed time fallen es → AllFed time fallen (es ++ happening.closings port es)
+  pub line : (time : ℕ) (fallen : List Down) (d : Down) (es : List Entry) →
+      time ≤ 2 * d.after + 1 → AllFed time fallen es →
+      AllFed (2 * d.after + 1) (fallen ++ d ∷ []) (es ++ happening.downs d.device es)
+  pub fed : (time : ℕ) (fallen : List Down) (h : List Entry) → Fed time fallen h → IsFed fallen h
+  pub alone : (downs : List Down) (h : List Entry) → IsFed downs h → IsFedBy 1 downs h
+
+-- how histories that are in order go on
+pub record OrderedLaws : Type 0 where
+  pub later : (ports : List ℕ) (early up late on : ℕ) (told more : Told) (es : List Entry) →
+      early ≤ up → late ≤ on → ((queue port : ℕ) → told queue port ≡ more queue port) →
+      AllOrdered ports early late told es → AllOrdered ports up on more es
+  pub entry : (ports : List ℕ) (early late : ℕ) (told more : Told) (es : List Entry)
+      (m : Marked) → early_rank ports m ≡ early → IsNow late (late_ranks ports m) →
+      ((queue port : ℕ) → is_of queue m.entry ≡ false → told queue port ≡ more queue port) →
+      ((queue port : ℕ) → is_of queue m.entry ≡ true →
+      told queue port ++ kinds_of port m ≡ more queue port) →
+      AllOrdered ports early late told es → AllOrdered ports early late more (es ++ m.entry ∷ [])
+  pub other : (ports : List ℕ) (early late : ℕ) (told : Told) (es : List Entry) (e : Entry) →
+      early_rank ports (unasked e) ≡ early → IsNow late (late_ranks ports (unasked e)) →
+      ((port : ℕ) → kinds_of port (unasked e) ≡ []) → AllOrdered ports early late told es →
+      AllOrdered ports early late told (es ++ e ∷ [])
+  pub closing : (ports : List ℕ) (late port : ℕ) (told : Told) (es : List Entry) →
+      late ≡ suc (place_in port ports) → AllOrdered ports (length ports) late told es →
+      AllOrdered ports (length ports) late told (es ++ happening.closings port es)
+  pub devices : (ports : List ℕ) (device : ℕ) (told : Told) (es : List Entry) →
+      AllOrdered ports (length ports) 0 told es →
+      AllOrdered ports (length ports) 0 told (es ++ happening.downs device es)
+  pub ordered : (ports : List ℕ) (early late : ℕ) (told : ℕ → List Kind) (h : List Entry) →
+      Ordered ports early late told h → IsOrdered ports told h
 
 -- the laws of the crates below on which these parts stand
 pub record Below : Type 0 where
   pub leaves : LeaveAlone
   pub conserve : Conserve
-  pub closings : ClosingLaw
-  pub downs : DownLaw
+  pub fed : FedLaws
+  pub ordered : OrderedLaws
 
 visited : (card : Card) → 1 ≤ card.visit → times (test true) (card ∷ []) ≡ 0
 visited card least =

@@ -7,17 +7,13 @@ pub mod Running
 pub mod Whole
 pub mod Pleading
 pub mod Noticing
-pub mod Shutting
 pub mod Closings
 pub mod Shut
 pub mod Roomy
-pub mod Rising
 pub mod Zeros
-pub mod Feeding
 pub mod Going
 pub mod Fed
 pub mod Owing
-pub mod Ordering
 pub mod Ordered
 pub mod Made
 pub mod OneRun

@@ -1,8 +1,8 @@
 -- The schedule's histories are made by the script.
-use Rattle.std.proofs.Common.{◌≡◌, ◌≢◌, ◌∙◌, ◌≤◌, ℕ, List}
+use Rattle.std.proofs.Common.{◌≡◌, ◌∙◌, ◌≤◌, ℕ, List}
 use Rattle.std.proofs.Common.{[], ◌∷◌, Option, true, false, refl, sym, ap}
 use Rattle.std.proofs.Common.{subst, Bool, Some, None, ◌++◌, arith}
-use Rattle.std.specs.Prelude.{length, map, filter, flat_map, AllPairs, nat_eq, if◌then◌else◌}
+use Rattle.std.specs.Prelude.{length, map, filter, flat_map, nat_eq, if◌then◌else◌}
 use Rattle.std.specs.Prelude.{◌==◌, ◌⊎◌}
 use Rattle.std.proofs.Common.{inl, inr}
 use Rattle.std.proofs.lemmas.Bool.{cases_Bool, eqb-true}
@@ -34,10 +34,8 @@ use Rattle.made_runs.specs.Ports.{log_of}
 use Rattle.made_runs.specs.Run.{IsMadeBy}
 use Rattle.script_runs.proofs.Logs.{ports_of_logs}
 use Rattle.script_runs.proofs.Asking.{Kept, Staged, Stage, both_kept, always_goes, both_go}
-use Rattle.script_runs.proofs.Going.{Below}
-use Rattle.script_runs.proofs.Feeding.{Fed, nothing_fed}
+use Rattle.script_runs.proofs.Going.{Below, FedLaws}
 use Rattle.script_runs.proofs.Fed.{FedSo, fed_goes}
-use Rattle.script_runs.proofs.Ordering.{Ordered}
 use Rattle.script_runs.proofs.Ordered.{OrderSo, order_goes, told}
 use Rattle.script_lines.specs.declared.line.Down.{Down}
 use Rattle.made_runs.specs.Feeder.{IsFed, IsFedBy, downs_in_effect}
@@ -93,34 +91,14 @@ nothing_shut : (p : ℕ) (c : Bool) → IsClosing p (is_shut (if c then Some ope
 nothing_shut p true = refl
 nothing_shut p false = refl
 
--- the feeder and the order, of what is kept of them
-is_fed : (st : Stage) (h : List Entry) → Fed st.time st.fallen h → IsFed st.fallen h
-is_fed st h is = record {
-  items = is.items;
-  entries = is.entries;
-  lines = is.lines;
-  each = is.each;
-  times = is.times.ascend;
-}
-
-is_ordered : (ports : List ℕ) (st : Stage) (told : ℕ → List Kind) (h : List Entry) →
-    Ordered ports st.early st.late told h → IsOrdered ports told h
-is_ordered ports st told h is = record {
-  marks = is.marks;
-  entries = is.entries;
-  kinds = is.kinds;
-  early = is.early.ascend;
-  late = is.late.ascend;
-}
-
 -- before anything happened
 abbrev beginning_at : Stage
 beginning_at = record { is_over = false; early = 0; late = 0; time = 0; fallen = [] }
 
-nothing_fed_so : (script : ScriptValue) → FedSo beginning_at []
-nothing_fed_so script = record {
+nothing_fed_so : FedLaws → FedSo beginning_at []
+nothing_fed_so laws = record {
   none = record { none = λ queue. refl };
-  fed = record { each = λ queue below. nothing_fed };
+  fed = record { each = λ queue below. laws.none };
 }
 
 nothing_ordered : (script : ScriptValue) → OrderSo script beginning_at [] (λ p. [])
@@ -138,15 +116,11 @@ nothing_ordered script = record {
   };
 }
 
--- what is known of one feeder
-abbrev pub FeedsAll : Type 0
-FeedsAll = (downs : List Down) (h : List Entry) → IsFed downs h → IsFedBy 1 downs h
-
-pub made_by_script : Laws → Below → FeedsAll → (script : ScriptValue) (tables : RuleTables)
+pub made_by_script : Laws → Below → (script : ScriptValue) (tables : RuleTables)
     (c : Capture) (h : Histories) → HavePlaces script → IsSolo script tables c h →
     (notes : ℕ → List Note)
     × IsMadeBy 1 1 script (length c.frames) h notes (left_in (run script tables c))
-made_by_script laws below alone script tables c h places is =
+made_by_script laws laws_below script tables c h places is =
     let s = setting_of script tables in
     let f = λ (p : ℕ). place_in p script.ports in
     let Even : Kept = λ es ports notes. AreEven es notes in
@@ -163,7 +137,7 @@ made_by_script laws below alone script tables c h places is =
     let New : Staged = λ st es ports notes. Fed_so st es ports notes × In_order st es ports notes in
     let P : Staged = λ st es ports notes. Old es ports notes × New st es ports notes in
     let K = both_go s script f (λ st. Old) New (always_goes s script f Old kept)
-    (both_go s script f Fed_so In_order (fed_goes below s script f) (order_goes script below s)) in
+    (both_go s script f Fed_so In_order (fed_goes laws_below s script f) (order_goes script laws_below s)) in
     let placed = places.placed in
     let old_nothing : Old [] (opened_ports script.ports) (λ p. []) = (
       (
@@ -177,8 +151,8 @@ made_by_script laws below alone script tables c h places is =
         },
       ),
     ) in
-    let ran = run_reached script tables c f P K below.leaves
-    (old_nothing, (nothing_fed_so script, nothing_ordered script)) placed in
+    let ran = run_reached script tables c f P K laws_below.leaves
+    (old_nothing, (nothing_fed_so laws_below.fed, nothing_ordered script)) placed in
     let r = ran.reached in
     let w = run script tables c in
     let even : (port queue : ℕ) →
@@ -222,13 +196,17 @@ made_by_script laws below alone script tables c h places is =
         feeder = λ queue below.
             subst (IsFedBy 1 (downs_in_effect script (length c.frames)))
             (sym (is.entries.same queue))
-            (alone (downs_in_effect script (length c.frames)) (history queue w.entries)
-            (is_fed (last_stage script tables c f P K ran.time) (history queue w.entries)
+            (laws_below.fed.alone (downs_in_effect script (length c.frames))
+            (history queue w.entries)
+            (laws_below.fed.fed (last_stage script tables c f P K ran.time).time
+            (last_stage script tables c f P K ran.time).fallen (history queue w.entries)
             (r.kept.1.0.fed.each queue below)));
         order = λ queue below.
             subst (IsOrdered script.ports
             (λ port. kinds_told 1 script queue port (r.notes port))) (sym (is.entries.same queue))
-            (is_ordered script.ports (last_stage script tables c f P K ran.time)
+            (laws_below.ordered.ordered script.ports
+            (last_stage script tables c f P K ran.time).early
+            (last_stage script tables c f P K ran.time).late
             (told script r.notes queue) (history queue w.entries)
             (r.kept.1.1.order.each queue below));
         room = λ port i queue lacks.

@@ -20,6 +20,7 @@ use Rattle.inspector_script.specs.Scripts.{ScriptValue}
 use Rattle.packet_moves.specs.declared.setting.Setting.{Setting}
 use Rattle.packet_moves.specs.World.{World}
 use Rattle.packet_moves.specs.Moving.{arrived, room_for}
+use Rattle.made_runs.specs.Underway.{AllOrdered, IsNow, Told, unasked}
 use Rattle.script_runs.specs.Sending.{carried_out, errno_of}
 use Rattle.made_runs.specs.Log.{Note, Got, Begun, Spoke, Shut}
 use Rattle.made_runs.specs.Log.{Due, Standing, start, after, standing}
@@ -31,10 +32,7 @@ use Rattle.made_runs.specs.Order.{kinds_told, early_by, late_by, late_asked}
 use Rattle.script_runs.proofs.Asking.{Stage, IsOver, MayArrive, MaySpeak, Goes, MayEnter, with_fed}
 use Rattle.script_runs.proofs.Reaching.{noted, is_in}
 use Rattle.script_runs.proofs.Zeros.{NoneWaits, none_less}
-use Rattle.script_runs.proofs.Rising.{IsNow}
 use Rattle.script_runs.proofs.Owing.{Owes, AllOwe, has_received, quiet_owes, got_owes, noted_owe}
-use Rattle.script_runs.proofs.Ordering.{Told, AllOrdered, all_ordered_later, entry_ordered}
-use Rattle.script_runs.proofs.Ordering.{unasked_ordered, closings_ordered, downs_ordered}
 use Rattle.script_runs.proofs.Going.{Below, arrival_none, ask_none, closings_none, downs_none}
 use Rattle.script_runs.proofs.Going.{either_so, asked_so}
 
@@ -168,7 +166,7 @@ module _ (script : ScriptValue) where
         let room = room_for s w a in
         record {
           none = arrival_none laws s script st w a may.0.0 (omega (arith, may.1)) is.none;
-          order = unasked_ordered script.ports st.early st.late kinds w.entries
+          order = laws.ordered.other script.ports st.early st.late kinds w.entries
               (entry_of w.entries a.queue (happening.arrive a room)) (sym may.0.1)
               (late_later st.late a room may.1) (λ p. refl) is.order;
         }
@@ -181,7 +179,7 @@ module _ (script : ScriptValue) where
         record {
           none = arrival_none laws s script st w a may.over.0 (omega (arith, may.visit)) is.none;
           owe = is.owe;
-          order = unasked_ordered script.ports st.early st.late (told notes) w.entries
+          order = laws.ordered.other script.ports st.early st.late (told notes) w.entries
               (entry_of w.entries a.queue (happening.arrive a room)) (sym may.over.1)
               (late_first st.late a room may.visit may.late) (λ p. refl) is.order;
         }
@@ -220,13 +218,13 @@ module _ (script : ScriptValue) where
         (carried_out s port call d w).entries
     carried_order st kinds w port call k Nothing either fits is = record {
       none = is.none;
-      order = all_ordered_later script.ports st.early st.early st.late st.late kinds
+      order = laws.ordered.later script.ports st.early st.early st.late st.late kinds
           (with_kind kinds port call k 0 Nothing) w.entries (omega arith) (omega arith)
           (λ queue p. nothing_more (p == port) (kinds queue p)) is.order;
     }
     carried_order st kinds w port call k (Refused errno) either fits is = record {
       none = is.none;
-      order = all_ordered_later script.ports st.early st.early st.late st.late kinds
+      order = laws.ordered.later script.ports st.early st.early st.late st.late kinds
           (with_kind kinds port call k errno (Refused errno)) w.entries (omega arith) (omega arith)
           (λ queue p. nothing_more (p == port) (kinds queue p)) is.order;
     }
@@ -236,7 +234,7 @@ module _ (script : ScriptValue) where
         asked_so laws s script st (λ es ports. InOrder st more es)
         (λ v a may is. arrival_order st more v a may is) w port call r either is.none (record {
           none = ask_none laws s script st w port call r is.none;
-          order = entry_ordered script.ports st.early st.late kinds more w.entries
+          order = laws.ordered.entry script.ports st.early st.late kinds more w.entries
               (record {
                 entry = entry_of w.entries (happening.queue_of r) (Ask port call r);
                 kind = k;
@@ -266,7 +264,7 @@ module _ (script : ScriptValue) where
           none = so.none;
           owe = noted_owe script place st.is_over notes port n
               (λ p t owes. quiet_owes script (place p) p st.is_over t n tt owes) is.owe;
-          order = all_ordered_later script.ports st.early st.early st.late st.late
+          order = laws.ordered.later script.ports st.early st.early st.late st.late
               (with_kind (told notes) port call k errno (decoded m))
               (told (noted port n notes)) (carried_out s port call (decoded m) w).entries
               (omega arith) (omega arith) (λ queue p. told_then notes port n queue p) so.order;
@@ -281,7 +279,7 @@ module _ (script : ScriptValue) where
     quiet_order st es notes port n none owes is = record {
       none = is.none;
       owe = noted_owe script place st.is_over notes port n owes is.owe;
-      order = all_ordered_later script.ports st.early st.early st.late st.late (told notes)
+      order = laws.ordered.later script.ports st.early st.early st.late st.late (told notes)
           (told (noted port n notes)) es (omega arith) (omega arith)
           (quiet_told notes port n none) is.order;
     }
@@ -310,7 +308,7 @@ module _ (script : ScriptValue) where
       owe = is.owe;
       order = subst (λ e. AllOrdered script.ports e st.late (told notes)
           (w.entries ++ happening.closings port w.entries)) (sym may.0.1)
-          (closings_ordered script.ports laws.closings st.late port (told notes) w.entries may.1
+          (laws.ordered.closing script.ports st.late port (told notes) w.entries may.1
           (early_is st notes w.entries may.0 is.order));
     }
 
@@ -322,7 +320,7 @@ module _ (script : ScriptValue) where
         let es = w.entries ++ happening.downs device w.entries in
         subst (λ e. AllOrdered script.ports e st.late (told notes) es) (sym over.1)
         (subst (λ l. AllOrdered script.ports (length script.ports) l (told notes) es) (sym late)
-        (downs_ordered script.ports laws.downs device (told notes) w.entries
+        (laws.ordered.devices script.ports device (told notes) w.entries
         (subst (λ l. AllOrdered script.ports (length script.ports) l (told notes) w.entries) late
         (early_is st notes w.entries over is.order))))
 
@@ -352,13 +350,13 @@ module _ (script : ScriptValue) where
       goes_on = λ st u es ports notes follows same is. record {
         none = subst (λ b. NoneWaits b es) same is.none;
         owe = subst (λ b. AllOwe script place b notes) same is.owe;
-        order = all_ordered_later script.ports st.early u.early st.late u.late (told notes)
+        order = laws.ordered.later script.ports st.early u.early st.late u.late (told notes)
             (told notes) es follows.early follows.late (λ queue p. refl) is.order;
       };
       opens_up = λ st u es ports notes follows over idle is. record {
         none = subst (λ b. NoneWaits b es) (sym over.0) (opens st.is_over es is.none);
         owe = subst (λ b. AllOwe script place b notes) (sym over.0) (λ p i. inl (idle p i));
-        order = all_ordered_later script.ports st.early u.early st.late u.late (told notes)
+        order = laws.ordered.later script.ports st.early u.early st.late u.late (told notes)
             (told notes) es follows.early follows.late (λ queue p. refl) is.order;
       };
     }

@@ -1,7 +1,7 @@
 -- Each emptying of the mailboxes ends by a round that finds nothing.
 use Rattle.std.proofs.Common.{◌≡◌, ◌<◌, ◌⊎◌, ◌+◌, ◌*◌, ℕ, zero, suc, List, [], ◌∷◌, ◌++◌}
 use Rattle.std.proofs.Common.{Bool, true, false, sym, ap, subst, inl, inr, arith, length}
-use Rattle.std.specs.Prelude.{◌≢◌, map, slice_get, All, AllPairs, if◌then◌else◌}
+use Rattle.std.specs.Prelude.{map, slice_get, All, if◌then◌else◌}
 use Rattle.std.specs.List.{AllByRecursion}
 use Rattle.std.proofs.lemmas.List.Elements.{All-from_recursion}
 use Rattle.netlink_codec.specs.Messages.{NetlinkMessage}

@@ -28,8 +28,8 @@ use Rattle.script_runs.specs.Schedule.{is_open_port}
 use Rattle.made_runs.specs.Closing.{IsClosing, is_closing_of}
 use Rattle.script_runs.proofs.Carrying.{all_moved_keeps}
 use Rattle.script_runs.proofs.Asking.{Keeps}
-use Rattle.script_runs.proofs.Closings.{Laws, AreOthers, others_all, others_then, own_then}
-use Rattle.script_runs.proofs.Closings.{closed_then, closing_others, down_others}
+use Rattle.made_runs.specs.Underway.{AreOthers}
+use Rattle.script_runs.proofs.Closings.{Laws, others_all, closing_others, down_others}
 
 -- whether a port is there and has closed
 abbrev pub is_shut : Option Port → Bool
@@ -67,10 +67,10 @@ ports_then es ports port g same is = record {
     by p true = sym (same_shut (ports p) g same)
     by p false = refl
 
-others_shut : (es fs : List Entry) (ports : ℕ → Option Port) → ((p : ℕ) → AreOthers p fs) →
+others_shut : Laws → (es fs : List Entry) (ports : ℕ → Option Port) → ((p : ℕ) → AreOthers p fs) →
     AreShut es ports → AreShut (es ++ fs) ports
-others_shut es fs ports others is = record {
-  each = λ p queue below. others_then p queue (is_shut (ports p)) es fs (others p)
+others_shut laws es fs ports others is = record {
+  each = λ p queue below. laws.others p queue (is_shut (ports p)) es fs (others p)
       (is.each p queue below);
 }
 
@@ -81,20 +81,20 @@ notice_shut es (Some b) a (l ∷ ls) ports is = is
 notice_shut es (Some b) a [] ports is =
     ports_then es ports b.port (delivered _) (λ held. refl) is
 
-arrival_shut : (s : Setting) (w : World) (a : Arrival) → AreShut w.entries w.ports →
+arrival_shut : Laws → (s : Setting) (w : World) (a : Arrival) → AreShut w.entries w.ports →
     AreShut (arrived s w a).entries (arrived s w a).ports
-arrival_shut s w a is =
+arrival_shut laws s w a is =
     let room = room_for s w a in
     let e = entry_of w.entries a.queue (happening.arrive a room) in
     notice_shut (w.entries ++ e ∷ []) (state_of w.entries a.queue) a (left_at_once w a room) w.ports
-    (others_shut w.entries (e ∷ []) w.ports (λ p. (refl, refl, tt)) is)
+    (others_shut laws w.entries (e ∷ []) w.ports (λ p. (refl, refl, tt)) is)
 
 -- a request of an open port
-pub asked_shut : (es : List Entry) (ports : ℕ → Option Port) (port : ℕ) (e : Entry) →
+pub asked_shut : Laws → (es : List Entry) (ports : ℕ → Option Port) (port : ℕ) (e : Entry) →
     is_open_port (ports port) ≡ true → ((p : ℕ) → is_closing_of p e ≡ false) →
     ((p : ℕ) → (p == port) ≡ false → AreOthers p (e ∷ [])) → AreShut es ports →
     AreShut (es ++ e ∷ []) ports
-asked_shut es ports port e op quiet others is = record {
+asked_shut laws es ports port e op quiet others is = record {
   each = λ p queue below. by p queue (is.each p queue below) (cases_Bool (p == port));
 }
   where
@@ -105,18 +105,18 @@ asked_shut es ports port e op quiet others is = record {
         let not : is_shut (ports p) ≡ false =
         not_shut (ports p) (ap (λ k. is_open_port (ports k)) (eqb-true p port h) ∙ op) in
         subst (λ b. IsClosing p b (history queue (es ++ e ∷ []))) (sym not)
-        (own_then p queue es e (quiet p) (subst (λ b. IsClosing p b (history queue es)) not so))
-    by p queue so (inr h) = others_then p queue (is_shut (ports p)) es (e ∷ []) (others p h) so
+        (laws.own p queue es e (quiet p) (subst (λ b. IsClosing p b (history queue es)) not so))
+    by p queue so (inr h) = laws.others p queue (is_shut (ports p)) es (e ∷ []) (others p h) so
 
-carried_shut : (s : Setting) (w : World) (port call : ℕ) (d : Decoded) →
+carried_shut : Laws → (s : Setting) (w : World) (port call : ℕ) (d : Decoded) →
     is_open_port (w.ports port) ≡ true → AreShut w.entries w.ports →
     AreShut (carried_out s port call d w).entries (carried_out s port call d w).ports
-carried_shut s w port call Nothing op is = is
-carried_shut s w port call (Refused errno) op is = is
-carried_shut s w port call (Asked r) op is =
-    all_moved_keeps s (λ es ports. AreShut es ports) (λ v a is. arrival_shut s v a is)
+carried_shut laws s w port call Nothing op is = is
+carried_shut laws s w port call (Refused errno) op is = is
+carried_shut laws s w port call (Asked r) op is =
+    all_moved_keeps s (λ es ports. AreShut es ports) (λ v a is. arrival_shut laws s v a is)
     (happening.all_handed (asking w port call r).left) (with_ask w port call r)
-    (asked_shut w.entries w.ports port
+    (asked_shut laws w.entries w.ports port
     (entry_of w.entries (happening.queue_of r) (Ask port call r)) op (λ p. refl)
     (λ p other. (other, refl, tt)) is)
 
@@ -147,13 +147,13 @@ closes_shut laws w port op is = record {
         (sym then_shut)
         (subst (λ k. IsClosing p true (history queue (w.entries ++ happening.closings k w.entries)))
         same
-        (closed_then laws p queue w.entries below
+        (laws.closed p queue w.entries below
         (subst (λ b. IsClosing p b (history queue w.entries)) not so)))
     by p queue below so (inr h) =
         let other : is_shut (w.ports p) ≡ is_shut (changed_at port closed w.ports p) = rw h refl in
         subst (λ b. IsClosing p b (history queue (w.entries ++ happening.closings port w.entries)))
         other
-        (others_then p queue (is_shut (w.ports p)) w.entries (happening.closings port w.entries)
+        (laws.others p queue (is_shut (w.ports p)) w.entries (happening.closings port w.entries)
         (others_all p (λ k. happening.closing_of port k (state_of w.entries k))
         (λ k. closing_others p port k (state_of w.entries k) h) every_number) so)
 
@@ -166,19 +166,19 @@ received_stays held = by held.letters
 
 pub shut_kept : Laws → (s : Setting) → Keeps s (λ es ports notes. AreShut es ports)
 shut_kept laws s = record {
-  arrives = λ w notes a is. arrival_shut s w a is;
+  arrives = λ w notes a is. arrival_shut laws s w a is;
   begins = λ es ports notes port is. is;
   speaks = λ w notes port call m op is.
       let errno = errno_of port call (decoded m) w in
       let between = carried_out s port call (decoded m) w in
       ports_then between.entries between.ports port
       (having_done (Sent call (words_of port call m.whole (decoded m)) (answered m errno)))
-      (λ held. refl) (carried_shut s w port call (decoded m) op is);
+      (λ held. refl) (carried_shut laws s w port call (decoded m) op is);
   gets = λ w notes port held l ls there mail is.
       ports_then w.entries w.ports port received received_stays is;
   closes = λ w notes port op is. closes_shut laws w port op is;
   falls = λ w notes device is.
-      others_shut w.entries (happening.downs device w.entries) w.ports
+      others_shut laws w.entries (happening.downs device w.entries) w.ports
       (λ p. others_all p (λ k. happening.down_of device k (state_of w.entries k))
       (λ k. down_others p device k (state_of w.entries k)) every_number) is;
 }

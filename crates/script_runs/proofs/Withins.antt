@@ -1,10 +1,7 @@
 -- The schedule's histories are within bounds, and packets enter with their frames' bytes.
-use Rattle.std.proofs.Common.{◌≡◌, ◌≤◌, ◌+◌, ℕ, zero, suc, List, [], ◌∷◌, ◌++◌, length}
-use Rattle.std.proofs.Common.{drop, Option}
-use Rattle.std.proofs.Common.{Some, None, Bool, true, false, cond, refl, sym, subst, arith}
-use Rattle.std.specs.Prelude.{All, slice_get, option_map, option_to_list}
-use Rattle.ip_fields.specs.declared.frame.LinkCut.{LinkCut}
-use Rattle.ip_fields.specs.Frame.{cut_of}
+use Rattle.std.proofs.Common.{◌≡◌, ◌≤◌, ℕ, List, [], ◌∷◌, length}
+use Rattle.std.proofs.Common.{Bool, true, false, cond, refl, sym, subst}
+use Rattle.std.specs.Prelude.{All}
 use Rattle.nfqa_msgs.specs.RequestReading.{PayloadFits}
 use Rattle.std.specs.List.{AllByRecursion}
 use Rattle.std.proofs.lemmas.Bool.{eq-eqb}
@@ -21,9 +18,7 @@ use Rattle.histories.specs.declared.histories.Histories.{Histories}
 use Rattle.histories.specs.History.{history, is_of}
 use Rattle.inspector_script.specs.Scripts.{ScriptValue, IsScript, IsBlock}
 use Rattle.script_runs.specs.Schedule.{IsSolo, run, setting_of}
-use Rattle.made_runs.specs.Entering.{card_at, card_of, cards, cards_from}
 use Rattle.histories.specs.Lengths.{AreSmall, AreShort}
-use Rattle.pcap_io.specs.FramePackets.{IsRead, AreRead}
 use Rattle.script_runs.proofs.Small.{Fits, AllFit, history_fits}
 use Rattle.script_runs.proofs.Bounded.{WordsFit, run_fits}
 

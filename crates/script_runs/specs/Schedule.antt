@@ -1,7 +1,7 @@
 -- The schedule of one thread: what happens when a script is run over the packets of a capture, with
 -- memory for all of it. Each queue's state is the replay of its entries so far.
 use Rattle.std.specs.Prelude.{◌≡◌, ℕ, zero, suc, ◌+◌, ◌*◌, ◌%◌, Bool, true, false, not, ◌&&◌, ◌==◌}
-use Rattle.std.specs.Prelude.{List, [], ◌∷◌, length, min, count_by, filter}
+use Rattle.std.specs.Prelude.{List, [], ◌∷◌, length, min, count_by}
 use Rattle.std.specs.Prelude.{Option, Some, None, if◌then◌else◌}
 use Rattle.packet_entry.specs.declared.letter.Letter.{Letter}
 use Rattle.packet_entry.specs.declared.packet.Card.{Card}
@@ -12,8 +12,6 @@ use Rattle.hook_chain.specs.Route.{next}
 use Rattle.nfqa_msgs.specs.NoticeMeaning.{notice_of}
 use Rattle.nfqa_msgs.specs.NoticeWriting.{Told}
 use Rattle.queue_core.specs.Numbers.{largest_count}
-use Rattle.histories.specs.declared.log.Did.{Did}
-use Rattle.histories.specs.declared.log.Did.TheVariants.{Received, Sent, Closed}
 use Rattle.histories.specs.declared.histories.Histories.{Histories}
 use Rattle.script_lines.specs.declared.ask.Ask.{Ask}
 use Rattle.script_lines.specs.declared.line.Down.{Down}

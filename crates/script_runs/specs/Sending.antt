@@ -1,18 +1,12 @@
 -- What ports send, with memory for all of it: message by message.
-use Rattle.std.specs.Prelude.{ℕ, zero, suc, List, [], ◌∷◌, length, drop, Option, Some}
-use Rattle.std.specs.Prelude.{None}
+use Rattle.std.specs.Prelude.{ℕ, List, [], ◌∷◌}
 use Rattle.packet_entry.specs.declared.packet.Card.{Card}
 use Rattle.hook_chain.specs.declared.chain.Decision.{Decision}
 use Rattle.hook_chain.specs.Route.{onward_of}
-use Rattle.netlink_codec.specs.Messages.{NetlinkMessage, first_message}
+use Rattle.netlink_codec.specs.Messages.{NetlinkMessage}
 use Rattle.nfqa_msgs.specs.declared.request.Decoded.{Decoded}
 use Rattle.nfqa_msgs.specs.declared.request.Decoded.TheVariants.{Nothing, Refused, Asked}
 use Rattle.nfqa_msgs.specs.RequestReading.{decoded}
-use Rattle.nfqa_msgs.specs.RequestWriting.{spelling}
-use Rattle.queue_core.specs.declared.event.Reply.{Reply}
-use Rattle.queue_core.specs.declared.event.Reply.TheVariants.{Arrived, Answer, Flushed}
-use Rattle.histories.specs.declared.log.AskWords.{AskWords}
-use Rattle.histories.specs.declared.log.AskWords.TheVariants.{Plain, Raw}
 use Rattle.histories.specs.declared.log.Did.TheVariants.{Sent}
 use Rattle.histories.specs.Happenings.{all_handed}
 use Rattle.script_lines.specs.declared.ask.Ask.{Ask}

@@ -20,8 +20,10 @@ ghost use Rattle.made_runs.specs.Run.{IsMadeBy};
 ghost use Rattle.made_runs.specs.LoggedExamples.{message};
 ghost use Rattle.made_runs.specs.HeardExamples.{bound};
 
-use histories::{a_closed_port_has_no_queues, a_device_that_packets_pass_leaves_nothing_waiting};
-use made_runs::{datagrams_are_short, each_port_has_its_place, one_feeder_feeds_all};
+use made_runs::{
+    closings_are_kept, datagrams_are_short, each_port_has_its_place, fed_histories_go_on,
+    one_feeder_feeds_all, ordered_histories_go_on,
+};
 use packet_moves::what_goes_on_is_in_time;
 use queue_core::each_packet_stays_or_leaves;
 
@@ -51,8 +53,9 @@ pub fn ports_do_what_the_script_says()
         (notes : ℕ → List Note)
         × IsMadeBy 1 1 script (length c.frames) h notes (left_in (run script tables c)) }
 {
-    a_closed_port_has_no_queues();
-    a_device_that_packets_pass_leaves_nothing_waiting();
+    closings_are_kept();
+    fed_histories_go_on();
+    ordered_histories_go_on();
     each_packet_stays_or_leaves();
     what_goes_on_is_in_time();
     each_port_has_its_place();
@@ -90,22 +93,22 @@ pub fn no_notice_is_left()
         All (λ (e : Entry). e.queue < queue_count) h.entries →
         (notes : ℕ → List Note) × IsMadeBy 1 1 script (length c.frames) h notes (λ port. []) }
 {
-    a_closed_port_has_no_queues();
+    closings_are_kept();
     each_packet_stays_or_leaves();
     what_goes_on_is_in_time();
     ports_do_what_the_script_says();
     each_port_has_its_place();
 }
 
-/// Each emptying of the mailboxes ends by a round that finds nothing, and none is ended by the count
-/// of its rounds: at each pause, once all frames have passed, and behind each message of an end.
+/// Each emptying of the mailboxes ends by a round that finds nothing, and none is ended by the
+/// count of its rounds: at each pause, once all frames have passed, and behind each message of an end.
 pub fn each_emptying_ends_by_itself()
     ensures { (script : ScriptValue) (tables : RuleTables) (c : Capture) →
         IsScript script →
         All (FindsNothing (rounds_for c) (setting_of script tables) script)
         (emptyings script tables c) }
 {
-    a_closed_port_has_no_queues();
+    closings_are_kept();
     each_packet_stays_or_leaves();
     what_goes_on_is_in_time();
     each_port_has_its_place();

@@ -16,23 +16,14 @@ use Rattle.histories.specs.Happenings as happening
 use Rattle.made_runs.specs.Ports.{place_in}
 use Rattle.made_runs.specs.Order.{Kind, Answers, Marked}
 use Rattle.made_runs.specs.Order.{kinds_of, early_rank, late_ranks}
-use Rattle.script_runs.proofs.Feeding.{ClosingLaw, DownLaw}
-use Rattle.script_runs.proofs.Rising.{Rise, IsNow, rise_push, rise_later, history_push_own}
-
--- which kinds of each port ask something of each queue
-abbrev pub Told : Type 0
-Told = ℕ → ℕ → List Kind
+use Rattle.made_runs.proofs.Feeding.{ClosingLaw, DownLaw}
+use Rattle.made_runs.proofs.Rising.{rise_push, rise_later, history_push_own}
+use Rattle.made_runs.specs.Order.{IsOrdered}
+use Rattle.made_runs.specs.Underway.{Rise, IsNow, Told, Ordered, AllOrdered, unasked}
 
 module _ (ports : List ℕ) where
-  pub record Ordered (e l : ℕ) (told : ℕ → List Kind) (h : List Entry) : Type 0 where
-    pub marks : List Marked
-    pub entries : map (λ (m : Marked). m.entry) marks ≡ h
-    pub kinds : (port : ℕ) → flat_map (kinds_of port) marks ≡ told port
-    pub early : Rise e (map (early_rank ports) marks)
-    pub late : Rise l (flat_map (late_ranks ports) marks)
-
   pub ordered_later : (e f l n : ℕ) (told more : ℕ → List Kind) (h : List Entry) → e ≤ f → l ≤ n →
-      ((port : ℕ) → told port ≡ more port) → Ordered e l told h → Ordered f n more h
+      ((port : ℕ) → told port ≡ more port) → Ordered ports e l told h → Ordered ports f n more h
   ordered_later e f l n told more h up on same is = record {
     marks = is.marks;
     entries = is.entries;
@@ -43,8 +34,8 @@ module _ (ports : List ℕ) where
 
   pub ordered_push : (e l : ℕ) (told more : ℕ → List Kind) (h : List Entry) (m : Marked) →
       early_rank ports m ≡ e → IsNow l (late_ranks ports m) →
-      ((port : ℕ) → told port ++ kinds_of port m ≡ more port) → Ordered e l told h →
-      Ordered e l more (h ++ m.entry ∷ [])
+      ((port : ℕ) → told port ++ kinds_of port m ≡ more port) → Ordered ports e l told h →
+      Ordered ports e l more (h ++ m.entry ∷ [])
   ordered_push e l told more h m first last same is = record {
     marks = is.marks ++ m ∷ [];
     entries = map-append (λ (m : Marked). m.entry) is.marks (m ∷ [])
@@ -62,12 +53,9 @@ module _ (ports : List ℕ) where
 
   -- ---- all queues
 
-  pub record AllOrdered (e l : ℕ) (told : Told) (es : List Entry) : Type 0 where
-    pub each : (queue : ℕ) → queue < queue_count → Ordered e l (told queue) (history queue es)
-
   pub all_ordered_later : (e f l n : ℕ) (told more : Told) (es : List Entry) → e ≤ f → l ≤ n →
-      ((queue port : ℕ) → told queue port ≡ more queue port) → AllOrdered e l told es →
-      AllOrdered f n more es
+      ((queue port : ℕ) → told queue port ≡ more queue port) → AllOrdered ports e l told es →
+      AllOrdered ports f n more es
   all_ordered_later e f l n told more es up on same is = record {
     each = λ queue below. ordered_later e f l n (told queue) (more queue) (history queue es) up on
         (same queue) (is.each queue below);
@@ -79,47 +67,43 @@ module _ (ports : List ℕ) where
       ((queue port : ℕ) → is_of queue m.entry ≡ false → told queue port ≡ more queue port) →
       ((queue port : ℕ) → is_of queue m.entry ≡ true →
       told queue port ++ kinds_of port m ≡ more queue port) →
-      AllOrdered e l told es → AllOrdered e l more (es ++ m.entry ∷ [])
+      AllOrdered ports e l told es → AllOrdered ports e l more (es ++ m.entry ∷ [])
   entry_ordered e l told more es m first last other own is = record {
-    each = λ queue below. history_push_own (Ordered e l (more queue)) queue es m.entry
+    each = λ queue below. history_push_own (Ordered ports e l (more queue)) queue es m.entry
         (λ away. ordered_later e e l l (told queue) (more queue) (history queue es)
         (omega arith) (omega arith) (λ port. other queue port away) (is.each queue below))
         (λ here. ordered_push e l (told queue) (more queue) (history queue es) m first last
         (λ port. own queue port here) (is.each queue below));
   }
 
-  -- an entry that is no request
-  abbrev pub unasked : Entry → Marked
-  unasked e = record { entry = e; kind = Answers }
-
   pub unasked_ordered : (e l : ℕ) (told : Told) (es : List Entry) (x : Entry) →
       early_rank ports (unasked x) ≡ e → IsNow l (late_ranks ports (unasked x)) →
-      ((port : ℕ) → kinds_of port (unasked x) ≡ []) → AllOrdered e l told es →
-      AllOrdered e l told (es ++ x ∷ [])
+      ((port : ℕ) → kinds_of port (unasked x) ≡ []) → AllOrdered ports e l told es →
+      AllOrdered ports e l told (es ++ x ∷ [])
   unasked_ordered e l told es x first last none is =
       entry_ordered e l told told es (unasked x) first last (λ queue port away. refl)
       (λ queue port here. ap (λ ks. told queue port ++ ks) (none port)
       ∙ append-nil (told queue port)) is
 
   closing_ordered : (l port queue : ℕ) (told : ℕ → List Kind) (h : List Entry)
-      (o : Option Bound) → l ≡ suc (place_in port ports) → Ordered (length ports) l told h →
-      Ordered (length ports) l told (h ++ happening.closing_of port queue o)
+      (o : Option Bound) → l ≡ suc (place_in port ports) → Ordered ports (length ports) l told h →
+      Ordered ports (length ports) l told (h ++ happening.closing_of port queue o)
   closing_ordered l port queue told h None at is =
-      subst (Ordered (length ports) l told) (sym (append-nil h)) is
+      subst (Ordered ports (length ports) l told) (sym (append-nil h)) is
   closing_ordered l port queue told h (Some b) at is = by (b.port == port)
     where
-      by : (c : Bool) → Ordered (length ports) l told
+      by : (c : Bool) → Ordered ports (length ports) l told
           (h ++ (if c then entry_in queue (Some b) (PortClosed port) ∷ [] else []))
       by true = ordered_push (length ports) l told told h
           (unasked (entry_in queue (Some b) (PortClosed port))) refl
           (inr (ap (λ k. k ∷ []) (sym at))) (λ p. append-nil (told p)) is
-      by false = subst (Ordered (length ports) l told) (sym (append-nil h)) is
+      by false = subst (Ordered ports (length ports) l told) (sym (append-nil h)) is
 
   pub closings_ordered : ClosingLaw → (l port : ℕ) (told : Told) (es : List Entry) →
-      l ≡ suc (place_in port ports) → AllOrdered (length ports) l told es →
-      AllOrdered (length ports) l told (es ++ happening.closings port es)
+      l ≡ suc (place_in port ports) → AllOrdered ports (length ports) l told es →
+      AllOrdered ports (length ports) l told (es ++ happening.closings port es)
   closings_ordered law l port told es at is = record {
-    each = λ queue below. subst (Ordered (length ports) l (told queue))
+    each = λ queue below. subst (Ordered ports (length ports) l (told queue))
         (sym (filter-append (is_of queue) es (happening.closings port es)
         ∙ ap (λ fs. history queue es ++ fs) (law port queue es below)))
         (closing_ordered l port queue (told queue) (history queue es) (state_of es queue) at
@@ -127,22 +111,33 @@ module _ (ports : List ℕ) where
   }
 
   down_ordered : (device queue : ℕ) (told : ℕ → List Kind) (h : List Entry) (o : Option Bound) →
-      Ordered (length ports) 0 told h →
-      Ordered (length ports) 0 told (h ++ happening.down_of device queue o)
+      Ordered ports (length ports) 0 told h →
+      Ordered ports (length ports) 0 told (h ++ happening.down_of device queue o)
   down_ordered device queue told h None is =
-      subst (Ordered (length ports) 0 told) (sym (append-nil h)) is
+      subst (Ordered ports (length ports) 0 told) (sym (append-nil h)) is
   down_ordered device queue told h (Some b) is =
       ordered_push (length ports) 0 told told h
       (unasked (entry_in queue (Some b) (DeviceDown device))) refl (inr refl)
       (λ p. append-nil (told p)) is
 
   pub downs_ordered : DownLaw → (device : ℕ) (told : Told) (es : List Entry) →
-      AllOrdered (length ports) 0 told es →
-      AllOrdered (length ports) 0 told (es ++ happening.downs device es)
+      AllOrdered ports (length ports) 0 told es →
+      AllOrdered ports (length ports) 0 told (es ++ happening.downs device es)
   downs_ordered law device told es is = record {
-    each = λ queue below. subst (Ordered (length ports) 0 (told queue))
+    each = λ queue below. subst (Ordered ports (length ports) 0 (told queue))
         (sym (filter-append (is_of queue) es (happening.downs device es)
         ∙ ap (λ fs. history queue es ++ fs) (law device queue es below)))
         (down_ordered device queue (told queue) (history queue es) (state_of es queue)
         (is.each queue below));
+  }
+
+  -- then it is in order
+  pub is_ordered : (e l : ℕ) (told : ℕ → List Kind) (h : List Entry) → Ordered ports e l told h →
+      IsOrdered ports told h
+  is_ordered e l told h is = record {
+    marks = is.marks;
+    entries = is.entries;
+    kinds = is.kinds;
+    early = is.early.ascend;
+    late = is.late.ascend;
   }

@@ -16,8 +16,10 @@ use Rattle.script_lines.specs.declared.line.Down.{Down}
 use Rattle.made_runs.specs.Feeder.{Item, Was, Fell, Passed}
 use Rattle.made_runs.specs.Feeder.{entries_of, lines_of, IsItem, IsNoDown}
 use Rattle.made_runs.specs.Feeder.{AreItemsFrom, times_of, times_of_event}
-use Rattle.script_runs.proofs.Closings.{replay_on}
-use Rattle.script_runs.proofs.Rising.{Rise, IsNow, rise_push, rise_later, history_push}
+use Rattle.made_runs.proofs.Closings.{replay_on}
+use Rattle.made_runs.proofs.Rising.{rise_push, rise_later, history_push}
+use Rattle.made_runs.specs.Feeder.{IsFed}
+use Rattle.made_runs.specs.Underway.{Rise, IsNow, Fed, AllFed}
 
 -- ---- one item more
 
@@ -29,13 +31,6 @@ items_push q (j ∷ is) i are next = (
   items_push (replay_from q (entries_of j)) is i are.1
       (subst (λ p. IsItem p i) (replay_on q (entries_of j) (flat_map entries_of is)) next),
 )
-
-pub record Fed (time : ℕ) (fallen : List Down) (h : List Entry) : Type 0 where
-  pub items : List Item
-  pub entries : flat_map entries_of items ≡ h
-  pub lines : flat_map lines_of items ≡ fallen
-  pub each : AreItemsFrom None items
-  pub times : Rise time (flat_map times_of items)
 
 pub nothing_fed : Fed 0 [] []
 nothing_fed = record {
@@ -75,9 +70,6 @@ fed_push time fallen h i item now is = record {
 }
 
 -- ---- all queues
-
-pub record AllFed (time : ℕ) (fallen : List Down) (es : List Entry) : Type 0 where
-  pub each : (queue : ℕ) → queue < queue_count → Fed time fallen (history queue es)
 
 pub all_later : (t u : ℕ) (fallen more : List Down) (es : List Entry) → t ≤ u → fallen ≡ more →
     AllFed t fallen es → AllFed u more es
@@ -183,4 +175,14 @@ downs_fed law time fallen d es less is = record {
       (down_fed fallen d queue (history queue es) (state_of es queue) refl
       (fed_later time (2 * d.after + 1) fallen fallen (history queue es) less refl
       (is.each queue below)));
+}
+
+-- then it was fed
+pub is_fed : (time : ℕ) (fallen : List Down) (h : List Entry) → Fed time fallen h → IsFed fallen h
+is_fed time fallen h is = record {
+  items = is.items;
+  entries = is.entries;
+  lines = is.lines;
+  each = is.each;
+  times = is.times.ascend;
 }

@@ -6,11 +6,7 @@ use Rattle.std.proofs.lemmas.List.Elements.{filter-append}
 use Rattle.histories.specs.declared.entry.Entry.{Entry}
 use Rattle.histories.specs.History.{history, is_of}
 use Rattle.made_runs.specs.Ascending.{AscendFrom}
-
--- the last of these, or this where there is none
-abbrev pub last_of : ℕ → List ℕ → ℕ
-last_of low [] = low
-last_of low (x ∷ xs) = last_of x xs
+use Rattle.made_runs.specs.Underway.{last_of, IsNow, Rise}
 
 pub ascend_push : (low : ℕ) (xs : List ℕ) (k : ℕ) → AscendFrom low xs → last_of low xs ≤ k →
     AscendFrom low (xs ++ k ∷ [])
@@ -20,14 +16,6 @@ ascend_push low (x ∷ xs) k are least = (are.0, ascend_push x xs k are.1 least)
 pub last_push : (low : ℕ) (xs : List ℕ) (k : ℕ) → last_of low (xs ++ k ∷ []) ≡ k
 last_push low [] k = refl
 last_push low (x ∷ xs) k = last_push x xs k
-
--- numbers up to a stage, and then some that are none or just that of the stage
-abbrev pub IsNow : ℕ → List ℕ → Type 0
-IsNow k ys = (ys ≡ []) ⊎ (ys ≡ k ∷ [])
-
-pub record Rise (k : ℕ) (xs : List ℕ) : Type 0 where
-  pub ascend : AscendFrom 0 xs
-  pub last : last_of 0 xs ≤ k
 
 pub rise_later : (k l : ℕ) (xs : List ℕ) → k ≤ l → Rise k xs → Rise l xs
 rise_later k l xs less is = record { ascend = is.ascend; last = omega (arith, is.last, less) }
