@@ -1,7 +1,7 @@
 -- What a fate says of the way by which its packet left.
 use Rattle.std.proofs.Common.{◌≡◌, ◌≢◌, ℕ, List, Option, Some, None, Bool, true, false}
 use Rattle.std.proofs.Common.{refl, sym, ap, ◌∙◌, subst, length, ◌+◌}
-use Rattle.std.specs.Prelude.{All, Contains}
+use Rattle.std.specs.Prelude.{Contains}
 use Rattle.packet_entry.specs.declared.packet.Card.{Card}
 use Rattle.hook_chain.specs.Rules.{RuleTables}
 use Rattle.hook_chain.specs.declared.chain.Next.{Next}
@@ -11,7 +11,6 @@ use Rattle.nfqa_msgs.specs.declared.request.Request.{Request}
 use Rattle.nfqa_msgs.specs.declared.request.Request.TheVariants.{Config, Verdict, Batch}
 use Rattle.queue_core.specs.declared.event.Event.{Event}
 use Rattle.queue_core.specs.declared.event.Event.TheVariants.{Arrive, Ask, PortClosed, DeviceDown}
-use Rattle.queue_core.specs.declared.event.Reply.{Reply}
 use Rattle.queue_core.specs.declared.event.Reply.TheVariants.{Arrived}
 use Rattle.queue_core.specs.declared.offers.Outcome.{Outcome}
 use Rattle.queue_core.specs.declared.offers.Outcome.TheVariants as outcome
@@ -94,8 +93,16 @@ module _ (laws : Laws) (before : List Entry) (e : Entry) (h : Happening)
       Leaves (step_after before e) h.card way → h.fate ≡ fate_by_request asked way →
       Agrees h.fate way
   by_request port call (Config queue command params maxlen flags mask) ev way leaves same =
-      gone_agrees h.fate h.card way (step q (Ask port call _)) (ap is_release same)
-      (laws.config_gone q port _)
+      gone_agrees h.fate h.card way
+      (step q (Ask port call (Config queue command params maxlen flags mask)))
+      (ap is_release same)
+      (laws.config_gone q port (record {
+        command = command;
+        params = params;
+        maximum = maxlen;
+        flags = flags;
+        mask = mask;
+      }))
       (subst (λ event. Leaves (step q event) h.card way) ev leaves)
   by_request port call (Verdict queue head mark payload) ev way leaves same =
       subst (λ f. Agrees f way) (sym same) (verdict_agrees way)
