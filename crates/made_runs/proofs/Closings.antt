@@ -1,7 +1,7 @@
 -- Closings: each move keeps what stands in the histories of ports that closed.
 use Rattle.std.proofs.Common.{◌≡◌, ◌≢◌, ◌∙◌, ◌<◌, ℕ, List, [], ◌∷◌, ◌++◌, Option, Some, None}
 use Rattle.std.proofs.Common.{Bool, true, false, refl, sym, ap, subst}
-use Rattle.std.specs.Prelude.{flat_map, ◌==◌, ◌||◌, if◌then◌else◌, option_map}
+use Rattle.std.specs.Prelude.{◌==◌, ◌||◌, if◌then◌else◌, option_map}
 use Rattle.std.specs.List.{list_any}
 use Rattle.std.proofs.lemmas.Bool.{eq-eqb, ne_eqb}
 use Rattle.std.proofs.lemmas.List.Elements.{filter-append}

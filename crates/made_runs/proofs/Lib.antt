@@ -1,5 +1,6 @@
 pub mod Placing
 pub mod Told
+pub mod Logging
 pub mod Shutting
 pub mod Closings
 pub mod Rising

@@ -1,5 +1,5 @@
 -- Order: a history that is in order goes on with an entry that is of the stage.
-use Rattle.std.proofs.Common.{◌≡◌, ◌≤◌, ◌<◌, ◌∙◌, ℕ, suc, List, [], ◌∷◌, ◌++◌, Option, Some}
+use Rattle.std.proofs.Common.{◌≡◌, ◌≤◌, ◌∙◌, ℕ, suc, List, [], ◌∷◌, ◌++◌, Option, Some}
 use Rattle.std.proofs.Common.{None, Bool, true, false, refl, sym, ap, subst, inr, arith}
 use Rattle.std.proofs.Common.{append-nil}
 use Rattle.std.specs.Prelude.{flat_map, map, length, ◌==◌, if◌then◌else◌}
@@ -9,12 +9,11 @@ use Rattle.std.proofs.lemmas.List.Elements.{filter-append}
 use Rattle.queue_core.specs.State.{Bound}
 use Rattle.queue_core.specs.declared.event.Event.TheVariants.{PortClosed, DeviceDown}
 use Rattle.histories.specs.declared.entry.Entry.{Entry}
-use Rattle.histories.specs.Numbers.{queue_count}
 use Rattle.histories.specs.History.{history, is_of}
 use Rattle.histories.specs.States.{entry_in, state_of}
 use Rattle.histories.specs.Happenings as happening
 use Rattle.made_runs.specs.Ports.{place_in}
-use Rattle.made_runs.specs.Order.{Kind, Answers, Marked}
+use Rattle.made_runs.specs.Order.{Kind, Marked}
 use Rattle.made_runs.specs.Order.{kinds_of, early_rank, late_ranks}
 use Rattle.made_runs.proofs.Feeding.{ClosingLaw, DownLaw}
 use Rattle.made_runs.proofs.Rising.{rise_push, rise_later, history_push_own}

@@ -75,9 +75,9 @@ pub record IsTold (workers : ℕ) (script : ScriptValue) (notes : ℕ → List N
   pub next : AreNextFrom workers script (place_in l.port script.ports) l.port
       (start script (place_in l.port script.ports)) (notes l.port)
 
--- Histories that ports made by this script over so many frames, each with a pool of so many workers,
--- and with so many feeders; with what each port did told in full, and with the notices that are left
--- in its mailbox: all parts hold.
+-- Histories that ports made by this script over so many frames, each with a pool of so many
+-- workers, and with so many feeders; with what each port did told in full, and with the notices
+-- that are left in its mailbox: all parts hold.
 pub record IsMadeBy (workers feeders : ℕ) (script : ScriptValue) (frames : ℕ) (h : Histories)
     (notes : ℕ → List Note) (left : ℕ → List Letter) : Type 0 where
   pub log : LogHolds workers script h notes

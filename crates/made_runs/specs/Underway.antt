@@ -1,5 +1,5 @@
--- Bridges for proofs: what is kept of histories while a run goes on, and what may be added. They are
--- read with the laws that cite them, and by nobody who reads what a run is.
+-- Bridges for proofs: what is kept of histories while a run goes on, and what may be added. They
+-- are read with the laws that cite them; who reads what a run is doesn't need them.
 use Rattle.std.specs.Prelude.{◌≡◌, ◌≤◌, ◌<◌, ◌⊎◌, ℕ, false, List, [], ◌∷◌, map, flat_map, None}
 use Rattle.histories.specs.declared.entry.Entry.{Entry}
 use Rattle.histories.specs.Numbers.{queue_count}
@@ -46,7 +46,8 @@ abbrev pub Told : Type 0
 Told = ℕ → ℕ → List Kind
 
 -- a queue's history is in order, and what comes next may have these ranks
-pub record Ordered (ports : List ℕ) (e l : ℕ) (told : ℕ → List Kind) (h : List Entry) : Type 0 where
+pub record Ordered (ports : List ℕ) (e l : ℕ) (told : ℕ → List Kind) (h : List Entry)
+    : Type 0 where
   pub marks : List Marked
   pub entries : map (λ (m : Marked). m.entry) marks ≡ h
   pub kinds : (port : ℕ) → flat_map (kinds_of port) marks ≡ told port

@@ -59,9 +59,9 @@ pub fn runs_of_one_port()
 
 /// Logs, written out, whose port is the script's alone. A message of the opening is sent under
 /// number 1, and messages of the end in their order. A port that answers no notice sends nothing
-/// behind one, and one that answers every second notice nothing behind the first. No other number is
-/// the first; the second message of the end isn't sent first; and a notice isn't received between an
-/// ask and its first message.
+/// behind one, and one that answers every second notice nothing behind the first. No other number
+/// is the first; the second message of the end isn't sent first; and a notice isn't received
+/// between an ask and its first message.
 pub fn logs_by_hand()
     ensures opened { IsLog 1 opening_script 0 7 (Begun ∷ Spoke 1 (message 1) 0 ∷ [])
         (Sent 1 (Raw (header 1)) None ∷ []) }
@@ -99,11 +99,11 @@ pub fn parts_by_hand()
 /// Histories of one queue, written out. A queue is bound by an opening message, two frames arrive
 /// with a device that goes down between them, and its port asks something at its end and closes:
 /// this is fed with that line, and in order. Where the queue is absent the line passes without an
-/// entry, but not where it is bound. A later visit stands anywhere. A history isn't fed where a device
-/// goes down without a line or behind the first arrival of a later frame, or where a frame arrives
-/// twice, or behind a later one. And it isn't in order where an opening message stands behind an
-/// arrival, one of the end or a closing before one, or where the later of two ports closes first. Of
-/// `down` lines those take effect that stand before the first frame or after one that there is.
+/// entry, but not where it is bound. A later visit stands anywhere. A history isn't fed where a
+/// device goes down without a line or behind the first arrival of a later frame, or where a frame
+/// arrives twice, or behind a later one. And it isn't in order where an opening message stands
+/// behind an arrival, one of the end or a closing before one, or where the later of two ports
+/// closes first. Those `down` lines take effect that stand before the first frame or after one.
 pub fn feeding_and_order_by_hand()
     ensures fed { (request : Request) → IsFed down_5 (whole request) }
     ensures absent { IsFed down_5 (arrives 1 ∷ []) }
@@ -124,8 +124,8 @@ pub fn feeding_and_order_by_hand()
     ensures closings { IsOrdered (7 ∷ 9 ∷ []) no_kinds (shuts 9 ∷ shuts 7 ∷ []) → ⊥ }
 {}
 
-/// Histories of one queue with what its port received and sent: told as it was, and not. What another
-/// port received, asked or found no room for is no matter of its own.
+/// Histories of one queue with what its port received and sent: told as it was, and not. What
+/// another port received, asked or found no room for is no matter of its own.
 pub fn hearing_by_hand()
     ensures unheard { AreNotices (bound 0 ∷ taken 1 ∷ []) 7 [] [] → ⊥ }
     ensures roomless { AreRoomy 1 (bound 0 ∷ turned 1 ∷ []) 7 [] [] → ⊥ }

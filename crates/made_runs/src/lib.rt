@@ -14,4 +14,4 @@ pub use laws::{
     datagrams_are_short, each_log_is_what_is_told, each_port_has_its_place, one_feeder_feeds_all,
     one_worker_is_no_pool, packets_are_read_with_their_frames,
 };
-pub use underway::{closings_are_kept, fed_histories_go_on, ordered_histories_go_on};
+pub use underway::{closings_are_kept, fed_histories_go_on, logs_go_on, ordered_histories_go_on};

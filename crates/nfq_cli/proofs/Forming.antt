@@ -307,7 +307,8 @@ pairs (d ∷ ds) last =
     AllPairs-cons (λ (a b : Did). a ≢ Closed) d ds
     (All-from_recursion (λ (b : Did). d ≢ Closed) ds last.0) (pairs ds last.1)
 
-log_formed : (workers : ℕ) (script : ScriptValue) (notes : ℕ → List Note) (l : PortLog) → FitsLog l →
+log_formed : (workers : ℕ) (script : ScriptValue) (notes : ℕ → List Note) (l : PortLog) →
+    FitsLog l →
     IsTold workers script notes l → formed.IsLog l
 log_formed workers script notes l fit is = record {
   port = fit.port;
@@ -320,11 +321,14 @@ log_formed workers script notes l fit is = record {
 
 -- ---- all of it
 
-pub well_formed : Replies → (workers feeders : ℕ) (script : ScriptValue) (frames : ℕ) (h : Histories)
+pub well_formed : Replies → (workers feeders : ℕ) (script : ScriptValue) (frames : ℕ)
+    (h : Histories)
     (notes : ℕ → List Note) (left : ℕ → List Letter) → IsScript script → Fit h → h.lost ≡ [] →
     (ws : List Entry) → IsGrouped ws h.entries → AreLegal h.entries →
-    IsMadeBy workers feeders script frames h notes left → All (IsTold workers script notes) h.logs → IsWellFormed h
-well_formed replies workers feeders script frames h notes left is fit kept ws grouped legal made told =
+    IsMadeBy workers feeders script frames h notes left →
+    All (IsTold workers script notes) h.logs → IsWellFormed h
+well_formed replies workers feeders script frames h notes left is fit kept ws grouped legal made
+    told =
     let kinds : AllByRecursion KindOf h.entries =
     from_histories KindOf h.entries
     (λ queue. kinds_from replies None (history queue h.entries) (legal queue)) in
@@ -356,7 +360,8 @@ well_formed replies workers feeders script frames h notes left is fit kept ws gr
           (λ e f k. (f, k)) h.entries fits kinds) asks);
       queues_ascend = λ i j d low within. up i j d (omega (arith, low)) within;
       logs = All-from_recursion formed.IsLog h.logs
-          (both_hold FitsLog (IsTold workers script notes) formed.IsLog (log_formed workers script notes) h.logs
+          (both_hold FitsLog (IsTold workers script notes) formed.IsLog
+          (log_formed workers script notes) h.logs
           (by_recursion FitsLog h.logs fit.logs)
           (by_recursion (IsTold workers script notes) h.logs told));
       ports_differ = subst (λ ps. AllPairs (λ a b. a ≢ b) ps) (sym made.ports)

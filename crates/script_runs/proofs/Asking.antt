@@ -32,6 +32,7 @@ use Rattle.made_runs.specs.Log.{Note, Got, Begun, Spoke, Shut, Due, Still, Messa
 use Rattle.made_runs.specs.Log.{all_due, is_some_due, after}
 use Rattle.made_runs.specs.Log.{IsNext, standing}
 use Rattle.script_runs.proofs.Carrying.{all_moved_keeps}
+use Rattle.script_runs.proofs.Reaching.{LogLaws}
 use Rattle.script_runs.proofs.Reaching.{Stand, full, IsAt, noted, put, put_same, is_in}
 use Rattle.script_runs.proofs.Reaching.{AreAt, all_push, all_arrive, all_as}
 
@@ -110,6 +111,7 @@ with_fallen st d =
 
 -- Each move that a stage allows keeps it, and so does a stage that follows.
 pub record Goes (s : Setting) (script : ScriptValue) (f : ℕ → ℕ) (P : Staged) : Type 0 where
+  pub log : LogLaws
   pub arrives : (st : Stage) (w : World) (notes : ℕ → List Note) (a : Arrival) →
       MayArrive script st a → P st w.entries w.ports notes →
       P st (arrived s w a).entries (arrived s w a).ports notes
@@ -148,9 +150,10 @@ pub record Goes (s : Setting) (script : ScriptValue) (f : ℕ → ℕ) (P : Stag
       P st es ports notes → P u es ports notes
 
 -- what each move keeps, whatever the stage
-pub always_goes : (s : Setting) (script : ScriptValue) (f : ℕ → ℕ) (P : Kept) → Keeps s P →
-    Goes s script f (λ st. P)
-always_goes s script f P k = record {
+pub always_goes : LogLaws → (s : Setting) (script : ScriptValue) (f : ℕ → ℕ) (P : Kept) →
+    Keeps s P → Goes s script f (λ st. P)
+always_goes laws s script f P k = record {
+  log = laws;
   arrives = λ st w notes a may is. k.arrives w notes a is;
   enters = λ st w notes a may is. k.arrives w notes a is;
   begins = λ st es ports notes port i is. k.begins es ports notes port is;
@@ -309,7 +312,7 @@ module _ (s : Setting) (script : ScriptValue) (f : ℕ → ℕ) (P : Staged) (K 
 
       pushed : AreAt script f (noted port Begun r.notes) (changed_at port (λ (q : Port). q) w.ports)
           (put port (cut_then x (cut_of port (w.ports port) words) ds) T)
-      pushed = all_push script f port (side x (Still (Words words) ∷ ds))
+      pushed = all_push script f K.log port (side x (Still (Words words) ∷ ds))
           (cut_then x (cut_of port (w.ports port) words) ds) Begun
           (λ q. q) r.notes w.ports T r.are
           (λ held there shut. (
@@ -372,7 +375,7 @@ module _ (s : Setting) (script : ScriptValue) (f : ℕ → ℕ) (P : Staged) (K 
             ∙ ap (λ (t : Stand). is_some_due t.owed)
             (put_same port (cut_side x (Message m ∷ ds) fresh) T)
             ∙ owes_so x (Message m) ds fresh) r.kept;
-        are = all_push script f port (cut_side x (Message m ∷ ds) fresh) (side x ds)
+        are = all_push script f K.log port (cut_side x (Message m ∷ ds) fresh) (side x ds)
             (Spoke call m errno)
             (having_done (Sent call (words_of port call m.whole (decoded m)) (answered m errno)))
             r.notes between.ports T are
@@ -441,7 +444,7 @@ module _ (s : Setting) (script : ScriptValue) (f : ℕ → ℕ) (P : Staged) (K 
         (is_open (f port) port (r.notes port) (w.ports port)
         (put port (side AtEnd (Still Close ∷ [])) T port) (r.are.at port i)
         (rw (eq-eqb port port refl) refl)) may r.kept;
-    are = all_push script f port (side AtEnd (Still Close ∷ []))
+    are = all_push script f K.log port (side AtEnd (Still Close ∷ []))
         shut_stand Shut closed r.notes w.ports T r.are
         (λ held there shut. ((refl, refl, refl), refl, refl));
     none = none_then port Shut r.notes i r.none;
@@ -469,6 +472,7 @@ pub both_go : (s : Setting) (script : ScriptValue) (f : ℕ → ℕ) (P Q : Stag
     Goes s script f P → Goes s script f Q →
     Goes s script f (λ st es ports notes. P st es ports notes × Q st es ports notes)
 both_go s script f P Q k l = record {
+  log = k.log;
   arrives = λ st w notes a may is.
       (k.arrives st w notes a may is.0, l.arrives st w notes a may is.1);
   enters = λ st w notes a may is.

@@ -80,6 +80,7 @@ module _ (laws : Below) (s : Setting) (script : ScriptValue) (f : ℕ → ℕ) w
 
   pub fed_goes : Goes s script f (λ st es ports notes. FedSo st es)
   fed_goes = record {
+    log = laws.log;
     arrives = λ st w notes a may is. arrival_fed st w a may is;
     enters = λ st w notes a may is. enter_fed st w a may is;
     begins = λ st es ports notes port i is. is;

@@ -27,6 +27,7 @@ use Rattle.made_runs.specs.Underway.{AllFed, AllOrdered, Fed, IsNow, Ordered, To
 use Rattle.script_runs.specs.Sending.{carried_out, all_moved}
 use Rattle.script_runs.proofs.Carrying.{Known, Of}
 use Rattle.script_runs.proofs.Asking.{Stage, IsOver, MayArrive, MaySpeak}
+use Rattle.script_runs.proofs.Reaching.{LogLaws}
 use Rattle.script_runs.proofs.Later.{LeaveAlone, MayGo, moved_later}
 use Rattle.script_runs.proofs.Zeros.{Conserve, NoneWaits, Brings, barred, test, none_then, one_free}
 use Rattle.script_runs.proofs.Zeros.{request_free, none_go, all_later, bring_all, closing_brings}
@@ -79,6 +80,7 @@ pub record OrderedLaws : Type 0 where
 pub record Below : Type 0 where
   pub leaves : LeaveAlone
   pub conserve : Conserve
+  pub log : LogLaws
   pub fed : FedLaws
   pub ordered : OrderedLaws
 

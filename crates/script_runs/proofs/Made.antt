@@ -37,14 +37,13 @@ use Rattle.script_runs.proofs.Asking.{Kept, Staged, Stage, both_kept, always_goe
 use Rattle.script_runs.proofs.Going.{Below, FedLaws}
 use Rattle.script_runs.proofs.Fed.{FedSo, fed_goes}
 use Rattle.script_runs.proofs.Ordered.{OrderSo, order_goes, told}
-use Rattle.script_lines.specs.declared.line.Down.{Down}
-use Rattle.made_runs.specs.Feeder.{IsFed, IsFedBy, downs_in_effect}
+use Rattle.made_runs.specs.Feeder.{IsFedBy, downs_in_effect}
 use Rattle.script_runs.proofs.Whole.{run_reached, run_dids, run_logged, closed_at, ended}
 use Rattle.script_runs.proofs.Whole.{last_stage}
 use Rattle.script_runs.proofs.Pleading.{AreEven, even_kept}
 use Rattle.script_runs.proofs.Noticing.{AreNoticed, Noticed, letters, noticed_kept}
 use Rattle.made_runs.specs.Ports.{place_in}
-use Rattle.made_runs.specs.Order.{Kind, IsOrdered, kinds_told}
+use Rattle.made_runs.specs.Order.{IsOrdered, kinds_told}
 
 -- a log is its port's
 log_there : (ports : ℕ → Option Port) (port : ℕ) (dids : List Did) (ps : List ℕ) →
@@ -136,8 +135,9 @@ made_by_script laws laws_below script tables c h places is =
     let In_order : Staged = λ st es ports notes. OrderSo script st es notes in
     let New : Staged = λ st es ports notes. Fed_so st es ports notes × In_order st es ports notes in
     let P : Staged = λ st es ports notes. Old es ports notes × New st es ports notes in
-    let K = both_go s script f (λ st. Old) New (always_goes s script f Old kept)
-    (both_go s script f Fed_so In_order (fed_goes laws_below s script f) (order_goes script laws_below s)) in
+    let K = both_go s script f (λ st. Old) New (always_goes laws_below.log s script f Old kept)
+    (both_go s script f Fed_so In_order (fed_goes laws_below s script f)
+    (order_goes script laws_below s)) in
     let placed = places.placed in
     let old_nothing : Old [] (opened_ports script.ports) (λ p. []) = (
       (
@@ -189,7 +189,7 @@ made_by_script laws laws_below script tables c h places is =
         closing = λ port i queue below.
             let here = r.are.at port i in
             subst (λ b. IsClosing port b (history queue h.entries))
-            (sym (closed_at script (f port) port (r.notes port) (w.ports port)
+            (sym (closed_at laws_below.log script (f port) port (r.notes port) (w.ports port)
             (ended script f port) here))
             (subst (IsClosing port (is_shut (w.ports port)))
             (sym (is.entries.same queue)) (r.kept.0.1.0.each port queue below));

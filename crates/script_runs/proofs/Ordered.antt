@@ -2,7 +2,7 @@
 use Rattle.std.proofs.Common.{◌≡◌, ◌⊎◌, ◌∙◌, ℕ, List, [], ◌∷◌, ◌++◌, Bool}
 use Rattle.std.proofs.Common.{◌≤◌}
 use Rattle.std.proofs.Common.{true, false, refl, sym, ap, subst, inl, inr, arith}
-use Rattle.std.proofs.Common.{append-nil, append_assoc}
+use Rattle.std.proofs.Common.{append-nil}
 use Rattle.std.specs.Prelude.{map, length, not, ◌==◌, if◌then◌else◌}
 use Rattle.std.proofs.lemmas.Bool.{cases_Bool, eqb-true, ne_eqb, eq-eqb}
 use Rattle.packet_entry.specs.declared.letter.Letter.{Letter}
@@ -20,38 +20,22 @@ use Rattle.inspector_script.specs.Scripts.{ScriptValue}
 use Rattle.packet_moves.specs.declared.setting.Setting.{Setting}
 use Rattle.packet_moves.specs.World.{World}
 use Rattle.packet_moves.specs.Moving.{arrived, room_for}
-use Rattle.made_runs.specs.Underway.{AllOrdered, IsNow, Told, unasked}
+use Rattle.made_runs.specs.Underway.{AllOrdered, IsNow, Told}
 use Rattle.script_runs.specs.Sending.{carried_out, errno_of}
 use Rattle.made_runs.specs.Log.{Note, Got, Begun, Spoke, Shut}
 use Rattle.made_runs.specs.Log.{Due, Standing, start, after, standing}
-use Rattle.made_runs.specs.Log.{is_some_due, standing_from}
+use Rattle.made_runs.specs.Log.{is_some_due}
 use Rattle.made_runs.specs.Requests.{Plea, plea_of, pleas_told}
 use Rattle.made_runs.specs.Ports.{place_in}
-use Rattle.made_runs.specs.Order.{Kind, Answers, kind_by, kind_at, kinds_from}
+use Rattle.made_runs.specs.Order.{Kind, Answers, kind_by, kind_at}
 use Rattle.made_runs.specs.Order.{kinds_told, early_by, late_by, late_asked}
 use Rattle.script_runs.proofs.Asking.{Stage, IsOver, MayArrive, MaySpeak, Goes, MayEnter, with_fed}
+use Rattle.script_runs.proofs.Reaching.{LogLaws}
 use Rattle.script_runs.proofs.Reaching.{noted, is_in}
 use Rattle.script_runs.proofs.Zeros.{NoneWaits, none_less}
 use Rattle.script_runs.proofs.Owing.{Owes, AllOwe, has_received, quiet_owes, got_owes, noted_owe}
 use Rattle.script_runs.proofs.Going.{Below, arrival_none, ask_none, closings_none, downs_none}
 use Rattle.script_runs.proofs.Going.{either_so, asked_so}
-
--- ---- one note more
-
-kinds_push : (script : ScriptValue) (place queue port : ℕ) (t : Standing) (ns : List Note)
-    (n : Note) → kinds_from 1 script place queue port t (ns ++ n ∷ [])
-    ≡ kinds_from 1 script place queue port t ns
-    ++ map (λ (x : Plea). kind_at (standing_from 1 script place port t ns)) (pleas_told queue n)
-kinds_push script place queue port t [] n =
-    append-nil (map (λ (x : Plea). kind_at t) (pleas_told queue n))
-kinds_push script place queue port t (m ∷ ns) n =
-    ap (λ ks. map (λ (x : Plea). kind_at t) (pleas_told queue m) ++ ks)
-    (kinds_push script place queue port (after 1 script place port t m) ns n)
-    ∙ sym (append_assoc (map (λ (x : Plea). kind_at t) (pleas_told queue m))
-    (kinds_from 1 script place queue port (after 1 script place port t m) ns)
-    (map (λ (x : Plea).
-    kind_at (standing_from 1 script place port (after 1 script place port t m) ns))
-    (pleas_told queue n)))
 
 -- the kind of a message that a port's request is
 abbrev own_kinds : ℕ → ℕ → Kind → List Plea → List Kind
@@ -71,10 +55,10 @@ module _ (script : ScriptValue) where
   abbrev kind_of : (ℕ → List Note) → ℕ → Kind
   kind_of notes port = kind_at (standing 1 script (place port) port (notes port))
 
-  told_then : (notes : ℕ → List Note) (port : ℕ) (n : Note) (queue p : ℕ) →
+  told_then : LogLaws → (notes : ℕ → List Note) (port : ℕ) (n : Note) (queue p : ℕ) →
       told notes queue p ++ own_kinds p port (kind_of notes port) (pleas_told queue n)
       ≡ told (noted port n notes) queue p
-  told_then notes port n queue p = by (cases_Bool (p == port))
+  told_then laws notes port n queue p = by (cases_Bool (p == port))
     where
       own : (q : ℕ) → p ≡ q →
           told notes queue p ++ map (λ (x : Plea). kind_of notes q) (pleas_told queue n)
@@ -82,7 +66,7 @@ module _ (script : ScriptValue) where
       own q same = subst (λ q. told notes queue p
           ++ map (λ (x : Plea). kind_of notes q) (pleas_told queue n)
           ≡ kinds_told 1 script queue p (notes p ++ n ∷ [])) same
-          (sym (kinds_push script (place p) queue p (start script (place p)) (notes p) n))
+          (sym (laws.kinds script (place p) p queue (start script (place p)) (notes p) n))
 
       by : ((p == port) ≡ true) ⊎ ((p == port) ≡ false) →
           told notes queue p ++ own_kinds p port (kind_of notes port) (pleas_told queue n)
@@ -90,14 +74,14 @@ module _ (script : ScriptValue) where
       by (inl h) = rw h (own port (eqb-true p port h))
       by (inr h) = rw h (append-nil (told notes queue p))
 
-  quiet_told : (notes : ℕ → List Note) (port : ℕ) (n : Note) →
+  quiet_told : LogLaws → (notes : ℕ → List Note) (port : ℕ) (n : Note) →
       ((queue : ℕ) → pleas_told queue n ≡ []) → (queue p : ℕ) →
       told notes queue p ≡ told (noted port n notes) queue p
-  quiet_told notes port n none queue p =
+  quiet_told laws notes port n none queue p =
       nothing_more (p == port) (told notes queue p)
       ∙ ap (λ (ps : List Plea). told notes queue p ++ own_kinds p port (kind_of notes port) ps)
       (sym (none queue))
-      ∙ told_then notes port n queue p
+      ∙ told_then laws notes port n queue p
 
   -- ---- a message is of the stage
 
@@ -262,12 +246,13 @@ module _ (script : ScriptValue) where
         (record { none = is.none; order = is.order }) in
         record {
           none = so.none;
-          owe = noted_owe script place st.is_over notes port n
+          owe = noted_owe script place laws.log st.is_over notes port n
               (λ p t owes. quiet_owes script (place p) p st.is_over t n tt owes) is.owe;
           order = laws.ordered.later script.ports st.early st.early st.late st.late
               (with_kind (told notes) port call k errno (decoded m))
               (told (noted port n notes)) (carried_out s port call (decoded m) w).entries
-              (omega arith) (omega arith) (λ queue p. told_then notes port n queue p) so.order;
+              (omega arith) (omega arith)
+              (λ queue p. told_then laws.log notes port n queue p) so.order;
         }
 
     -- a note of no message
@@ -278,10 +263,10 @@ module _ (script : ScriptValue) where
         OrderSo st es (noted port n notes)
     quiet_order st es notes port n none owes is = record {
       none = is.none;
-      owe = noted_owe script place st.is_over notes port n owes is.owe;
+      owe = noted_owe script place laws.log st.is_over notes port n owes is.owe;
       order = laws.ordered.later script.ports st.early st.early st.late st.late (told notes)
           (told (noted port n notes)) es (omega arith) (omega arith)
-          (quiet_told notes port n none) is.order;
+          (quiet_told laws.log notes port n none) is.order;
     }
 
     got_over : (b : Bool) → b ≡ true → (l : Letter) (p : ℕ) (t : Standing) →
@@ -326,6 +311,7 @@ module _ (script : ScriptValue) where
 
     pub order_goes : Goes s script place (λ st es ports notes. OrderSo st es notes)
     order_goes = record {
+      log = laws.log;
       arrives = λ st w notes a may is.
           let so = arrival_order st (told notes) w a may
           (record { none = is.none; order = is.order }) in

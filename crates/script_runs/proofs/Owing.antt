@@ -11,7 +11,7 @@ use Rattle.made_runs.specs.Log.{is_received}
 use Rattle.made_runs.specs.Log.{Note, Got, Turned, Begun, Spoke, Shut}
 use Rattle.made_runs.specs.Log.{Due, Standing, after, dids_by, standing}
 use Rattle.made_runs.specs.Log.{owed_then, start, messages_of, first_due}
-use Rattle.script_runs.proofs.Reaching.{noted, standing_push, is_in}
+use Rattle.script_runs.proofs.Reaching.{noted, LogLaws, is_in}
 use Rattle.script_runs.proofs.Whole.{or_false, or_true}
 
 abbrev pub has_received : Standing → Bool
@@ -69,14 +69,14 @@ module _ (script : ScriptValue) (f : ℕ → ℕ) where
   AllOwe over notes =
       (p : ℕ) → is_in script f p ≡ true → Owes over (standing 1 script (f p) p (notes p))
 
-  pub noted_owe : (over : Bool) (notes : ℕ → List Note) (port : ℕ) (n : Note) →
+  pub noted_owe : LogLaws → (over : Bool) (notes : ℕ → List Note) (port : ℕ) (n : Note) →
       ((p : ℕ) (t : Standing) → Owes over t → Owes over (after 1 script (f p) p t n)) →
       AllOwe over notes → AllOwe over (noted port n notes)
-  noted_owe over notes port n goes is p i = by (p == port) (is p i)
+  noted_owe laws over notes port n goes is p i = by (p == port) (is p i)
     where
       by : (c : Bool) → Owes over (standing 1 script (f p) p (notes p)) →
           Owes over (standing 1 script (f p) p (if c then notes p ++ n ∷ [] else notes p))
       by true so = subst (Owes over)
-          (sym (standing_push script (f p) p (start script (f p)) (notes p) n))
+          (sym (laws.stands script (f p) p (start script (f p)) (notes p) n))
           (goes p (standing 1 script (f p) p (notes p)) so)
       by false so = so

@@ -2,7 +2,7 @@
 -- then the whole run keeps it, and each port does what is next.
 use Rattle.std.proofs.Common.{◌≡◌, ◌⊎◌, ◌∙◌, ℕ, List, [], ◌∷◌, ◌++◌}
 use Rattle.std.proofs.Common.{Option, Some, None, Bool, true, false, refl, sym, ap, subst, inl, inr}
-use Rattle.std.specs.Prelude.{not, ◌==◌, nat_eq, if◌then◌else◌, option_map}
+use Rattle.std.specs.Prelude.{map, not, ◌==◌, nat_eq, if◌then◌else◌, option_map}
 use Rattle.std.specs.List.{list_any}
 use Rattle.std.proofs.lemmas.Bool.{eq-eqb, eqb-true, cases_Bool}
 use Rattle.packet_entry.specs.declared.packet.Card.{Card}
@@ -13,24 +13,34 @@ use Rattle.histories.specs.Journeys.{Arrival}
 use Rattle.inspector_script.specs.Scripts.{ScriptValue}
 use Rattle.packet_moves.specs.World.{Port, changed_at, delivered}
 use Rattle.packet_moves.specs.Moving.{with_notice}
-use Rattle.made_runs.specs.Log.{Note, Due, Standing}
+use Rattle.made_runs.specs.Closing.{is_closed}
+use Rattle.made_runs.specs.Requests.{Plea, pleas_told}
+use Rattle.made_runs.specs.Order.{kind_at, kinds_from}
+use Rattle.made_runs.specs.Log.{Note, Due, Standing, logged}
 use Rattle.made_runs.specs.Log.{start, after}
 use Rattle.made_runs.specs.Log.{IsNext, AreNextFrom, standing_from, standing}
 
--- ---- one note more
+-- ---- how a log goes on
 
-module _ (script : ScriptValue) (place port : ℕ) where
-  next_push : (t : Standing) (ns : List Note) (n : Note) → AreNextFrom 1 script place port t ns →
-      IsNext 1 (standing_from 1 script place port t ns) n →
-      AreNextFrom 1 script place port t (ns ++ n ∷ [])
-  next_push t [] n are is = (is, tt)
-  next_push t (m ∷ ns) n are is = (are.0, next_push (after 1 script place port t m) ns n are.1 is)
-
-  pub standing_push : (t : Standing) (ns : List Note) (n : Note) →
-      standing_from 1 script place port t (ns ++ n ∷ [])
-      ≡ after 1 script place port (standing_from 1 script place port t ns) n
-  standing_push t [] n = refl
-  standing_push t (m ∷ ns) n = standing_push (after 1 script place port t m) ns n
+pub record LogLaws : Type 0 where
+  pub next : (script : ScriptValue) (place port : ℕ) (t : Standing) (notes : List Note)
+      (n : Note) → AreNextFrom 1 script place port t notes →
+      IsNext 1 (standing_from 1 script place port t notes) n →
+      AreNextFrom 1 script place port t (notes ++ n ∷ [])
+  pub stands : (script : ScriptValue) (place port : ℕ) (t : Standing) (notes : List Note)
+      (n : Note) → standing_from 1 script place port t (notes ++ n ∷ [])
+      ≡ after 1 script place port (standing_from 1 script place port t notes) n
+  pub logged : (script : ScriptValue) (place port : ℕ) (t : Standing) (notes : List Note) →
+      (standing_from 1 script place port t notes).dids ≡ t.dids ++ logged port notes
+  pub closed : (script : ScriptValue) (place port : ℕ) (t : Standing) (notes : List Note) →
+      list_any is_closed t.dids ≡ not t.is_open →
+      list_any is_closed (standing_from 1 script place port t notes).dids
+      ≡ not (standing_from 1 script place port t notes).is_open
+  pub kinds : (script : ScriptValue) (place port queue : ℕ) (t : Standing) (notes : List Note)
+      (n : Note) → kinds_from 1 script place queue port t (notes ++ n ∷ [])
+      ≡ kinds_from 1 script place queue port t notes
+      ++ map (λ (x : Plea). kind_at (standing_from 1 script place port t notes))
+      (pleas_told queue n)
 
 -- ---- where a port stands in a run
 
@@ -61,18 +71,18 @@ pub record IsAt (script : ScriptValue) (place port : ℕ) (notes : List Note) (o
   pub shut : held.is_closed ≡ not t.is_open
 
 -- it does one thing more
-at_push : (script : ScriptValue) (place port : ℕ) (notes : List Note) (o : Option Port)
+at_push : LogLaws → (script : ScriptValue) (place port : ℕ) (notes : List Note) (o : Option Port)
     (t u : Stand) (n : Note) (g : Port → Port) → (is : IsAt script place port notes o t) →
     IsNext 1 (full is.held t) n →
     after 1 script place port (full is.held t) n ≡ full (g is.held) u →
     (g is.held).is_closed ≡ not u.is_open →
     IsAt script place port (notes ++ n ∷ []) (option_map g o) u
-at_push script place port notes o t u n g is may leads shut = record {
+at_push laws script place port notes o t u n g is may leads shut = record {
   held = g is.held;
   there = ap (option_map g) is.there;
-  next = next_push script place port (start script place) notes n is.next
+  next = laws.next script place port (start script place) notes n is.next
       (subst (λ v. IsNext 1 v n) (sym is.stands) may);
-  stands = standing_push script place port (start script place) notes n
+  stands = laws.stands script place port (start script place) notes n
       ∙ ap (λ v. after 1 script place port v n) is.stands ∙ leads;
   shut = shut;
 }
@@ -108,21 +118,22 @@ module _ (script : ScriptValue) (f : ℕ → ℕ) where
     pub at : (p : ℕ) → is_in p ≡ true → IsAt script (f p) p (notes p) (ports p) (T p)
 
   -- a port does one thing more
-  pub all_push : (port : ℕ) (t u : Stand) (n : Note) (g : Port → Port) (notes : ℕ → List Note)
-      (ports : ℕ → Option Port) (T : ℕ → Stand) → AreAt notes ports (put port t T) →
+  pub all_push : LogLaws → (port : ℕ) (t u : Stand) (n : Note) (g : Port → Port)
+      (notes : ℕ → List Note) (ports : ℕ → Option Port) (T : ℕ → Stand) →
+      AreAt notes ports (put port t T) →
       ((held : Port) → ports port ≡ Some held → held.is_closed ≡ not t.is_open →
       IsNext 1 (full held t) n
       × (after 1 script (f port) port (full held t) n ≡ full (g held) u)
       × ((g held).is_closed ≡ not u.is_open)) →
       AreAt (noted port n notes) (changed_at port g ports) (put port u T)
-  all_push port t u n g notes ports T are may =
+  all_push laws port t u n g notes ports T are may =
       record { at = λ p i. by p i (cases_Bool (p == port)) }
     where
       own : (p : ℕ) → p ≡ port → IsAt script (f p) p (notes p) (ports p) t →
           IsAt script (f p) p (notes p ++ n ∷ []) (option_map g (ports p)) u
       own p same is =
           let m = may is.held (subst (λ q. ports q ≡ Some is.held) same is.there) is.shut in
-          at_push script (f p) p (notes p) (ports p) t u n g is m.0
+          at_push laws script (f p) p (notes p) (ports p) t u n g is m.0
           (subst (λ q. after 1 script (f q) q (full is.held t) n ≡ full (g is.held) u) (sym same)
           m.1)
           m.2

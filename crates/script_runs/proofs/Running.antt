@@ -186,7 +186,7 @@ module _ (s : Setting) (script : ScriptValue) (f : ℕ → ℕ) (P : Staged) (K 
           notes = noted port (Got l) r.notes;
           kept = K.gets st w r.notes port here.held l ls i over here.there
               (theirs here.held here.there) r.kept;
-          are = all_push script f port (side (Now ends) [])
+          are = all_push script f K.log port (side (Now ends) [])
               (side (Now ends)
               (all_due (answer_to script (f port) (received here.held).dids
               (told_exactly l.bytes))))

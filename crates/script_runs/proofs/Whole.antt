@@ -1,7 +1,7 @@
 -- The whole run: the ports open, the frames pass, and the ports end.
 use Rattle.std.proofs.Common.{◌≡◌, ◌<◌, ◌⊎◌, ◌+◌, ◌∙◌, ℕ, List, [], ◌∷◌, ◌++◌}
 use Rattle.std.proofs.Common.{Option, Bool, true, false, refl, sym, ap, subst, inl, inr, suc}
-use Rattle.std.proofs.Common.{arith, append-nil, append_assoc}
+use Rattle.std.proofs.Common.{arith, append-nil}
 use Rattle.std.specs.Prelude.{map, not, ◌==◌, ◌||◌, nat_eq, if◌then◌else◌, slice_get, length}
 use Rattle.std.specs.List.{list_any}
 use Rattle.std.proofs.lemmas.Bool.{eqb-true, ne_eqb, cases_Bool}
@@ -23,11 +23,11 @@ use Rattle.made_runs.specs.Feeder.{downs_after}
 use Rattle.script_runs.specs.Schedule.{before_ends, run, setting_of, rounds_for}
 use Rattle.packet_moves.specs.Logs.{dids_of}
 use Rattle.made_runs.specs.Log.{Note, Due, Still, Standing}
-use Rattle.made_runs.specs.Log.{all_due, start, logged, dids_by, after}
-use Rattle.made_runs.specs.Log.{standing_from, IsLog, unanswered, Got, Turned, Begun, Spoke, Shut}
+use Rattle.made_runs.specs.Log.{all_due, start, logged}
+use Rattle.made_runs.specs.Log.{IsLog, unanswered}
 use Rattle.made_runs.specs.Closing.{is_closed}
 use Rattle.script_runs.proofs.Shut.{is_shut}
-use Rattle.std.proofs.lemmas.List.Folds.{list_any-append}
+use Rattle.script_runs.proofs.Reaching.{LogLaws}
 use Rattle.script_runs.proofs.Reaching.{Stand, IsAt, put, is_in}
 use Rattle.script_runs.proofs.Asking.{Staged, Goes, Stage, IsOver, Now, AtEnd, side, At}
 use Rattle.script_runs.proofs.Asking.{reached_as}
@@ -40,25 +40,6 @@ use Rattle.script_runs.proofs.Later.{LeaveAlone}
 use Rattle.made_runs.specs.Feeder.{downs_in_effect}
 use Rattle.script_lines.specs.declared.line.Down.{Down}
 
--- ---- a log's dids
-
-module _ (script : ScriptValue) (place port : ℕ) where
-  dids_after : (t : Standing) (n : Note) →
-      (after 1 script place port t n).dids ≡ t.dids ++ dids_by port n
-  dids_after t (Got l) = refl
-  dids_after t Turned = sym (append-nil t.dids)
-  dids_after t Begun = sym (append-nil t.dids)
-  dids_after t (Spoke call m errno) = refl
-  dids_after t Shut = refl
-
-  dids_logged : (t : Standing) (ns : List Note) →
-      (standing_from 1 script place port t ns).dids ≡ t.dids ++ logged port ns
-  dids_logged t [] = sym (append-nil t.dids)
-  dids_logged t (n ∷ ns) =
-      dids_logged (after 1 script place port t n) ns
-      ∙ ap (λ ds. ds ++ logged port ns) (dids_after t n)
-      ∙ append_assoc t.dids (dids_by port n) (logged port ns)
-
 -- ---- a log's closing
 
 pub or_false : (b c : Bool) → c ≡ false → (b || c) ≡ b
@@ -70,35 +51,14 @@ or_true true = refl
 or_true false = refl
 
 -- a log has its port's closing exactly where the port isn't open any more
-module _ (script : ScriptValue) (place port : ℕ) where
-  closed_after : (t : Standing) (n : Note) → list_any is_closed t.dids ≡ not t.is_open →
-      list_any is_closed (after 1 script place port t n).dids
-      ≡ not (after 1 script place port t n).is_open
-  closed_after t (Got l) is =
-      list_any-append is_closed t.dids (dids_by port (Got l))
-      ∙ or_false (list_any is_closed t.dids) false refl ∙ is
-  closed_after t Turned is = is
-  closed_after t Begun is = is
-  closed_after t (Spoke call m errno) is =
-      list_any-append is_closed t.dids (dids_by port (Spoke call m errno))
-      ∙ or_false (list_any is_closed t.dids) false refl ∙ is
-  closed_after t Shut is =
-      list_any-append is_closed t.dids (dids_by port Shut) ∙ or_true (list_any is_closed t.dids)
-
-  pub closed_from : (t : Standing) (ns : List Note) → list_any is_closed t.dids ≡ not t.is_open →
-      list_any is_closed (standing_from 1 script place port t ns).dids
-      ≡ not (standing_from 1 script place port t ns).is_open
-  closed_from t [] is = is
-  closed_from t (n ∷ ns) is = closed_from (after 1 script place port t n) ns (closed_after t n is)
-
-  -- so of a port that is there
-  pub closed_at : (notes : List Note) (o : Option Port) (t : Stand) →
-      IsAt script place port notes o t → list_any is_closed (logged port notes) ≡ is_shut o
-  closed_at notes o t is =
-      ap (list_any is_closed) (sym (dids_logged script place port (start script place) notes))
-      ∙ closed_from (start script place) notes refl
-      ∙ ap (λ (v : Standing). not v.is_open) is.stands
-      ∙ sym is.shut ∙ ap is_shut (sym is.there)
+pub closed_at : LogLaws → (script : ScriptValue) (place port : ℕ) (notes : List Note)
+    (o : Option Port) (t : Stand) → IsAt script place port notes o t →
+    list_any is_closed (logged port notes) ≡ is_shut o
+closed_at laws script place port notes o t is =
+    ap (list_any is_closed) (sym (laws.logged script place port (start script place) notes))
+    ∙ laws.closed script place port (start script place) notes refl
+    ∙ ap (λ (v : Standing). not v.is_open) is.stands
+    ∙ sym is.shut ∙ ap is_shut (sym is.there)
 
 -- ---- openings and ends
 
@@ -401,7 +361,7 @@ module _ (script : ScriptValue) (tables : RuleTables) (c : Capture) (f : ℕ →
       let here = r.are.at p i in
       ap dids_of here.there
       ∙ ap (λ (t : Standing). t.dids) (sym here.stands)
-      ∙ dids_logged script (f p) p (start script (f p)) (r.notes p)
+      ∙ K.log.logged script (f p) p (start script (f p)) (r.notes p)
 
   pub run_logged : (st : Stage) (r : At (setting_of script tables) script f P K st
       (run script tables c) (ended script f)) → (p : ℕ) → is_in script f p ≡ true →

@@ -18,7 +18,8 @@ use Rattle.histories.specs.declared.histories.Histories.{Histories}
 use Rattle.histories.specs.History.{history, is_of}
 use Rattle.inspector_script.specs.Scripts.{ScriptValue, IsScript, IsBlock}
 use Rattle.script_runs.specs.Schedule.{IsSolo, run, setting_of}
-use Rattle.histories.specs.Lengths.{AreSmall, AreShort}
+use Rattle.histories.specs.Lengths.{AreShort}
+use Rattle.histories.specs.Lengths.{AreSmall}
 use Rattle.script_runs.proofs.Small.{Fits, AllFit, history_fits}
 use Rattle.script_runs.proofs.Bounded.{WordsFit, run_fits}
 

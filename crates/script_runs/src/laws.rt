@@ -14,7 +14,8 @@ ghost use Rattle.script_runs.specs.Emptyings.{FindsNothing, emptyings};
 ghost use Rattle.made_runs.specs.Log.{Note};
 ghost use Rattle.made_runs.specs.FedExamples.{arrives};
 ghost use Rattle.packet_entry.specs.Numbers.{longest_packet};
-ghost use Rattle.histories.specs.Lengths.{AreShort, AreSmall};
+ghost use Rattle.histories.specs.Lengths.{AreShort};
+ghost use Rattle.histories.specs.Lengths.{AreSmall};
 ghost use Rattle.script_runs.specs.LettersLeft.{left_in};
 ghost use Rattle.made_runs.specs.Run.{IsMadeBy};
 ghost use Rattle.made_runs.specs.LoggedExamples.{message};
@@ -22,7 +23,7 @@ ghost use Rattle.made_runs.specs.HeardExamples.{bound};
 
 use made_runs::{
     closings_are_kept, datagrams_are_short, each_port_has_its_place, fed_histories_go_on,
-    one_feeder_feeds_all, ordered_histories_go_on,
+    logs_go_on, one_feeder_feeds_all, ordered_histories_go_on,
 };
 use packet_moves::what_goes_on_is_in_time;
 use queue_core::each_packet_stays_or_leaves;
@@ -54,6 +55,7 @@ pub fn ports_do_what_the_script_says()
         × IsMadeBy 1 1 script (length c.frames) h notes (left_in (run script tables c)) }
 {
     closings_are_kept();
+    logs_go_on();
     fed_histories_go_on();
     ordered_histories_go_on();
     each_packet_stays_or_leaves();
@@ -101,7 +103,8 @@ pub fn no_notice_is_left()
 }
 
 /// Each emptying of the mailboxes ends by a round that finds nothing, and none is ended by the
-/// count of its rounds: at each pause, once all frames have passed, and behind each message of an end.
+/// count of its rounds: at each pause, once all frames have passed, and behind each message of an
+/// end.
 pub fn each_emptying_ends_by_itself()
     ensures { (script : ScriptValue) (tables : RuleTables) (c : Capture) →
         IsScript script →

@@ -27,8 +27,8 @@ returns-clause-account c = λ tables script capture h is solo legal fit sound.
       made = made.1;
       formed = well_formed c.replies_tell_how_many_left.ensures 1 1 script (length capture.frames) h
           made.0 (λ port. []) is fit solo.lost _ solo.entries legal made.1
-          (c.each_log_is_what_is_told.ensures 1 1 script (length capture.frames) h made.0 (λ port. [])
-          is.ports_differ made.1);
+          (c.each_log_is_what_is_told.ensures 1 1 script (length capture.frames) h made.0
+          (λ port. []) is.ports_differ made.1);
       apart = apart;
       once = λ number queues are.
           let each = c.each_packet_waits_is_lost_or_is_over.ensures tables script.key number queues
@@ -55,7 +55,8 @@ returns-clause-account c = λ tables script capture h is solo legal fit sound.
     } in
     record {
       schedule = solo;
-      only = λ g other. c.a_schedule_has_one_run.ensures.entries script tables capture g h other solo;
+      only = λ g other.
+          c.a_schedule_has_one_run.ensures.entries script tables capture g h other solo;
       run = run;
     }
 
