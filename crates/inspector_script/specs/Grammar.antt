@@ -1,7 +1,7 @@
 -- The grammar of a script's file: what stands in it, and the script that it is. It is this
 -- project's own. Nothing here reads: the lines of a text say something each, and what they say is a
 -- script where it has these parts.
-use Rattle.std.specs.Prelude.{◌≡◌, ◌≢◌, ℕ, ◌+◌, ◌≤◌, ◌⊎◌, Bool, true, false, List, [], ◌∷◌, ◌++◌}
+use Rattle.std.specs.Prelude.{◌≡◌, ◌≢◌, ℕ, ◌≤◌, Bool, true, false, List, ◌∷◌, ◌++◌}
 use Rattle.std.specs.Prelude.{length, map, flat_map, filter_map, All, AllPairs, Option, Some, None}
 use Rattle.std.specs.Prelude.{unwrap_or, option_to_list}
 use Rattle.std.specs.List.{AllZip, list_any}
