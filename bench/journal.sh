@@ -10,7 +10,7 @@ trap 'rm -rf "$work"' EXIT
 mkdir -p "$work/crates/told/src" "$work/crates/told/proofs/ask"
 mkdir -p "$work/crates/told/proofs/arrive_all" "$work/crates/told/proofs/answer_all" "$work/crates/told/proofs/happen"
 cp "$top/HANDLES" "$work"
-below="packet_entry netlink_codec ip_fields pcap_io text_lines hook_chain nfqa_headers nfqa_msgs queue_core place_history journals fate_ledger"
+below="packet_entry netlink_codec ip_fields pcap_io text_lines hook_chain nfqa_headers nfqa_msgs queue_core histories place_history journals journal_reading fate_ledger"
 for name in $below; do
     mkdir "$work/crates/$name"
     for part in src specs proofs; do
@@ -18,15 +18,15 @@ for name in $below; do
     done
     grep "^$name:" "$top/crates.txt" >>"$work/crates.txt"
 done
-echo 'told: packet_entry pcap_io nfqa_msgs queue_core place_history journals fate_ledger' >>"$work/crates.txt"
+echo 'told: packet_entry pcap_io nfqa_msgs queue_core histories place_history journals fate_ledger' >>"$work/crates.txt"
 cat >"$work/crates/told/src/main.rt" <<'RT'
 //! Histories of packets at one queue, and what is told of them.
 #![tactic(auto)]
 ghost use Rattle.std.specs.Prelude.{◌≡◌, ◌≤◌, IfOk, IfSome, length};
 ghost use Rattle.packet_entry.specs.Numbers.{longest_payload};
-ghost use Rattle.place_history.specs.Examples.{IsOnly};
-ghost use Rattle.place_history.specs.Happenings.{payload_of};
-ghost use Rattle.place_history.specs.History.{AreLegal};
+ghost use Rattle.histories.specs.Happenings.{payload_of};
+ghost use Rattle.histories.specs.History.{AreLegal};
+ghost use Rattle.place_history.specs.Calls.{IsOnly};
 
 use fate_ledger::{counts_text, fates, journal_text, ledger_text, read_journal};
 use nfqa_msgs::{BIND, Head, PACKET, Params, Request};
@@ -252,7 +252,7 @@ fn main(rt: HostRuntime) -> io::Result<()> {
 RT
 for name in arrive_all:one answer_all:one happen:round; do
     cat >"$work/crates/told/proofs/${name%:*}/Invariants.antt" <<ANTT
-use Rattle.place_history.specs.Examples.{IsOnly}
+use Rattle.place_history.specs.Calls.{IsOnly}
 use Rattle.told.proofs.${name%:*}.Given as goal
 
 abbrev pub invariant-loop-${name#*:} : goal.invariant-loop-${name#*:}
