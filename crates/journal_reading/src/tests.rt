@@ -41,9 +41,12 @@ S 2 config 0 params 2 0 = 0
 end
 ";
 
+/// The most bytes that the tests read.
+const LONGEST: usize = 4_000_000;
+
 /// The journal that is written of what a text was read as.
 fn told_again(alloc: Global, text: &str) -> Result<Vec<u8>, Fail> {
-    if text.len() > 1_000_000 {
+    if text.len() > LONGEST {
         return Err(Fail::new("the text is too long"));
     }
     let mut out = Vec::new(alloc);
@@ -56,7 +59,7 @@ fn told_again(alloc: Global, text: &str) -> Result<Vec<u8>, Fail> {
 
 /// The same, written part by part.
 fn told_in_parts(alloc: Global, text: &str) -> Result<Vec<u8>, Fail> {
-    if text.len() > 1_000_000 {
+    if text.len() > LONGEST {
         return Err(Fail::new("the text is too long"));
     }
     let mut out = Vec::new(alloc);
@@ -80,7 +83,7 @@ fn append_parts(alloc: Global, histories: &Histories, out: &mut Vec<u8>) -> Resu
 /// How a text is answered: 0 where it is read, the line where one is refused, and else the largest
 /// number.
 fn refused_line(alloc: Global, text: &[u8]) -> u32 {
-    if text.len() > 1_000_000 {
+    if text.len() > LONGEST {
         return u32::MAX;
     }
     match read_journal(alloc, text) {
@@ -121,6 +124,37 @@ fn push_spelt(text: &str, out: &mut String) -> Result<(), Fail> {
 fn a_journal_is_read_and_written_again(rt: HostRuntime) -> Result<(), Fail> {
     let worked = told_again(rt.alloc(), WORKED)?;
     assert_eq!(rt; &worked[..], WORKED.as_bytes());
+    Ok(())
+}
+
+/// So many bytes, spelled.
+fn push_bytes(count: u32, text: &mut String) -> Result<(), Fail> {
+    for _ in 0..count {
+        text.push_str("5a")?;
+    }
+    Ok(())
+}
+
+/// The journal of a port that sent 150 messages of 4,096 bytes each.
+fn long_journal(alloc: Global) -> Result<String, Fail> {
+    let mut text = String::new(alloc);
+    text.push_str("nfq-journal 1\nP 7\n")?;
+    for call in 1..151u32 {
+        let front = format!(in alloc; "S {call} raw ")?;
+        text.push_str(&front)?;
+        push_bytes(4_096, &mut text)?;
+        text.push_str(" = -\n")?;
+    }
+    text.push_str("end\n")?;
+    Ok(text)
+}
+
+#[test]
+fn a_journal_above_1_mib_is_read_and_written_again(rt: HostRuntime) -> Result<(), Fail> {
+    let text = long_journal(rt.alloc())?;
+    assert!(rt; text.len() > 1_048_576);
+    let again = told_again(rt.alloc(), &text)?;
+    assert!(rt; again.as_slice() == text.as_bytes());
     Ok(())
 }
 

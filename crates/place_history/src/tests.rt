@@ -626,3 +626,11 @@ fn let_go(place: &mut Place, alloc: Global, handed: &mut Handed) -> Result<u16, 
     };
     place.ask(alloc, 7, 3, batch, handed)
 }
+
+/// A type whose values threads hand on and share.
+fn is_shared<T: Send + Sync>() {}
+
+#[test]
+fn threads_may_share_a_place(_rt: HostRuntime) {
+    is_shared::<Place>();
+}
