@@ -182,7 +182,7 @@ IsAskDue None = ⊥
 -- Whether a port may do this next. A notice is received where nothing is owed, and not between an
 -- ask and its first message; in the same places a port behind a pool turns to the answers that wait
 -- first; a message is the first that is due, and counts one on; and the port closes where nothing
--- but that is left.
+-- but that is left of its end; a log whose closing stands behind answers that wait isn't whole.
 abbrev pub IsNext : ℕ → Standing → Note → Type 0
 IsNext workers t (Got l) = (t.is_open ≡ true) × (t.owed ≡ []) × (t.is_fresh ≡ false)
 IsNext workers t Turned =

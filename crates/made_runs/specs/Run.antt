@@ -16,7 +16,7 @@ use Rattle.made_runs.specs.Feeder.{AreFed}
 use Rattle.made_runs.specs.Order.{AreOrdered}
 
 -- The log of each of the script's ports that has one is what the script says, behind a pool of so
--- many workers, and of no other number anything is told.
+-- many workers, and nothing is told of any other number.
 pub record LogHolds (workers : ℕ) (script : ScriptValue) (h : Histories) (notes : ℕ → List Note)
     : Type 0 where
   pub each : (port : ℕ) (dids : List Did) → is_port script port ≡ true →

@@ -2,7 +2,6 @@
 
 ghost use Rattle.std.specs.Prelude.{◌≡◌, ◌≤◌, ℕ, true, List, [], ◌∷◌};
 ghost use Rattle.std.specs.Prelude.{◌≢◌, false, None, Option, Some};
-ghost use Rattle.histories.specs.declared.histories.Histories.{Histories};
 ghost use Rattle.nfqa_msgs.specs.declared.request.Request.{Request};
 ghost use Rattle.histories.specs.declared.log.Did.{Did};
 ghost use Rattle.histories.specs.declared.log.Did.TheVariants.{Closed, Received, Sent};
@@ -38,8 +37,9 @@ ghost use Rattle.nfqa_msgs.specs.declared.request.Decoded.TheVariants.{Asked};
 
 /// Examples of what a run has and hasn't. The log of a port that only closes is its closing, and
 /// not empty, and nothing stands behind the closing; no request stands in a history that no message
-/// asked for; and no port closes twice at one queue. The histories whose log is its closing are its
-/// run. Those whose log is empty are none, whatever is noted of the ports and whatever is left in
+/// asked for; and no port closes twice at one queue. Of another port the request and the closing say
+/// nothing, and another port may ask behind the closing; a port that didn't close has no closing.
+/// The histories whose log is its closing are its run. Those whose log is empty are none, whatever is noted of the ports and whatever is left in
 /// their mailboxes.
 pub fn runs_of_one_port()
     ensures log { IsLog 1 closing_script 0 7 (Shut ∷ []) (Closed ∷ []) }
@@ -57,7 +57,7 @@ pub fn runs_of_one_port()
         IsMadeBy 1 1 closing_script 0 silence_of_7 notes left → ⊥ }
 {}
 
-/// Logs, written out, whose port is the script's alone. A message of the opening is sent under
+/// Logs, written out, of scripts with one port. A message of the opening is sent under
 /// number 1, and messages of the end in their order. A port that answers no notice sends nothing
 /// behind one, and one that answers every second notice nothing behind the first. No other number
 /// is the first; the second message of the end isn't sent first; and a notice isn't received
@@ -82,7 +82,7 @@ pub fn logs_by_hand()
         IsLog 1 ending_script 0 7 (Begun ∷ Got l ∷ notes) dids → ⊥ }
 {}
 
-/// Histories, written out, that one part alone refuses. Where the port has no log, its log is no
+/// Histories, written out, that the ports or the requests refuse, and the log doesn't. Where the port has no log, its log is no
 /// fault. And where the log has an errno that the message hasn't, the log holds and the requests
 /// don't.
 pub fn parts_by_hand()

@@ -10,8 +10,6 @@ use Rattle.std.proofs.Common.{◌⊎◌, inl, inr}
 use Rattle.std.proofs.lemmas.List.Elements.{All-from_recursion, All-head, All-tail}
 use Rattle.std.proofs.lemmas.List.Sorted.{IsNonDecreasingBy-from_sort}
 use Rattle.std.proofs.lemmas.List.Kept.{AllPairs-cons}
-use Rattle.nfqa_msgs.specs.declared.request.Request.{Request}
-use Rattle.nfqa_msgs.specs.declared.request.Request.TheVariants.{Config, Verdict, Batch}
 use Rattle.nfqa_msgs.specs.declared.request.Decoded.{Decoded}
 use Rattle.nfqa_msgs.specs.declared.request.Decoded.TheVariants.{Nothing, Refused, Asked}
 use Rattle.nfqa_msgs.specs.RequestReading.{decoded}
@@ -39,7 +37,7 @@ use Rattle.made_runs.specs.Ports.{is_port, place_in}
 use Rattle.made_runs.specs.Requests.{errno_in}
 use Rattle.histories.specs.Grouping.{IsGrouped}
 use Rattle.journals.specs.WellFormed as formed
-use Rattle.journals.specs.WellFormed.{Fit, FitsDid, FitsEntry, FitsEvent, FitsLog, FitsReply}
+use Rattle.journals.specs.WellFormed.{Fit, FitsEntry, FitsEvent, FitsLog, FitsReply}
 use Rattle.journals.specs.WellFormed.{IsEntry, IsEventAt, IsReplyTo, IsWellFormed}
 
 abbrev pub Replies : Type 0

@@ -52,9 +52,10 @@ AreReleased c h =
     ≡ map (λ p. released.written c.link p.0 p.1)
     (filter (λ p. is_release p.1.fate) (zip c.frames (fates_of c h)))
 
--- Histories of a run of this script over this capture, under these rules, in which nothing is lost.
-pub record AreAccounted (tables : RuleTables) (script : ScriptValue) (c : Capture)
-    (h : Histories) : Type 0 where
+-- Histories of a run of this script over this capture, under these rules, in which nothing is lost,
+-- with so many workers behind each port and so many feeders.
+pub record AreAccounted (workers feeders : ℕ) (tables : RuleTables) (script : ScriptValue)
+    (c : Capture) (h : Histories) : Type 0 where
   pub nothing_lost : h.lost ≡ []
   -- at each queue, each event may happen in the state that the sequential queue reaches by the
   -- entries before it, and each reply is the one of its step
@@ -64,7 +65,7 @@ pub record AreAccounted (tables : RuleTables) (script : ScriptValue) (c : Captur
   -- each port did what the script says, which is told in full, and received every notice that was
   -- for it
   pub notes : ℕ → List Note
-  pub made : IsMadeBy 1 1 script (length c.frames) h notes (λ port. [])
+  pub made : IsMadeBy workers feeders script (length c.frames) h notes (λ port. [])
   -- a journal tells them in full, and is theirs alone: each value fits its field, entries stand by
   -- queue, and a port did nothing behind its closing
   pub formed : IsWellFormed h
@@ -74,9 +75,10 @@ pub record AreAccounted (tables : RuleTables) (script : ScriptValue) (c : Captur
   pub lines : AreLinesOf tables script.key c h
   pub released : AreReleased c h
 
--- And those of the run on one thread: its schedule has no others.
+-- The same of the histories of the run on one thread, with one of each: they are those of its
+-- schedule, which has no others.
 pub record IsAccounted (tables : RuleTables) (script : ScriptValue) (c : Capture)
     (h : Histories) : Type 0 where
   pub schedule : IsSolo script tables c h
   pub only : (g : Histories) → IsSolo script tables c g → g ≡ h
-  pub run : AreAccounted tables script c h
+  pub run : AreAccounted 1 1 tables script c h

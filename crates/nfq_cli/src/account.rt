@@ -1,6 +1,6 @@
 //! The histories of a run, and what is known of them.
 
-ghost use Rattle.std.specs.Prelude.{◌<◌, ◌≤◌, List, length, All, IfOk};
+ghost use Rattle.std.specs.Prelude.{◌<◌, ◌≤◌, length, All, IfOk};
 ghost use Rattle.hook_chain.specs.Rules.{RuleTables};
 ghost use Rattle.inspector_script.specs.Scripts.{ScriptValue, IsScript};
 ghost use Rattle.packet_entry.specs.Numbers.{longest_packet};

@@ -1,15 +1,10 @@
 //! What no contract says of a place: that its calls succeed where there is memory, on each kind of
 //! input.
 
-ghost use Rattle.std.specs.Prelude.{◌≡◌, ◌≤◌, ◌<◌, None, false, map, [], ◌∷◌, IfOk};
-ghost use Rattle.histories.specs.History.{replay, IsLegal};
-ghost use Rattle.histories.specs.Stays.{departures};
-ghost use Rattle.histories.specs.Examples.{legal_history, altered_history, one_rule};
-ghost use Rattle.histories.specs.Examples.{three_packets, four_packets};
+ghost use Rattle.std.specs.Prelude.{◌≡◌, ◌≤◌, ◌<◌, None, false, [], IfOk};
 ghost use Rattle.place_history.specs.Calls.{IsOnly};
 ghost use Rattle.place_history.specs.PlaceState.{IsAt};
 ghost use Rattle.histories.specs.Happenings.{payload_of, queue_of};
-ghost use Rattle.histories.specs.Journeys.{AreSound};
 
 use crate::{Entries, Entry, Event, Place, Reply};
 use hook_chain::Decision;

@@ -1,5 +1,5 @@
 -- Why a command ends with its status, over the inputs in the order rules, script, capture.
-use Rattle.std.specs.Prelude.{◌≡◌, ◌⊎◌, ℕ, List, Ok, Err}
+use Rattle.std.specs.Prelude.{◌≡◌, ◌⊎◌, ℕ, Ok, Err}
 use Rattle.hook_chain.specs.Rules.{RuleTables}
 use Rattle.inspector_script.specs.Scripts.{ScriptValue}
 use Rattle.pcap_io.specs.declared.capture.Capture.{Capture}

@@ -1,7 +1,7 @@
 //! The inputs are read, in the order rules, script, capture, each whole and tested before the next
 //! is opened.
 
-ghost use Rattle.std.specs.Prelude.{◌≡◌, ◌≤◌, ◌<◌, List, Some, Result, Ok, Err, length};
+ghost use Rattle.std.specs.Prelude.{◌≡◌, ◌≤◌, ◌<◌, Some, Result, Ok, Err, length};
 ghost use Rattle.std.specs.Prelude.{IsTrue, IfOk, IsErrOf, IsSomeAnd};
 ghost use Rattle.host_io.specs.Host.{Rises, IsLater, SameFiles};
 ghost use Rattle.hook_chain.specs.Rules.{RuleTables};

@@ -12,14 +12,11 @@ ghost use Rattle.inspector_script.specs.Scripts.{ScriptValue, IsScript};
 ghost use Rattle.script_runs.specs.Schedule.{IsSolo, is_open_port, rounds_for, run, setting_of};
 ghost use Rattle.script_runs.specs.Emptyings.{FindsNothing, emptyings};
 ghost use Rattle.made_runs.specs.Log.{Note};
-ghost use Rattle.made_runs.specs.FedExamples.{arrives};
 ghost use Rattle.packet_entry.specs.Numbers.{longest_packet};
 ghost use Rattle.histories.specs.Lengths.{AreShort};
 ghost use Rattle.histories.specs.Lengths.{AreSmall};
 ghost use Rattle.script_runs.specs.LettersLeft.{left_in};
 ghost use Rattle.made_runs.specs.Run.{IsMadeBy};
-ghost use Rattle.made_runs.specs.LoggedExamples.{message};
-ghost use Rattle.made_runs.specs.HeardExamples.{bound};
 
 use made_runs::{
     closings_are_kept, datagrams_are_short, each_port_has_its_place, fed_histories_go_on,

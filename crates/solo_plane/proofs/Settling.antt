@@ -30,7 +30,8 @@ use Rattle.packet_moves.specs.Moving.{Carried, arrived, turned_away, room_for, h
 use Rattle.packet_moves.specs.Moving.{left_at_once, happened}
 use Rattle.packet_moves.specs.Moving.{settled, goes_on, route_after, takes_one}
 use Rattle.solo_plane.specs.PortView.{port_of, ports_of}
-use Rattle.solo_plane.specs.OnTheWay.{CameAs, came_to, way_by}
+use Rattle.queue_core.specs.Laws.{way_by}
+use Rattle.solo_plane.specs.OnTheWay.{CameAs, came_to}
 
 -- what holds of both lines holds of the table
 pub either : (P : Stepped → Type 0) (b : Bool) (s t : Stepped) → P s → P t → P (if b then s else t)

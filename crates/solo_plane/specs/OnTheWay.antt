@@ -4,10 +4,7 @@ use Rattle.packet_entry.specs.declared.packet.Card.{Card}
 use Rattle.packet_entry.specs.Numbers.{last_visit}
 use Rattle.hook_chain.specs.declared.chain.Next.{Next}
 use Rattle.hook_chain.specs.declared.chain.Next.TheVariants.{Released, To}
-use Rattle.queue_core.specs.declared.offers.Outcome.{Outcome}
-use Rattle.queue_core.specs.declared.offers.Outcome.TheVariants.{Bypassed, OverflowOpen}
-use Rattle.queue_core.specs.declared.offers.Outcome.TheVariants.{UserFullOpen}
-use Rattle.queue_core.specs.Step.{Way, Gone, Open}
+use Rattle.queue_core.specs.Step.{Way}
 use Rattle.packet_moves.specs.declared.fed.Fed.{Fed}
 use Rattle.packet_moves.specs.declared.setting.Setting.{Setting}
 use Rattle.solo_plane.specs.declared.arrivals.Came.{Came}
@@ -78,10 +75,3 @@ WasToArrive card (To queue bypass table) back =
 -- a packet that is handed back is as it was, or as it was to arrive
 abbrev pub HandsBack : Card → Next → Card → Type 0
 HandsBack card route back = (back ≡ card) ⊎ WasToArrive card route back
-
--- the way of a packet that a queue didn't take, by what its arrival came to
-abbrev pub way_by : Outcome → Way
-way_by Bypassed = Open
-way_by OverflowOpen = Open
-way_by (UserFullOpen id) = Open
-way_by other = Gone

@@ -15,7 +15,8 @@ ghost use Rattle.packet_moves.specs.Moving.{carry};
 ghost use Rattle.solo_plane.specs.PortView.{world_of, ports_of, logs_of, OnPort, IsReady};
 ghost use Rattle.solo_plane.specs.declared.arrivals.Came.TheVariants.{Ended, GoesOn};
 ghost use Rattle.packet_moves.specs.declared.fed.Fed.TheVariants as fed;
-ghost use Rattle.solo_plane.specs.OnTheWay.{CameAs, came_to, IsInTime, way_by, arrivals_left};
+ghost use Rattle.queue_core.specs.Laws.{way_by};
+ghost use Rattle.solo_plane.specs.OnTheWay.{CameAs, came_to, IsInTime, arrivals_left};
 ghost use Rattle.solo_plane.specs.OnTheWay.{StepsTo, HasVisit, KeepsRoom, NeedsRoom, SpendsRoom};
 ghost use Rattle.solo_plane.specs.OnTheWay.{IsCarried, WasToArrive};
 

@@ -18,7 +18,7 @@ returns-clause-account c = λ tables script capture h is solo legal fit sound.
     let made = c.no_notice_is_left.ensures.made script tables capture h is solo numbered in
     let apart = c.no_visit_arrives_twice.ensures tables script.key (cards capture) h.entries h.lost
     (cards_differ capture) sound in
-    let run : AreAccounted tables script capture h =
+    let run : AreAccounted 1 1 tables script capture h =
     record {
       nothing_lost = solo.lost;
       legal = legal;
