@@ -82,7 +82,8 @@ rules_taken text taken small only stuck (Err (refusal.Capture f)) says = absurd 
 
 pub rules_refused : (text : List ℕ) (why : LineFault) → length text ≤ text_limit →
     ((t : RuleTables) → rules.IsRulesFile text t → tables.Answers (Err why) (Ok t)) →
-    ((line : ℕ) → rules.IsFirstRefused text line → tables.Answers (Err why) (Err line)) →
+    ((line : ℕ) → rules.IsFirstRefused text line →
+    tables.Answers {T = RuleTables} (Err why) (Err line)) →
     (said : Result RuleTables Refusal) → RulesSay text said →
     IfStopRefuses (of_rules why) (λ w. said ≡ Err w)
 rules_refused text line.NoMemory small only stuck said says = tt
