@@ -63,3 +63,17 @@ returns-clause-ended g c =
 pub returns-clause-untouched : goal.returns-clause-untouched
 returns-clause-untouched g c =
     in_no_other_way _ c.write_outputs.result _ c.write_outputs.ensures.only
+
+pub returns-in_err-made-clause-ended : goal.returns-in_err-made-clause-ended
+returns-in_err-made-clause-ended g c =
+    record {
+      done = search rules;
+      refused = search rules;
+      exact = search rules;
+      only = search rules;
+      read_fault = search rules;
+      unread = search rules;
+      write_fault = search rules;
+      stopped = search rules;
+      cut_short = search rules;
+    }
