@@ -19,6 +19,7 @@ packet number =
       visit = 1;
       table = 1;
       mark = 0;
+      priority = 0;
       seconds = number;
       micros = 0;
       protocol = 2048;
@@ -43,11 +44,12 @@ told verdict_reply =
     ∷ at_0 (Ask 7 2 (Config 0 None (Some (record { range = 0; mode = 2 })) None None None))
     (Answer 0 0)
     ∷ waits 1 1
-    ∷ at_0 (Ask 7 3 (Verdict 0 (Some (record { verdict = 1; id = 1 })) None None)) verdict_reply
+    ∷ at_0 (Ask 7 3 (Verdict 0 (Some (record { verdict = 1; id = 1 })) None None None))
+    verdict_reply
     ∷ waits 2 2
     ∷ waits 3 3
     ∷ at_0 (DeviceDown 3) (Flushed 0)
-    ∷ at_0 (Ask 8 1 (Batch 0 (Some (record { verdict = 1; id = 3 })) None)) (Answer 1 0)
+    ∷ at_0 (Ask 8 1 (Batch 0 (Some (record { verdict = 1; id = 3 })) None None)) (Answer 1 0)
     ∷ at_0 (PortClosed 7) (Flushed 2) ∷ []
 
 -- as the queue answers

@@ -24,14 +24,14 @@ arrive a room = Arrive a.card a.bypass room
 -- the queue that a request names
 abbrev pub queue_of : Request → ℕ
 queue_of (Config queue command params maxlen flags mask) = queue
-queue_of (Verdict queue head mark payload) = queue
-queue_of (Batch queue head mark) = queue
+queue_of (Verdict queue head mark payload priority) = queue
+queue_of (Batch queue head mark priority) = queue
 
 -- the bytes that a request gives a packet
 abbrev pub payload_of : Request → Option (List ℕ)
 payload_of (Config queue command params maxlen flags mask) = None
-payload_of (Verdict queue head mark payload) = payload
-payload_of (Batch queue head mark) = None
+payload_of (Verdict queue head mark payload priority) = payload
+payload_of (Batch queue head mark priority) = None
 
 -- what is handed out of what left: each packet that a verdict lets go on, with its decision
 abbrev pub handed_of : Card × Way → List (Card × Decision)

@@ -16,7 +16,7 @@ use Rattle.queue_core.specs.declared.event.Event.TheVariants as event
 use Rattle.queue_core.specs.declared.event.Reply.TheVariants as reply
 use Rattle.queue_core.specs.State.{Bound}
 use Rattle.queue_core.specs.Step.{Way, Stepped, step, arrive_bound, turns_away, next_id, way_of}
-use Rattle.queue_core.specs.Step.{unchanged, marking}
+use Rattle.queue_core.specs.Step.{unchanged, batch_edit}
 use Rattle.queue_core.specs.Decision.{edited, decision_of}
 use Rattle.queue_core.specs.Share.{share}
 use Rattle.queue_core.specs.WithOffer.{WithOffer, letter_of}
@@ -79,10 +79,11 @@ hands_out q (h ∷ hs) = record {
   left = ways_of (h ∷ hs);
 }
 
--- one of a share as it is handed out: with the mark that is given, and the decision
-abbrev pub handed_as : Head → Option ℕ → ℕ × Card → Card × Decision
-handed_as head mark w = (edited (marking mark) w.1, decision_of head.verdict)
+-- one of a share as it is handed out: with the mark and priority that are given, and the decision
+abbrev pub handed_as : Head → Option ℕ → Option ℕ → ℕ × Card → Card × Decision
+handed_as head mark priority w = (edited (batch_edit mark priority) w.1, decision_of head.verdict)
 
 -- what a batch hands out
-abbrev pub batch_handed : Bound → Head → Option ℕ → List (Card × Decision)
-batch_handed q head mark = map (handed_as head mark) (share q.waiting head.id)
+abbrev pub batch_handed : Bound → Head → Option ℕ → Option ℕ → List (Card × Decision)
+batch_handed q head mark priority =
+    map (handed_as head mark priority) (share q.waiting head.id)

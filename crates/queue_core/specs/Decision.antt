@@ -33,10 +33,12 @@ decision_of verdict =
     else if kind_of verdict == verdict_repeat then way.Repeat
     else way.Stop
 
--- what a verdict changes of its packet: the mark and the bytes, as far as they are given
+-- what a verdict changes of its packet: the mark, the bytes and the priority, as far as they are
+-- given
 pub record Edit : Type 0 where
   pub mark : Option ℕ
   pub payload : Option (List ℕ)
+  pub priority : Option ℕ
 
 abbrev pub edited : Edit → Card → Card
-edited edit c = card.edited c edit.mark edit.payload
+edited edit c = card.edited c edit.mark edit.payload edit.priority

@@ -282,28 +282,28 @@ verdict_under (Allowed bound head) q edit =
 abbrev pub verdict : Option Bound → ℕ → Option Head → Edit → Stepped
 verdict q port head edit = verdict_under (refusal q port head) q edit
 
--- a batch sets the mark of each, and replaces no bytes
-abbrev pub marking : Option ℕ → Edit
-marking mark = record { mark = mark; payload = None }
+-- a batch sets the mark and priority of each, and replaces no bytes
+abbrev pub batch_edit : Option ℕ → Option ℕ → Edit
+batch_edit mark priority = record { mark = mark; payload = None; priority = priority }
 
 -- a batch on its share
-abbrev pub shared_out : Bound → Head → Option ℕ → List (ℕ × Card) → Stepped
-shared_out q head mark [] = unchanged (Some q) enoent
-shared_out q head mark (w ∷ ws) =
+abbrev pub shared_out : Bound → Head → Option ℕ → Option ℕ → List (ℕ × Card) → Stepped
+shared_out q head mark priority [] = unchanged (Some q) enoent
+shared_out q head mark priority (w ∷ ws) =
     record {
       state = Some (without_oldest q (length (w ∷ ws)));
       reply = reply.Answer 0 (length (w ∷ ws));
-      left = map (λ v. leaving head (marking mark) v.1) (w ∷ ws);
+      left = map (λ v. leaving head (batch_edit mark priority) v.1) (w ∷ ws);
     }
 
-abbrev pub batch_under : Ruling → Option Bound → Option ℕ → Stepped
-batch_under (Refused errno) q mark = unchanged q errno
-batch_under (Allowed bound head) q mark =
-    shared_out bound head mark (share bound.waiting head.id)
+abbrev pub batch_under : Ruling → Option Bound → Option ℕ → Option ℕ → Stepped
+batch_under (Refused errno) q mark priority = unchanged q errno
+batch_under (Allowed bound head) q mark priority =
+    shared_out bound head mark priority (share bound.waiting head.id)
 
 -- a batch request (nfqnl_recv_verdict_batch)
-abbrev pub batch : Option Bound → ℕ → Option Head → Option ℕ → Stepped
-batch q port head mark = batch_under (refusal q port head) q mark
+abbrev pub batch : Option Bound → ℕ → Option Head → Option ℕ → Option ℕ → Stepped
+batch q port head mark priority = batch_under (refusal q port head) q mark priority
 
 -- a request of a port
 abbrev pub ask : Option Bound → ℕ → Request → Stepped
@@ -316,9 +316,9 @@ ask q port (request.Config queue command params maximum flags mask) =
       flags = flags;
       mask = mask;
     })
-ask q port (request.Verdict queue head mark payload) =
-    verdict q port head (record { mark = mark; payload = payload })
-ask q port (request.Batch queue head mark) = batch q port head mark
+ask q port (request.Verdict queue head mark payload priority) =
+    verdict q port head (record { mark = mark; payload = payload; priority = priority })
+ask q port (request.Batch queue head mark priority) = batch q port head mark priority
 
 -- ---- ports and devices
 

@@ -24,20 +24,24 @@ use packet_entry::{Bytes, NoMemory, Packet};
 use std::collections::VecDeque;
 
 impl Queue {
-    /// Carries out a verdict that isn't refused: what waits under its id leaves, with the mark and
-    /// the bytes that are given, and goes where the verdict says. `None` exactly where nothing
-    /// waits under this id; then nothing has changed. Takes no memory.
+    /// Carries out a verdict that isn't refused: what waits under its id leaves, with the mark,
+    /// the bytes and the priority that are given, and goes where the verdict says. `None` exactly
+    /// where nothing waits under this id; then nothing has changed. Takes no memory.
+    /// (`NFQA_MARK`, `NFQA_PAYLOAD` and `NFQA_PRIORITY` of uapi nfnetlink_queue.h; the last is what
+    /// `nfqnl_recv_verdict` sets as `skb->priority`)
     pub fn verdict(
         &mut self,
         head: Head,
         mark: Option<u32>,
         payload: Option<Bytes>,
+        priority: Option<u32>,
     ) -> Option<(Packet, Decision)>
         requires known { IsVerdict head.verdict }
         requires payload { IfSome payload (λ bytes. length bytes ≤ longest_payload) }
         requires no_offer { self.old.offer ≡ None }
         ensures packet { result ≡
-            option_map (λ card. (edited card mark payload, decision.decision_of head.verdict))
+            option_map
+            (λ card. (edited card mark payload priority, decision.decision_of head.verdict))
             (card_under self.old.state head.id) }
         ensures state { OnSome result (self.new.state ≡ without self.old.state head.id) }
         ensures unchanged { IfNone result (self.new.state ≡ self.old.state) }
@@ -45,25 +49,26 @@ impl Queue {
         // This is the step of its port's verdict.
         ensures step { (queue call : ℕ) →
             step (Some self.old.state)
-            (Ask self.old.state.port call (Verdict queue (Some head) mark payload))
+            (Ask self.old.state.port call (Verdict queue (Some head) mark payload priority))
             ≡ hands_out self.new.state (option_to_list result) }
     {
         let place = ids::place_of(&self.waiting, head.id)?;
         let Some((_, mut packet)) = self.waiting.remove(place) else {
             unreachable!()
         };
-        packet.edit(mark, payload);
+        packet.edit(mark, payload, priority);
         Some((packet, decision_of(head.verdict)))
     }
 
     /// Carries out a batch that isn't refused: from the oldest on, packets leave, up to but without
-    /// the first whose id is after the id of `head`. Each gets the mark that is given, and is
-    /// appended to `out` with the decision of `head`. Answers how many. `NoMemory` leaves the queue
-    /// and `out` as they were.
+    /// the first whose id is after the id of `head`. Each gets the mark and the priority that
+    /// are given, and is appended to `out` with the decision of `head`. Answers how many. `NoMemory`
+    /// leaves the queue and `out` as they were.
     pub fn batch(
         &mut self,
         head: Head,
         mark: Option<u32>,
+        priority: Option<u32>,
         out: &mut Handed,
     ) -> Result<u32, NoMemory>
         requires known { IsVerdict head.verdict }
@@ -71,7 +76,7 @@ impl Queue {
         ensures count { IfOk result (λ count.
             count ≡ length (share self.old.state.waiting head.id)) }
         ensures handed { OnOk result
-            (out.new.items ≡ out.old.items ++ batch_handed self.old.state head mark) }
+            (out.new.items ≡ out.old.items ++ batch_handed self.old.state head mark priority) }
         ensures state { OnOk result (self.new.state ≡ without_oldest self.old.state
             (length (share self.old.state.waiting head.id))) }
         ensures err { OnErr result (self.new ≡ self.old) }
@@ -80,22 +85,24 @@ impl Queue {
         // This is the step of its port's batch.
         ensures step { OnOk result ((queue call : ℕ) →
             step (Some self.old.state)
-            (Ask self.old.state.port call (Batch queue (Some head) mark))
-            ≡ hands_out self.new.state (batch_handed self.old.state head mark)) }
+            (Ask self.old.state.port call (Batch queue (Some head) mark priority))
+            ≡ hands_out self.new.state (batch_handed self.old.state head mark priority)) }
     {
         let count = ids::share_length(&self.waiting, head.id);
         out.packets.reserve(count)?;
         let decision = decision_of(head.verdict);
-        hand_out(&mut self.waiting, count, mark, decision, &mut out.packets);
+        hand_out(&mut self.waiting, count, mark, priority, decision, &mut out.packets);
         Ok(count as u32)
     }
 }
 
-/// Moves so many of the oldest that wait to what is handed out, each with the mark that is given.
+/// Moves so many of the oldest that wait to what is handed out, each with the mark and the priority
+/// that are given.
 fn hand_out(
     waiting: &mut Waiting,
     count: usize,
     mark: Option<u32>,
+    priority: Option<u32>,
     decision: Decision,
     out: &mut VecDeque<(Packet, Decision)>,
 )
@@ -103,13 +110,13 @@ fn hand_out(
     requires room { deque_len out.old + count ≤ deque_capacity out.old }
     ensures waiting { waiting.new.items ≡ drop count waiting.old.items }
     ensures out { out.new.items ≡ out.old.items
-        ++ map (λ w. (edited w.1 mark None, decision)) (take count waiting.old.items) }
+        ++ map (λ w. (edited w.1 mark None priority, decision)) (take count waiting.old.items) }
 {
     for _ in 0..count {
         let Some((_, mut packet)) = waiting.pop_front() else {
             unreachable!()
         };
-        packet.edit(mark, None);
+        packet.edit(mark, None, priority);
         out.push_back_reserved((packet, decision));
     }
 }
