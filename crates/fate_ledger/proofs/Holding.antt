@@ -18,7 +18,7 @@ use Rattle.nfqa_msgs.specs.RequestReading.{PayloadFits}
 use Rattle.queue_core.specs.declared.event.Event.{Event}
 use Rattle.queue_core.specs.declared.event.Event.TheVariants.{Arrive, Ask, PortClosed, DeviceDown}
 use Rattle.queue_core.specs.Ids.{after, is_id}
-use Rattle.queue_core.specs.Decision.{is_verdict}
+use Rattle.queue_core.specs.Decision.{Edit, is_verdict}
 use Rattle.queue_core.specs.State.{Bound, bound_to}
 use Rattle.queue_core.specs.State.{fails_open}
 use Rattle.queue_core.specs.Share.{share}
@@ -26,7 +26,7 @@ use Rattle.queue_core.specs.Step.{Way, Gone, Stepped, step, arrive, arrive_in_ti
 use Rattle.queue_core.specs.Step.{config, ConfigAsk, unbind, is_command, has_unknown_flags}
 use Rattle.queue_core.specs.Step.{has_refused_flags, is_bound_elsewhere, set_up, verdict_under}
 use Rattle.queue_core.specs.Step.{batch_under, carried_out, shared_out, card_under}
-use Rattle.queue_core.specs.Step.{leaving, marking}
+use Rattle.queue_core.specs.Step.{leaving, batch_edit}
 use Rattle.queue_core.specs.Step.{Ruling, Refused, Allowed, refusal, ask, is_full}
 use Rattle.histories.specs.declared.entry.Entry.{Entry}
 use Rattle.histories.specs.History.{history, is_of, replay, replay_from}
@@ -42,8 +42,8 @@ IsShort payload = IfSome payload (λ bytes. length bytes ≤ longest_payload)
 
 -- what edits keep
 abbrev pub Stays : Known → Type 0
-Stays F = (c : Card) (mark : Option ℕ) (payload : Option (List ℕ)) → F c → IsShort payload →
-    F (edited c mark payload)
+Stays F = (c : Card) (mark : Option ℕ) (payload : Option (List ℕ)) (priority : Option ℕ) →
+    F c → IsShort payload → F (edited c mark payload priority)
 
 -- it holds of the packet of an event that is an arrival, and a request's payload fits
 abbrev pub Fits : Known → Event → Type 0
@@ -107,11 +107,11 @@ module _ (F : Known) (stays : Stays F) where
   drop_all (suc n) [] all = tt
   drop_all (suc n) (w ∷ ws) all = drop_all n ws all.1
 
-  marked_all : (head : Head) (mark : Option ℕ) (ws : List (ℕ × Card)) → AllWait F ws →
-      AllLeave F (map (λ (v : ℕ × Card). leaving head (marking mark) v.1) ws)
-  marked_all head mark [] all = tt
-  marked_all head mark (w ∷ ws) all =
-      (stays w.1 mark None all.0 tt, marked_all head mark ws all.1)
+  marked_all : (head : Head) (mark priority : Option ℕ) (ws : List (ℕ × Card)) → AllWait F ws →
+      AllLeave F (map (λ (v : ℕ × Card). leaving head (batch_edit mark priority) v.1) ws)
+  marked_all head mark priority [] all = tt
+  marked_all head mark priority (w ∷ ws) all =
+      (stays w.1 mark None priority all.0 tt, marked_all head mark priority ws all.1)
 
   -- ---- steps
 
@@ -173,29 +173,32 @@ module _ (F : Known) (stays : Stays F) where
       either IsAllowed (not (q.port == port)) (Refused eperm) _ tt
       (either IsAllowed (not (is_verdict head.verdict)) (Refused einval) (Allowed q head) tt held)
 
-  verdict_good : (r : Ruling) (q : Option Bound) (mark : Option ℕ) (payload : Option (List ℕ)) →
-      IsAllowed r → HoldsAll F q → IsShort payload →
-      IsGood F (verdict_under r q (record { mark = mark; payload = payload }))
-  verdict_good (Refused errno) q mark payload so held fits = (held, tt)
-  verdict_good (Allowed b head) q mark payload so held fits =
+  verdict_good : (r : Ruling) (q : Option Bound) (edit : Edit) → IsAllowed r → HoldsAll F q →
+      IsShort edit.payload → IsGood F (verdict_under r q edit)
+  verdict_good (Refused errno) q edit so held fits = (held, tt)
+  verdict_good (Allowed b head) q edit so held fits =
       by (card_under b head.id) (found_all (is_id head.id) b.waiting so)
     where
       by : (o : Option Card) → IfSome o F →
-          IsGood F (carried_out b head (record { mark = mark; payload = payload }) o)
+          IsGood F (carried_out b head edit o)
       by None small = (so, tt)
       by (Some card) small =
-          (rest_all (is_id head.id) b.waiting so, (stays card mark payload small fits, tt))
+          (
+            rest_all (is_id head.id) b.waiting so,
+            (stays card edit.mark edit.payload edit.priority small fits, tt),
+          )
 
-  batch_good : (r : Ruling) (q : Option Bound) (mark : Option ℕ) → IsAllowed r → HoldsAll F q →
-      IsGood F (batch_under r q mark)
-  batch_good (Refused errno) q mark so held = (held, tt)
-  batch_good (Allowed b head) q mark so held =
+  batch_good : (r : Ruling) (q : Option Bound) (mark priority : Option ℕ) → IsAllowed r →
+      HoldsAll F q → IsGood F (batch_under r q mark priority)
+  batch_good (Refused errno) q mark priority so held = (held, tt)
+  batch_good (Allowed b head) q mark priority so held =
       by (share b.waiting head.id) (share_all b.waiting head.id so)
     where
-      by : (ws : List (ℕ × Card)) → AllWait F ws → IsGood F (shared_out b head mark ws)
+      by : (ws : List (ℕ × Card)) → AllWait F ws →
+          IsGood F (shared_out b head mark priority ws)
       by [] all = (so, tt)
       by (w ∷ ws) all =
-          (drop_all (length (w ∷ ws)) b.waiting so, marked_all head mark (w ∷ ws) all)
+          (drop_all (length (w ∷ ws)) b.waiting so, marked_all head mark priority (w ∷ ws) all)
 
   ask_good : (q : Option Bound) (port : ℕ) (request : Request) → PayloadFits request →
       HoldsAll F q → IsGood F (ask q port request)
@@ -207,10 +210,12 @@ module _ (F : Known) (stays : Stays F) where
         flags = flags;
         mask = mask;
       }) held
-  ask_good q port (Verdict queue head mark payload) fits held =
-      verdict_good (refusal q port head) q mark payload (ruling_good q port head held) held fits
-  ask_good q port (Batch queue head mark) fits held =
-      batch_good (refusal q port head) q mark (ruling_good q port head held) held
+  ask_good q port (Verdict queue head mark payload priority) fits held =
+      verdict_good (refusal q port head) q
+      (record { mark = mark; payload = payload; priority = priority })
+      (ruling_good q port head held) held fits
+  ask_good q port (Batch queue head mark priority) fits held =
+      batch_good (refusal q port head) q mark priority (ruling_good q port head held) held
 
   pub step_good : (q : Option Bound) (e : Event) → Fits F e → HoldsAll F q → IsGood F (step q e)
   step_good q (Arrive card bypass room) fits held = arrive_good q card bypass room fits held

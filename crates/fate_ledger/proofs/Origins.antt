@@ -60,12 +60,12 @@ module _ (test : ℕ → List ℕ → Bool)
   Before visit c = c.visit + 1 ≡ visit → test c.number c.bytes ≡ true
 
   pub holds_stays : Stays Holds
-  holds_stays c mark None h fits = h
-  holds_stays c mark (Some bytes) h fits = given c.number bytes fits
+  holds_stays c mark None priority h fits = h
+  holds_stays c mark (Some bytes) priority h fits = given c.number bytes fits
 
   before_stays : (visit : ℕ) → Stays (Before visit)
-  before_stays visit c mark None h fits = h
-  before_stays visit c mark (Some bytes) h fits = λ same. given c.number bytes fits
+  before_stays visit c mark None priority h fits = h
+  before_stays visit c mark (Some bytes) priority h fits = λ same. given c.number bytes fits
 
   -- an arrival at this visit of which it doesn't hold
   abbrev wrong : ℕ → Arrival → Bool

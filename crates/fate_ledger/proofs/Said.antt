@@ -104,9 +104,9 @@ module _ (laws : Laws) (before : List Entry) (e : Entry) (h : Happening)
         mask = mask;
       }))
       (subst (λ event. Leaves (step q event) h.card way) ev leaves)
-  by_request port call (Verdict queue head mark payload) ev way leaves same =
+  by_request port call (Verdict queue head mark payload priority) ev way leaves same =
       subst (λ f. Agrees f way) (sym same) (verdict_agrees way)
-  by_request port call (Batch queue head mark) ev way leaves same =
+  by_request port call (Batch queue head mark priority) ev way leaves same =
       subst (λ f. Agrees f way) (sym same) (verdict_agrees way)
 
   pub leaves_so : (event : Event) → e.event ≡ event →

@@ -25,7 +25,7 @@ use Rattle.queue_core.specs.Step.{Stepped, Gone, step, arrive_bound, arrive_in_t
 use Rattle.queue_core.specs.Step.{config, ConfigAsk, unbind, is_command, has_unknown_flags}
 use Rattle.queue_core.specs.Step.{has_refused_flags, is_bound_elsewhere, set_up, verdict, batch}
 use Rattle.queue_core.specs.Step.{verdict_under, batch_under, carried_out, shared_out, card_under}
-use Rattle.queue_core.specs.Step.{leaving, marking, port_closed, device_down, is_full}
+use Rattle.queue_core.specs.Step.{leaving, batch_edit, port_closed, device_down, is_full}
 use Rattle.queue_core.specs.Step.{Refused, Allowed, unchanged}
 use Rattle.histories.specs.declared.entry.Entry.{Entry}
 use Rattle.histories.specs.History.{IsStep}
@@ -116,13 +116,15 @@ module _ (queue at : ℕ) where
         (either (of q) (is_some command && not (is_command command_bind command)) _ _ (refl, refl)
         (either (of q) (is_none command && is_none q) _ _ (refl, refl) (sets_up q)))))))))
 
-  module _ (port call named : ℕ) (mark : Option ℕ) (payload : Option (List ℕ)) where
+  module _ (port call named : ℕ) (mark : Option ℕ) (payload : Option (List ℕ))
+      (priority : Option ℕ) where
     abbrev by : Option Head → Option Bound → Stepped → Type 0
     by head q s =
-        IsTold queue at (asking port call (request.Verdict named head mark payload)) q s
+        IsTold queue at
+        (asking port call (request.Verdict named head mark payload priority)) q s
 
     abbrev edit : Edit
-    edit = record { mark = mark; payload = payload }
+    edit = record { mark = mark; payload = payload; priority = priority }
 
     carries_out : (q : Bound) (head : Head) (o : Option Card) → card_under q head.id ≡ o →
         by (Some head) (Some q) (carried_out q head edit o)
@@ -150,26 +152,27 @@ module _ (queue at : ℕ) where
     | inr e ↦ rw e (ap (λ vs. w ∷ vs) (share_first ws m))
   ]
 
-  each_leaves : (head : Head) (mark : Option ℕ) (ws : Waiting) →
+  each_leaves : (head : Head) (mark priority : Option ℕ) (ws : Waiting) →
       map (λ (w : ℕ × Card). happening (how_at queue at (fate_of head.verdict))
-      (edited w.1 mark None)) ws
+      (edited w.1 mark None priority)) ws
       ≡ departing queue at fate_by_verdict
-      (map (λ (v : ℕ × Card). leaving head (marking mark) v.1) ws)
-  each_leaves head mark [] = refl
-  each_leaves head mark (w ∷ ws) =
-      ap (λ hs. happening (how_at queue at (fate_of head.verdict)) (edited w.1 mark None) ∷ hs)
-      (each_leaves head mark ws)
+      (map (λ (v : ℕ × Card). leaving head (batch_edit mark priority) v.1) ws)
+  each_leaves head mark priority [] = refl
+  each_leaves head mark priority (w ∷ ws) =
+      ap (λ hs. happening (how_at queue at (fate_of head.verdict))
+          (edited w.1 mark None priority) ∷ hs) (each_leaves head mark priority ws)
 
-  module _ (port call named : ℕ) (mark : Option ℕ) where
+  module _ (port call named : ℕ) (mark priority : Option ℕ) where
     abbrev of_batch : Option Head → Option Bound → Stepped → Type 0
-    of_batch head q s = IsTold queue at (asking port call (request.Batch named head mark)) q s
+    of_batch head q s =
+        IsTold queue at (asking port call (request.Batch named head mark priority)) q s
 
     shares_out : (q : Bound) (head : Head) (vs : Waiting) → take (length vs) q.waiting ≡ vs →
-        of_batch (Some head) (Some q) (shared_out q head mark vs)
+        of_batch (Some head) (Some q) (shared_out q head mark priority vs)
     shares_out q head [] first = (refl, refl)
     shares_out q head (v ∷ vs) first = (
       ap (λ us. map (λ (w : ℕ × Card). happening (how_at queue at (fate_of head.verdict))
-          (edited w.1 mark None)) us) first ∙ each_leaves head mark (v ∷ vs),
+          (edited w.1 mark None priority)) us) first ∙ each_leaves head mark priority (v ∷ vs),
       refl,
     )
 
@@ -177,16 +180,17 @@ module _ (queue at : ℕ) where
         of_batch (Some head) (Some q) (unchanged (Some q) errno)
     refused q head errno = (refl, refl)
 
-    batches : (q : Option Bound) (head : Option Head) → of_batch head q (batch q port head mark)
+    batches : (q : Option Bound) (head : Option Head) → of_batch head q
+        (batch q port head mark priority)
     batches None None = (refl, refl)
     batches None (Some head) = (refl, refl)
     batches (Some q) None = (refl, refl)
     batches (Some q) (Some head) =
-        either (λ r. of_batch (Some head) (Some q) (batch_under r (Some q) mark))
+        either (λ r. of_batch (Some head) (Some q) (batch_under r (Some q) mark priority))
         (not (q.port == port)) (Refused eperm)
         (cond (not (is_verdict head.verdict)) (Refused einval) (Allowed q head))
         (refused q head eperm)
-        (either (λ r. of_batch (Some head) (Some q) (batch_under r (Some q) mark))
+        (either (λ r. of_batch (Some head) (Some q) (batch_under r (Some q) mark priority))
         (not (is_verdict head.verdict)) (Refused einval) (Allowed q head) (refused q head einval)
         (shares_out q head (share q.waiting head.id) (share_first q.waiting head.id)))
 
@@ -211,10 +215,10 @@ module _ (queue at : ℕ) where
       _ _ (refl, refl) (arrives_in_time q card bypass room)
   each_tells q (event.Ask port call (request.Config named command params maximum flags mask)) =
       configures port call named command params maximum flags mask q
-  each_tells q (event.Ask port call (request.Verdict named head mark payload)) =
-      decides port call named mark payload q head
-  each_tells q (event.Ask port call (request.Batch named head mark)) =
-      batches port call named mark q head
+  each_tells q (event.Ask port call (request.Verdict named head mark payload priority)) =
+      decides port call named mark payload priority q head
+  each_tells q (event.Ask port call (request.Batch named head mark priority)) =
+      batches port call named mark priority q head
   each_tells q (event.PortClosed port) = closes q port
   each_tells q (event.DeviceDown device) = goes_down q device
 

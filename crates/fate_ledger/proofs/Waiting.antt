@@ -234,8 +234,8 @@ decided_never_waits Open is = cc
 
 never_waits : (asked : Request) (way : Way) → fate_by_request asked way ≡ fate.Waiting → ⊥
 never_waits (request.Config queue command params maxlen flags mask) way is = cc
-never_waits (request.Verdict queue head mark payload) way is = decided_never_waits way is
-never_waits (request.Batch queue head mark) way is = decided_never_waits way is
+never_waits (request.Verdict queue head mark payload priority) way is = decided_never_waits way is
+never_waits (request.Batch queue head mark priority) way is = decided_never_waits way is
 
 -- what is taken waits, and nothing else does
 waits_if_taken : (o : Outcome) → (fate_at_arrival o ≡ fate.Waiting → stays_in o ≡ 1)

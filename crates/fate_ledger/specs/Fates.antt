@@ -56,8 +56,8 @@ fate_by_verdict Open = fate.FailOpen
 -- and by a request: what waits in a queue that ends is destroyed
 abbrev pub fate_by_request : Request → Way → Fate
 fate_by_request (request.Config queue command params maxlen flags mask) way = fate.Unbind
-fate_by_request (request.Verdict queue head mark payload) way = fate_by_verdict way
-fate_by_request (request.Batch queue head mark) way = fate_by_verdict way
+fate_by_request (request.Verdict queue head mark payload priority) way = fate_by_verdict way
+fate_by_request (request.Batch queue head mark priority) way = fate_by_verdict way
 
 -- ---- events of packets
 
@@ -125,6 +125,7 @@ fate_line lost number f None =
       queue = 0;
       at = 0;
       mark = 0;
+      priority = 0;
       payload = f.bytes;
     }
 fate_line lost number f (Some h) =
@@ -134,6 +135,7 @@ fate_line lost number f (Some h) =
       queue = h.queue;
       at = h.at;
       mark = h.card.mark;
+      priority = h.card.priority;
       payload = h.card.bytes;
     }
 

@@ -69,9 +69,10 @@ abbrev pub happening : How → Card → Happening
 happening how card =
     record { queue = how.queue; at = how.at; fate = how.fate; card = card }
 
--- so many of the oldest leave, each with the mark that is given
-abbrev pub first_leave : How → Option ℕ → ℕ → Waiting → List Happening
-first_leave how mark count ws = map (λ w. happening how (edited w.1 mark None)) (take count ws)
+-- so many of the oldest leave, each with the mark and the priority that are given
+abbrev pub first_leave : How → Option ℕ → Option ℕ → ℕ → Waiting → List Happening
+first_leave how mark priority count ws =
+    map (λ w. happening how (edited w.1 mark None priority)) (take count ws)
 
 abbrev pub how_at : ℕ → ℕ → Fate → How
 how_at queue at f = record { queue = queue; at = at; fate = f }
@@ -80,31 +81,33 @@ how_at queue at f = record { queue = queue; at = at; fate = f }
 abbrev pub fate_of : ℕ → Fate
 fate_of verdict = fate_by_verdict (way_of (decision_of verdict))
 
--- what is found under an id leaves with the mark and the bytes that are given
-abbrev pub one_leaves : How → Option ℕ → Option (List ℕ) → Option Card → List Happening
-one_leaves how mark payload None = []
-one_leaves how mark payload (Some card) = happening how (edited card mark payload) ∷ []
+-- what is found under an id leaves with the mark, the bytes and the priority that are given
+abbrev pub one_leaves : How → Option ℕ → Option (List ℕ) → Option ℕ → Option Card
+    → List Happening
+one_leaves how mark payload priority None = []
+one_leaves how mark payload priority (Some card) =
+    happening how (edited card mark payload priority) ∷ []
 
 -- a request after which so many packets left
 abbrev pub asked : ℕ → ℕ → Request → ℕ → Waiting → List Happening
 asked queue at (request.Config q command params maxlen flags mask) taken ws =
-    first_leave (how_at queue at fate.Unbind) None taken ws
-asked queue at (request.Verdict q (Some head) mark payload) taken ws =
+    first_leave (how_at queue at fate.Unbind) None None taken ws
+asked queue at (request.Verdict q (Some head) mark payload priority) taken ws =
     if taken == 0 then []
-    else one_leaves (how_at queue at (fate_of head.verdict)) mark payload
+    else one_leaves (how_at queue at (fate_of head.verdict)) mark payload priority
     (lookup (is_id head.id) ws)
-asked queue at (request.Verdict q None mark payload) taken ws = []
-asked queue at (request.Batch q (Some head) mark) taken ws =
-    first_leave (how_at queue at (fate_of head.verdict)) mark taken ws
-asked queue at (request.Batch q None mark) taken ws = []
+asked queue at (request.Verdict q None mark payload priority) taken ws = []
+asked queue at (request.Batch q (Some head) mark priority) taken ws =
+    first_leave (how_at queue at (fate_of head.verdict)) mark priority taken ws
+asked queue at (request.Batch q None mark priority) taken ws = []
 
 abbrev pub waiting_after_ask : Request → ℕ → Waiting → Waiting
 waiting_after_ask (request.Config q command params maxlen flags mask) taken ws = drop taken ws
-waiting_after_ask (request.Verdict q (Some head) mark payload) taken ws =
+waiting_after_ask (request.Verdict q (Some head) mark payload priority) taken ws =
     if taken == 0 then ws else remove_entry (is_id head.id) ws
-waiting_after_ask (request.Verdict q None mark payload) taken ws = ws
-waiting_after_ask (request.Batch q (Some head) mark) taken ws = drop taken ws
-waiting_after_ask (request.Batch q None mark) taken ws = ws
+waiting_after_ask (request.Verdict q None mark payload priority) taken ws = ws
+waiting_after_ask (request.Batch q (Some head) mark priority) taken ws = drop taken ws
+waiting_after_ask (request.Batch q None mark priority) taken ws = ws
 
 -- an arrival with this outcome
 abbrev pub waiting_after_arrival : Card → Outcome → Waiting → Waiting
@@ -118,9 +121,9 @@ told queue at (event.Arrive card bypass room) (reply.Arrived o) ws =
 told queue at (event.Ask port call request) (reply.Answer errno taken) ws =
     asked queue at request taken ws
 told queue at (event.PortClosed port) (reply.Flushed taken) ws =
-    first_leave (how_at queue at fate.PortClosed) None taken ws
+    first_leave (how_at queue at fate.PortClosed) None None taken ws
 told queue at (event.DeviceDown device) (reply.Flushed taken) ws =
-    first_leave (how_at queue at fate.DeviceDown) None taken ws
+    first_leave (how_at queue at fate.DeviceDown) None None taken ws
 told queue at event reply ws = []
 
 -- and what waits after it

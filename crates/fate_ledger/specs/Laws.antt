@@ -37,7 +37,8 @@ use Rattle.fate_ledger.specs.Fates.{happenings_after, fate_line, is_lost}
 abbrev pub step_after : List Entry → Entry → Stepped
 step_after before e = step (replay (history e.queue before)) e.event
 
--- the packet left in this step, by this way, with the mark and the bytes that it has after it
+-- the packet left in this step, by this way, with the mark, the priority and the bytes that it has
+-- after it
 abbrev pub Leaves : Stepped → Card → Way → Type 0
 Leaves s card way = Contains s.left (card, way)
 

@@ -39,15 +39,16 @@ is_release other = false
 abbrev pub place : ℕ → ℕ → List ℕ
 place queue at = if at == 0 then codes "- -" else decimal queue ++ codes " " ++ decimal at
 
--- NUMBER FATE QUEUE AT MARK LENGTH
+-- NUMBER FATE QUEUE AT MARK PRIORITY LENGTH
 abbrev pub line : FateLine → List ℕ
 line l =
     (decimal l.number ++ codes " " ++ name l.fate ++ codes " ") ++ place l.queue l.at
-    ++ (codes " " ++ decimal l.mark ++ codes " " ++ decimal (length l.payload) ++ codes "\n")
+    ++ (codes " " ++ decimal l.mark ++ codes " " ++ decimal l.priority ++ codes " "
+    ++ decimal (length l.payload) ++ codes "\n")
 
 abbrev pub lines : List FateLine → List ℕ
 lines [] = []
 lines (l ∷ ls) = line l ++ lines ls
 
 abbrev pub ledger : List FateLine → List ℕ
-ledger ls = codes "record fate queue at mark bytes\n" ++ lines ls
+ledger ls = codes "record fate queue at mark priority bytes\n" ++ lines ls

@@ -100,6 +100,8 @@ pub struct FateLine {
     pub at: u64,
     /// The packet's mark there, after its edits.
     pub mark: u32,
+    /// The packet's priority there, after its edits.
+    pub priority: u32,
     /// The packet's bytes there, after its edits; for a frame without an event its captured bytes,
     /// link header included.
     pub payload: Bytes,

@@ -144,6 +144,7 @@ fn line(
             queue,
             at,
             mark: card.mark,
+            priority: card.priority,
             payload: card.bytes,
         }),
         None => Ok(FateLine {
@@ -152,6 +153,7 @@ fn line(
             queue: 0,
             at: 0,
             mark: 0,
+            priority: 0,
             payload: frame.bytes.share()?,
         }),
     }

@@ -61,12 +61,12 @@ impl Followed {
             }
             (Event::PortClosed { .. }, Reply::Flushed { taken }) => {
                 let fate = Fate::PortClosed;
-                first_leave(How { queue, at, fate }, None, taken, waiting, lasts);
+                first_leave(How { queue, at, fate }, None, None, taken, waiting, lasts);
                 Ok(())
             }
             (Event::DeviceDown { .. }, Reply::Flushed { taken }) => {
                 let fate = Fate::DeviceDown;
-                first_leave(How { queue, at, fate }, None, taken, waiting, lasts);
+                first_leave(How { queue, at, fate }, None, None, taken, waiting, lasts);
                 Ok(())
             }
             _ => Ok(()),
@@ -115,90 +115,99 @@ fn ask(
     match request {
         Request::Config { .. } => {
             let fate = Fate::Unbind;
-            first_leave(How { queue, at, fate }, None, taken, waiting, lasts);
+            first_leave(How { queue, at, fate }, None, None, taken, waiting, lasts);
             Ok(())
         }
         Request::Verdict {
             head: Some(Head { verdict, id }),
             mark,
             payload,
+            priority,
             ..
         } => {
             if taken == 0 {
                 return Ok(());
             }
             let fate = fate_of(*verdict);
-            one_leaves(How { queue, at, fate }, *id, *mark, payload, waiting, lasts)
+            let how = How { queue, at, fate };
+            one_leaves(how, *id, *mark, payload, *priority, waiting, lasts)
         }
         Request::Batch {
             head: Some(Head { verdict, .. }),
             mark,
+            priority,
             ..
         } => {
             let fate = fate_of(*verdict);
-            first_leave(How { queue, at, fate }, *mark, taken, waiting, lasts);
+            first_leave(How { queue, at, fate }, *mark, *priority, taken, waiting, lasts);
             Ok(())
         }
         _ => Ok(()),
     }
 }
 
-/// So many of the oldest leave, each with the mark that is given.
+/// So many of the oldest leave, each with the mark and the priority that are given.
 fn first_leave(
     how: How,
     mark: Option<u32>,
+    priority: Option<u32>,
     count: u32,
     waiting: &mut WaitingList,
     lasts: &mut Lasts,
 )
     ensures waiting { waiting.new ≡ drop count waiting.old }
     ensures lasts { lasts.new.items
-        ≡ following.noted_all (following.first_leave how mark count waiting.old)
+        ≡ following.noted_all (following.first_leave how mark priority count waiting.old)
         lasts.old.items }
 {
     for _ in 0..count {
         let Some(card) = waiting.pop_front() else {
             return;
         };
-        note(how.happening(marked(card, mark)), lasts);
+        note(how.happening(changed(card, mark, priority)), lasts);
     }
 }
 
-/// The packet with the mark that is given.
-fn marked(mut card: Card, mark: Option<u32>) -> Card
-    ensures { result ≡ edited card mark None }
+/// The packet with the mark and the priority that are given.
+fn changed(mut card: Card, mark: Option<u32>, priority: Option<u32>) -> Card
+    ensures { result ≡ edited card mark None priority }
 {
     if let Some(given) = mark {
         card.mark = given;
     }
+    if let Some(given) = priority {
+        card.priority = given;
+    }
     card
 }
 
-/// What waits under an id leaves, with the mark and the bytes that are given.
+/// What waits under an id leaves, with the mark, the bytes and the priority that are given.
 fn one_leaves(
     how: How,
     id: u32,
     mark: Option<u32>,
     payload: &Option<Bytes>,
+    priority: Option<u32>,
     waiting: &mut WaitingList,
     lasts: &mut Lasts,
 ) -> Result<(), NoMemory>
     ensures waiting { OnOk result (waiting.new
         ≡ remove_entry (is_id id) waiting.old) }
     ensures lasts { OnOk result (lasts.new.items
-        ≡ following.noted_all (following.one_leaves how mark payload.now
+        ≡ following.noted_all (following.one_leaves how mark payload.now priority
         (lookup (is_id id) waiting.old)) lasts.old.items) }
 {
     let Some(card) = waiting.take(id) else {
         return Ok(());
     };
-    note(how.happening(replaced(marked(card, mark), payload)?), lasts);
+    let card = changed(card, mark, priority);
+    note(how.happening(replaced(card, payload)?), lasts);
     Ok(())
 }
 
 /// The packet with the bytes that are given.
 fn replaced(mut card: Card, payload: &Option<Bytes>) -> Result<Card, NoMemory>
-    ensures { IfOk result (λ after. after ≡ edited card None payload.now) }
+    ensures { IfOk result (λ after. after ≡ edited card None payload.now None) }
 {
     if let Some(given) = payload {
         card.bytes = given.share()?;

@@ -25,7 +25,7 @@ pub fn ledger_text(alloc: Global, lines: &FateLines, out: &mut Vec<u8>) -> Resul
 fn push_ledger(lines: &FateLines, out: &mut Vec<u8>) -> Result<(), AllocError>
     ensures { OnOk result (out.new.items ≡ out.old.items ++ text.ledger lines.now) }
 {
-    append_word("record fate queue at mark bytes\n", out)?;
+    append_word("record fate queue at mark priority bytes\n", out)?;
     push_lines(lines, out)
 }
 
@@ -47,6 +47,7 @@ fn push_line(line: &FateLine, out: &mut Vec<u8>) -> Result<(), AllocError>
     append_word(" ", out)?;
     push_place(line.queue, line.at, out)?;
     append_number(" ", line.mark as u64, out)?;
+    append_number(" ", line.priority as u64, out)?;
     append_number(" ", line.payload.len() as u64, out)?;
     append_word("\n", out)
 }

@@ -53,6 +53,7 @@ fn one_line(alloc: Global, fate: Fate, payload: &[u8]) -> Result<FateLines, NoMe
             queue: 0,
             at: 1,
             mark: 0,
+            priority: 0,
             payload,
         })
         .map_err(|_| NoMemory)?;

@@ -82,8 +82,8 @@ pub enum Words {
     Unbind,
     /// A verdict, for this id.
     Verdict(u32, u32),
-    /// With a new mark.
-    Marked(u32, u32, u32),
+    /// With a new mark and a new priority.
+    Edited(u32, u32, u32, u32),
     /// Accepts this id with so many other bytes.
     Replaces(u32, usize),
     /// A batch, up to this id.
@@ -103,13 +103,16 @@ fn request(alloc: Global, queue: u16, words: Words) -> Result<Request, NoMemory>
         Words::BindWhole => config(queue, Some(BIND), Some(WHOLE), None, None),
         Words::FailOpen => config(queue, None, None, None, Some(1)),
         Words::Unbind => config(queue, Some(UNBIND), None, None, None),
-        Words::Verdict(verdict, id) => plain(queue, Head { verdict, id }, None),
-        Words::Marked(verdict, id, mark) => plain(queue, Head { verdict, id }, Some(mark)),
+        Words::Verdict(verdict, id) => plain(queue, Head { verdict, id }, None, None),
+        Words::Edited(verdict, id, mark, priority) => {
+            plain(queue, Head { verdict, id }, Some(mark), Some(priority))
+        }
         Words::Replaces(id, count) => replaces(alloc, queue, id, count)?,
         Words::Batch(verdict, id) => Request::Batch {
             queue,
             head: Some(Head { verdict, id }),
             mark: None,
+            priority: None,
         },
     })
 }
@@ -133,7 +136,7 @@ fn config(
     }
 }
 
-fn plain(queue: u16, head: Head, mark: Option<u32>) -> Request
+fn plain(queue: u16, head: Head, mark: Option<u32>, priority: Option<u32>) -> Request
     ensures { IfSome (payload_of result) (λ bytes. length bytes ≤ longest_payload) }
 {
     Request::Verdict {
@@ -141,6 +144,7 @@ fn plain(queue: u16, head: Head, mark: Option<u32>) -> Request
         head: Some(head),
         mark,
         payload: None,
+        priority,
     }
 }
 
@@ -154,6 +158,7 @@ fn replaces(alloc: Global, queue: u16, id: u32, count: usize) -> Result<Request,
         head: Some(Head { verdict: 1, id }),
         mark: None,
         payload: Some(bytes),
+        priority: None,
     })
 }
 

@@ -141,7 +141,7 @@ fn has_lines(
     }
     let histories = histories_of(alloc, all, None)?;
     let ledger = ledger_bytes(alloc, &fates(alloc, capture, &histories)?)?;
-    let rest = ledger.strip_prefix(b"record fate queue at mark bytes\n");
+    let rest = ledger.strip_prefix(b"record fate queue at mark priority bytes\n");
     Ok(rest == Some(lines))
 }
 
@@ -177,8 +177,8 @@ fn accepted_and_dropped_packets(rt: HostRuntime) -> Result<(), Fail> {
         Asks(0, Words::Verdict(1, 3)),
     ];
     const TOLD: (&[u8], &[u8], &[u8]) = (
-        b"record fate queue at mark bytes\n1 accept 0 4 0 20\n2 drop 0 6 0 20\n\
-        3 accept 0 8 0 20\n",
+        b"record fate queue at mark priority bytes\n1 accept 0 4 0 0 20\n2 drop 0 6 0 0 20\n\
+        3 accept 0 8 0 0 20\n",
         b"accept 2\ndrop 1\n",
         &[0, 20, 2, 20],
     );
@@ -202,8 +202,8 @@ fn packets_that_leave_out_of_order(rt: HostRuntime) -> Result<(), Fail> {
         Asks(0, Words::Verdict(4, 4)),
     ];
     const TOLD: (&[u8], &[u8], &[u8]) = (
-        b"record fate queue at mark bytes\n1 stop 0 9 0 20\n2 accept 0 8 0 20\n\
-        3 drop 0 7 0 20\n4 repeat 0 10 0 20\n",
+        b"record fate queue at mark priority bytes\n1 stop 0 9 0 0 20\n2 accept 0 8 0 0 20\n\
+        3 drop 0 7 0 0 20\n4 repeat 0 10 0 0 20\n",
         b"accept 1\nstop 1\nrepeat 1\ndrop 1\n",
         &[0, 20, 1, 20, 3, 20],
     );
@@ -225,8 +225,8 @@ fn full_queues(rt: HostRuntime) -> Result<(), Fail> {
         Asks(0, Words::Verdict(1, 2)),
     ];
     const TOLD: (&[u8], &[u8], &[u8]) = (
-        b"record fate queue at mark bytes\n1 accept 0 7 0 20\n2 overflow 0 4 0 20\n\
-        3 userfull 0 6 0 20\n",
+        b"record fate queue at mark priority bytes\n1 accept 0 7 0 0 20\n2 overflow 0 4 0 0 20\n\
+        3 userfull 0 6 0 0 20\n",
         b"accept 1\noverflow 1\nuserfull 1\n",
         &[0, 20],
     );
@@ -252,8 +252,8 @@ fn queues_that_fail_open(rt: HostRuntime) -> Result<(), Fail> {
         Asks(1, Words::Batch(1, 2)),
     ];
     const TOLD: (&[u8], &[u8], &[u8]) = (
-        b"record fate queue at mark bytes\n1 accept 1 5 0 20\n2 accept 1 5 0 20\n\
-        3 failopen 0 6 0 20\n",
+        b"record fate queue at mark priority bytes\n1 accept 1 5 0 0 20\n2 accept 1 5 0 0 20\n\
+        3 failopen 0 6 0 0 20\n",
         b"accept 2\nfailopen 1\n",
         &[0, 20, 1, 20, 2, 20],
     );
@@ -272,8 +272,8 @@ fn absent_queues_and_no_copies(rt: HostRuntime) -> Result<(), Fail> {
         Arrives(0, 4, 33),
     ];
     const TOLD: (&[u8], &[u8], &[u8]) = (
-        b"record fate queue at mark bytes\n1 bypass 5 1 0 20\n2 noqueue 5 2 0 20\n\
-        3 copynone 0 2 0 20\n4 loop 0 3 0 20\n5 unhooked - - 0 20\n",
+        b"record fate queue at mark priority bytes\n1 bypass 5 1 0 0 20\n2 noqueue 5 2 0 0 20\n\
+        3 copynone 0 2 0 0 20\n4 loop 0 3 0 0 20\n5 unhooked - - 0 0 20\n",
         b"unhooked 1\nbypass 1\nnoqueue 1\ncopynone 1\nloop 1\n",
         &[0, 20, 4, 20],
     );
@@ -282,21 +282,21 @@ fn absent_queues_and_no_copies(rt: HostRuntime) -> Result<(), Fail> {
 }
 
 #[test]
-fn marks_and_replaced_bytes(rt: HostRuntime) -> Result<(), Fail> {
+fn marks_priorities_and_replaced_bytes(rt: HostRuntime) -> Result<(), Fail> {
     use Happens::{Arrives, Asks};
     const ALL: [Happens; 8] = [
         Asks(0, Words::Bind),
         Asks(0, Words::Packets(9)),
         Arrives(0, 1, 1),
-        Asks(0, Words::Marked(4, 1, 1)),
+        Asks(0, Words::Edited(4, 1, 1, 6)),
         Arrives(0, 2, 1),
         Asks(0, Words::Replaces(2, 24)),
         Arrives(0, 3, 1),
         Asks(0, Words::Verdict(5, 3)),
     ];
     const TOLD: (&[u8], &[u8], &[u8]) = (
-        b"record fate queue at mark bytes\n1 repeat 0 4 1 20\n2 accept 0 6 0 24\n\
-        3 stop 0 8 0 20\n",
+        b"record fate queue at mark priority bytes\n1 repeat 0 4 1 6 20\n2 accept 0 6 0 0 24\n\
+        3 stop 0 8 0 0 20\n",
         b"accept 1\nstop 1\nrepeat 1\n",
         &[0, 20, 1, 24, 2, 20],
     );
@@ -323,8 +323,8 @@ fn queues_that_end(rt: HostRuntime) -> Result<(), Fail> {
         Arrives(1, 4, 1),
     ];
     const TOLD: (&[u8], &[u8], &[u8]) = (
-        b"record fate queue at mark bytes\n1 devicedown 0 4 0 20\n2 unbind 0 6 0 20\n\
-        3 portclosed 0 10 0 20\n4 waiting 1 3 0 20\n",
+        b"record fate queue at mark priority bytes\n1 devicedown 0 4 0 0 20\n2 unbind 0 6 0 0 20\n\
+        3 portclosed 0 10 0 0 20\n4 waiting 1 3 0 0 20\n",
         b"unbind 1\nportclosed 1\ndevicedown 1\nwaiting 1\n",
         &[],
     );
@@ -346,7 +346,7 @@ fn a_packet_that_was_lost(rt: HostRuntime) -> Result<(), Fail> {
         visit: 2,
     };
     const TOLD: (&[u8], &[u8], &[u8]) = (
-        b"record fate queue at mark bytes\n1 nomemory 0 4 0 20\n",
+        b"record fate queue at mark priority bytes\n1 nomemory 0 4 0 0 20\n",
         b"nomemory 1\n",
         &[],
     );
@@ -382,11 +382,11 @@ fn each_overflow_is_named_by_its_arrival(rt: HostRuntime) -> Result<(), Fail> {
     const ROWS: [(u32, &[u8]); 2] = [
         (
             1,
-            b"1 accept 0 7 0 20\n2 overflow 0 5 0 20\n3 overflow 0 6 0 20\n",
+            b"1 accept 0 7 0 0 20\n2 overflow 0 5 0 0 20\n3 overflow 0 6 0 0 20\n",
         ),
         (
             0,
-            b"1 overflow 0 4 0 20\n2 overflow 0 5 0 20\n3 overflow 0 6 0 20\n",
+            b"1 overflow 0 4 0 0 20\n2 overflow 0 5 0 0 20\n3 overflow 0 6 0 0 20\n",
         ),
     ];
     for &(maximum, lines) in &ROWS {
@@ -416,7 +416,7 @@ fn what_fails_open_leaves_at_the_next_queue(rt: HostRuntime) -> Result<(), Fail>
         Asks(1, Words::Verdict(1, 2)),
         Asks(1, Words::Verdict(1, 3)),
     ];
-    const LINES: &[u8] = b"1 accept 1 8 0 20\n2 accept 1 6 0 20\n3 accept 1 7 0 20\n";
+    const LINES: &[u8] = b"1 accept 1 8 0 0 20\n2 accept 1 6 0 0 20\n3 accept 1 7 0 0 20\n";
     assert!(rt; says(rt.alloc(), 3, &ALL, LINES)?);
     Ok(())
 }
@@ -433,7 +433,7 @@ fn a_full_mailbox_is_named_by_the_arrival(rt: HostRuntime) -> Result<(), Fail> {
         Asks(0, Words::Verdict(1, 1)),
         Asks(0, Words::Verdict(1, 2)),
     ];
-    const LINES: &[u8] = b"1 accept 0 6 0 20\n2 userfull 0 4 0 20\n3 userfull 0 5 0 20\n";
+    const LINES: &[u8] = b"1 accept 0 6 0 0 20\n2 userfull 0 4 0 0 20\n3 userfull 0 5 0 0 20\n";
     assert!(rt; says(rt.alloc(), 3, &ALL, LINES)?);
     Ok(())
 }
@@ -450,17 +450,17 @@ fn queues_that_take_no_packet(rt: HostRuntime) -> Result<(), Fail> {
                 Passes(0, 2, 1),
                 Passes(0, 3, 1),
             ],
-            b"1 copynone 0 2 0 20\n2 copynone 0 3 0 20\n3 copynone 0 4 0 20\n",
+            b"1 copynone 0 2 0 0 20\n2 copynone 0 3 0 0 20\n3 copynone 0 4 0 0 20\n",
         ),
         (
             "bypass",
             &[Passes(5, 1, 1), Passes(5, 2, 1), Passes(5, 3, 1)],
-            b"1 bypass 5 1 0 20\n2 bypass 5 2 0 20\n3 bypass 5 3 0 20\n",
+            b"1 bypass 5 1 0 0 20\n2 bypass 5 2 0 0 20\n3 bypass 5 3 0 0 20\n",
         ),
         (
             "noqueue",
             &[Arrives(5, 1, 1), Arrives(5, 2, 1), Arrives(5, 3, 1)],
-            b"1 noqueue 5 1 0 20\n2 noqueue 5 2 0 20\n3 noqueue 5 3 0 20\n",
+            b"1 noqueue 5 1 0 0 20\n2 noqueue 5 2 0 0 20\n3 noqueue 5 3 0 0 20\n",
         ),
     ];
     for &(fate, all, lines) in &ROWS {
@@ -477,7 +477,7 @@ fn a_shorter_payload_is_the_ledgers_length(rt: HostRuntime) -> Result<(), Fail> 
         ArrivesLong(0, 1, 84),
         Asks(0, Words::Replaces(1, 40)),
     ];
-    assert!(rt; says(rt.alloc(), 1, &ALL, b"1 accept 0 3 0 40\n")?);
+    assert!(rt; says(rt.alloc(), 1, &ALL, b"1 accept 0 3 0 0 40\n")?);
     Ok(())
 }
 
@@ -518,7 +518,7 @@ fn a_frame_that_no_rule_sees_has_its_whole_length(rt: HostRuntime) -> Result<(),
         ArrivesLong(0, 3, 40),
         Asks(0, Words::Verdict(1, 2)),
     ];
-    const LINES: &[u8] = b"1 unhooked - - 0 42\n2 accept 0 4 0 20\n3 accept 0 6 0 40\n";
+    const LINES: &[u8] = b"1 unhooked - - 0 0 42\n2 accept 0 4 0 0 20\n3 accept 0 6 0 0 40\n";
     let capture = ethernet(rt.alloc(), &[42, 38, 54])?;
     assert!(rt; has_lines(rt.alloc(), &capture, &ALL, LINES)?);
     Ok(())
@@ -531,9 +531,9 @@ fn a_packet_that_is_repeated_once(rt: HostRuntime) -> Result<(), Fail> {
         Asks(0, Words::Bind),
         Asks(0, Words::Whole),
         Arrives(0, 1, 1),
-        Asks(0, Words::Marked(4, 1, 1)),
+        Asks(0, Words::Edited(4, 1, 1, 0)),
     ];
-    assert!(rt; says(rt.alloc(), 1, &ALL, b"1 repeat 0 4 1 20\n")?);
+    assert!(rt; says(rt.alloc(), 1, &ALL, b"1 repeat 0 4 1 0 20\n")?);
     Ok(())
 }
 
@@ -554,7 +554,7 @@ fn repeats(alloc: Global) -> Result<Vec<Happens>, NoMemory> {
 #[test]
 fn a_packet_that_is_repeated_at_each_visit(rt: HostRuntime) -> Result<(), Fail> {
     let all = repeats(rt.alloc())?;
-    assert!(rt; says(rt.alloc(), 1, &all, b"1 loop 0 67 0 20\n")?);
+    assert!(rt; says(rt.alloc(), 1, &all, b"1 loop 0 67 0 0 20\n")?);
     Ok(())
 }
 
@@ -576,8 +576,8 @@ fn sent_on(alloc: Global, verdict: u32, onward: Happens, line: &[u8]) -> Result<
 fn a_packet_that_is_sent_to_an_absent_queue(rt: HostRuntime) -> Result<(), Fail> {
     use Happens::{Arrives, Passes};
     const ROWS: [(u32, Happens, &[u8]); 2] = [
-        (622_595, Passes(9, 1, 2), b"1 bypass 9 1 0 20\n"),
-        (589_827, Arrives(9, 1, 2), b"1 noqueue 9 1 0 20\n"),
+        (622_595, Passes(9, 1, 2), b"1 bypass 9 1 0 0 20\n"),
+        (589_827, Arrives(9, 1, 2), b"1 noqueue 9 1 0 0 20\n"),
     ];
     for &(verdict, onward, line) in &ROWS {
         assert!(rt;
@@ -600,7 +600,7 @@ fn an_unbound_queue_names_its_request(rt: HostRuntime) -> Result<(), Fail> {
         Asks(0, Words::Unbind),
         Asks(0, Words::Batch(1, 3)),
     ];
-    const LINES: &[u8] = b"1 unbind 0 6 0 20\n2 unbind 0 6 0 20\n3 unbind 0 6 0 20\n";
+    const LINES: &[u8] = b"1 unbind 0 6 0 0 20\n2 unbind 0 6 0 0 20\n3 unbind 0 6 0 0 20\n";
     assert!(rt; says(rt.alloc(), 3, &ALL, LINES)?);
     Ok(())
 }
@@ -615,7 +615,7 @@ fn a_port_that_closes(rt: HostRuntime) -> Result<(), Fail> {
         Arrives(1, 2, 1),
         Closes,
     ];
-    const LINES: &[u8] = b"1 portclosed 0 3 0 20\n2 portclosed 1 3 0 20\n";
+    const LINES: &[u8] = b"1 portclosed 0 3 0 0 20\n2 portclosed 1 3 0 0 20\n";
     assert!(rt; says(rt.alloc(), 2, &ALL, LINES)?);
     Ok(())
 }
@@ -631,7 +631,7 @@ fn a_device_that_goes_down(rt: HostRuntime) -> Result<(), Fail> {
         GoesDown,
         Arrives(0, 3, 1),
     ];
-    const LINES: &[u8] = b"1 devicedown 0 5 0 20\n2 devicedown 0 5 0 20\n3 waiting 0 6 0 20\n";
+    const LINES: &[u8] = b"1 devicedown 0 5 0 0 20\n2 devicedown 0 5 0 0 20\n3 waiting 0 6 0 0 20\n";
     assert!(rt; says(rt.alloc(), 3, &ALL, LINES)?);
     Ok(())
 }

@@ -94,14 +94,14 @@ fn push_record(capture: &mut Vec<u8>, second: u32, frame: &[u8]) -> Result<(), A
 }
 
 /// The journal of the run by the rules and the script above over three packets.
-const JOURNAL: &str = "nfq-journal 1
+const JOURNAL: &str = "nfq-journal 2
 M 0 7 1 config 0 cmd 1 = 0 0
 M 0 7 2 config 0 params 2 0 = 0 0
-A 0 1 1 1 n y 0 1 0 2048 - 4500001400010000400600000a0000010a000002 taken:1
+A 0 1 1 1 n y 0 0 1 0 2048 - 4500001400010000400600000a0000010a000002 taken:1
 M 0 7 3 verdict 0 1 1 = 0 1
-A 0 2 1 1 n y 0 2 0 2048 - 4500001400020000400600000a0000010a000002 taken:2
+A 0 2 1 1 n y 0 0 2 0 2048 - 4500001400020000400600000a0000010a000002 taken:2
 M 0 7 4 verdict 0 0 2 = 0 1
-A 0 3 1 1 n y 0 3 0 2048 - 4500001400030000400600000a0000010a000002 taken:3
+A 0 3 1 1 n y 0 0 3 0 2048 - 4500001400030000400600000a0000010a000002 taken:3
 M 0 7 5 verdict 0 1 3 = 0 1
 P 7
 S 1 config 0 cmd 1 = 0
@@ -121,8 +121,8 @@ fn the_second_of_three_packets_is_dropped(rt: HostRuntime) -> Result<(), Fail> {
     let input = capture(alloc)?;
     let mut host = host(alloc, RULES, SCRIPT, &input)?;
     assert_eq!(rt; played(alloc, &mut host)?, 0);
-    let ledger = "record fate queue at mark bytes\n\
-        1 accept 0 4 0 20\n2 drop 0 6 0 20\n3 accept 0 8 0 20\n";
+    let ledger = "record fate queue at mark priority bytes\n\
+        1 accept 0 4 0 0 20\n2 drop 0 6 0 0 20\n3 accept 0 8 0 0 20\n";
     has(&rt, &host, "l", ledger.as_bytes());
     has(&rt, &host, "j", JOURNAL.as_bytes());
     lacks(&rt, &host, &["-"]);

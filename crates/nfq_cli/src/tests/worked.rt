@@ -22,9 +22,9 @@ port 7
 opened
 open config 0 maxlen 1
 on any do verdict this accept this
-= 1 accept 0 7 0 20
-= 2 overflow 0 5 0 20
-= 3 overflow 0 6 0 20
+= 1 accept 0 7 0 0 20
+= 2 overflow 0 5 0 0 20
+= 3 overflow 0 6 0 0 20
 > 1
 
 *filter
@@ -42,9 +42,9 @@ open config 0 flags 1 mask 1
 open config 1 bind
 open config 1 params packet 0
 on any do verdict this accept this
-= 1 accept 1 8 0 20
-= 2 accept 1 6 0 20
-= 3 accept 1 7 0 20
+= 1 accept 1 8 0 0 20
+= 2 accept 1 6 0 0 20
+= 3 accept 1 7 0 0 20
 > 1 2 3
 
 packets 1 2 3
@@ -53,9 +53,9 @@ port 7
 opened
 open config 0 maxlen 0
 on any do verdict this accept this
-= 1 overflow 0 4 0 20
-= 2 overflow 0 5 0 20
-= 3 overflow 0 6 0 20
+= 1 overflow 0 4 0 0 20
+= 2 overflow 0 5 0 0 20
+= 3 overflow 0 6 0 0 20
 >
 
 packets 1 2 3
@@ -65,9 +65,9 @@ port 7
 opened
 on any do verdict this accept this
 end verdict 0 accept 2
-= 1 accept 0 6 0 20
-= 2 userfull 0 4 0 20
-= 3 userfull 0 5 0 20
+= 1 accept 0 6 0 0 20
+= 2 userfull 0 4 0 0 20
+= 3 userfull 0 5 0 0 20
 > 1
 . S 4 verdict 0 1 2 = 2
 
@@ -77,9 +77,9 @@ COMMIT
 packets 1 2 3
 port 7
 open config 0 bind
-= 1 copynone 0 2 0 20
-= 2 copynone 0 3 0 20
-= 3 copynone 0 4 0 20
+= 1 copynone 0 2 0 0 20
+= 2 copynone 0 3 0 0 20
+= 3 copynone 0 4 0 0 20
 >
 
 *filter
@@ -87,9 +87,9 @@ open config 0 bind
 COMMIT
 packets 1 2 3
 port 7
-= 1 bypass 5 1 0 20
-= 2 bypass 5 2 0 20
-= 3 bypass 5 3 0 20
+= 1 bypass 5 1 0 0 20
+= 2 bypass 5 2 0 0 20
+= 3 bypass 5 3 0 0 20
 > 1 2 3
 
 *filter
@@ -97,18 +97,18 @@ port 7
 COMMIT
 packets 1 2 3
 port 7
-= 1 noqueue 5 1 0 20
-= 2 noqueue 5 2 0 20
-= 3 noqueue 5 3 0 20
+= 1 noqueue 5 1 0 0 20
+= 2 noqueue 5 2 0 0 20
+= 3 noqueue 5 3 0 0 20
 >
 
 packets 1 2 3
 port 7
 opened
 on any do verdict this accept this ; verdict this accept this
-= 1 accept 0 4 0 20
-= 2 accept 0 7 0 20
-= 3 accept 0 10 0 20
+= 1 accept 0 4 0 0 20
+= 2 accept 0 7 0 0 20
+= 3 accept 0 10 0 0 20
 > 1 2 3
 . S 3 verdict 0 1 1 = -
 . S 4 verdict 0 1 1 = 2
@@ -122,7 +122,7 @@ packets 1
 port 7
 opened
 on any do verdict this repeat this mark 1
-= 1 repeat 0 4 1 20
+= 1 repeat 0 4 1 0 20
 > 1
 
 *filter
@@ -132,14 +132,14 @@ packets 1
 port 7
 opened
 on any do verdict this repeat this
-= 1 loop 0 67 0 20
+= 1 loop 0 67 0 0 20
 >
 
 packets 1
 port 7
 opened
 on any do verdict this queue:9:bypass this
-= 1 bypass 9 1 0 20
+= 1 bypass 9 1 0 0 20
 > 1
 . S 3 verdict 0 622595 1 = -
 
@@ -147,7 +147,7 @@ packets 1
 port 7
 opened
 on any do verdict this queue:9 this
-= 1 noqueue 9 1 0 20
+= 1 noqueue 9 1 0 0 20
 >
 
 packets 1 2 3
@@ -155,9 +155,9 @@ port 7
 opened
 end config 0 unbind
 end batch 0 accept 3
-= 1 unbind 0 6 0 20
-= 2 unbind 0 6 0 20
-= 3 unbind 0 6 0 20
+= 1 unbind 0 6 0 0 20
+= 2 unbind 0 6 0 0 20
+= 3 unbind 0 6 0 0 20
 >
 . S 3 config 0 cmd 2 = 0
 . S 4 batch 0 1 3 = 19
@@ -166,9 +166,9 @@ packets 1 2 3
 down 1 after 2
 port 7
 opened
-= 1 devicedown 0 5 0 20
-= 2 devicedown 0 5 0 20
-= 3 waiting 0 6 0 20
+= 1 devicedown 0 5 0 0 20
+= 2 devicedown 0 5 0 0 20
+= 3 waiting 0 6 0 0 20
 >
 
 packets 1 2 3
@@ -180,9 +180,9 @@ end config 0 unbind
 end config 0 bind
 port 8
 open config 0 bind
-= 1 copynone 0 4 0 20
-= 2 copynone 0 5 0 20
-= 3 copynone 0 6 0 20
+= 1 copynone 0 4 0 0 20
+= 2 copynone 0 5 0 0 20
+= 3 copynone 0 6 0 0 20
 >
 . S 1 config 0 cmd 1 = 0
 . S 2 config 0 cmd 1 = 16
@@ -195,16 +195,16 @@ packets 1
 port 7
 opened
 on any do batch this stop this mark 5
-= 1 stop 0 4 5 20
+= 1 stop 0 4 5 0 20
 > 1
 
 packets 1 2 3
 port 7
 opened
 end close
-= 1 portclosed 0 6 0 20
-= 2 portclosed 0 6 0 20
-= 3 portclosed 0 6 0 20
+= 1 portclosed 0 6 0 0 20
+= 2 portclosed 0 6 0 0 20
+= 3 portclosed 0 6 0 0 20
 >
 . C 0 7 3
 . X
@@ -218,9 +218,9 @@ open verdict 0 accept 1
 port 8
 open verdict 0 accept 1
 open verdict 9 accept 1
-= 1 waiting 0 6 0 20
-= 2 waiting 0 7 0 20
-= 3 waiting 0 8 0 20
+= 1 waiting 0 6 0 0 20
+= 2 waiting 0 7 0 0 20
+= 3 waiting 0 8 0 0 20
 >
 . S 2 verdict 0 2 1 = 22
 . S 3 verdict 0 6 1 = 22
@@ -237,9 +237,9 @@ end raw 1c0000000103010003000000070000
 end raw 30000000010301000300000007000000000000000c0002000000000100000001\
 08000300000000050800030000000009
 end raw 240000000103010003000000070000000000000004007f000c0002000000000100000002
-= 1 accept 0 7 9 20
-= 2 accept 0 8 0 20
-= 3 waiting 0 5 0 20
+= 1 accept 0 7 9 0 20
+= 2 accept 0 8 0 0 20
+= 3 waiting 0 5 0 0 20
 > 1 2
 . S 3 raw 1c000000010301000300000007000000000000000c00020000000001 = 22
 . S 4 raw 20000000010301000300000007000000000000000b0002000000000100000000 = 34
@@ -255,9 +255,9 @@ frame 02000000000102000000000286dd6000000000003b4020010db80000000000000000000000
 port 7
 opened
 on any do verdict this accept this
-= 1 unhooked - - 0 42
-= 2 accept 0 4 0 20
-= 3 accept 0 6 0 40
+= 1 unhooked - - 0 0 42
+= 2 accept 0 4 0 0 20
+= 3 accept 0 6 0 0 40
 > 1 2 3
 
 *filter
@@ -270,8 +270,8 @@ port 7
 open config 0 bind params packet 0
 open config 1 bind params packet 0
 end close
-= 1 portclosed 0 3 0 20
-= 2 portclosed 1 3 0 20
+= 1 portclosed 0 3 0 0 20
+= 2 portclosed 1 3 0 0 20
 >
 
 *filter
@@ -281,9 +281,9 @@ frame 4500001400010000400600000a0000010a000002
 frame 4500001400010000400600000a0000020a000001
 frame 4500001400010000401100000a0000010a000002
 port 7
-= 1 noqueue 2 1 0 20
-= 2 noqueue 2 2 0 20
-= 3 noqueue 1 1 0 20
+= 1 noqueue 2 1 0 0 20
+= 2 noqueue 2 2 0 0 20
+= 3 noqueue 1 1 0 0 20
 >
 
 *filter
@@ -293,9 +293,9 @@ frame 4500001400010000400600000a0000010a000002
 frame 4500001400010000400600000a0000020a000001
 frame 4500001400010000401100000a0000010a000002
 port 7
-= 1 noqueue 34415 1 0 20
-= 2 noqueue 34415 2 0 20
-= 3 noqueue 18763 1 0 20
+= 1 noqueue 34415 1 0 0 20
+= 2 noqueue 34415 2 0 0 20
+= 3 noqueue 18763 1 0 0 20
 >
 
 port 7
@@ -308,7 +308,7 @@ port 7
 open config 0 bind params packet 40
 on longer 83 do verdict this accept this payload \
 00000000000000000000000000000000000000000000000000000000000000000000000000000000
-= 1 accept 0 3 0 40
+= 1 accept 0 3 0 0 40
 write 00000000000000000000000000000000000000000000000000000000000000000000000000000000
 
 port 7
@@ -376,7 +376,7 @@ fn nothing(alloc: Global) -> Result<Run, Fail> {
         script: String::new(alloc),
         input: Vec::from_slice(alloc, &HEADER)?,
         records: Vec::new(alloc),
-        ledger: String::from_str(alloc, "record fate queue at mark bytes\n")?,
+        ledger: String::from_str(alloc, "record fate queue at mark priority bytes\n")?,
         output: Vec::from_slice(alloc, &HEADER)?,
         journal: Vec::new(alloc),
         listing: None,
