@@ -9,6 +9,7 @@ use Rattle.netlink_codec.specs.Fields.{Field}
 use Rattle.nfqa_headers.specs.declared.verdict_header.Head.{Head}
 use Rattle.nfqa_headers.specs.Numbers.{config_number, command_kind, params_kind, maxlen_kind}
 use Rattle.nfqa_headers.specs.Numbers.{mask_kind, flags_kind, verdict_header_kind, mark_kind}
+use Rattle.nfqa_headers.specs.Numbers.{priority_kind}
 use Rattle.nfqa_headers.specs.Headers.{value_in, bytes_in, value_field, address_field, head_in}
 use Rattle.nfqa_headers.specs.Headers.{command_length, params_length, verdict_header_length}
 use Rattle.nfqa_headers.specs.Headers.{packet_address_length, value_length}
@@ -30,6 +31,7 @@ abbrev pub verdict_least : ℕ → ℕ
 verdict_least kind =
     if kind == verdict_header_kind then verdict_header_length
     else if kind == mark_kind then value_length
+    else if kind == priority_kind then value_length
     else 0
 
 abbrev pub least_content : ℕ → ℕ → ℕ

@@ -96,6 +96,10 @@ payload_kind = 10
 abbrev pub full_length_kind : ℕ
 full_length_kind = 13
 
+-- `NFQA_PRIORITY`
+abbrev pub priority_kind : ℕ
+priority_kind = 21
+
 -- the hook that queues, `NF_INET_FORWARD`
 abbrev pub forward_hook : ℕ
 forward_hook = 2

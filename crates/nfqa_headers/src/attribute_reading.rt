@@ -10,11 +10,12 @@ ghost use Rattle.nfqa_headers.specs.Headers.{field, value_in, value_field, value
 ghost use Rattle.nfqa_headers.specs.AttributeReading as read;
 ghost use Rattle.nfqa_headers.specs.AttributeReading.{config_least, verdict_least, least_content};
 ghost use Rattle.nfqa_headers.specs.AttributeReading.{is_short, content_at, last_content};
-ghost use Rattle.nfqa_headers.specs.Numbers.{full_length_kind};
+ghost use Rattle.nfqa_headers.specs.Numbers.{priority_kind};
 
 use crate::command::COMMAND_LENGTH;
 use crate::kinds::{
-    COMMAND, CONFIG, FLAGS, KINDS, MARK, MASK, MAXLEN, PARAMS, VALUE_LENGTH, VERDICT_HEADER,
+    COMMAND, CONFIG, FLAGS, KINDS, MARK, MASK, MAXLEN, PARAMS, PRIORITY, VALUE_LENGTH,
+    VERDICT_HEADER,
 };
 use crate::params::PARAMS_LENGTH;
 use crate::verdict_header::VERDICT_HEADER_LENGTH;
@@ -50,7 +51,7 @@ fn verdict_length(kind: u16) -> usize
 {
     match kind {
         VERDICT_HEADER => VERDICT_HEADER_LENGTH,
-        MARK => VALUE_LENGTH,
+        MARK | PRIORITY => VALUE_LENGTH,
         _ => 0,
     }
 }
@@ -71,14 +72,14 @@ pub fn has_short(number: u16, row: &[u8]) -> bool
 /// The contents of a row of attributes at the places of their kinds, found in one walk. Of a kind
 /// that repeats it is the last one.
 pub fn last_contents(row: &[u8]) -> [Option<&[u8]>; KINDS]
-    ensures value { (kind : ℕ) → kind ≤ full_length_kind →
+    ensures value { (kind : ℕ) → kind ≤ priority_kind →
         option_map (λ content. content.now) (content_at result kind)
         ≡ last_content kind (attributes row.now) }
-    ensures limit { (kind : ℕ) → kind ≤ full_length_kind →
+    ensures limit { (kind : ℕ) → kind ≤ priority_kind →
         IfSome (content_at result kind) (λ content. length content.now ≤ longest_payload) }
     // In a message without short attributes each content has the bytes that its kind needs.
     ensures long { (number kind : ℕ) → list_any (is_short number) (attributes row.now) ≡ false →
-        kind ≤ full_length_kind → IfSome (content_at result kind) (λ content.
+        kind ≤ priority_kind → IfSome (content_at result kind) (λ content.
         least_content number kind ≤ length content.now) }
 {
     let mut last = [None; KINDS];
@@ -93,7 +94,7 @@ pub fn last_contents(row: &[u8]) -> [Option<&[u8]>; KINDS]
 
 /// The content of this kind, of those that were found.
 pub fn content_of<'a>(contents: &[Option<&'a [u8]>; KINDS], kind: u16) -> Option<&'a [u8]>
-    requires { kind ≤ full_length_kind }
+    requires { kind ≤ priority_kind }
     ensures { result ≡ content_at contents.now kind }
 {
     contents[kind as usize]

@@ -50,9 +50,11 @@ pub const HARDWARE_ADDRESS: u16 = 9;
 pub const PAYLOAD: u16 = 10;
 /// Notice attribute: the packet's length, where the range cut the packet. (`NFQA_CAP_LEN`)
 pub const FULL_LENGTH: u16 = 13;
+/// Attribute of verdicts and notices: the priority. (`NFQA_PRIORITY`)
+pub const PRIORITY: u16 = 21;
 
 /// All kinds of attributes that are read are below this.
-pub const KINDS: usize = 14;
+pub const KINDS: usize = 22;
 
 /// The bytes of an attribute that is one number. (`__be32`)
 pub const VALUE_LENGTH: usize = 4;

@@ -8,7 +8,7 @@ ghost use Rattle.nfqa_headers.specs.Headers as headers;
 use crate::kinds::{
     ACK_FLAG, BATCH, COMMAND, CONFIG, FLAGS, FULL_LENGTH, HARDWARE_ADDRESS, INPUT_DEVICE, KINDS,
     LEAST_KIND, MARK, MASK, MAXLEN, NOTICE, NUMBERS, OUTPUT_DEVICE, PACKET_HEADER, PARAMS, PAYLOAD,
-    QUEUE_SUBSYSTEM, REQUEST_FLAG, TIMESTAMP, VALUE_LENGTH, VERDICT, VERDICT_HEADER,
+    PRIORITY, QUEUE_SUBSYSTEM, REQUEST_FLAG, TIMESTAMP, VALUE_LENGTH, VERDICT, VERDICT_HEADER,
 };
 use crate::packet_address::ADDRESS_LENGTH;
 use crate::queue_header::{ANY_FAMILY, IPV4_FAMILY, IPV6_FAMILY, QUEUE_HEADER_LENGTH};
@@ -24,7 +24,7 @@ pub fn public_numbers()
         × (MAXLEN ≡ numbers.maxlen_kind) × (MASK ≡ numbers.mask_kind)
         × (FLAGS ≡ numbers.flags_kind) }
     ensures verdict { (VERDICT_HEADER ≡ numbers.verdict_header_kind) × (MARK ≡ numbers.mark_kind)
-        × (PAYLOAD ≡ numbers.payload_kind) }
+        × (PAYLOAD ≡ numbers.payload_kind) × (PRIORITY ≡ numbers.priority_kind) }
     ensures notice { (PACKET_HEADER ≡ numbers.packet_header_kind)
         × (INPUT_DEVICE ≡ numbers.input_device_kind)
         × (OUTPUT_DEVICE ≡ numbers.output_device_kind)
@@ -35,5 +35,5 @@ pub fn public_numbers()
     ensures lengths { (QUEUE_HEADER_LENGTH ≡ headers.queue_header_length)
         × (VALUE_LENGTH ≡ headers.value_length)
         × (ADDRESS_LENGTH ≡ numbers.hardware_address_length) }
-    ensures last_kind { KINDS ≡ numbers.full_length_kind + 1 }
+    ensures last_kind { KINDS ≡ numbers.priority_kind + 1 }
 {}

@@ -10,6 +10,7 @@ notice_of told = record {
   id = told.id;
   protocol = told.protocol;
   mark = told.mark;
+  priority = told.priority;
   length = unwrap_or told.cut_from (length told.payload);
   payload = told.payload;
 }

@@ -9,6 +9,7 @@ use Rattle.netlink_codec.specs.Attributes.{Attribute}
 use Rattle.netlink_codec.specs.Fields.{Field}
 use Rattle.nfqa_headers.specs.Numbers.{packet_header_kind, mark_kind, timestamp_kind}
 use Rattle.nfqa_headers.specs.Numbers.{hardware_address_kind, payload_kind, full_length_kind}
+use Rattle.nfqa_headers.specs.Numbers.{priority_kind}
 use Rattle.nfqa_headers.specs.Headers.{value_field, packet_id_field, packet_protocol_field}
 use Rattle.nfqa_headers.specs.Headers.{seconds_field, micros_field, low_half, queue_in}
 use Rattle.nfqa_headers.specs.Headers.{queue_header_length, value_length, packet_header_length}
@@ -45,6 +46,7 @@ told_in queue row = record {
   id = value_at packet_header_kind packet_header_length packet_id_field row;
   protocol = protocol_at row;
   mark = value_at mark_kind value_length value_field row;
+  priority = value_at priority_kind value_length value_field row;
   source = source_at row;
   seconds = value_at timestamp_kind timestamp_length (low_half seconds_field) row;
   micros = value_at timestamp_kind timestamp_length (low_half micros_field) row;

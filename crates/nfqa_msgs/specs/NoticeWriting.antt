@@ -15,7 +15,7 @@ use Rattle.netlink_codec.specs.Numbers.{attribute_header_length}
 use Rattle.nfqa_headers.specs.Numbers.{notice_number, packet_header_kind, mark_kind, timestamp_kind}
 use Rattle.nfqa_headers.specs.Numbers.{input_device_kind, output_device_kind, hardware_address_kind}
 use Rattle.nfqa_headers.specs.Numbers.{payload_kind, full_length_kind, ipv4_family, ipv6_family}
-use Rattle.nfqa_headers.specs.Numbers.{hardware_address_length}
+use Rattle.nfqa_headers.specs.Numbers.{priority_kind, hardware_address_length}
 use Rattle.nfqa_msgs.specs.Numbers.{input_device, output_device, copy_meta, copy_packet}
 use Rattle.nfqa_msgs.specs.Numbers.{longest_range, source_address_at}
 use Rattle.nfqa_headers.specs.Kinds.{queue_kind}
@@ -29,6 +29,7 @@ pub record Told : Type 0 where
   pub id : ℕ
   pub protocol : ℕ
   pub mark : ℕ
+  pub priority : ℕ
   -- the sender's hardware address, where the packet came with an Ethernet header
   pub source : Option (List ℕ)
   pub seconds : ℕ
@@ -41,9 +42,9 @@ pub record Told : Type 0 where
 abbrev pub family_of : ℕ → ℕ
 family_of protocol = if protocol == ipv4_type then ipv4_family else ipv6_family
 
--- a mark of 0 is not told
-abbrev pub mark_content : ℕ → Option (List ℕ)
-mark_content mark = if mark == 0 then None else Some (value_content mark)
+-- a mark or priority of 0 is not told
+abbrev pub nonzero_content : ℕ → Option (List ℕ)
+nonzero_content n = if n == 0 then None else Some (value_content n)
 
 -- a payload without bytes is not told
 abbrev pub payload_content : List ℕ → Option (List ℕ)
@@ -56,7 +57,8 @@ front_parts told =
     part packet_header_kind (Some (packet_head_content told.id told.protocol))
     ++ part input_device_kind (Some (value_content input_device))
     ++ part output_device_kind (Some (value_content output_device))
-    ++ part mark_kind (mark_content told.mark)
+    ++ part mark_kind (nonzero_content told.mark)
+    ++ part priority_kind (nonzero_content told.priority)
     ++ part hardware_address_kind (option_map address_content told.source)
     ++ part timestamp_kind (Some (stamp_content told.seconds told.micros))
     ++ value_part full_length_kind told.cut_from
@@ -114,6 +116,7 @@ told_of queue mode range id card = record {
   id = id;
   protocol = card.protocol;
   mark = card.mark;
+  priority = card.priority;
   source = source_in card.link;
   seconds = card.seconds;
   micros = card.micros;
@@ -131,6 +134,7 @@ pub record FitsTold (told : Told) : Type 0 where
   pub id_fits : told.id < 2 ^ 32
   pub protocol_fits : IsProtocol told.protocol
   pub mark_fits : told.mark < 2 ^ 32
+  pub priority_fits : told.priority < 2 ^ 32
   pub source_fits : IfSome told.source (λ source. length source ≡ hardware_address_length)
   pub seconds_fit : told.seconds < 2 ^ 32
   pub micros_fit : told.micros < 2 ^ 32
@@ -144,6 +148,7 @@ pub record IsNoticed (queue mode range id : ℕ) (card : Card) : Type 0 where
   pub range_fits : range ≤ longest_range
   pub id_fits : id < 2 ^ 32
   pub mark_fits : card.mark < 2 ^ 32
+  pub priority_fits : card.priority < 2 ^ 32
   pub seconds_fit : card.seconds < 2 ^ 32
   pub micros_fit : card.micros < 2 ^ 32
   pub card_fits : IsCard card

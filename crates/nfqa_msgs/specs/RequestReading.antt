@@ -15,6 +15,7 @@ use Rattle.nfqa_msgs.specs.declared.request.Decoded.TheVariants.{Nothing, Refuse
 use Rattle.nfqa_headers.specs.Numbers.{queue_subsystem, notice_number, verdict_number}
 use Rattle.nfqa_headers.specs.Numbers.{config_number, batch_number, command_kind, params_kind}
 use Rattle.nfqa_headers.specs.Numbers.{maxlen_kind, mask_kind, flags_kind, mark_kind, payload_kind}
+use Rattle.nfqa_headers.specs.Numbers.{priority_kind}
 use Rattle.nfqa_msgs.specs.Numbers.{einval, erange, eopnotsupp}
 use Rattle.nfqa_headers.specs.Kinds.{subsystem_of, number_of}
 use Rattle.nfqa_headers.specs.Headers.{queue_in, command_in, params_in, queue_header_length}
@@ -30,11 +31,15 @@ config_in queue row = Config queue
     (last_value mask_kind row)
 
 abbrev pub verdict_in : ℕ → List Attribute → Request
-verdict_in queue row =
-    Verdict queue (last_head row) (last_value mark_kind row) (last_content payload_kind row)
+verdict_in queue row = Verdict queue
+    (last_head row)
+    (last_value mark_kind row)
+    (last_content payload_kind row)
+    (last_value priority_kind row)
 
 abbrev pub batch_in : ℕ → List Attribute → Request
-batch_in queue row = Batch queue (last_head row) (last_value mark_kind row)
+batch_in queue row =
+    Batch queue (last_head row) (last_value mark_kind row) (last_value priority_kind row)
 
 unfoldable pub request_in : ℕ → ℕ → List Attribute → Request
 request_in number queue row =
@@ -65,9 +70,9 @@ decoded m =
 -- a payload has no more bytes than one attribute holds
 abbrev pub PayloadFits : Request → Type 0
 PayloadFits (Config queue command params maxlen flags mask) = Unit {0}
-PayloadFits (Verdict queue head mark payload) =
+PayloadFits (Verdict queue head mark payload priority) =
     IfSome payload (λ bytes. length bytes ≤ longest_payload)
-PayloadFits (Batch queue head mark) = Unit {0}
+PayloadFits (Batch queue head mark priority) = Unit {0}
 
 abbrev pub AskedFits : Decoded → Type 0
 AskedFits Nothing = Unit {0}
@@ -77,9 +82,9 @@ AskedFits (Asked request) = PayloadFits request
 -- the request has a payload for a packet, which may be empty
 abbrev pub has_payload : Request → Bool
 has_payload (Config queue command params maxlen flags mask) = false
-has_payload (Verdict queue head mark None) = false
-has_payload (Verdict queue head mark (Some bytes)) = true
-has_payload (Batch queue head mark) = false
+has_payload (Verdict queue head mark None priority) = false
+has_payload (Verdict queue head mark (Some bytes) priority) = true
+has_payload (Batch queue head mark priority) = false
 
 abbrev pub asks_with_payload : Decoded → Bool
 asks_with_payload Nothing = false

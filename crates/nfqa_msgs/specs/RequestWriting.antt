@@ -12,7 +12,7 @@ use Rattle.nfqa_msgs.specs.declared.request.Request.{Request}
 use Rattle.nfqa_msgs.specs.declared.request.Request.TheVariants.{Config, Verdict, Batch}
 use Rattle.nfqa_headers.specs.Numbers.{verdict_number, config_number, batch_number, command_kind}
 use Rattle.nfqa_headers.specs.Numbers.{params_kind, maxlen_kind, mask_kind, flags_kind, mark_kind}
-use Rattle.nfqa_headers.specs.Numbers.{payload_kind, any_family}
+use Rattle.nfqa_headers.specs.Numbers.{payload_kind, priority_kind, any_family}
 use Rattle.nfqa_headers.specs.Kinds.{queue_kind}
 use Rattle.nfqa_headers.specs.Headers.{queue_header, command_content, params_content}
 use Rattle.nfqa_headers.specs.AttributeWriting.{head_part, part, value_part}
@@ -25,25 +25,29 @@ parts_of (Config queue command params maxlen flags mask) =
     ++ value_part maxlen_kind maxlen
     ++ value_part mask_kind mask
     ++ value_part flags_kind flags
-parts_of (Verdict queue head mark payload) =
-    head_part head ++ value_part mark_kind mark ++ part payload_kind payload
-parts_of (Batch queue head mark) = head_part head ++ value_part mark_kind mark
+parts_of (Verdict queue head mark payload priority) =
+    head_part head
+    ++ value_part mark_kind mark
+    ++ part payload_kind payload
+    ++ value_part priority_kind priority
+parts_of (Batch queue head mark priority) =
+    head_part head ++ value_part mark_kind mark ++ value_part priority_kind priority
 
 abbrev pub number_for : Request → ℕ
 number_for (Config queue command params maxlen flags mask) = config_number
-number_for (Verdict queue head mark payload) = verdict_number
-number_for (Batch queue head mark) = batch_number
+number_for (Verdict queue head mark payload priority) = verdict_number
+number_for (Batch queue head mark priority) = batch_number
 
 -- a config request asks for an acknowledgement; the others don't
 abbrev pub flags_for : Request → ℕ
 flags_for (Config queue command params maxlen flags mask) = request_flag + ack_flag
-flags_for (Verdict queue head mark payload) = request_flag
-flags_for (Batch queue head mark) = request_flag
+flags_for (Verdict queue head mark payload priority) = request_flag
+flags_for (Batch queue head mark priority) = request_flag
 
 abbrev pub queue_for : Request → ℕ
 queue_for (Config queue command params maxlen flags mask) = queue
-queue_for (Verdict queue head mark payload) = queue
-queue_for (Batch queue head mark) = queue
+queue_for (Verdict queue head mark payload priority) = queue
+queue_for (Batch queue head mark priority) = queue
 
 -- any family and the queue's number, and the parts
 abbrev pub request_body : Request → List ℕ
@@ -81,14 +85,16 @@ pub record FitsConfig (queue : ℕ) (command : Option ℕ) (params : Option Para
   pub mask_fits : IfSome mask (λ n. n < 2 ^ 32)
 
 pub record FitsVerdict (queue : ℕ) (head : Option Head) (mark : Option ℕ)
-    (payload : Option (List ℕ)) : Type 0 where
+    (payload : Option (List ℕ)) (priority : Option ℕ) : Type 0 where
   pub queue_fits : queue < 2 ^ 16
   pub head_fits : IfSome head FitsHead
   pub mark_fits : IfSome mark (λ n. n < 2 ^ 32)
   pub payload_fits : IfSome payload (λ bytes. length bytes ≤ longest_payload)
+  pub priority_fits : IfSome priority (λ n. n < 2 ^ 32)
 
 abbrev pub FitsRequest : Request → Type 0
 FitsRequest (Config queue command params maxlen flags mask) =
     FitsConfig queue command params maxlen flags mask
-FitsRequest (Verdict queue head mark payload) = FitsVerdict queue head mark payload
-FitsRequest (Batch queue head mark) = FitsVerdict queue head mark None
+FitsRequest (Verdict queue head mark payload priority) =
+    FitsVerdict queue head mark payload priority
+FitsRequest (Batch queue head mark priority) = FitsVerdict queue head mark None priority

@@ -9,6 +9,7 @@ telling t = record {
   id = t.id;
   protocol = t.protocol;
   mark = t.mark;
+  priority = t.priority;
   source = option_map (λ source. source.now) t.source;
   seconds = t.seconds;
   micros = t.micros;

@@ -31,16 +31,24 @@ pub(crate) fn fits_its_fields(request: &Request)
             queue,
             head,
             mark,
+            priority,
             ..
         } => {
             fits_queue(*queue);
             fits_head(*head);
             fits_value(*mark);
+            fits_value(*priority);
         }
-        Request::Batch { queue, head, mark } => {
+        Request::Batch {
+            queue,
+            head,
+            mark,
+            priority,
+        } => {
             fits_queue(*queue);
             fits_head(*head);
             fits_value(*mark);
+            fits_value(*priority);
         }
     }
 }

@@ -13,6 +13,8 @@ pub struct Notice {
     pub protocol: u16,
     /// The firewall mark.
     pub mark: u32,
+    /// The priority for scheduling; 0 where the notice has none. (`NFQA_PRIORITY`)
+    pub priority: u32,
     /// How many bytes the packet has, as far as that is told: all of them where it was cut, and
     /// else the payload's.
     pub length: u32,
@@ -28,6 +30,7 @@ pub(crate) struct Telling<'a> {
     /// The Ethernet type.
     pub protocol: u16,
     pub mark: u32,
+    pub priority: u32,
     /// The sender's hardware address, where there is one.
     pub source: Option<&'a [u8]>,
     pub seconds: u32,

@@ -15,7 +15,7 @@ use crate::notice_spelling::is_notice_of;
 use netlink_codec::{attr_padding, next_message};
 use nfqa_headers::attribute_reading::{content_of, last_contents, value_of};
 use nfqa_headers::kinds::{
-    FULL_LENGTH, HARDWARE_ADDRESS, MARK, PACKET_HEADER, PAYLOAD, TIMESTAMP, VALUE_LENGTH,
+    FULL_LENGTH, HARDWARE_ADDRESS, MARK, PACKET_HEADER, PAYLOAD, PRIORITY, TIMESTAMP, VALUE_LENGTH,
 };
 use nfqa_headers::packet_address::read_address;
 use nfqa_headers::packet_header::{read_id, read_protocol};
@@ -88,6 +88,7 @@ fn notice_with(told: &Telling<'_>, payload: Bytes) -> Notice
         id: told.id,
         protocol: told.protocol,
         mark: told.mark,
+        priority: told.priority,
         length: match told.cut_from {
             None => told.payload.len() as u32,
             Some(length) => length,
@@ -148,6 +149,7 @@ fn told_in(queue: u16, row: &[u8]) -> Telling<'_>
         id: read_id(header),
         protocol: read_protocol(header),
         mark: value_of(content_of(&contents, MARK), VALUE_LENGTH, 0),
+        priority: value_of(content_of(&contents, PRIORITY), VALUE_LENGTH, 0),
         source: read_address(content_of(&contents, HARDWARE_ADDRESS)),
         seconds: read_seconds(timestamp),
         micros: read_micros(timestamp),

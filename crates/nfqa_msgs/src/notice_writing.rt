@@ -6,12 +6,12 @@ ghost use Rattle.packet_entry.specs.Numbers.{longest_packet, longest_payload};
 ghost use Rattle.packet_entry.specs.Fields.{IsLinkLength};
 ghost use Rattle.netlink_codec.specs.Attributes.{attributes_text};
 ghost use Rattle.nfqa_msgs.specs.Numbers.{copy_meta, copy_packet, longest_range};
-ghost use Rattle.nfqa_headers.specs.Numbers.{mark_kind};
+ghost use Rattle.netlink_codec.specs.Numbers.{kind_limit};
 ghost use Rattle.nfqa_headers.specs.Numbers.{hardware_address_length};
 ghost use Rattle.nfqa_headers.specs.AttributeWriting.{part};
 ghost use Rattle.nfqa_msgs.specs.NoticeWriting.{FitsTold, notice, notice_text, notice_body};
 ghost use Rattle.nfqa_msgs.specs.NoticeWriting.{notice_front, told_of, source_in, cut_of};
-ghost use Rattle.nfqa_msgs.specs.NoticeWriting.{told_bytes, family_of, mark_content};
+ghost use Rattle.nfqa_msgs.specs.NoticeWriting.{told_bytes, family_of, nonzero_content};
 ghost use Rattle.nfqa_msgs.specs.NoticeWriting.{padded_payload, payload_padding};
 ghost use Rattle.nfqa_msgs.specs.Telling.{telling};
 
@@ -20,7 +20,8 @@ use crate::notice::Telling;
 use netlink_codec::{attr_header, attr_padding, put_split_message, written_attributes_are_walked};
 use nfqa_headers::attribute_writing::put_value;
 use nfqa_headers::kinds::{
-    FULL_LENGTH, INPUT_DEVICE, MARK, NOTICE, NUMBERS, OUTPUT_DEVICE, PAYLOAD, QUEUE_SUBSYSTEM,
+    FULL_LENGTH, INPUT_DEVICE, MARK, NOTICE, NUMBERS, OUTPUT_DEVICE, PAYLOAD, PRIORITY,
+    QUEUE_SUBSYSTEM,
 };
 use nfqa_headers::packet_address::{ADDRESS_LENGTH, put_address};
 use nfqa_headers::packet_header::put_packet_header;
@@ -35,7 +36,7 @@ const INPUT: u32 = 1;
 const OUTPUT: u32 = 2;
 
 /// Bytes that hold the attributes before the packet's bytes, and the header of these.
-const FRONT_ROOM: usize = 84;
+const FRONT_ROOM: usize = 92;
 /// At most so many zeros follow an attribute's content, up to the next multiple of 4.
 const MOST_PADDING: usize = 3;
 
@@ -43,9 +44,9 @@ const MOST_PADDING: usize = 3;
 const LINK_SOURCE_AT: usize = 6;
 
 /// Appends the notice of a packet that waits in `queue` under `id`: of all packets the id, the
-/// Ethernet type, the devices, the mark unless it is 0, the source address of an Ethernet header
-/// and the time of capture; under the mode `PACKET` its first `range` bytes, and its length where
-/// that is more.
+/// Ethernet type, the devices, the mark and the priority unless they are 0, the source address of
+/// an Ethernet header and the time of capture; under the mode `PACKET` its first `range` bytes, and
+/// its length where that is more.
 ///
 /// `NoMemory` leaves `out` as it was.
 pub fn encode_notice(
@@ -81,6 +82,7 @@ fn telling_of(queue: u16, id: u32, mode: u8, range: u32, packet: &Packet) -> Tel
         id,
         protocol: packet.protocol(),
         mark: packet.mark(),
+        priority: packet.priority(),
         source: source_address(packet.link()),
         seconds: packet.seconds(),
         micros: packet.micros(),
@@ -177,7 +179,8 @@ fn parts_before(alloc: Global, told: &Telling<'_>) -> Result<Vec<u8>, AllocError
     put_packet_header(&mut body, told.id, told.protocol)?;
     put_value(&mut body, INPUT_DEVICE, Some(INPUT))?;
     put_value(&mut body, OUTPUT_DEVICE, Some(OUTPUT))?;
-    put_mark(&mut body, told.mark)?;
+    put_nonzero(&mut body, MARK, told.mark)?;
+    put_nonzero(&mut body, PRIORITY, told.priority)?;
     put_address(&mut body, told.source)?;
     put_stamp(&mut body, told.seconds, told.micros)?;
     put_value(&mut body, FULL_LENGTH, told.cut_from)?;
@@ -194,13 +197,14 @@ fn family(protocol: u16) -> u8
     }
 }
 
-/// Appends the mark, unless it is 0.
-fn put_mark(body: &mut Vec<u8>, mark: u32) -> Result<(), AllocError>
+/// Appends an attribute that is one number, unless it is 0.
+fn put_nonzero(body: &mut Vec<u8>, kind: u16, value: u32) -> Result<(), AllocError>
+    requires { kind < kind_limit }
     ensures { OnOk result (body.new.items ≡ body.old.items
-        ++ attributes_text (part mark_kind (mark_content mark))) }
+        ++ attributes_text (part kind (nonzero_content value))) }
 {
-    if mark == 0 {
+    if value == 0 {
         return Ok(());
     }
-    put_value(body, MARK, Some(mark))
+    put_value(body, kind, Some(value))
 }

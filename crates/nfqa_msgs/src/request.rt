@@ -33,6 +33,8 @@ pub enum Request {
         mark: Option<u32>,
         /// The bytes that replace the packet's.
         payload: Option<Bytes>,
+        /// The packet's new priority. (`NFQA_PRIORITY`, `skb->priority`)
+        priority: Option<u32>,
     },
     /// A verdict on all packets up to an id. (`NFQNL_MSG_VERDICT_BATCH`)
     Batch {
@@ -42,6 +44,8 @@ pub enum Request {
         head: Option<Head>,
         /// The new mark of each packet.
         mark: Option<u32>,
+        /// The new priority of each packet.
+        priority: Option<u32>,
     },
 }
 
@@ -72,16 +76,24 @@ impl Request {
                 head,
                 mark,
                 payload,
+                priority,
             } => Ok(Request::Verdict {
                 queue: *queue,
                 head: *head,
                 mark: *mark,
                 payload: share_payload(payload)?,
+                priority: *priority,
             }),
-            Request::Batch { queue, head, mark } => Ok(Request::Batch {
+            Request::Batch {
+                queue,
+                head,
+                mark,
+                priority,
+            } => Ok(Request::Batch {
                 queue: *queue,
                 head: *head,
                 mark: *mark,
+                priority: *priority,
             }),
         }
     }

@@ -18,7 +18,7 @@ use nfqa_headers::attribute_reading::{
 use nfqa_headers::command::read_command;
 use nfqa_headers::kinds::{
     BATCH, COMMAND, CONFIG, FLAGS, LEAST_KIND, MARK, MASK, MAXLEN, NOTICE, NUMBERS, PARAMS,
-    PAYLOAD, QUEUE_SUBSYSTEM, REQUEST_FLAG, VERDICT, VERDICT_HEADER,
+    PAYLOAD, PRIORITY, QUEUE_SUBSYSTEM, REQUEST_FLAG, VERDICT, VERDICT_HEADER,
 };
 use nfqa_headers::params::read_params;
 use nfqa_headers::queue_header::{QUEUE_HEADER_LENGTH, read_queue};
@@ -113,6 +113,7 @@ fn verdict_of(alloc: Global, queue: u16, row: &[u8]) -> Result<Request, NoMemory
         head: content_of(&contents, VERDICT_HEADER).map(read_head),
         mark: read_value(content_of(&contents, MARK)),
         payload: copy_payload(alloc, content_of(&contents, PAYLOAD))?,
+        priority: read_value(content_of(&contents, PRIORITY)),
     })
 }
 
@@ -126,5 +127,6 @@ fn batch_of(queue: u16, row: &[u8]) -> Request
         queue,
         head: content_of(&contents, VERDICT_HEADER).map(read_head),
         mark: read_value(content_of(&contents, MARK)),
+        priority: read_value(content_of(&contents, PRIORITY)),
     }
 }

@@ -2,7 +2,7 @@
 
 ghost use Rattle.std.specs.Prelude.{◌≡◌, ◌≤◌, ◌++◌, length, option_map, OnOk, OnErr, IfSome, IfOk};
 ghost use Rattle.packet_entry.specs.Numbers.{longest_payload};
-ghost use Rattle.nfqa_msgs.specs.declared.request.Request.TheVariants.{Config, Verdict, Batch};
+ghost use Rattle.nfqa_msgs.specs.declared.request.Request.TheVariants.{Config, Verdict};
 ghost use Rattle.nfqa_headers.specs.Kinds.{queue_kind};
 ghost use Rattle.nfqa_msgs.specs.RequestReading.{PayloadFits};
 ghost use Rattle.nfqa_msgs.specs.RequestWriting.{FitsRequest, spelling, request_body, number_for};
@@ -14,8 +14,8 @@ use netlink_codec::{put_message, written_attributes_are_walked};
 use nfqa_headers::attribute_writing::{put_part, put_value};
 use nfqa_headers::command::put_command;
 use nfqa_headers::kinds::{
-    ACK_FLAG, BATCH, CONFIG, FLAGS, MARK, MASK, MAXLEN, NUMBERS, PAYLOAD, QUEUE_SUBSYSTEM,
-    REQUEST_FLAG, VERDICT,
+    ACK_FLAG, BATCH, CONFIG, FLAGS, MARK, MASK, MAXLEN, NUMBERS, PAYLOAD, PRIORITY,
+    QUEUE_SUBSYSTEM, REQUEST_FLAG, VERDICT,
 };
 use nfqa_headers::params::put_params;
 use nfqa_headers::queue_header::{ANY_FAMILY, begin_body};
@@ -90,8 +90,14 @@ fn body_of(alloc: Global, request: &Request) -> Result<Vec<u8>, AllocError>
             head,
             mark,
             payload,
-        } => verdict_body(alloc, *queue, *head, *mark, payload.as_ref()),
-        Request::Batch { queue, head, mark } => batch_body(alloc, *queue, *head, *mark),
+            priority,
+        } => verdict_body(alloc, *queue, *head, *mark, payload.as_ref(), *priority),
+        Request::Batch {
+            queue,
+            head,
+            mark,
+            priority,
+        } => verdict_body(alloc, *queue, *head, *mark, None, *priority),
     }
 }
 
@@ -116,34 +122,25 @@ fn config_body(
     Ok(body)
 }
 
+/// The body of a verdict. That of a batch is the same without a payload.
 fn verdict_body(
     alloc: Global,
     queue: u16,
     head: Option<Head>,
     mark: Option<u32>,
     payload: Option<&Bytes>,
+    priority: Option<u32>,
 ) -> Result<Vec<u8>, AllocError>
     requires { IfSome payload (λ bytes. length bytes.now ≤ longest_payload) }
-    ensures { IfOk result (λ body. body.items ≡
-        request_body (Verdict queue head mark (option_map (λ bytes. bytes.now) payload.entry))) }
-{
-    let mut body = batch_body(alloc, queue, head, mark)?;
-    if let Some(bytes) = payload {
-        put_part(&mut body, PAYLOAD, bytes.as_slice())?;
-    }
-    Ok(body)
-}
-
-fn batch_body(
-    alloc: Global,
-    queue: u16,
-    head: Option<Head>,
-    mark: Option<u32>,
-) -> Result<Vec<u8>, AllocError>
-    ensures { IfOk result (λ body. body.items ≡ request_body (Batch queue head mark)) }
+    ensures { IfOk result (λ body. body.items ≡ request_body
+        (Verdict queue head mark (option_map (λ bytes. bytes.now) payload.entry) priority)) }
 {
     let mut body = begin_body(alloc, ANY_FAMILY, queue, ROOM)?;
     put_head(&mut body, head)?;
     put_value(&mut body, MARK, mark)?;
+    if let Some(bytes) = payload {
+        put_part(&mut body, PAYLOAD, bytes.as_slice())?;
+    }
+    put_value(&mut body, PRIORITY, priority)?;
     Ok(body)
 }

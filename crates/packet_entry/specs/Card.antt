@@ -20,6 +20,7 @@ opening_card number seconds micros protocol link bytes =
       visit = 0;
       table = 0;
       mark = 0;
+      priority = 0;
       seconds = seconds;
       micros = micros;
       protocol = protocol;
@@ -27,7 +28,11 @@ opening_card number seconds micros protocol link bytes =
       bytes = bytes;
     }
 
--- the mark and the bytes are those that are given, and else stay (nfqnl_recv_verdict, nfqnl_mangle
--- in nfnetlink_queue.c)
-abbrev pub edited : Card → Option ℕ → Option (List ℕ) → Card
-edited c mark payload = record c { mark = unwrap_or mark c.mark; bytes = unwrap_or payload c.bytes }
+-- the mark, the bytes and the priority are those that are given, and else stay (nfqnl_recv_verdict,
+-- nfqnl_mangle in nfnetlink_queue.c)
+abbrev pub edited : Card → Option ℕ → Option (List ℕ) → Option ℕ → Card
+edited c mark payload priority = record c {
+  mark = unwrap_or mark c.mark;
+  priority = unwrap_or priority c.priority;
+  bytes = unwrap_or payload c.bytes;
+}

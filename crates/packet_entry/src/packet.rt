@@ -41,6 +41,8 @@ pub struct Card {
     pub table: u16,
     /// The firewall mark.
     pub mark: u32,
+    /// The priority for scheduling, `skb->priority`. (`NFQA_PRIORITY`)
+    pub priority: u32,
     /// When it was captured: seconds since 1970.
     pub seconds: u32,
     /// When it was captured: microseconds of that second.
@@ -64,6 +66,7 @@ impl Card {
             visit: self.visit,
             table: self.table,
             mark: self.mark,
+            priority: self.priority,
             seconds: self.seconds,
             micros: self.micros,
             protocol: self.protocol,
@@ -93,7 +96,7 @@ impl Model for Packet {
 impl Packet {
     ghost use Rattle.packet_entry.specs.Card.{IsCard, opening_card, edited};
 
-    /// A packet that hasn't met a queue yet: its visit, its table and its mark are 0.
+    /// A packet that hasn't met a queue yet: its visit, table, mark and priority are 0.
     pub fn new(
         alloc: Global,
         number: u32,
@@ -136,6 +139,7 @@ impl Packet {
                 visit: 0,
                 table: 0,
                 mark: 0,
+                priority: 0,
                 seconds,
                 micros,
                 protocol,
@@ -181,6 +185,13 @@ impl Packet {
         ensures { result ≡ self.now.mark }
     {
         self.card.mark
+    }
+
+    /// The priority for scheduling; 0 until a verdict sets it.
+    pub fn priority(&self) -> u32
+        ensures { result ≡ self.now.priority }
+    {
+        self.card.priority
     }
 
     /// When it was captured: seconds since 1970.
@@ -237,16 +248,20 @@ impl Packet {
         self.card.table = table;
     }
 
-    /// Sets the mark and the bytes, as far as they are given. All bytes are replaced.
-    pub fn edit(&mut self, mark: Option<u32>, payload: Option<Bytes>)
+    /// Sets the mark, the bytes and the priority, as far as they are given. All bytes are replaced.
+    /// (`nfqnl_recv_verdict` sets `skb->mark` and `skb->priority`.)
+    pub fn edit(&mut self, mark: Option<u32>, payload: Option<Bytes>, priority: Option<u32>)
         requires { IfSome payload (λ bytes. length bytes ≤ longest_payload) }
-        ensures { self.new ≡ edited self.old mark payload }
+        ensures { self.new ≡ edited self.old mark payload priority }
     {
         if let Some(mark) = mark {
             self.card.mark = mark;
         }
         if let Some(bytes) = payload {
             self.card.bytes = bytes;
+        }
+        if let Some(priority) = priority {
+            self.card.priority = priority;
         }
     }
 

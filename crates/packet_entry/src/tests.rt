@@ -113,7 +113,10 @@ fn made(
         (card.seconds, card.micros, card.protocol),
         (2, 3, protocol)
     );
-    assert_eq!(rt; (card.visit, card.table, card.mark), (0, 0, 0));
+    assert_eq!(rt;
+        (card.visit, card.table, card.mark, card.priority),
+        (0, 0, 0, 0)
+    );
     assert_eq!(rt; card.link.as_slice(), link);
     assert_eq!(rt; card.bytes.as_slice(), bytes);
     assert_eq!(rt; shared?.as_slice(), bytes);
@@ -133,30 +136,41 @@ fn an_edit_of_one_packet_changes_no_other(rt: HostRuntime) -> Result<(), Fail> {
     let mut packet = Packet::from_shared(7, 1_700_000_000, 999_999, IPV4, link, bytes);
     let other = Packet::from_shared(8, 1_700_000_001, 0, IPV4, again, others);
     packet.queued(2);
-    packet.edit(Some(9), None);
+    packet.edit(Some(9), None, None);
     let first = packet.card(alloc);
-    packet.edit(None, Some(payload));
+    packet.edit(None, Some(payload), Some(6));
     let second = packet.card(alloc);
+    let priority = packet.priority();
     packet.release();
     let untouched = other.card(alloc);
     other.destroy();
 
-    is_as(&rt, first, (7, 1, 2, 9), &BYTES)?;
-    is_as(&rt, second, (7, 1, 2, 9), &[0x45])?;
-    is_as(&rt, untouched, (8, 0, 0, 0), &BYTES)?;
+    assert_eq!(rt; priority, 6);
+    is_as(&rt, first, (7, 1, 2, 9, 0), &BYTES)?;
+    is_as(&rt, second, (7, 1, 2, 9, 6), &[0x45])?;
+    is_as(&rt, untouched, (8, 0, 0, 0, 0), &BYTES)?;
     assert_eq!(rt; file.as_slice(), BYTES.as_slice());
     Ok(())
 }
 
-/// The card has this number, visit, table and mark, and these bytes.
+/// The card has this number, visit, table, mark and priority, and these bytes.
 fn is_as(
     rt: &impl Abort,
     card: Result<Card, NoMemory>,
-    facts: (u32, u32, u16, u32),
+    facts: (u32, u32, u16, u32, u32),
     bytes: &[u8],
 ) -> Result<(), Fail> {
     let card = card?;
-    assert_eq!(rt; (card.number, card.visit, card.table, card.mark), facts);
+    assert_eq!(rt;
+        (
+            card.number,
+            card.visit,
+            card.table,
+            card.mark,
+            card.priority
+        ),
+        facts
+    );
     assert_eq!(rt; card.bytes.as_slice(), bytes);
     Ok(())
 }
