@@ -105,8 +105,8 @@ static void by_hand(char **names, int is_whole) {
     Out out = output(names[3], is_whole ? size : PIECE);
     Out ledger = output(names[4], is_whole ? 64 * (frames + 1) : PIECE);
     Out journal = output(names[5], is_whole ? 2 * size + 4 * 96 * (frames + 1) : PIECE);
-    text(&ledger, "record fate queue at mark bytes\n");
-    text(&journal, "nfq-journal 1\nM 0 7 1 config 0 cmd 1 = 0 0\nM 0 7 2 config 0 params 2 0 = 0 0\n");
+    text(&ledger, "record fate queue at mark priority bytes\n");
+    text(&journal, "nfq-journal 2\nM 0 7 1 config 0 cmd 1 = 0 0\nM 0 7 2 config 0 params 2 0 = 0 0\n");
     put(&out, capture, 24);
     uint32_t n = 0;
     for (off_t at = 24; at < told.st_size;) {
@@ -115,8 +115,8 @@ static void by_hand(char **names, int is_whole) {
         n++;
         put(&out, record, 16 + length);
         number(&ledger, n); text(&ledger, " accept 0 "); number(&ledger, 2 * n + 2);
-        text(&ledger, " 0 "); number(&ledger, length); text(&ledger, "\n");
-        text(&journal, "A 0 "); number(&journal, n); text(&journal, " 1 1 n y 0 ");
+        text(&ledger, " 0 0 "); number(&ledger, length); text(&ledger, "\n");
+        text(&journal, "A 0 "); number(&journal, n); text(&journal, " 1 1 n y 0 0 ");
         number(&journal, u32_at(record)); text(&journal, " "); number(&journal, u32_at(record + 4));
         text(&journal, " 2048 - "); hexadecimal(&journal, record + 16, length);
         text(&journal, " taken:"); number(&journal, n);

@@ -131,6 +131,16 @@ COMMIT
 packets 1
 port 7
 opened
+on any do verdict this repeat this mark 1 priority 6
+= 1 repeat 0 4 1 6 20
+> 1
+
+*filter
+-A FORWARD -m mark ! --mark 0x1/0x1 -j NFQUEUE --queue-num 0
+COMMIT
+packets 1
+port 7
+opened
 on any do verdict this repeat this
 = 1 loop 0 67 0 0 20
 >
@@ -194,8 +204,8 @@ open config 0 bind
 packets 1
 port 7
 opened
-on any do batch this stop this mark 5
-= 1 stop 0 4 5 0 20
+on any do batch this stop this mark 5 priority 7
+= 1 stop 0 4 5 7 20
 > 1
 
 packets 1 2 3
