@@ -18,7 +18,7 @@ use Rattle.queue_core.specs.Share.{share}
 use Rattle.queue_core.specs.State.{Bound}
 use Rattle.queue_core.specs.Step.{Stepped, Way, Gone, Open, Decided, ask, way_of, leaving}
 use Rattle.queue_core.specs.Step.{Ruling, Refused, Allowed, refusal, verdict_under, carried_out}
-use Rattle.queue_core.specs.Step.{card_under, batch_under, shared_out, marking}
+use Rattle.queue_core.specs.Step.{card_under, batch_under, shared_out, batch_edit}
 use Rattle.histories.specs.Journeys.{Arrival, going_on, asked_by_some}
 use Rattle.histories.specs.States.{entry_of, state_of}
 use Rattle.histories.specs.Happenings.{all_handed, queue_of}
@@ -68,16 +68,16 @@ verdict_closed (Allowed b head) q edit = of_card (card_under b head.id)
     of_card None = record { none = tt }
     of_card (Some card) = record { none = (decided (decision_of head.verdict), tt) }
 
-batch_closed : (ruling : Ruling) (q : Option Bound) (mark : Option ℕ) →
-    Closed (batch_under ruling q mark)
-batch_closed (Refused errno) q mark = record { none = tt }
-batch_closed (Allowed b head) q mark = of_share (share b.waiting head.id)
+batch_closed : (ruling : Ruling) (q : Option Bound) (mark priority : Option ℕ) →
+    Closed (batch_under ruling q mark priority)
+batch_closed (Refused errno) q mark priority = record { none = tt }
+batch_closed (Allowed b head) q mark priority = of_share (share b.waiting head.id)
   where
-    each : (ws : List (ℕ × Card)) → NoneOpen (map (λ v. leaving head (marking mark) v.1) ws)
+    each : (ws : List (ℕ × Card)) → NoneOpen (map (λ v. leaving head (batch_edit mark priority) v.1) ws)
     each [] = tt
     each (w ∷ ws) = (decided (decision_of head.verdict), each ws)
 
-    of_share : (ws : List (ℕ × Card)) → Closed (shared_out b head mark ws)
+    of_share : (ws : List (ℕ × Card)) → Closed (shared_out b head mark priority ws)
     of_share [] = record { none = tt }
     of_share (w ∷ ws) = record { none = each (w ∷ ws) }
 
@@ -93,10 +93,10 @@ request_closed laws q port (Config queue command params maximum flags mask) =
         mask = mask;
       }));
     }
-request_closed laws q port (Verdict queue head mark payload) =
-    verdict_closed (refusal q port head) q (record { mark = mark; payload = payload })
-request_closed laws q port (Batch queue head mark) =
-    batch_closed (refusal q port head) q mark
+request_closed laws q port (Verdict queue head mark payload priority) =
+    verdict_closed (refusal q port head) q (record { mark = mark; payload = payload; priority = priority })
+request_closed laws q port (Batch queue head mark priority) =
+    batch_closed (refusal q port head) q mark priority
 
 -- ---- what is handed out is owed
 

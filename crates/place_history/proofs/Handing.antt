@@ -48,24 +48,24 @@ kept_handed verdict card kept =
     either P true s t h k = h
     either P false s t h k = k
 
-pub all_kept : (q : Bound) (head : Head) (mark : Option ℕ) →
+pub all_kept : (q : Bound) (head : Head) (mark priority : Option ℕ) →
     (kind_of head.verdict == verdict_drop) ≡ false →
-    all_handed (ways_of (batch_handed q head mark)) ≡ batch_handed q head mark
-all_kept q head mark kept = each (share q.waiting head.id)
+    all_handed (ways_of (batch_handed q head mark priority)) ≡ batch_handed q head mark priority
+all_kept q head mark priority kept = each (share q.waiting head.id)
   where
     each : (ws : List (ℕ × Card)) →
-        all_handed (ways_of (map (handed_as head mark) ws)) ≡ map (handed_as head mark) ws
+        all_handed (ways_of (map (handed_as head mark priority) ws)) ≡ map (handed_as head mark priority) ws
     each [] = refl
     each (w ∷ ws) =
-        rw (kept_handed head.verdict (handed_as head mark w).0 kept, each ws) refl
+        rw (kept_handed head.verdict (handed_as head mark priority w).0 kept, each ws) refl
 
-pub all_dropped : (q : Bound) (head : Head) (mark : Option ℕ) →
+pub all_dropped : (q : Bound) (head : Head) (mark priority : Option ℕ) →
     (kind_of head.verdict == verdict_drop) ≡ true →
-    all_handed (ways_of (batch_handed q head mark)) ≡ []
-all_dropped q head mark drop = each (share q.waiting head.id)
+    all_handed (ways_of (batch_handed q head mark priority)) ≡ []
+all_dropped q head mark priority drop = each (share q.waiting head.id)
   where
     each : (ws : List (ℕ × Card)) →
-        all_handed (ways_of (map (handed_as head mark) ws)) ≡ []
+        all_handed (ways_of (map (handed_as head mark priority) ws)) ≡ []
     each [] = refl
     each (w ∷ ws) = rw drop (each ws)
 

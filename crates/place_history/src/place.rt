@@ -188,13 +188,19 @@ impl Place {
                 head,
                 mark,
                 payload,
+                priority,
             } => {
                 let asker = Asker { port, call, queue };
-                requests::verdict(&mut self.held, asker, head, mark, payload, handed)
+                requests::verdict(&mut self.held, asker, head, mark, payload, priority, handed)
             }
-            Request::Batch { queue, head, mark } => {
+            Request::Batch {
+                queue,
+                head,
+                mark,
+                priority,
+            } => {
                 let asker = Asker { port, call, queue };
-                requests::batch(&mut self.held, alloc, asker, head, mark, handed)
+                requests::batch(&mut self.held, alloc, asker, head, mark, priority, handed)
             }
         }
     }

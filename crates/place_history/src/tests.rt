@@ -45,7 +45,7 @@ fn request(queue: u16, words: Words) -> Request
     ensures payload { payload_of result ≡ None }
     ensures queue { queue_of result ≡ queue }
 {
-    let (mark, payload) = (None, None);
+    let (mark, payload, priority) = (None, None, None);
     match words {
         Words::Bind => config(queue, Some(BIND), None, None, None),
         Words::SetUp(mode, maximum) => {
@@ -61,11 +61,17 @@ fn request(queue: u16, words: Words) -> Request
                 head,
                 mark,
                 payload,
+                priority,
             }
         }
         Words::Batch(verdict, id) => {
             let head = Some(Head { verdict, id });
-            Request::Batch { queue, head, mark }
+            Request::Batch {
+                queue,
+                head,
+                mark,
+                priority,
+            }
         }
     }
 }
@@ -170,14 +176,15 @@ fn ask(
     Ok((errno?, count))
 }
 
-/// Releases the packets that were handed out: how many there were; and of the first its mark, how
-/// many bytes it has, and its decision.
-fn released(mut handed: Handed) -> (u32, Option<(u32, usize, Decision)>) {
+/// Releases the packets that were handed out: how many there were; and of the first its mark and
+/// priority, how many bytes it has, and its decision.
+fn released(mut handed: Handed) -> (u32, Option<((u32, u32), usize, Decision)>) {
     let mut count = 0u32;
     let mut first = None;
     while let Some((packet, decision)) = handed.take() {
         if count == 0 {
-            first = Some((packet.mark(), packet.bytes().len(), decision));
+            let set = (packet.mark(), packet.priority());
+            first = Some((set, packet.bytes().len(), decision));
         }
         packet.release();
         count = count.saturating_add(1);
@@ -557,12 +564,13 @@ fn a_verdict_hands_its_packet_out(rt: HostRuntime) -> Result<(), Fail> {
     };
     assert_eq!(rt;
         (answer?, left, entries.len()),
-        (0, Some((7, 3, to_queue_9)), 4)
+        (0, Some(((7, 6), 3, to_queue_9)), 4)
     );
     Ok(())
 }
 
-/// A packet waits, and its verdict sends it to queue 9 with another mark and three other bytes.
+/// A packet waits, and its verdict sends it to queue 9 with another mark, three other bytes and
+/// another priority.
 fn decided(place: &mut Place, alloc: Global, handed: &mut Handed) -> Result<u16, NoMemory>
     requires { IsOnly place.old }
     ensures { IsOnly place.new }
@@ -581,6 +589,7 @@ fn decided(place: &mut Place, alloc: Global, handed: &mut Handed) -> Result<u16,
         }),
         mark: Some(7),
         payload: Some(Bytes::copy(alloc, b"new")?),
+        priority: Some(6),
     };
     place.ask(alloc, 7, 3, verdict, handed)
 }
@@ -596,12 +605,12 @@ fn a_batch_hands_its_packets_out(rt: HostRuntime) -> Result<(), Fail> {
     let entries = ended(place);
     assert_eq!(rt;
         (answer?, count, first, waiting, entries.len()),
-        (0, 2, Some((9, 1, Decision::Accept)), 1, 6)
+        (0, 2, Some(((9, 5), 1, Decision::Accept)), 1, 6)
     );
     Ok(())
 }
 
-/// Three packets wait, and a batch accepts the first two, with a mark.
+/// Three packets wait, and a batch accepts the first two, with a mark and a priority.
 fn let_go(place: &mut Place, alloc: Global, handed: &mut Handed) -> Result<u16, NoMemory>
     requires { IsOnly place.old }
     ensures { IsOnly place.new }
@@ -618,6 +627,7 @@ fn let_go(place: &mut Place, alloc: Global, handed: &mut Handed) -> Result<u16, 
         queue: 0,
         head: Some(Head { verdict: 1, id: 2 }),
         mark: Some(9),
+        priority: Some(5),
     };
     place.ask(alloc, 7, 3, batch, handed)
 }

@@ -34,7 +34,7 @@ use Rattle.queue_core.specs.Step.{Stepped, Way, Gone, step, arrive_bound, arrive
 use Rattle.queue_core.specs.Step.{config, ConfigAsk, unbind, is_command, has_unknown_flags}
 use Rattle.queue_core.specs.Step.{has_refused_flags, is_bound_elsewhere, set_up, verdict, batch}
 use Rattle.queue_core.specs.Step.{verdict_under, batch_under}
-use Rattle.queue_core.specs.Step.{carried_out, shared_out, card_under, leaving, marking, next_id}
+use Rattle.queue_core.specs.Step.{carried_out, shared_out, card_under, leaving, batch_edit, next_id}
 use Rattle.queue_core.specs.Step.{port_closed, device_down, is_full, all_gone, taken, unchanged}
 use Rattle.queue_core.specs.Laws.{waiting_in, leaving_in, times, IsConserving, Tells}
 use Rattle.queue_core.specs.Laws.{TellsArrival, TellsAsk, TellsFlush}
@@ -206,15 +206,15 @@ keeps_verdict (Some q) port (Some head) edit =
     _ _ (λ test. refl) (keeps_carried q head edit (card_under q head.id) refl))
 
 -- a packet that leaves by a batch keeps its number
-left_alike : (head : Head) (mark : Option ℕ) (ws : List (ℕ × Card)) (test : ℕ → ℕ → Bool) →
+left_alike : (head : Head) (mark priority : Option ℕ) (ws : List (ℕ × Card)) (test : ℕ → ℕ → Bool) →
     times test (map (λ (l : Card × Way). l.0)
-    (map (λ (v : ℕ × Card). leaving head (marking mark) v.1) ws))
+    (map (λ (v : ℕ × Card). leaving head (batch_edit mark priority) v.1) ws))
     ≡ times test (map (λ (w : ℕ × Card). w.1) ws)
-left_alike head mark [] test = refl
-left_alike head mark (w ∷ ws) test =
-    times_first test (leaving head (marking mark) w.1).0 (map (λ (l : Card × Way). l.0)
-    (map (λ (v : ℕ × Card). leaving head (marking mark) v.1) ws))
-    ∙ ap (λ k. once (test w.1.number w.1.visit) + k) (left_alike head mark ws test)
+left_alike head mark priority [] test = refl
+left_alike head mark priority (w ∷ ws) test =
+    times_first test (leaving head (batch_edit mark priority) w.1).0 (map (λ (l : Card × Way). l.0)
+    (map (λ (v : ℕ × Card). leaving head (batch_edit mark priority) v.1) ws))
+    ∙ ap (λ k. once (test w.1.number w.1.visit) + k) (left_alike head mark priority ws test)
     ∙ sym (times_first test w.1 (map (λ (v : ℕ × Card). v.1) ws))
 
 mapped_on : (xs ys : List (ℕ × Card)) →
@@ -223,33 +223,33 @@ mapped_on : (xs ys : List (ℕ × Card)) →
 mapped_on [] ys = refl
 mapped_on (x ∷ xs) ys = ap (λ cs. x.1 ∷ cs) (mapped_on xs ys)
 
-keeps_shared : (q : Bound) (head : Head) (mark : Option ℕ) (ws : List (ℕ × Card)) →
+keeps_shared : (q : Bound) (head : Head) (mark priority : Option ℕ) (ws : List (ℕ × Card)) →
     ws ++ drop (length ws) q.waiting ≡ q.waiting →
-    Keeps (Some q) [] (shared_out q head mark ws)
-keeps_shared q head mark [] all = λ test. refl
-keeps_shared q head mark (w ∷ ws) all = λ test.
+    Keeps (Some q) [] (shared_out q head mark priority ws)
+keeps_shared q head mark priority [] all = λ test. refl
+keeps_shared q head mark priority (w ∷ ws) all = λ test.
     let parts : times test (map (λ (v : ℕ × Card). v.1) q.waiting) ≡ _ =
     ap (λ vs. times test (map (λ (v : ℕ × Card). v.1) vs)) (sym all)
     ∙ ap (times test) (mapped_on (w ∷ ws) (drop (length (w ∷ ws)) q.waiting))
     ∙ times_on test (map (λ (v : ℕ × Card). v.1) (w ∷ ws))
     (map (λ (v : ℕ × Card). v.1) (drop (length (w ∷ ws)) q.waiting)) in
-    omega (arith, parts, left_alike head mark (w ∷ ws) test)
+    omega (arith, parts, left_alike head mark priority (w ∷ ws) test)
 
 share_and_others : (ws : List (ℕ × Card)) (m : ℕ) → share ws m ++ drop (length (share ws m)) ws ≡ ws
 share_and_others ws m =
     ap (λ vs. vs ++ drop (length (share ws m)) ws) (sym (share_first ws m))
     ∙ take-append-drop (length (share ws m)) ws
 
-keeps_batch : (q : Option Bound) (port : ℕ) (head : Option Head) (mark : Option ℕ) →
-    Keeps q [] (batch q port head mark)
-keeps_batch None port head mark = λ test. refl
-keeps_batch (Some q) port None mark = λ test. refl
-keeps_batch (Some q) port (Some head) mark =
-    either (λ r. Keeps (Some q) [] (batch_under r (Some q) mark)) (not (q.port == port)) _ _
+keeps_batch : (q : Option Bound) (port : ℕ) (head : Option Head) (mark priority : Option ℕ) →
+    Keeps q [] (batch q port head mark priority)
+keeps_batch None port head mark priority = λ test. refl
+keeps_batch (Some q) port None mark priority = λ test. refl
+keeps_batch (Some q) port (Some head) mark priority =
+    either (λ r. Keeps (Some q) [] (batch_under r (Some q) mark priority)) (not (q.port == port)) _ _
     (λ test. refl)
-    (either (λ r. Keeps (Some q) [] (batch_under r (Some q) mark)) (not (is_verdict head.verdict))
+    (either (λ r. Keeps (Some q) [] (batch_under r (Some q) mark priority)) (not (is_verdict head.verdict))
     _ _ (λ test. refl)
-    (keeps_shared q head mark (share q.waiting head.id) (share_and_others q.waiting head.id)))
+    (keeps_shared q head mark priority (share q.waiting head.id) (share_and_others q.waiting head.id)))
 
 keeps_port : (q : Option Bound) → Keeps q [] (port_closed q)
 keeps_port None = λ test. refl
@@ -267,9 +267,9 @@ conserving q (event.Arrive card bypass room) =
     (keeps_in_time q card bypass room)
 conserving q (event.Ask port call (request.Config queue command params maximum flags mask)) =
     keeps_config q port (asking command params maximum flags mask)
-conserving q (event.Ask port call (request.Verdict queue head mark payload)) =
+conserving q (event.Ask port call (request.Verdict queue head mark payload priority)) =
     keeps_verdict q port head _
-conserving q (event.Ask port call (request.Batch queue head mark)) = keeps_batch q port head mark
+conserving q (event.Ask port call (request.Batch queue head mark priority)) = keeps_batch q port head mark priority
 conserving q (event.PortClosed port) = keeps_port q
 conserving q (event.DeviceDown device) = keeps_device q device
 
@@ -320,11 +320,11 @@ counts_carried : (q : Bound) (head : Head) (edit : Edit) (o : Option Card) →
 counts_carried q head edit None = refl
 counts_carried q head edit (Some card) = refl
 
-counts_shared : (q : Bound) (head : Head) (mark : Option ℕ) (ws : List (ℕ × Card)) →
-    Counts (shared_out q head mark ws)
-counts_shared q head mark [] = refl
-counts_shared q head mark (w ∷ ws) =
-    sym (length-map (w ∷ ws) (λ (v : ℕ × Card). leaving head (marking mark) v.1))
+counts_shared : (q : Bound) (head : Head) (mark priority : Option ℕ) (ws : List (ℕ × Card)) →
+    Counts (shared_out q head mark priority ws)
+counts_shared q head mark priority [] = refl
+counts_shared q head mark priority (w ∷ ws) =
+    sym (length-map (w ∷ ws) (λ (v : ℕ × Card). leaving head (batch_edit mark priority) v.1))
 
 counts_verdict : (q : Option Bound) (port : ℕ) (head : Option Head) (edit : Edit) →
     Counts (verdict q port head edit)
@@ -335,14 +335,14 @@ counts_verdict (Some q) port (Some head) edit =
     (either (λ r. Counts (verdict_under r (Some q) edit)) (not (is_verdict head.verdict)) _ _ refl
     (counts_carried q head edit (card_under q head.id)))
 
-counts_batch : (q : Option Bound) (port : ℕ) (head : Option Head) (mark : Option ℕ) →
-    Counts (batch q port head mark)
-counts_batch None port head mark = refl
-counts_batch (Some q) port None mark = refl
-counts_batch (Some q) port (Some head) mark =
-    either (λ r. Counts (batch_under r (Some q) mark)) (not (q.port == port)) _ _ refl
-    (either (λ r. Counts (batch_under r (Some q) mark)) (not (is_verdict head.verdict)) _ _ refl
-    (counts_shared q head mark (share q.waiting head.id)))
+counts_batch : (q : Option Bound) (port : ℕ) (head : Option Head) (mark priority : Option ℕ) →
+    Counts (batch q port head mark priority)
+counts_batch None port head mark priority = refl
+counts_batch (Some q) port None mark priority = refl
+counts_batch (Some q) port (Some head) mark priority =
+    either (λ r. Counts (batch_under r (Some q) mark priority)) (not (q.port == port)) _ _ refl
+    (either (λ r. Counts (batch_under r (Some q) mark priority)) (not (is_verdict head.verdict)) _ _ refl
+    (counts_shared q head mark priority (share q.waiting head.id)))
 
 counts_port : (q : Option Bound) → CountsFlush (port_closed q)
 counts_port None = refl
@@ -360,9 +360,9 @@ counting q (event.Arrive card bypass room) =
     either CountsArrival (card.visit == last_visit) _ _ refl (counts_in_time q card bypass room)
 counting q (event.Ask port call (request.Config queue command params maximum flags mask)) =
     counts_config q port (asking command params maximum flags mask)
-counting q (event.Ask port call (request.Verdict queue head mark payload)) =
+counting q (event.Ask port call (request.Verdict queue head mark payload priority)) =
     counts_verdict q port head _
-counting q (event.Ask port call (request.Batch queue head mark)) = counts_batch q port head mark
+counting q (event.Ask port call (request.Batch queue head mark priority)) = counts_batch q port head mark priority
 counting q (event.PortClosed port) = counts_port q
 counting q (event.DeviceDown device) = counts_device q device
 
@@ -430,11 +430,11 @@ pub another_port : (q : Bound) (port call : ℕ) (asked : Request) → port ≢ 
 another_port q port call (request.Config queue command params maximum flags mask) other =
     config_by_another q port (asking command params maximum flags mask)
     (rw (ne_eqb q.port port (λ e. other (sym e))) refl)
-another_port q port call (request.Verdict queue None mark payload) other = untouched_by q _
-another_port q port call (request.Verdict queue (Some head) mark payload) other =
+another_port q port call (request.Verdict queue None mark payload priority) other = untouched_by q _
+another_port q port call (request.Verdict queue (Some head) mark payload priority) other =
     rw (ne_eqb q.port port (λ e. other (sym e))) (untouched_by q eperm)
-another_port q port call (request.Batch queue None mark) other = untouched_by q _
-another_port q port call (request.Batch queue (Some head) mark) other =
+another_port q port call (request.Batch queue None mark priority) other = untouched_by q _
+another_port q port call (request.Batch queue (Some head) mark priority) other =
     rw (ne_eqb q.port port (λ e. other (sym e))) (untouched_by q eperm)
 
 -- ---- ids that differ
@@ -500,10 +500,10 @@ apart_carried : (q : Bound) (head : Head) (edit : Edit) (o : Option Card) → Ap
 apart_carried q head edit None apart = apart
 apart_carried q head edit (Some card) apart = apart_without head.id q.waiting apart
 
-apart_shared : (q : Bound) (head : Head) (mark : Option ℕ) (ws : List (ℕ × Card)) →
-    Apart q.waiting → AreApart (shared_out q head mark ws).state
-apart_shared q head mark [] apart = apart
-apart_shared q head mark (w ∷ ws) apart = apart_dropped (length (w ∷ ws)) q.waiting apart
+apart_shared : (q : Bound) (head : Head) (mark priority : Option ℕ) (ws : List (ℕ × Card)) →
+    Apart q.waiting → AreApart (shared_out q head mark priority ws).state
+apart_shared q head mark priority [] apart = apart
+apart_shared q head mark priority (w ∷ ws) apart = apart_dropped (length (w ∷ ws)) q.waiting apart
 
 apart_verdict : (q : Option Bound) (port : ℕ) (head : Option Head) (edit : Edit) → AreApart q →
     AreApart (verdict q port head edit).state
@@ -514,14 +514,14 @@ apart_verdict (Some q) port (Some head) edit apart =
     (either (λ r. AreApart (verdict_under r (Some q) edit).state) (not (is_verdict head.verdict)) _
     _ apart (apart_carried q head edit (card_under q head.id) apart))
 
-apart_batch : (q : Option Bound) (port : ℕ) (head : Option Head) (mark : Option ℕ) → AreApart q →
-    AreApart (batch q port head mark).state
-apart_batch None port head mark apart = tt
-apart_batch (Some q) port None mark apart = apart
-apart_batch (Some q) port (Some head) mark apart =
-    either (λ r. AreApart (batch_under r (Some q) mark).state) (not (q.port == port)) _ _ apart
-    (either (λ r. AreApart (batch_under r (Some q) mark).state) (not (is_verdict head.verdict)) _ _
-    apart (apart_shared q head mark (share q.waiting head.id) apart))
+apart_batch : (q : Option Bound) (port : ℕ) (head : Option Head) (mark priority : Option ℕ) → AreApart q →
+    AreApart (batch q port head mark priority).state
+apart_batch None port head mark priority apart = tt
+apart_batch (Some q) port None mark priority apart = apart
+apart_batch (Some q) port (Some head) mark priority apart =
+    either (λ r. AreApart (batch_under r (Some q) mark priority).state) (not (q.port == port)) _ _ apart
+    (either (λ r. AreApart (batch_under r (Some q) mark priority).state) (not (is_verdict head.verdict)) _ _
+    apart (apart_shared q head mark priority (share q.waiting head.id) apart))
 
 apart_port : (q : Option Bound) → AreApart (port_closed q).state
 apart_port None = tt
@@ -540,9 +540,9 @@ stay_apart q (event.Arrive card bypass room) ids apart =
     (apart_in_time q card bypass room ids apart)
 stay_apart q (event.Ask port call (request.Config queue command params maximum flags mask)) ids
     apart = apart_config q port (asking command params maximum flags mask) apart
-stay_apart q (event.Ask port call (request.Verdict queue head mark payload)) ids apart =
+stay_apart q (event.Ask port call (request.Verdict queue head mark payload priority)) ids apart =
     apart_verdict q port head _ apart
-stay_apart q (event.Ask port call (request.Batch queue head mark)) ids apart =
-    apart_batch q port head mark apart
+stay_apart q (event.Ask port call (request.Batch queue head mark priority)) ids apart =
+    apart_batch q port head mark priority apart
 stay_apart q (event.PortClosed port) ids apart = apart_port q
 stay_apart q (event.DeviceDown device) ids apart = apart_device q device apart

@@ -367,14 +367,15 @@ fn told(bound: Option<Queue>) -> Option<(u8, u32, u32, u32)>
     }
 }
 
-/// What a verdict on this id takes out: where it goes, its mark and its bytes.
+/// What a verdict on this id takes out: where it goes, its mark and priority, and its bytes.
 fn decided(
     alloc: Global,
     queue: &mut Queue,
     head: Head,
     mark: Option<u32>,
     payload: Option<&[u8]>,
-) -> Result<Option<(Decision, u32, Bytes)>, NoMemory>
+    priority: Option<u32>,
+) -> Result<Option<(Decision, (u32, u32), Bytes)>, NoMemory>
     requires no_offer { queue.old.offer ≡ None }
     ensures no_offer { queue.new.offer ≡ None }
 {
@@ -386,40 +387,67 @@ fn decided(
     if kind > STOP || kind == STOLEN {
         return Ok(None);
     }
-    let Some((packet, decision)) = queue.verdict(head, mark, payload) else {
+    let Some((packet, decision)) = queue.verdict(head, mark, payload, priority) else {
         return Ok(None);
     };
-    let mark = packet.mark();
+    let set = (packet.mark(), packet.priority());
     let bytes = Bytes::copy(alloc, packet.bytes());
     packet.release();
-    Ok(Some((decision, mark, bytes?)))
+    Ok(Some((decision, set, bytes?)))
 }
 
 #[test]
 fn each_verdict_goes_its_way(rt: HostRuntime) -> Result<(), Fail> {
-    // The verdict, the mark and the payload that it sets; and its decision, the packet's mark and
-    // how many bytes it then has. (`NF_QUEUE_NR` in uapi linux/netfilter.h)
-    const ROWS: [(u32, Option<u32>, Option<&[u8]>, Decision, u32, usize); 12] = [
-        (0, None, None, Decision::Drop, 0, 20),
-        (1, None, None, Decision::Accept, 0, 20),
-        (1, Some(9), None, Decision::Accept, 9, 20),
-        (1, None, Some(b"replaced"), Decision::Accept, 0, 8),
-        (1, Some(u32::MAX), Some(b""), Decision::Accept, u32::MAX, 0),
-        (4, None, None, Decision::Repeat, 0, 20),
-        (5, None, None, Decision::Stop, 0, 20),
-        (3, None, None, TO_0, 0, 20),
-        (589_827, None, None, TO_9, 0, 20),
-        (622_595, Some(9), None, TO_9_OR_BY, 9, 20),
-        (4_294_934_531, None, None, TO_LAST_OR_BY, 0, 20),
-        (32_769, None, None, Decision::Accept, 0, 20),
+    // The verdict, the mark, the payload and the priority that it sets; and its decision, the
+    // packet's mark and priority, and how many bytes it then has. (`NF_QUEUE_NR` in uapi
+    // linux/netfilter.h)
+    const ROWS: [(u32, Sets, Decision, (u32, u32), usize); 14] = [
+        (0, (None, None, None), Decision::Drop, (0, 0), 20),
+        (1, (None, None, None), Decision::Accept, (0, 0), 20),
+        (1, (Some(9), None, None), Decision::Accept, (9, 0), 20),
+        (
+            1,
+            (None, Some(b"replaced"), None),
+            Decision::Accept,
+            (0, 0),
+            8,
+        ),
+        (
+            1,
+            (Some(LAST), Some(b""), None),
+            Decision::Accept,
+            (LAST, 0),
+            0,
+        ),
+        (1, (None, None, Some(6)), Decision::Accept, (0, 6), 20),
+        (
+            4,
+            (Some(1), Some(b"new"), Some(LAST)),
+            Decision::Repeat,
+            (1, LAST),
+            3,
+        ),
+        (4, (None, None, None), Decision::Repeat, (0, 0), 20),
+        (5, (None, None, None), Decision::Stop, (0, 0), 20),
+        (3, (None, None, None), TO_0, (0, 0), 20),
+        (589_827, (None, None, None), TO_9, (0, 0), 20),
+        (622_595, (Some(9), None, None), TO_9_OR_BY, (9, 0), 20),
+        (4_294_934_531, (None, None, None), TO_LAST_OR_BY, (0, 0), 20),
+        (32_769, (None, None, None), Decision::Accept, (0, 0), 20),
     ];
-    for &(verdict, mark, payload, decision, marked, length) in &ROWS {
-        let answer = one_decided(rt.alloc(), verdict, mark, payload)?;
-        let wanted = (1, false, Some((decision, marked, length)), 0);
+    for &(verdict, sets, decision, set, length) in &ROWS {
+        let answer = one_decided(rt.alloc(), verdict, sets)?;
+        let wanted = (1, false, Some((decision, set, length)), 0);
         assert_eq!(rt; answer, wanted, "{verdict:x}");
     }
     Ok(())
 }
+
+/// The mark, the payload and the priority that a verdict sets.
+type Sets = (Option<u32>, Option<&'static [u8]>, Option<u32>);
+
+/// The largest mark, and the largest priority.
+const LAST: u32 = u32::MAX;
 
 /// To these queues, without the bypass.
 const TO_0: Decision = Decision::Queue {
@@ -448,15 +476,29 @@ const TO_LAST_OR_BY: Decision = Decision::Queue {
 fn one_decided(
     alloc: Global,
     verdict: u32,
-    mark: Option<u32>,
-    payload: Option<&[u8]>,
-) -> Result<(u32, bool, Option<(Decision, u32, usize)>, u32), NoMemory> {
+    sets: Sets,
+) -> Result<(u32, bool, Option<(Decision, (u32, u32), usize)>, u32), NoMemory> {
+    let (mark, payload, priority) = sets;
     let mut queue = copying(alloc);
     let waits = arrivals(alloc, &mut queue, 1);
-    let other = decided(alloc, &mut queue, Head { verdict, id: 2 }, mark, payload);
-    let taken = decided(alloc, &mut queue, Head { verdict, id: 1 }, mark, payload);
+    let other = decided(
+        alloc,
+        &mut queue,
+        Head { verdict, id: 2 },
+        mark,
+        payload,
+        priority,
+    );
+    let taken = decided(
+        alloc,
+        &mut queue,
+        Head { verdict, id: 1 },
+        mark,
+        payload,
+        priority,
+    );
     let left = ended(queue);
-    let taken = taken?.map(|(way, mark, bytes)| (way, mark, bytes.len()));
+    let taken = taken?.map(|(way, set, bytes)| (way, set, bytes.len()));
     Ok((waits?, other?.is_some(), taken, left))
 }
 
@@ -475,13 +517,14 @@ fn arrivals(alloc: Global, queue: &mut Queue, count: u32) -> Result<u32, NoMemor
     Ok(taken)
 }
 
-/// Takes out what a batch that accepts hands out: how many, and their marks added up.
+/// Takes out what a batch that accepts hands out: how many, and their marks and their priorities
+/// added up.
 fn batched(
     alloc: Global,
     queue: &mut Queue,
     maximum: u32,
-    mark: Option<u32>,
-) -> Result<(u32, u64), NoMemory>
+    sets: (Option<u32>, Option<u32>),
+) -> Result<(u32, u64, u64), NoMemory>
     requires no_offer { queue.old.offer ≡ None }
     ensures no_offer { queue.new.offer ≡ None }
 {
@@ -490,14 +533,15 @@ fn batched(
         verdict: 1,
         id: maximum,
     };
-    let count = queue.batch(head, mark, &mut handed);
-    let mut marks = 0u64;
+    let count = queue.batch(head, sets.0, sets.1, &mut handed);
+    let (mut marks, mut priorities) = (0u64, 0u64);
     while let Some((packet, _)) = handed.take() {
         marks = marks.saturating_add(packet.mark() as u64);
+        priorities = priorities.saturating_add(packet.priority() as u64);
         packet.release();
     }
     handed.finish();
-    Ok((count?, marks))
+    Ok((count?, marks, priorities))
 }
 
 /// So many packets arrive after this last id, and so many more after that one.
@@ -519,24 +563,46 @@ type Ids = (u32, u32);
 
 #[test]
 fn batches_take_their_share(rt: HostRuntime) -> Result<(), Fail> {
-    // The last id and how many arrive after it, and once more; the batch's maximum and mark; and
-    // then how many it takes, their marks added up, how many wait, and the last id.
-    const ROWS: [((Ids, Ids), u32, Option<u32>, ((u32, u64), u32, u32)); 7] = [
-        (((4_294_967_294, 3), NONE_MORE), 0, None, ((2, 0), 1, 1)),
-        (((2, 2), NONE_MORE), 2, None, ((0, 0), 2, 4)),
-        (((0, 1), (HALF, 1)), PAST_HALF, None, ((0, 0), 2, PAST_HALF)),
-        (((0, 1), (0, 1)), 1, None, ((1, 0), 1, 2)),
-        (((0, 3), NONE_MORE), 3, Some(7), ((3, 21), 0, 3)),
-        (((0, 0), NONE_MORE), 9, None, ((0, 0), 0, 0)),
+    // The last id and how many arrive after it, and once more; the batch's maximum, and the mark
+    // and priority that it sets; and then how many it takes, their marks and their priorities added
+    // up, how many wait, and the last id.
+    const ROWS: [(
+        (Ids, Ids),
+        u32,
+        (Option<u32>, Option<u32>),
+        ((u32, u64, u64), u32, u32),
+    ); 8] = [
+        (
+            ((4_294_967_294, 3), NONE_MORE),
+            0,
+            NOTHING,
+            ((2, 0, 0), 1, 1),
+        ),
+        (((2, 2), NONE_MORE), 2, NOTHING, ((0, 0, 0), 2, 4)),
+        (
+            ((0, 1), (HALF, 1)),
+            PAST_HALF,
+            NOTHING,
+            ((0, 0, 0), 2, PAST_HALF),
+        ),
+        (((0, 1), (0, 1)), 1, NOTHING, ((1, 0, 0), 1, 2)),
+        (((0, 3), NONE_MORE), 3, (Some(7), None), ((3, 21, 0), 0, 3)),
+        (
+            ((0, 4), NONE_MORE),
+            3,
+            (Some(7), Some(5)),
+            ((3, 21, 15), 1, 4),
+        ),
+        (((0, 0), NONE_MORE), 9, NOTHING, ((0, 0, 0), 0, 0)),
         (
             ((0, 1024), NONE_MORE),
             1000,
-            Some(1),
-            ((1000, 1000), 24, 1024),
+            (None, Some(1)),
+            ((1000, 0, 1000), 24, 1024),
         ),
     ];
-    for (i, &(arrive, maximum, mark, wanted)) in ROWS.iter().enumerate() {
-        let answer = one_batch(rt.alloc(), arrive, maximum, mark)?;
+    for (i, &(arrive, maximum, sets, wanted)) in ROWS.iter().enumerate() {
+        let answer = one_batch(rt.alloc(), arrive, maximum, sets)?;
         assert_eq!(rt; answer, wanted, "row {i}");
     }
     Ok(())
@@ -549,17 +615,20 @@ const PAST_HALF: u32 = HALF + 1;
 
 const NONE_MORE: Ids = (0, 0);
 
-/// A batch where packets have come to wait in two groups: how many it takes, their marks added up,
-/// how many wait, and the last id.
+/// Neither a mark nor a priority.
+const NOTHING: (Option<u32>, Option<u32>) = (None, None);
+
+/// A batch where packets have come to wait in two groups: how many it takes, their marks and their
+/// priorities added up, how many wait, and the last id.
 fn one_batch(
     alloc: Global,
     arrive: (Ids, Ids),
     maximum: u32,
-    mark: Option<u32>,
-) -> Result<((u32, u64), u32, u32), NoMemory> {
+    sets: (Option<u32>, Option<u32>),
+) -> Result<((u32, u64, u64), u32, u32), NoMemory> {
     let mut queue = copying(alloc);
     let arrived = waiting_after(alloc, &mut queue, arrive.0, arrive.1);
-    let answer = batched(alloc, &mut queue, maximum, mark);
+    let answer = batched(alloc, &mut queue, maximum, sets);
     let used = queue.last();
     let left = ended(queue);
     arrived?;

@@ -64,19 +64,21 @@ pub(super) fn verdict(
     head: Head,
     mark: Option<u32>,
     payload: Option<Bytes>,
+    priority: Option<u32>,
 ) -> Option<(Packet, Decision)>
     requires known { IsVerdict head.verdict }
     requires payload { IfSome payload (λ bytes. length bytes ≤ longest_payload) }
     requires bound { IsSomeAnd (queue_at queues.old number) (λ q. q.offer ≡ None) }
     ensures { Changes queues.old queues.new number (λ old new. (new.offer ≡ None)
         × ((queue call : ℕ) →
-        step (Some old.state) (Ask old.state.port call (Verdict queue (Some head) mark payload))
+        step (Some old.state)
+        (Ask old.state.port call (Verdict queue (Some head) mark payload priority))
         ≡ hands_out new.state (option_to_list result))) }
 {
     let Some(queue) = queues.get_mut(&number) else {
         unreachable!()
     };
-    queue.verdict(head, mark, payload)
+    queue.verdict(head, mark, payload, priority)
 }
 
 /// Carries out a batch at a bound queue, and appends what it hands out.
@@ -85,24 +87,25 @@ pub(super) fn batch(
     number: u16,
     head: Head,
     mark: Option<u32>,
+    priority: Option<u32>,
     out: &mut Handed,
 ) -> Result<u32, NoMemory>
     requires known { IsVerdict head.verdict }
     requires bound { IsSomeAnd (queue_at queues.old number) (λ q. q.offer ≡ None) }
     ensures handed { IfOk result (λ count. Changes queues.old queues.new number (λ old new.
         (new.offer ≡ None)
-        × (count ≡ length (batch_handed old.state head mark))
-        × (out.new.items ≡ out.old.items ++ batch_handed old.state head mark)
+        × (count ≡ length (batch_handed old.state head mark priority))
+        × (out.new.items ≡ out.old.items ++ batch_handed old.state head mark priority)
         × ((queue call : ℕ) →
-        step (Some old.state) (Ask old.state.port call (Batch queue (Some head) mark))
-        ≡ hands_out new.state (batch_handed old.state head mark)))) }
+        step (Some old.state) (Ask old.state.port call (Batch queue (Some head) mark priority))
+        ≡ hands_out new.state (batch_handed old.state head mark priority)))) }
     ensures err { OnErr result (AreSame queues.old queues.new) }
     ensures out { OnErr result (out.new.items ≡ out.old.items) }
 {
     let Some(queue) = queues.get_mut(&number) else {
         unreachable!()
     };
-    queue.batch(head, mark, out)
+    queue.batch(head, mark, priority, out)
 }
 
 /// Sets a bound queue up, as a request that isn't refused asks for. Takes no memory.

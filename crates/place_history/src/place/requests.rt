@@ -191,6 +191,7 @@ pub(super) fn verdict(
     head: Option<Head>,
     mark: Option<u32>,
     payload: Option<Bytes>,
+    priority: Option<u32>,
     handed: &mut Handed,
 ) -> Result<u16, NoMemory>
     requires replayed { IsReplayed held.old }
@@ -201,7 +202,7 @@ pub(super) fn verdict(
     ensures no_offer { held.new.offer ≡ None }
     ensures room { HasRoom held.new 0 }
     ensures entered { IfOk result (λ errno. HandsOut held.old held.new asker.queue
-        (Ask asker.port asker.call (Verdict asker.queue head mark payload)) errno
+        (Ask asker.port asker.call (Verdict asker.queue head mark payload priority)) errno
         handed.old.items handed.new.items) }
     ensures entries { OnErr result (held.new.entries.items ≡ held.old.entries.items) }
     ensures handed { OnErr result (handed.new.items ≡ handed.old.items) }
@@ -211,6 +212,7 @@ pub(super) fn verdict(
         head,
         mark,
         payload: share_payload(&payload)?,
+        priority,
     };
     handed.make_room(1)?;
     match ruling(port_of(held, asker.queue), asker.port, head) {
@@ -218,7 +220,7 @@ pub(super) fn verdict(
             note(held, answered(asker, request, errno, 0));
             Ok(errno)
         }
-        Ok(head) => Ok(carry_out(held, asker, head, mark, payload, request, handed)),
+        Ok(head) => Ok(carry_out(held, asker, head, mark, payload, priority, request, handed)),
     }
 }
 
@@ -229,6 +231,7 @@ fn carry_out(
     head: Head,
     mark: Option<u32>,
     payload: Option<Bytes>,
+    priority: Option<u32>,
     request: Request,
     handed: &mut Handed,
 ) -> u16
@@ -238,7 +241,7 @@ fn carry_out(
     requires payload { IfSome payload (λ bytes. length bytes ≤ longest_payload) }
     requires allowed { IsAllowed (state_of held.old.entries.items asker.queue) asker.port
         (Some head) head }
-    requires request { request ≡ Verdict asker.queue (Some head) mark payload }
+    requires request { request ≡ Verdict asker.queue (Some head) mark payload priority }
     requires handed_room { 0 < handed.old.room }
     ensures replayed { IsReplayed held.new }
     ensures no_offer { held.new.offer ≡ None }
@@ -246,7 +249,7 @@ fn carry_out(
     ensures entered { HandsOut held.old held.new asker.queue
         (Ask asker.port asker.call request) result handed.old.items handed.new.items }
 {
-    match bound::verdict(&mut held.queues, asker.queue, head, mark, payload) {
+    match bound::verdict(&mut held.queues, asker.queue, head, mark, payload, priority) {
         None => {
             append(held, answered(asker, request, ENOENT, 0));
             ENOENT
@@ -279,6 +282,7 @@ pub(super) fn batch(
     asker: Asker,
     head: Option<Head>,
     mark: Option<u32>,
+    priority: Option<u32>,
     handed: &mut Handed,
 ) -> Result<u16, NoMemory>
     requires replayed { IsReplayed held.old }
@@ -288,7 +292,7 @@ pub(super) fn batch(
     ensures no_offer { held.new.offer ≡ None }
     ensures room { HasRoom held.new 0 }
     ensures entered { IfOk result (λ errno. HandsOut held.old held.new asker.queue
-        (Ask asker.port asker.call (Batch asker.queue head mark)) errno
+        (Ask asker.port asker.call (Batch asker.queue head mark priority)) errno
         handed.old.items handed.new.items) }
     ensures entries { OnErr result (held.new.entries.items ≡ held.old.entries.items) }
     ensures handed { OnErr result (handed.new.items ≡ handed.old.items) }
@@ -299,11 +303,12 @@ pub(super) fn batch(
                 queue: asker.queue,
                 head,
                 mark,
+                priority,
             };
             note(held, answered(asker, request, errno, 0));
             Ok(errno)
         }
-        Ok(head) => share_out(held, alloc, asker, head, mark, handed),
+        Ok(head) => share_out(held, alloc, asker, head, mark, priority, handed),
     }
 }
 
@@ -314,6 +319,7 @@ fn share_out(
     asker: Asker,
     head: Head,
     mark: Option<u32>,
+    priority: Option<u32>,
     handed: &mut Handed,
 ) -> Result<u16, NoMemory>
     requires replayed { IsReplayed held.old }
@@ -325,17 +331,26 @@ fn share_out(
     ensures no_offer { held.new.offer ≡ None }
     ensures room { HasRoom held.new 0 }
     ensures entered { IfOk result (λ errno. HandsOut held.old held.new asker.queue
-        (Ask asker.port asker.call (Batch asker.queue (Some head) mark)) errno
+        (Ask asker.port asker.call (Batch asker.queue (Some head) mark priority)) errno
         handed.old.items handed.new.items) }
     ensures entries { OnErr result (held.new.entries.items ≡ held.old.entries.items) }
     ensures handed { OnErr result (handed.new.items ≡ handed.old.items) }
 {
-    let taken = take_share(&mut held.queues, alloc, asker.queue, head, mark, handed)?;
+    let taken = take_share(
+        &mut held.queues,
+        alloc,
+        asker.queue,
+        head,
+        mark,
+        priority,
+        handed,
+    )?;
     let errno = errno_of(taken);
     let request = Request::Batch {
         queue: asker.queue,
         head: Some(head),
         mark,
+        priority,
     };
     append(held, answered(asker, request, errno, taken));
     Ok(errno)
@@ -356,26 +371,27 @@ fn take_share(
     number: u16,
     head: Head,
     mark: Option<u32>,
+    priority: Option<u32>,
     handed: &mut Handed,
 ) -> Result<u32, NoMemory>
     requires known { IsVerdict head.verdict }
     requires bound { IsSomeAnd (queue_at queues.old number) (λ q. q.offer ≡ None) }
     ensures taken { IfOk result (λ count. Changes queues.old queues.new number (λ old new.
         (new.offer ≡ None)
-        × (count ≡ length (batch_handed old.state head mark))
+        × (count ≡ length (batch_handed old.state head mark priority))
         × (handed.new.items ≡ handed.old.items
-        ++ all_handed (ways_of (batch_handed old.state head mark)))
+        ++ all_handed (ways_of (batch_handed old.state head mark priority)))
         × ((queue call : ℕ) →
-        step (Some old.state) (Ask old.state.port call (Batch queue (Some head) mark))
-        ≡ hands_out new.state (batch_handed old.state head mark)))) }
+        step (Some old.state) (Ask old.state.port call (Batch queue (Some head) mark priority))
+        ≡ hands_out new.state (batch_handed old.state head mark priority)))) }
     ensures err { OnErr result (AreSame queues.old queues.new) }
     ensures handed { OnErr result (handed.new.items ≡ handed.old.items) }
 {
     if head.verdict % (VERDICT_MASK + 1) != DROP {
-        return bound::batch(queues, number, head, mark, handed);
+        return bound::batch(queues, number, head, mark, priority, handed);
     }
     let mut dropped = Handed::new(alloc);
-    let taken = bound::batch(queues, number, head, mark, &mut dropped);
+    let taken = bound::batch(queues, number, head, mark, priority, &mut dropped);
     while let Some((packet, _)) = dropped.take() {
         packet.destroy();
     }

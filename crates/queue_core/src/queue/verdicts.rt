@@ -91,7 +91,14 @@ impl Queue {
         let count = ids::share_length(&self.waiting, head.id);
         out.packets.reserve(count)?;
         let decision = decision_of(head.verdict);
-        hand_out(&mut self.waiting, count, mark, priority, decision, &mut out.packets);
+        hand_out(
+            &mut self.waiting,
+            count,
+            mark,
+            priority,
+            decision,
+            &mut out.packets,
+        );
         Ok(count as u32)
     }
 }

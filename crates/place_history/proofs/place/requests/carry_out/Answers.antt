@@ -11,7 +11,8 @@ use Rattle.place_history.proofs.place.requests.carry_out.Goals as goal
 pub append-requires-clause-ahead : goal.append-requires-clause-ahead
 append-requires-clause-ahead c =
     let number : c.args.asker.queue < queue_count = search in
-    let request = Verdict c.args.asker.queue (Some c.args.head) c.args.mark c.args.payload in
+    let request =
+    Verdict c.args.asker.queue (Some c.args.head) c.args.mark c.args.payload c.args.priority in
     let by = rw c.in-None.is at c.verdict.ensures.by in
     rw (c.answered.ensures, c.requires.request, c.requires.no_offer)
     (ahead c.args.held.now c.verdict.new.queues _ c.requires.replayed
@@ -25,7 +26,8 @@ append-requires-clause-ahead c =
 pub append-requires-in-Some-clause-ahead : goal.append-requires-in-Some-clause-ahead
 append-requires-in-Some-clause-ahead c =
     let number : c.args.asker.queue < queue_count = search in
-    let request = Verdict c.args.asker.queue (Some c.args.head) c.args.mark c.args.payload in
+    let request =
+    Verdict c.args.asker.queue (Some c.args.head) c.args.mark c.args.payload c.args.priority in
     let by = rw c.in-Some.is at c.verdict.ensures.by in
     rw (c.answered-in-Some.ensures, c.requires.request, c.requires.no_offer)
     (ahead c.args.held.now c.verdict.new.queues _ c.requires.replayed
@@ -39,7 +41,8 @@ append-requires-in-Some-clause-ahead c =
 
 pub returns-in-None-clause-entered : goal.returns-in-None-clause-entered
 returns-in-None-clause-entered c =
-    let request = Verdict c.args.asker.queue (Some c.args.head) c.args.mark c.args.payload in
+    let request =
+    Verdict c.args.asker.queue (Some c.args.head) c.args.mark c.args.payload c.args.priority in
     let by = rw c.in-None.is at c.verdict.ensures.by in
     let appended = rw (c.answered.ensures, c.requires.request) at c.append.ensures.entries in
     rw c.requires.request (record {
@@ -56,7 +59,8 @@ returns-in-None-clause-entered c =
 
 pub returns-in-Some-clause-entered : goal.returns-in-Some-clause-entered
 returns-in-Some-clause-entered c =
-    let request = Verdict c.args.asker.queue (Some c.args.head) c.args.mark c.args.payload in
+    let request =
+    Verdict c.args.asker.queue (Some c.args.head) c.args.mark c.args.payload c.args.priority in
     let by = rw c.in-Some.is at c.verdict.ensures.by in
     let appended = rw (c.answered-in-Some.ensures, c.requires.request)
     at c.append-in-Some.ensures.entries in

@@ -14,7 +14,7 @@ returns-then-head-ne-DROP-clause-taken c =
       by.0,
       by.1,
       by.2 ∙ ap (λ hs. c.args.handed.now.items ++ hs)
-          (sym (all_kept old.state c.args.head c.args.mark kept)),
+          (sym (all_kept old.state c.args.head c.args.mark c.args.priority kept)),
       by.3,
     )) h)
     c.batch.result c.batch.ensures.handed
@@ -27,7 +27,7 @@ returns-clause-taken c =
       by.0,
       by.1,
       sym (append-nil c.args.handed.now.items) ∙ ap (λ hs. c.args.handed.now.items ++ hs)
-          (sym (all_dropped old.state c.args.head c.args.mark drop)),
+          (sym (all_dropped old.state c.args.head c.args.mark c.args.priority drop)),
       by.3,
     )) h)
     c.batch-taken.result c.batch-taken.ensures.handed

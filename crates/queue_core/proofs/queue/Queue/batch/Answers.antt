@@ -15,7 +15,7 @@ invariant_of-self c =
 pub returns-clause-step : goal.returns-clause-step
 returns-clause-step c =
     λ queue call. rw (c.hand_out.ensures.waiting, c.share_length-count.ensures, ← c.self.view_is)
-    (batch_shares _ c.args.head c.args.mark c.requires.known)
+    (batch_shares _ c.args.head c.args.mark c.args.priority c.requires.known)
 
 pub hand_out-requires-clause-count : goal.hand_out-requires-clause-count
 hand_out-requires-clause-count c =
