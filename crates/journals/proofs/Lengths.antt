@@ -5,7 +5,8 @@ use Rattle.std.proofs.Math.Nat.{le_refl}
 use Rattle.hex.specs.Hex.{encode_with, lower_digits}
 use Rattle.text_lines.specs.Hexadecimal.{hexadecimal}
 use Rattle.packet_entry.specs.declared.packet.Card.{Card}
-use Rattle.journals.specs.Journal as text
+use Rattle.journals.specs.declared.version.Version.TheVariants.{Second}
+use Rattle.journals.specs.Format as text
 
 length-encode_with : (digits bytes : List ℕ) →
     length (encode_with digits bytes) ≡ length bytes * 2
@@ -30,19 +31,19 @@ blank : length (codes " ") ≤ 1
 blank = omega arith
 
 pub card_within : (c : Card) (bypass room : List ℕ) → length (text.journey c) ≤ 63 →
-    length (bypass ++ codes " " ++ room ++ codes " ") ≤ 4 → length (text.facts c) ≤ 84 →
-    length (text.card c bypass room)
-    ≤ 153 + length (hexadecimal c.link) + length (hexadecimal c.bytes)
+    length (bypass ++ codes " " ++ room ++ codes " ") ≤ 4 → length (text.facts Second c) ≤ 105 →
+    length (text.card Second c bypass room)
+    ≤ 174 + length (hexadecimal c.link) + length (hexadecimal c.bytes)
 card_within c bypass room journey ways facts =
     let link = length (hexadecimal c.link) in
     let bytes = length (hexadecimal c.bytes) in
     omega (
       arith,
-      both_within _ (codes " ") (151 + link + 1 + bytes) 1
-          (both_within _ (hexadecimal c.bytes) (151 + link + 1) bytes
-          (both_within _ (codes " ") (151 + link) 1
-          (both_within _ (hexadecimal c.link) 151 link
-          (both_within _ _ 67 84 (both_within _ _ 63 4 journey ways) facts)
+      both_within _ (codes " ") (172 + link + 1 + bytes) 1
+          (both_within _ (hexadecimal c.bytes) (172 + link + 1) bytes
+          (both_within _ (codes " ") (172 + link) 1
+          (both_within _ (hexadecimal c.link) 172 link
+          (both_within _ _ 67 105 (both_within _ _ 63 4 journey ways) facts)
           (le_refl link)) blank)
           (le_refl bytes)) blank,
     )

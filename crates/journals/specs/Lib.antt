@@ -1,3 +1,5 @@
-pub mod Journal
 pub mod Appending
+pub mod Format
+pub mod Formed
+pub mod Journal
 pub mod WellFormed

@@ -2,9 +2,10 @@
 
 ghost use Rattle.std.specs.Prelude.{All, IfSome};
 ghost use Rattle.hex.specs.Hex.{IsBytes};
-ghost use Rattle.journals.specs.WellFormed.{Fit, FitsAsk, FitsCard, FitsDid, FitsEntry, FitsEvent};
-ghost use Rattle.journals.specs.WellFormed.{FitsHead, FitsLog, FitsOutcome, FitsParams, FitsReply};
-ghost use Rattle.journals.specs.WellFormed.{FitsRequest, IsHalf, IsSmall, IsWide};
+ghost use Rattle.journals.specs.declared.version.Version.TheVariants.{Second};
+ghost use Rattle.journals.specs.Formed.{FitsAsk, FitsCard, FitsDid, FitsHead, FitsOutcome, FitsParams};
+ghost use Rattle.journals.specs.Formed.{FitsRequest, IsHalf, IsSmall, IsWide};
+ghost use Rattle.journals.specs.WellFormed.{Fit, FitsEntry, FitsEvent, FitsLog, FitsReply};
 
 use histories::{AskWords, Did, Dids, Entries, Entry, Event, Histories, Logs, PortLog, Reply};
 use nfqa_msgs::{Head, Params, Request};
@@ -86,7 +87,7 @@ fn payload_fits(payload: &Option<Bytes>)
 }
 
 fn request_fits(request: &Request)
-    ensures { FitsRequest request.now }
+    ensures { FitsRequest Second request.now }
 {
     match request {
         Request::Config {
@@ -109,27 +110,36 @@ fn request_fits(request: &Request)
             head,
             mark,
             payload,
+            priority,
         } => {
             half(*queue);
             head_fits(*head);
             some_wide(*mark);
             payload_fits(payload);
+            some_wide(*priority);
         }
-        Request::Batch { queue, head, mark } => {
+        Request::Batch {
+            queue,
+            head,
+            mark,
+            priority,
+        } => {
             half(*queue);
             head_fits(*head);
             some_wide(*mark);
+            some_wide(*priority);
         }
     }
 }
 
 fn card_fits(card: &Card)
-    ensures { FitsCard card.now }
+    ensures { FitsCard Second card.now }
 {
     wide(card.number);
     wide(card.visit);
     half(card.table);
     wide(card.mark);
+    wide(card.priority);
     wide(card.seconds);
     wide(card.micros);
     half(card.protocol);
@@ -195,7 +205,7 @@ fn entries_fit(entries: &Entries)
 }
 
 fn ask_fits(ask: &AskWords)
-    ensures { FitsAsk ask.now }
+    ensures { FitsAsk Second ask.now }
 {
     match ask {
         AskWords::Plain { request } => request_fits(request),
@@ -204,7 +214,7 @@ fn ask_fits(ask: &AskWords)
 }
 
 fn did_fits(did: &Did)
-    ensures { FitsDid did.now }
+    ensures { FitsDid Second did.now }
 {
     match did {
         Did::Received {
@@ -226,7 +236,7 @@ fn did_fits(did: &Did)
 }
 
 fn dids_fit(dids: &Dids)
-    ensures { All FitsDid dids.now }
+    ensures { All (FitsDid Second) dids.now }
 {
     for did in dids {
         did_fits(did);

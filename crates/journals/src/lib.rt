@@ -6,11 +6,13 @@ mod appending;
 mod fits;
 mod line_room;
 mod room;
+mod version;
 mod writing;
 
 pub use appending::{append_number, append_text, append_word};
 pub use fits::histories_fit;
 pub use line_room::entry_room;
+pub use version::Version;
 pub use writing::{append_entry, append_heading, journal_tail, journal_text};
 
 #[cfg(test)]

@@ -3,7 +3,9 @@
 ghost use Rattle.std.specs.Prelude.{◌≡◌, ◌+◌, ◌≤◌, ◌++◌, ℕ, List, length, IfSome, decimal, codes};
 ghost use Rattle.text_lines.specs.Hexadecimal.{hexadecimal};
 ghost use Rattle.nfqa_msgs.specs.declared.request.Request.TheVariants.{Config};
-ghost use Rattle.journals.specs.Journal as text;
+ghost use Rattle.journals.specs.declared.version.Version.TheVariants.{Second};
+ghost use Rattle.journals.specs.Format as text;
+ghost use Rattle.journals.specs.Journal.{entry};
 
 use crate::writing::{DIGITS, yes_no};
 use histories::{Entry, Event, Reply};
@@ -12,7 +14,7 @@ use packet_entry::{Bytes, Card};
 use queue_core::Outcome;
 
 /// What an arrival's line says of the packet has at most so many bytes beside the packet's own.
-const CARD: usize = 160;
+const CARD: usize = 180;
 /// A request has at most so many bytes beside its payload.
 const REQUEST: usize = 200;
 /// What an entry's line says of its event has at most so many bytes beside packet and request.
@@ -23,14 +25,14 @@ const REPLY: usize = 50;
 /// So many bytes hold the line of an entry with its end; `None` where they are too many to be
 /// counted.
 pub fn entry_room(entry: &Entry) -> Option<usize>
-    ensures { IfSome result (λ room. length (text.entry entry.now) ≤ room) }
+    ensures { IfSome result (λ room. length (entry entry.now) ≤ room) }
 {
     reply_is_short(&entry.reply);
     event_room(entry.queue, &entry.event)?.checked_add(REPLY)
 }
 
 fn event_room(queue: u16, event: &Event) -> Option<usize>
-    ensures { IfSome result (λ room. length (text.event queue event.now) ≤ room) }
+    ensures { IfSome result (λ room. length (text.event Second queue event.now) ≤ room) }
 {
     number_is_short(queue as u64);
     match event {
@@ -61,7 +63,7 @@ fn card_room(card: &Card, bypass: &str, room: &str) -> Option<usize>
     requires bypass { length bypass.now ≡ 1 }
     requires room { length room.now ≡ 1 }
     ensures { IfSome result
-        (λ all. length (text.card card.now bypass.now room.now) ≤ all) }
+        (λ all. length (text.card Second card.now bypass.now room.now) ≤ all) }
 {
     card_is_short(card, bypass, room);
     let link = bytes_room(&card.link)?;
@@ -70,7 +72,7 @@ fn card_room(card: &Card, bypass: &str, room: &str) -> Option<usize>
 }
 
 fn request_room(request: &Request) -> Option<usize>
-    ensures { IfSome result (λ room. length (text.request request.now) ≤ room) }
+    ensures { IfSome result (λ room. length (text.request Second request.now) ≤ room) }
 {
     match request {
         Request::Config {
@@ -89,16 +91,24 @@ fn request_room(request: &Request) -> Option<usize>
             head,
             mark,
             payload,
+            priority,
         } => {
             number_is_short(*queue as u64);
             head_is_short(*head);
             value_is_short(*mark);
+            value_is_short(*priority);
             payload_room(payload)?.checked_add(REQUEST)
         }
-        Request::Batch { queue, head, mark } => {
+        Request::Batch {
+            queue,
+            head,
+            mark,
+            priority,
+        } => {
             number_is_short(*queue as u64);
             head_is_short(*head);
             value_is_short(*mark);
+            value_is_short(*priority);
             Some(REQUEST)
         }
     }
@@ -129,7 +139,7 @@ fn config_is_short(
     flags: Option<u32>,
     mask: Option<u32>,
 )
-    ensures { length (text.request (Config queue command params maxlen flags mask)) ≤ 182 }
+    ensures { length (text.request Second (Config queue command params maxlen flags mask)) ≤ 182 }
 {
     number_is_short(queue as u64);
     command_is_short(command);
@@ -142,8 +152,8 @@ fn config_is_short(
 fn card_is_short(card: &Card, bypass: &str, room: &str)
     requires bypass { length bypass.now ≡ 1 }
     requires room { length room.now ≡ 1 }
-    ensures { length (text.card card.now bypass.now room.now)
-        ≤ 153 + length (hexadecimal card.now.link) + length (hexadecimal card.now.bytes) }
+    ensures { length (text.card Second card.now bypass.now room.now)
+        ≤ 174 + length (hexadecimal card.now.link) + length (hexadecimal card.now.bytes) }
 {
     journey_is_short(card);
     facts_are_short(card);
@@ -165,9 +175,10 @@ fn journey_is_short(card: &Card)
 }
 
 fn facts_are_short(card: &Card)
-    ensures { length (text.facts card.now) ≤ 84 }
+    ensures { length (text.facts Second card.now) ≤ 105 }
 {
     number_is_short(card.mark as u64);
+    number_is_short(card.priority as u64);
     number_is_short(card.seconds as u64);
     number_is_short(card.micros as u64);
     number_is_short(card.protocol as u64);

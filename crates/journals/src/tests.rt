@@ -56,6 +56,7 @@ fn arrives(alloc: Global, mark: u32, outcome: Outcome) -> Result<Vec<u8>, NoMemo
         visit: 2,
         table: 1,
         mark,
+        priority: 7,
         seconds: 5,
         micros: 6,
         protocol: 2048,
@@ -72,7 +73,7 @@ fn arrives(alloc: Global, mark: u32, outcome: Outcome) -> Result<Vec<u8>, NoMemo
 
 #[test]
 fn arrivals_that_are_taken(rt: HostRuntime) -> Result<(), Fail> {
-    const LINE: &[u8] = b">nfq-journal 1\nA 9 3 2 1 y n 4 5 6 2048 ab01 - taken:4294967295\nend\n";
+    const LINE: &[u8] = b">nfq-journal 2\nA 9 3 2 1 y n 4 7 5 6 2048 ab01 - taken:4294967295\nend\n";
     let taken = arrives(rt.alloc(), 4, Outcome::Taken { id: 4_294_967_295 })?;
     assert!(rt; taken.as_slice() == LINE);
     Ok(())
@@ -80,7 +81,7 @@ fn arrivals_that_are_taken(rt: HostRuntime) -> Result<(), Fail> {
 
 #[test]
 fn arrivals_that_are_turned_away(rt: HostRuntime) -> Result<(), Fail> {
-    const LINE: &[u8] = b">nfq-journal 1\nA 9 3 2 1 y n 0 5 6 2048 ab01 - userfull-open:7\nend\n";
+    const LINE: &[u8] = b">nfq-journal 2\nA 9 3 2 1 y n 0 7 5 6 2048 ab01 - userfull-open:7\nend\n";
     let full = arrives(rt.alloc(), 0, Outcome::UserFullOpen { id: 7 })?;
     assert!(rt; full.as_slice() == LINE);
     Ok(())
@@ -110,41 +111,58 @@ fn config() -> Request {
 
 #[test]
 fn config_requests(rt: HostRuntime) -> Result<(), Fail> {
-    const LINE: &[u8] = b">nfq-journal 1\n\
+    const LINE: &[u8] = b">nfq-journal 2\n\
         M 2 7 12 config 2 cmd 1 params 2 64 maxlen 3 flags 4 mask 5 = 16 0\nend\n";
     let told = asks(rt.alloc(), config(), 16, 0)?;
     assert!(rt; told.as_slice() == LINE);
     Ok(())
 }
 
-/// A verdict with a mark and a payload.
+/// A verdict with a mark, a payload and a priority.
 fn verdict(alloc: Global) -> Result<Request, NoMemory> {
     Ok(Request::Verdict {
         queue: 2,
         head: Some(Head { verdict: 4, id: 8 }),
         mark: Some(9),
         payload: Some(Bytes::copy(alloc, &[0x0f])?),
+        priority: Some(3),
     })
 }
 
 #[test]
 fn verdict_requests(rt: HostRuntime) -> Result<(), Fail> {
-    const LINE: &[u8] = b">nfq-journal 1\nM 2 7 12 verdict 2 4 8 mark 9 payload 0f = 0 1\nend\n";
+    const LINE: &[u8] = b">nfq-journal 2\n\
+        M 2 7 12 verdict 2 4 8 mark 9 payload 0f priority 3 = 0 1\nend\n";
     let told = asks(rt.alloc(), verdict(rt.alloc())?, 0, 1)?;
     assert!(rt; told.as_slice() == LINE);
     Ok(())
 }
 
+/// A batch for queue 2.
+fn batch(head: Option<Head>, mark: Option<u32>, priority: Option<u32>) -> Request {
+    Request::Batch {
+        queue: 2,
+        head,
+        mark,
+        priority,
+    }
+}
+
 #[test]
 fn batch_requests(rt: HostRuntime) -> Result<(), Fail> {
-    const LINE: &[u8] = b">nfq-journal 1\nM 2 7 12 batch 2 - = 22 0\nend\n";
-    let request = Request::Batch {
-        queue: 2,
-        head: None,
-        mark: None,
-    };
-    let told = asks(rt.alloc(), request, 22, 0)?;
-    assert!(rt; told.as_slice() == LINE);
+    const BARE: &[u8] = b">nfq-journal 2\nM 2 7 12 batch 2 - = 22 0\nend\n";
+    const FULL: &[u8] = b">nfq-journal 2\n\
+        M 2 7 12 batch 2 1 8 mark 9 priority 4294967295 = 0 3\nend\n";
+    let bare = asks(rt.alloc(), batch(None, None, None), 22, 0)?;
+    assert!(rt; bare.as_slice() == BARE);
+    let head = Head { verdict: 1, id: 8 };
+    let full = asks(
+        rt.alloc(),
+        batch(Some(head), Some(9), Some(4_294_967_295)),
+        0,
+        3,
+    )?;
+    assert!(rt; full.as_slice() == FULL);
     Ok(())
 }
 
@@ -156,14 +174,14 @@ fn flushed(alloc: Global, queue: u16, event: Event) -> Result<Vec<u8>, NoMemory>
 #[test]
 fn ports_that_close(rt: HostRuntime) -> Result<(), Fail> {
     let closed = flushed(rt.alloc(), 0, Event::PortClosed { port: 7 })?;
-    assert!(rt; closed.as_slice() == b">nfq-journal 1\nC 0 7 3\nend\n".as_slice());
+    assert!(rt; closed.as_slice() == b">nfq-journal 2\nC 0 7 3\nend\n".as_slice());
     Ok(())
 }
 
 #[test]
 fn devices_that_go_down(rt: HostRuntime) -> Result<(), Fail> {
     let down = flushed(rt.alloc(), 1, Event::DeviceDown { device: 2 })?;
-    assert!(rt; down.as_slice() == b">nfq-journal 1\nD 1 2 3\nend\n".as_slice());
+    assert!(rt; down.as_slice() == b">nfq-journal 2\nD 1 2 3\nend\n".as_slice());
     Ok(())
 }
 
@@ -182,7 +200,7 @@ fn sent(alloc: Global) -> Result<Did, NoMemory> {
 #[test]
 fn logs_of_messages(rt: HostRuntime) -> Result<(), Fail> {
     let sent = logged(rt.alloc(), sent(rt.alloc())?)?;
-    assert!(rt; sent.as_slice() == b">nfq-journal 1\nP 7\nS 1 raw 10ff = 22\nend\n".as_slice());
+    assert!(rt; sent.as_slice() == b">nfq-journal 2\nP 7\nS 1 raw 10ff = 22\nend\n".as_slice());
     Ok(())
 }
 
@@ -194,13 +212,13 @@ fn logs_of_notices(rt: HostRuntime) -> Result<(), Fail> {
         visit: 4,
     };
     let received = logged(rt.alloc(), did)?;
-    assert!(rt; received.as_slice() == b">nfq-journal 1\nP 7\nR 2 3 4\nend\n".as_slice());
+    assert!(rt; received.as_slice() == b">nfq-journal 2\nP 7\nR 2 3 4\nend\n".as_slice());
     Ok(())
 }
 
 #[test]
 fn logs_of_closings(rt: HostRuntime) -> Result<(), Fail> {
     let closed = logged(rt.alloc(), Did::Closed)?;
-    assert!(rt; closed.as_slice() == b">nfq-journal 1\nP 7\nX\nend\n".as_slice());
+    assert!(rt; closed.as_slice() == b">nfq-journal 2\nP 7\nX\nend\n".as_slice());
     Ok(())
 }

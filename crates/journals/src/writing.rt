@@ -4,16 +4,20 @@ ghost use Rattle.std.specs.Prelude.{◌≡◌, ◌∷◌, ◌++◌, [], OnOk, On
 ghost use Rattle.std.specs.Prelude.{decimal};
 ghost use Rattle.text_lines.specs.Hexadecimal.{hexadecimal};
 ghost use Rattle.journals.specs.Appending.{Appends};
-ghost use Rattle.journals.specs.Journal as text;
+ghost use Rattle.journals.specs.Format as text;
+ghost use Rattle.journals.specs.Journal.{entry, heading, journal, tail};
 
 use crate::appending::{append_number, append_text, append_word};
 use crate::room::{room_for, room_for_logs};
+use crate::version::Version;
 use histories::{AskWords, Did, Dids, Entries, Entry, Event, Histories, Logs, PortLog, Reply};
 use nfqa_msgs::{Head, Params, Request};
 use packet_entry::{Bytes, Card, NoMemory};
 use queue_core::Outcome;
 use std::alloc::{AllocError, Global};
 
+/// The version that is written.
+const WRITTEN: Version = Version::Second;
 /// How many digits a byte has.
 pub(crate) const DIGITS: usize = 2;
 
@@ -21,81 +25,102 @@ pub(crate) const DIGITS: usize = 2;
 ///
 /// A journal has no line for packets that were lost: it tells all only of histories without any.
 pub fn journal_text(alloc: Global, histories: &Histories, out: &mut Vec<u8>) -> Result<(), NoMemory>
-    ensures ok { OnOk result (out.new.items ≡ out.old.items ++ text.journal histories.now) }
+    ensures ok { OnOk result (out.new.items ≡ out.old.items ++ journal histories.now) }
     ensures err { OnErr result (out.new.items ≡ out.old.items) }
 {
     let mut journal = Vec::with_capacity(alloc, room_for(histories))?;
-    push_journal(histories, &mut journal)?;
+    push_journal(WRITTEN, histories, &mut journal)?;
     append_text(journal, out)
 }
 
-fn push_journal(histories: &Histories, out: &mut Vec<u8>) -> Result<(), AllocError>
+fn push_journal(
+    version: Version,
+    histories: &Histories,
+    out: &mut Vec<u8>,
+) -> Result<(), AllocError>
     ensures { OnOk result (out.new.items ≡ out.old.items
-        ++ text.journal histories.now) }
+        ++ text.journal_in version histories.now) }
 {
-    append_heading(out)?;
-    push_histories(histories, out)?;
+    push_heading(version, out)?;
+    push_histories(version, histories, out)?;
     append_word("end\n", out)
 }
 
 /// Appends a journal's first line. So a journal can be written part by part: this line, each entry's
 /// ([`append_entry`]), and its tail ([`journal_tail`]).
 pub fn append_heading(out: &mut Vec<u8>) -> Result<(), AllocError>
-    ensures { Appends result out.old out.new text.heading }
+    ensures { Appends result out.old out.new heading }
 {
-    append_word("nfq-journal 1\n", out)
+    push_heading(WRITTEN, out)
+}
+
+fn push_heading(version: Version, out: &mut Vec<u8>) -> Result<(), AllocError>
+    ensures { Appends result out.old out.new (text.heading version) }
+{
+    match version {
+        Version::First => append_word("nfq-journal 1\n", out),
+        Version::Second => append_word("nfq-journal 2\n", out),
+    }
 }
 
 /// What stands behind the entries of a journal: the ports' logs, and the last line.
 pub fn journal_tail(alloc: Global, logs: &Logs) -> Result<Vec<u8>, NoMemory>
-    ensures { IfOk result (λ tail. tail.items ≡ text.tail logs.now) }
+    ensures { IfOk result (λ told. told.items ≡ tail logs.now) }
 {
     let mut tail = Vec::with_capacity(alloc, room_for_logs(logs))?;
-    push_logs(logs, &mut tail)?;
+    push_logs(WRITTEN, logs, &mut tail)?;
     append_word("end\n", &mut tail)?;
     Ok(tail)
 }
 
-fn push_histories(histories: &Histories, out: &mut Vec<u8>) -> Result<(), AllocError>
+fn push_histories(
+    version: Version,
+    histories: &Histories,
+    out: &mut Vec<u8>,
+) -> Result<(), AllocError>
     ensures { OnOk result (out.new.items ≡ out.old.items
-        ++ text.histories histories.now) }
+        ++ text.histories version histories.now) }
 {
-    push_entries(&histories.entries, out)?;
-    push_logs(&histories.logs, out)
+    push_entries(version, &histories.entries, out)?;
+    push_logs(version, &histories.logs, out)
 }
 
-fn push_entries(entries: &Entries, out: &mut Vec<u8>) -> Result<(), AllocError>
+fn push_entries(
+    version: Version,
+    entries: &Entries,
+    out: &mut Vec<u8>,
+) -> Result<(), AllocError>
     ensures { OnOk result (out.new.items ≡ out.old.items
-        ++ text.entries entries.now) }
+        ++ text.entries version entries.now) }
 {
     for entry in entries {
-        append_entry(entry, out)?;
+        push_entry(version, entry, out)?;
     }
     Ok(())
 }
 
-fn push_logs(logs: &Logs, out: &mut Vec<u8>) -> Result<(), AllocError>
-    ensures { OnOk result (out.new.items ≡ out.old.items ++ text.logs logs.now) }
+fn push_logs(version: Version, logs: &Logs, out: &mut Vec<u8>) -> Result<(), AllocError>
+    ensures { OnOk result (out.new.items ≡ out.old.items ++ text.logs version logs.now) }
 {
     for log in logs {
-        push_log(log, out)?;
+        push_log(version, log, out)?;
     }
     Ok(())
 }
 
-fn push_log(log: &PortLog, out: &mut Vec<u8>) -> Result<(), AllocError>
-    ensures { OnOk result (out.new.items ≡ out.old.items ++ text.log log.now) }
+fn push_log(version: Version, log: &PortLog, out: &mut Vec<u8>) -> Result<(), AllocError>
+    ensures { OnOk result (out.new.items ≡ out.old.items ++ text.log version log.now) }
 {
     append_number("P ", log.port as u64, out)?;
     append_word("\n", out)?;
-    push_dids(&log.dids, out)
+    push_dids(version, &log.dids, out)
 }
 
-fn push_dids(dids: &Dids, out: &mut Vec<u8>) -> Result<(), AllocError>
-    ensures { OnOk result (out.new.items ≡ out.old.items ++ text.dids dids.now) }
+fn push_dids(version: Version, dids: &Dids, out: &mut Vec<u8>) -> Result<(), AllocError>
+    ensures { OnOk result (out.new.items ≡ out.old.items ++ text.dids version dids.now) }
 {
     for did in dids {
-        push_did(did, out)?;
+        push_did(version, did, out)?;
     }
     Ok(())
 }
@@ -103,29 +128,40 @@ fn push_dids(dids: &Dids, out: &mut Vec<u8>) -> Result<(), AllocError>
 /// Appends the line of an entry, with its end. Takes no memory where there is room for the line, as
 /// [`entry_room`](crate::entry_room) bytes are. Out of memory a part of the line may stand there.
 pub fn append_entry(entry: &Entry, out: &mut Vec<u8>) -> Result<(), AllocError>
-    ensures { Appends result out.old out.new (text.entry entry.now) }
+    ensures { Appends result out.old out.new (entry entry.now) }
 {
-    push_entry_line(entry, out)?;
+    push_entry(WRITTEN, entry, out)
+}
+
+fn push_entry(version: Version, entry: &Entry, out: &mut Vec<u8>) -> Result<(), AllocError>
+    ensures { Appends result out.old out.new (text.entry version entry.now) }
+{
+    push_entry_line(version, entry, out)?;
     append_word("\n", out)
 }
 
-fn push_entry_line(entry: &Entry, out: &mut Vec<u8>) -> Result<(), AllocError>
-    ensures { Appends result out.old out.new (text.entry_line entry.now) }
+fn push_entry_line(version: Version, entry: &Entry, out: &mut Vec<u8>) -> Result<(), AllocError>
+    ensures { Appends result out.old out.new (text.entry_line version entry.now) }
 {
-    push_event(entry.queue, &entry.event, out)?;
+    push_event(version, entry.queue, &entry.event, out)?;
     push_reply(&entry.reply, out)
 }
 
 /// What an entry's line says of its event.
-fn push_event(queue: u16, event: &Event, out: &mut Vec<u8>) -> Result<(), AllocError>
-    ensures { Appends result out.old out.new (text.event queue event.now) }
+fn push_event(
+    version: Version,
+    queue: u16,
+    event: &Event,
+    out: &mut Vec<u8>,
+) -> Result<(), AllocError>
+    ensures { Appends result out.old out.new (text.event version queue event.now) }
 {
     let queue = queue as u64;
     match event {
         Event::Arrive { card, bypass, room } => {
             append_number("A ", queue, out)?;
             append_word(" ", out)?;
-            push_card(card, yes_no(*bypass), yes_no(*room), out)
+            push_card(version, card, yes_no(*bypass), yes_no(*room), out)
         }
         Event::Ask {
             port,
@@ -136,7 +172,7 @@ fn push_event(queue: u16, event: &Event, out: &mut Vec<u8>) -> Result<(), AllocE
             append_number(" ", *port as u64, out)?;
             append_number(" ", *call as u64, out)?;
             append_word(" ", out)?;
-            push_request(request, out)
+            push_request(version, request, out)
         }
         Event::PortClosed { port } => {
             append_number("C ", queue, out)?;
@@ -151,12 +187,18 @@ fn push_event(queue: u16, event: &Event, out: &mut Vec<u8>) -> Result<(), AllocE
 
 /// What an arrival's line says of the packet, of the bypass and of the room, and the blank after
 /// it.
-fn push_card(card: &Card, bypass: &str, room: &str, out: &mut Vec<u8>) -> Result<(), AllocError>
-    ensures { Appends result out.old out.new (text.card card.now bypass.now room.now) }
+fn push_card(
+    version: Version,
+    card: &Card,
+    bypass: &str,
+    room: &str,
+    out: &mut Vec<u8>,
+) -> Result<(), AllocError>
+    ensures { Appends result out.old out.new (text.card version card.now bypass.now room.now) }
 {
     push_journey(card, out)?;
     push_ways(bypass, room, out)?;
-    push_facts(card, out)?;
+    push_facts(version, card, out)?;
     push_bytes(card.link.as_slice(), out)?;
     append_word(" ", out)?;
     push_bytes(card.bytes.as_slice(), out)?;
@@ -184,18 +226,33 @@ fn push_journey(card: &Card, out: &mut Vec<u8>) -> Result<(), AllocError>
 }
 
 /// What else is known of the packet, but for its bytes.
-fn push_facts(card: &Card, out: &mut Vec<u8>) -> Result<(), AllocError>
-    ensures { Appends result out.old out.new (text.facts card.now) }
+fn push_facts(version: Version, card: &Card, out: &mut Vec<u8>) -> Result<(), AllocError>
+    ensures { Appends result out.old out.new (text.facts version card.now) }
 {
     append_number("", card.mark as u64, out)?;
-    append_number(" ", card.seconds as u64, out)?;
+    append_word(" ", out)?;
+    push_priority(version, card.priority, out)?;
+    append_number("", card.seconds as u64, out)?;
     append_number(" ", card.micros as u64, out)?;
     append_number(" ", card.protocol as u64, out)?;
     append_word(" ", out)
 }
 
-fn push_request(request: &Request, out: &mut Vec<u8>) -> Result<(), AllocError>
-    ensures { Appends result out.old out.new (text.request request.now) }
+/// A packet's priority, and the blank after it.
+fn push_priority(version: Version, priority: u32, out: &mut Vec<u8>) -> Result<(), AllocError>
+    ensures { Appends result out.old out.new (text.priority version priority) }
+{
+    match version {
+        Version::First => Ok(()),
+        Version::Second => {
+            append_number("", priority as u64, out)?;
+            append_word(" ", out)
+        }
+    }
+}
+
+fn push_request(version: Version, request: &Request, out: &mut Vec<u8>) -> Result<(), AllocError>
+    ensures { Appends result out.old out.new (text.request version request.now) }
 {
     match request {
         Request::Config {
@@ -218,18 +275,26 @@ fn push_request(request: &Request, out: &mut Vec<u8>) -> Result<(), AllocError>
             head,
             mark,
             payload,
+            priority,
         } => {
             append_number("verdict ", *queue as u64, out)?;
             append_word(" ", out)?;
             push_head(*head, out)?;
             push_number(" mark ", *mark, out)?;
-            push_payload(payload, out)
+            push_payload(payload, out)?;
+            push_new_priority(version, *priority, out)
         }
-        Request::Batch { queue, head, mark } => {
+        Request::Batch {
+            queue,
+            head,
+            mark,
+            priority,
+        } => {
             append_number("batch ", *queue as u64, out)?;
             append_word(" ", out)?;
             push_head(*head, out)?;
-            push_number(" mark ", *mark, out)
+            push_number(" mark ", *mark, out)?;
+            push_new_priority(version, *priority, out)
         }
     }
 }
@@ -290,6 +355,20 @@ fn push_payload(payload: &Option<Bytes>, out: &mut Vec<u8>) -> Result<(), AllocE
     }
 }
 
+/// The priority that a request sets, where it does.
+fn push_new_priority(
+    version: Version,
+    priority: Option<u32>,
+    out: &mut Vec<u8>,
+) -> Result<(), AllocError>
+    ensures { Appends result out.old out.new (text.new_priority version priority) }
+{
+    match version {
+        Version::First => Ok(()),
+        Version::Second => push_number(" priority ", priority, out),
+    }
+}
+
 /// Bytes in lower-case hexadecimal, `-` for none.
 fn push_bytes(bytes: &[u8], out: &mut Vec<u8>) -> Result<(), AllocError>
     ensures { Appends result out.old out.new (hexadecimal bytes.now) }
@@ -339,15 +418,15 @@ fn push_outcome(outcome: Outcome, out: &mut Vec<u8>) -> Result<(), AllocError>
     }
 }
 
-fn push_did(did: &Did, out: &mut Vec<u8>) -> Result<(), AllocError>
-    ensures { Appends result out.old out.new (text.did did.now) }
+fn push_did(version: Version, did: &Did, out: &mut Vec<u8>) -> Result<(), AllocError>
+    ensures { Appends result out.old out.new (text.did version did.now) }
 {
-    push_did_line(did, out)?;
+    push_did_line(version, did, out)?;
     append_word("\n", out)
 }
 
-fn push_did_line(did: &Did, out: &mut Vec<u8>) -> Result<(), AllocError>
-    ensures { Appends result out.old out.new (text.did_line did.now) }
+fn push_did_line(version: Version, did: &Did, out: &mut Vec<u8>) -> Result<(), AllocError>
+    ensures { Appends result out.old out.new (text.did_line version did.now) }
 {
     match did {
         Did::Received {
@@ -362,7 +441,7 @@ fn push_did_line(did: &Did, out: &mut Vec<u8>) -> Result<(), AllocError>
         Did::Sent { call, ask, answer } => {
             append_number("S ", *call as u64, out)?;
             append_word(" ", out)?;
-            push_ask(ask, out)?;
+            push_ask(version, ask, out)?;
             push_answer(*answer, out)
         }
         Did::Closed => append_word("X", out),
@@ -370,11 +449,11 @@ fn push_did_line(did: &Did, out: &mut Vec<u8>) -> Result<(), AllocError>
 }
 
 /// What a port sent: a request, or the bytes of another message.
-fn push_ask(ask: &AskWords, out: &mut Vec<u8>) -> Result<(), AllocError>
-    ensures { Appends result out.old out.new (text.ask ask.now) }
+fn push_ask(version: Version, ask: &AskWords, out: &mut Vec<u8>) -> Result<(), AllocError>
+    ensures { Appends result out.old out.new (text.ask version ask.now) }
 {
     match ask {
-        AskWords::Plain { request } => push_request(request, out),
+        AskWords::Plain { request } => push_request(version, request, out),
         AskWords::Raw { bytes } => {
             append_word("raw ", out)?;
             push_bytes(bytes.as_slice(), out)
