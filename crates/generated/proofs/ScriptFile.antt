@@ -119,19 +119,21 @@ drops : IsAsk (codes "verdict" ∷ codes "this" ∷ codes "drop" ∷ codes "this
     (values.judged verdict_drop)
 drops = (
   codes "this" ∷ codes "drop" ∷ codes "this" ∷ [],
-  [],
   record {
     queue = codes "this";
     verdict = codes "drop";
     id = codes "this";
     mark = [];
+    payload = [];
+    priority = [];
     queue_is = refl;
     verdict_is = inl (inl (refl, refl));
     id_is = refl;
     mark_is = refl;
+    payload_is = refl;
+    priority_is = refl;
     words_are = refl;
   },
-  refl,
   refl,
 )
 
@@ -139,19 +141,21 @@ accepts : IsAsk (codes "verdict" ∷ codes "this" ∷ codes "accept" ∷ codes "
     (values.judged verdict_accept)
 accepts = (
   codes "this" ∷ codes "accept" ∷ codes "this" ∷ [],
-  [],
   record {
     queue = codes "this";
     verdict = codes "accept";
     id = codes "this";
     mark = [];
+    payload = [];
+    priority = [];
     queue_is = refl;
     verdict_is = inl (inr (inl (refl, refl)));
     id_is = refl;
     mark_is = refl;
+    payload_is = refl;
+    priority_is = refl;
     words_are = refl;
   },
-  refl,
   refl,
 )
 

@@ -51,7 +51,13 @@ binding queue = Plain (request_of queue settings)
 -- a verdict on the notice's packet
 abbrev pub judged : ℕ → Template
 judged verdict =
-    Verdict (record { queue = This; verdict = verdict; id = This; mark = None }) None
+    Verdict (record {
+      queue = This;
+      verdict = verdict;
+      id = This;
+      mark = None;
+      priority = None;
+    }) None
 
 -- a line that answers with this verdict where a condition holds
 abbrev pub judging : Condition → ℕ → OnLine

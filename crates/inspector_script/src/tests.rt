@@ -13,13 +13,14 @@ use std::test::Fail;
 /// An IPv4 packet of TCP.
 const TCP: &[u8] = b"\x45\0\0\x14\0\x01\0\0\x40\x06\0\0\x0a\0\0\x01\x0a\0\0\x02";
 
-/// The notice that queue 5 gives of it, with id 9, mark 5 and 100 bytes.
+/// The notice that queue 5 gives of it, with id 9, mark 5, priority 6 and 100 bytes.
 fn notice(alloc: Global) -> Result<Notice, NoMemory> {
     Ok(Notice {
         queue: 5,
         id: 9,
         protocol: 0x0800,
         mark: 5,
+        priority: 6,
         length: 100,
         payload: Bytes::copy(alloc, TCP)?,
     })
@@ -91,12 +92,16 @@ fn request_said(alloc: Global, request: &Request) -> Result<String, Fail> {
             head: Some(Head { verdict, id }),
             mark,
             payload,
-        } => format!(in alloc; "verdict {queue} {verdict} {id} {mark:?} {payload:?}")?,
+            priority,
+        } => format!(in alloc;
+            "verdict {queue} {verdict} {id} {mark:?} {payload:?} {priority:?}"
+        )?,
         Request::Batch {
             queue,
             head: Some(Head { verdict, id }),
             mark,
-        } => format!(in alloc; "batch {queue} {verdict} {id} {mark:?}")?,
+            priority,
+        } => format!(in alloc; "batch {queue} {verdict} {id} {mark:?} {priority:?}")?,
         _ => format!(in alloc; "without a header")?,
     })
 }
@@ -219,7 +224,7 @@ port 7~open config 5 bind => config 5 Some(1) None None None None;...
 port 7~end close => ...close;
 port 7~end raw 00~end close => ...raw [0];close;
 port 7~end batch 0 accept 1~on any do raw 00~open raw 01~end close => \
-raw [1];.raw [0];.raw [0];.batch 0 1 1 None;close;
+raw [1];.raw [0];.raw [0];.batch 0 1 1 None None;close;
 port 7~end close~on any do raw 00~open raw 01 => raw [1];.raw [0];.raw [0];.close;
 port 7~on any do raw 00 ; raw 01 => .raw [0];raw [1];.raw [0];raw [1];.
 port 7~on id 8 do raw 00~on id 9 do raw 01~on any do raw 02 => .raw [1];.raw [1];.
@@ -237,35 +242,49 @@ port 7~on every 2 do raw 00 => ..raw [0];.
 port 7~on every 3 do raw 00 => ...
 port 7~on longer 99 do raw 00 => .raw [0];.raw [0];.
 port 7~on longer 100 do raw 00 => ...
+port 7~on priority 6 do raw 00 => .raw [0];.raw [0];.
+port 7~on priority 5 do raw 00 => ...
+port 7~on priority 0 do raw 00 => ...
+port 7~on mark 6/4294967295 do raw 00~on priority 6 and mark 5/5 do raw 01 => .raw [1];.raw [1];.
+port 7~end batch 3 accept 4 priority 6 => ...batch 3 1 4 None Some(6);
+port 7~open verdict 3 accept 4 priority 6 => verdict 3 1 4 None None Some(6);...
 port 7~on any and id 9 and longer 1 do raw 00 => .raw [0];.raw [0];.
 port 7~on id 9 and id 8 do raw 00 => ...
 port 7~on every 2 do raw 00~on any do raw 01 => .raw [1];.raw [0];.
-port 7~on every 2 do verdict this drop this => ..verdict 5 0 9 None None;.
+port 7~on every 2 do verdict this drop this => ..verdict 5 0 9 None None None;.
 port 7~on any do verdict this queue:9:bypass this => \
-.verdict 5 622595 9 None None;.verdict 5 622595 9 None None;.
+.verdict 5 622595 9 None None None;.verdict 5 622595 9 None None None;.
 port 7~on any do raw 00~port 8~on any do raw 01 => .raw [0];.raw [0];.";
 
 /// Asks of an `on` line, and what they are in answer to the notice.
 const ASKS: &str = "\
-verdict this accept this => verdict 5 1 9 None None;
-verdict this drop this => verdict 5 0 9 None None;
-verdict this repeat this => verdict 5 4 9 None None;
-verdict this stop this => verdict 5 5 9 None None;
-verdict this queue:9 this => verdict 5 589827 9 None None;
-verdict this queue:9:bypass this => verdict 5 622595 9 None None;
-verdict this queue:0 this => verdict 5 3 9 None None;
-verdict this queue:65535:bypass this => verdict 5 4294934531 9 None None;
-verdict this 7 this => verdict 5 7 9 None None;
-verdict this 4294967295 this => verdict 5 4294967295 9 None None;
-verdict 0 accept 4294967295 => verdict 0 1 4294967295 None None;
-verdict 65535 accept this => verdict 65535 1 9 None None;
-verdict this accept this mark 0 => verdict 5 1 9 Some(0) None;
-verdict this accept this payload - => verdict 5 1 9 None Some([]);
-verdict this accept this payload 00ff => verdict 5 1 9 None Some([0, 255]);
-verdict this accept this mark 8 payload 09 => verdict 5 1 9 Some(8) Some([9]);
-batch this accept this => batch 5 1 9 None;
-batch 3 drop 4 mark 4294967295 => batch 3 0 4 Some(4294967295);
-batch this queue:1 this mark 2 => batch 5 65539 9 Some(2);
+verdict this accept this => verdict 5 1 9 None None None;
+verdict this drop this => verdict 5 0 9 None None None;
+verdict this repeat this => verdict 5 4 9 None None None;
+verdict this stop this => verdict 5 5 9 None None None;
+verdict this queue:9 this => verdict 5 589827 9 None None None;
+verdict this queue:9:bypass this => verdict 5 622595 9 None None None;
+verdict this queue:0 this => verdict 5 3 9 None None None;
+verdict this queue:65535:bypass this => verdict 5 4294934531 9 None None None;
+verdict this 7 this => verdict 5 7 9 None None None;
+verdict this 4294967295 this => verdict 5 4294967295 9 None None None;
+verdict 0 accept 4294967295 => verdict 0 1 4294967295 None None None;
+verdict 65535 accept this => verdict 65535 1 9 None None None;
+verdict this accept this mark 0 => verdict 5 1 9 Some(0) None None;
+verdict this accept this payload - => verdict 5 1 9 None Some([]) None;
+verdict this accept this payload 00ff => verdict 5 1 9 None Some([0, 255]) None;
+verdict this accept this mark 8 payload 09 => verdict 5 1 9 Some(8) Some([9]) None;
+verdict this accept this priority 0 => verdict 5 1 9 None None Some(0);
+verdict this accept this priority 4294967295 => verdict 5 1 9 None None Some(4294967295);
+verdict this repeat this mark 1 priority 6 => verdict 5 4 9 Some(1) None Some(6);
+verdict this accept this payload 09 priority 6 => verdict 5 1 9 None Some([9]) Some(6);
+verdict 2 drop 3 mark 8 payload - priority 6 => verdict 2 0 3 Some(8) Some([]) Some(6);
+batch this accept this => batch 5 1 9 None None;
+batch 3 drop 4 mark 4294967295 => batch 3 0 4 Some(4294967295) None;
+batch this queue:1 this mark 2 => batch 5 65539 9 Some(2) None;
+batch this accept this priority 6 => batch 5 1 9 None Some(6);
+batch 3 drop 4 mark 2 priority 0 => batch 3 0 4 Some(2) Some(0);
+batch 3 drop 4 priority 4294967295 => batch 3 0 4 None Some(4294967295);
 config this => config 5 None None None None None;
 config 3 bind => config 3 Some(1) None None None None;
 config 3 unbind => config 3 Some(2) None None None None;
@@ -383,6 +402,11 @@ const BAD: &str = "\
 2|port 7~on mark 0x5/5 do raw 00
 2|port 7~on mark 1/2/3 do raw 00
 2|port 7~on longer -1 do raw 00
+2|port 7~on priority do raw 00
+2|port 7~on priority 1 2 do raw 00
+2|port 7~on priority 00 do raw 00
+2|port 7~on priority 4294967296 do raw 00
+2|port 7~on priority 6/6 do raw 00
 2|port 7~on any do raw 00 ;
 2|port 7~on any do ; raw 00
 2|port 7~on any do raw 00; raw 01
@@ -418,7 +442,21 @@ const BAD: &str = "\
 2|port 7~open verdict 5 accept 1 payload
 2|port 7~open verdict 5 accept 1 payload 0A
 2|port 7~open verdict 5 accept 1 payload 00 mark 1
+2|port 7~open verdict 5 accept 1 priority
+2|port 7~open verdict 5 accept 1 priority 00
+2|port 7~open verdict 5 accept 1 priority 0x6
+2|port 7~open verdict 5 accept 1 priority 4294967296
+2|port 7~open verdict 5 accept 1 priority 6 priority 6
+2|port 7~open verdict 5 accept 1 priority 6 payload 00
+2|port 7~open verdict 5 accept 1 priority 6 mark 1
+2|port 7~open verdict 5 accept 1 priority payload 00
 2|port 7~open batch 5 accept 1 payload 00
+2|port 7~open batch 5 accept 1 payload 00 priority 6
+2|port 7~open batch 5 accept 1 priority
+2|port 7~open batch 5 accept 1 priority 00
+2|port 7~open batch 5 accept 1 priority 4294967296
+2|port 7~open batch 5 accept 1 priority 6 priority 6
+2|port 7~open batch 5 accept 1 priority 6 mark 1
 2|port 7~open batch 5 accept
 1|# caf\u{e9}~port 7
 1|# a\x01~port 7

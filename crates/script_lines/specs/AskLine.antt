@@ -76,12 +76,21 @@ mode_of word =
 
 -- ---- parts of a line, and the words after them
 
--- `[WORD N]`
-unfoldable pub number_part : List ℕ → List (List ℕ) → Option (Option ℕ × List (List ℕ))
-number_part word words = option_map_or (λ rest. do
-  value ← first_word rest
-  number ← decimal value.0
-  Some (Some number, value.1)) (words_after word words) (Some (None, words))
+-- `[NAME VALUE]`, with what reads the value
+unfoldable pub value_part : {V : Type 0} → (List ℕ → Option V) → List ℕ → List (List ℕ) →
+    Option (Option V × List (List ℕ))
+value_part read name words = option_map_or (λ rest. do
+  word ← first_word rest
+  value ← read word.0
+  Some (Some value, word.1)) (words_after name words) (Some (None, words))
+
+-- `[NAME N]`
+abbrev pub number_part : List ℕ → List (List ℕ) → Option (Option ℕ × List (List ℕ))
+number_part name words = value_part decimal name words
+
+-- `[payload BYTES]`
+abbrev pub payload_part : List (List ℕ) → Option (Option (List ℕ) × List (List ℕ))
+payload_part words = value_part (bytes_of most_payload_bytes) (codes "payload") words
 
 -- `[bind | unbind | pfbind | pfunbind | cmd N]`
 unfoldable pub command_part : List (List ℕ) → Option (Option ℕ × List (List ℕ))
@@ -104,7 +113,7 @@ params_part words = option_map_or (λ rest. do
   Some (Some (record { range = number; mode = mode_number }), range.1))
     (words_after (codes "params") words) (Some (None, words))
 
--- `Q VERDICT ID [mark N]`
+-- `Q VERDICT ID [mark N]`, without a priority
 unfoldable pub judged : List (List ℕ) → Option (Judgement × List (List ℕ))
 judged words = do
   first ← first_word words
@@ -114,17 +123,32 @@ judged words = do
   third ← first_word second.1
   id ← id_of third.0
   mark ← number_part (codes "mark") third.1
-  Some (record { queue = queue; verdict = verdict; id = id; mark = mark.0 }, mark.1)
+  Some (record {
+    queue = queue;
+    verdict = verdict;
+    id = id;
+    mark = mark.0;
+    priority = None;
+  }, mark.1)
+
+-- the same with the priority of `[priority N]`, which ends the line
+unfoldable pub with_priority : Judgement → List (List ℕ) → Option Judgement
+with_priority j words = do
+  priority ← number_part (codes "priority") words
+  if length priority.1 == 0
+      then Some (record {
+        queue = j.queue;
+        verdict = j.verdict;
+        id = j.id;
+        mark = j.mark;
+        priority = priority.0;
+      }) else None
 
 -- the word of a line that has just one
 abbrev pub only_word : List (List ℕ) → Option (List ℕ)
 only_word words = do
   word ← first_word words
   if length word.1 == 0 then Some word.0 else None
-
--- the bytes that the only word spells, at most so many
-abbrev pub bytes_alone : ℕ → List (List ℕ) → Option (List ℕ)
-bytes_alone most words = only_word words >>= bytes_of most
 
 -- ---- asks
 
@@ -147,29 +171,26 @@ config_of words = do
         mask = mask.0;
       })) else None
 
--- a verdict, whose line goes on with `[payload BYTES]`
-unfoldable pub payload_part : Judgement → List (List ℕ) → Option Template
-payload_part j words =
-    if length words == 0 then Some (Verdict j None)
-    else option_map (λ bytes. Verdict j (Some bytes))
-    (words_after (codes "payload") words >>= bytes_alone most_payload_bytes)
-
--- `Q VERDICT ID [mark N] [payload BYTES]`
+-- `Q VERDICT ID [mark N] [payload BYTES] [priority N]`
 unfoldable pub verdict_of : List (List ℕ) → Option Template
 verdict_of words = do
   j ← judged words
-  payload_part j.0 j.1
+  payload ← payload_part j.1
+  judgement ← with_priority j.0 payload.1
+  Some (Verdict judgement payload.0)
 
--- `Q VERDICT MAX [mark N]`
+-- `Q VERDICT MAX [mark N] [priority N]`
 unfoldable pub batch_of : List (List ℕ) → Option Template
 batch_of words = do
   j ← judged words
-  if length j.1 == 0 then Some (Batch j.0) else None
+  judgement ← with_priority j.0 j.1
+  Some (Batch judgement)
 
 -- `BYTES`, one or more
 unfoldable pub raw_of : List (List ℕ) → Option Template
 raw_of words = do
-  bytes ← bytes_alone most_raw_bytes words
+  word ← only_word words
+  bytes ← bytes_of most_raw_bytes word
   if length bytes == 0 then None else Some (Raw bytes)
 
 -- an ask by its first word, and the words after it

@@ -45,9 +45,11 @@ asked n (Config queue settings) =
     Words (words.Plain (request_of (number_for n.queue queue) settings))
 asked n (Verdict j payload) =
     Words (words.Plain
-    (request.Verdict (number_for n.queue j.queue) (Some (head_for n j)) j.mark payload))
+    (request.Verdict (number_for n.queue j.queue) (Some (head_for n j)) j.mark payload
+    j.priority))
 asked n (Batch j) =
-    Words (words.Plain (request.Batch (number_for n.queue j.queue) (Some (head_for n j)) j.mark))
+    Words (words.Plain
+    (request.Batch (number_for n.queue j.queue) (Some (head_for n j)) j.mark j.priority))
 asked n (Raw bytes) = Words (words.Raw bytes)
 
 -- what an ask says without a notice; none where it says `this`
@@ -58,9 +60,9 @@ words_alone (Config queue settings) = do
 words_alone (Verdict j payload) = do
   q ← alone_of j.queue
   head ← head_alone j
-  Some (words.Plain (request.Verdict q (Some head) j.mark payload))
+  Some (words.Plain (request.Verdict q (Some head) j.mark payload j.priority))
 words_alone (Batch j) = do
   q ← alone_of j.queue
   head ← head_alone j
-  Some (words.Plain (request.Batch q (Some head) j.mark))
+  Some (words.Plain (request.Batch q (Some head) j.mark j.priority))
 words_alone (Raw bytes) = Some (words.Raw bytes)

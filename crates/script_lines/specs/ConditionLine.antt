@@ -6,7 +6,7 @@ use Rattle.text_lines.specs.Digits.{decimal, decimal_below}
 use Rattle.script_lines.specs.declared.condition.Condition.{Condition}
 use Rattle.script_lines.specs.declared.condition.Condition.TheVariants.{Any, Id, Queue, Mark}
 use Rattle.script_lines.specs.declared.condition.Condition.TheVariants.{Protocol, Every}
-use Rattle.script_lines.specs.declared.condition.Condition.TheVariants.{Longer}
+use Rattle.script_lines.specs.declared.condition.Condition.TheVariants.{Longer, Priority}
 
 -- `VALUE/MASK`
 unfoldable pub mark_of : List ℕ → Option Condition
@@ -31,6 +31,7 @@ test_of name value =
     else if bytes_eq name (codes "proto") then option_map Protocol (decimal_below (2 ^ 8) value)
     else if bytes_eq name (codes "every") then every_of value
     else if bytes_eq name (codes "longer") then option_map Longer (decimal value)
+    else if bytes_eq name (codes "priority") then option_map Priority (decimal value)
     else None
 
 -- `any` alone, or a name and a value

@@ -83,11 +83,21 @@ command_names =
 
 -- ---- parts of an ask
 
+-- [NAME VALUE], with the production of the value
+abbrev pub IsValuePart : {V : Type 0} → (List ℕ → V → Type 0) → List ℕ → List (List ℕ) →
+    Option V → Type 0
+IsValuePart Is name words None = words ≡ []
+IsValuePart Is name words (Some value) =
+    (word : List ℕ) × Is word value × (words ≡ name ∷ word ∷ [])
+
 -- [NAME N]
 abbrev pub IsNumberPart : List ℕ → List (List ℕ) → Option ℕ → Type 0
-IsNumberPart name words None = words ≡ []
-IsNumberPart name words (Some n) =
-    (number : List ℕ) × IsNumeral number n × (words ≡ name ∷ number ∷ [])
+IsNumberPart name words number = IsValuePart IsNumeral name words number
+
+-- [payload BYTES]
+abbrev pub IsPayloadPart : List (List ℕ) → Option (List ℕ) → Type 0
+IsPayloadPart words payload =
+    IsValuePart (IsSpelled most_payload_bytes) (codes "payload") words payload
 
 -- [bind | unbind | pfbind | pfunbind | cmd N]
 abbrev pub IsCommandPart : List (List ℕ) → Option ℕ → Type 0
@@ -103,24 +113,22 @@ IsParamsPart words (Some params) =
     (mode : List ℕ) × (range : List ℕ) × IsMode mode params.mode × IsNumeral range params.range
     × (words ≡ codes "params" ∷ mode ∷ range ∷ [])
 
--- [payload BYTES]
-abbrev pub IsPayloadPart : List (List ℕ) → Option (List ℕ) → Type 0
-IsPayloadPart words None = words ≡ []
-IsPayloadPart words (Some bytes) =
-    (word : List ℕ) × IsSpelled most_payload_bytes word bytes
-    × (words ≡ codes "payload" ∷ word ∷ [])
-
--- Q VERDICT ID [mark N]
-pub record IsJudgement (words : List (List ℕ)) (j : Judgement) : Type 0 where
+-- Q VERDICT ID [mark N] [payload BYTES] [priority N]
+pub record IsJudgement (words : List (List ℕ)) (j : Judgement) (bytes : Option (List ℕ)) :
+    Type 0 where
   pub queue : List ℕ
   pub verdict : List ℕ
   pub id : List ℕ
   pub mark : List (List ℕ)
+  pub payload : List (List ℕ)
+  pub priority : List (List ℕ)
   pub queue_is : IsQueue queue j.queue
   pub verdict_is : IsVerdict verdict j.verdict
   pub id_is : IsId id j.id
   pub mark_is : IsNumberPart (codes "mark") mark j.mark
-  pub words_are : words ≡ queue ∷ verdict ∷ id ∷ mark
+  pub payload_is : IsPayloadPart payload bytes
+  pub priority_is : IsNumberPart (codes "priority") priority j.priority
+  pub words_are : words ≡ queue ∷ verdict ∷ id ∷ (mark ++ (payload ++ priority))
 
 -- Q [COMMAND] [params MODE RANGE] [maxlen N] [flags N] [mask N]
 pub record IsConfig (words : List (List ℕ)) (queue : OrThis ℕ) (s : Settings) : Type 0 where
@@ -138,15 +146,15 @@ pub record IsConfig (words : List (List ℕ)) (queue : OrThis ℕ) (s : Settings
   pub mask_is : IsNumberPart (codes "mask") mask s.mask
   pub words_are : words ≡ queue_word ∷ (command ++ (params ++ (maxlen ++ (flags ++ mask))))
 
--- config ..; verdict .. [payload BYTES]; batch ..; raw BYTES, one byte or more
+-- config ..; verdict ..; batch .., which has no payload; raw BYTES, one byte or more
 abbrev pub IsAsk : List (List ℕ) → Template → Type 0
 IsAsk words (ask.Config queue settings) =
     (rest : List (List ℕ)) × IsConfig rest queue settings × (words ≡ codes "config" ∷ rest)
 IsAsk words (ask.Verdict judgement payload) =
-    (front : List (List ℕ)) × (back : List (List ℕ)) × IsJudgement front judgement
-    × IsPayloadPart back payload × (words ≡ codes "verdict" ∷ (front ++ back))
+    (rest : List (List ℕ)) × IsJudgement rest judgement payload
+    × (words ≡ codes "verdict" ∷ rest)
 IsAsk words (ask.Batch judgement) =
-    (rest : List (List ℕ)) × IsJudgement rest judgement × (words ≡ codes "batch" ∷ rest)
+    (rest : List (List ℕ)) × IsJudgement rest judgement None × (words ≡ codes "batch" ∷ rest)
 IsAsk words (ask.Raw bytes) =
     (word : List ℕ) × IsSpelled most_raw_bytes word bytes × (1 ≤ length bytes)
     × (words ≡ codes "raw" ∷ word ∷ [])
@@ -157,7 +165,8 @@ IsAskAlone words asked = (ask : Template) × IsAsk words ask × (words_alone ask
 
 -- ---- an `on` line
 
--- any; id N; queue N; mark VALUE/MASK; proto N; every N, at least 1; longer N
+-- any; id N; queue N; mark VALUE/MASK; proto N; every N, at least 1; longer N;
+-- priority N
 abbrev pub IsCondition : List (List ℕ) → Condition → Type 0
 IsCondition words test.Any = words ≡ codes "any" ∷ []
 IsCondition words (test.Id n) =
@@ -173,6 +182,8 @@ IsCondition words (test.Every n) =
     (word : List ℕ) × IsNumeral word n × (1 ≤ n) × (words ≡ codes "every" ∷ word ∷ [])
 IsCondition words (test.Longer n) =
     (word : List ℕ) × IsNumeral word n × (words ≡ codes "longer" ∷ word ∷ [])
+IsCondition words (test.Priority n) =
+    (word : List ℕ) × IsNumeral word n × (words ≡ codes "priority" ∷ word ∷ [])
 
 -- parts with this word between them, one or more
 abbrev pub AreParts : {A : Type 0} → (List (List ℕ) → A → Type 0) → List ℕ → List (List ℕ) →

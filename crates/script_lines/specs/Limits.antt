@@ -25,8 +25,8 @@ IsRaw bytes = (1 ≤ length bytes) × (length bytes ≤ most_raw_bytes)
 
 abbrev pub IsRequest : Request → Type 0
 IsRequest (request.Config queue command params maxlen flags mask) = Unit {0}
-IsRequest (request.Verdict queue head mark payload) = IfSome payload IsPayload
-IsRequest (request.Batch queue head mark) = Unit {0}
+IsRequest (request.Verdict queue head mark payload priority) = IfSome payload IsPayload
+IsRequest (request.Batch queue head mark priority) = Unit {0}
 
 abbrev pub IsWords : AskWords → Type 0
 IsWords (words.Plain request) = IsRequest request

@@ -1,14 +1,15 @@
 //! Asks by the words of their line.
 
 ghost use Rattle.std.specs.Prelude.{◌≡◌, ◌≤◌, length, option_map, IfOk, IfSome};
+ghost use Rattle.text_lines.specs.Hexadecimal.{bytes_of};
 ghost use Rattle.text_lines.specs.Words.{words_of};
-ghost use Rattle.script_lines.specs.Limits.{IsTemplate};
-ghost use Rattle.script_lines.specs.AskLine.{ask_of, batch_of, bytes_alone, command_named};
+ghost use Rattle.script_lines.specs.Limits.{IsPayload, IsTemplate};
+ghost use Rattle.script_lines.specs.AskLine.{ask_of, batch_of, command_named};
 ghost use Rattle.script_lines.specs.AskLine.{command_part, config_of, id_of, judged, mode_of};
 ghost use Rattle.script_lines.specs.AskLine.{number_part, numbered_verdict, only_word};
 ghost use Rattle.script_lines.specs.AskLine.{params_part, payload_part, queue_of};
 ghost use Rattle.script_lines.specs.AskLine.{queue_verdict, raw_of, to_queue, verdict_of};
-ghost use Rattle.script_lines.specs.AskLine.{verdict_word};
+ghost use Rattle.script_lines.specs.AskLine.{verdict_word, with_priority};
 
 use crate::template::{Judgement, OrThis, Settings, Template};
 use nfqa_msgs::{BIND, META, NONE, PACKET, PF_BIND, PF_UNBIND, Params, UNBIND};
@@ -144,7 +145,7 @@ fn copy_mode(word: &[u8]) -> Option<u8>
     }
 }
 
-/// `Q VERDICT ID [mark N]`
+/// `Q VERDICT ID [mark N]`, without a priority.
 #[tactic(auto, unfolding(crate::specs::AskLine::judged))]
 fn judgement(line: &[u8]) -> Option<(Judgement, &[u8])>
     ensures { option_map (λ x. (x.0, words_of x.1.now)) result ≡ judged (words_of line.now) }
@@ -161,60 +162,74 @@ fn judgement(line: &[u8]) -> Option<(Judgement, &[u8])>
         verdict,
         id,
         mark,
+        priority: None,
     };
     Some((judgement, rest))
 }
 
-/// `Q VERDICT ID [mark N] [payload BYTES]`
+/// The same with the priority of `[priority N]`, which ends the line.
+#[tactic(auto, unfolding(crate::specs::AskLine::with_priority))]
+fn with_priority(judgement: Judgement, line: &[u8]) -> Option<Judgement>
+    ensures { result ≡ with_priority judgement (words_of line.now) }
+{
+    let (priority, rest) = number_part(line, b"priority")?;
+    if !is_end(rest) {
+        return None;
+    }
+    Some(Judgement {
+        priority,
+        ..judgement
+    })
+}
+
+/// `Q VERDICT ID [mark N] [payload BYTES] [priority N]`
 #[tactic(auto, unfolding(crate::specs::AskLine::verdict_of))]
 fn verdict(alloc: Global, line: &[u8]) -> Result<Option<Template>, NoMemory>
     ensures value { IfOk result (λ ask. ask ≡ verdict_of (words_of line.now)) }
     ensures fit { IfOk result (λ ask. IfSome ask IsTemplate) }
 {
-    match judgement(line) {
+    let Some((judgement, rest)) = judgement(line) else {
+        return Ok(None);
+    };
+    let Some((payload, rest)) = payload_part(alloc, rest)? else {
+        return Ok(None);
+    };
+    match with_priority(judgement, rest) {
+        Some(judgement) => Ok(Some(Template::Verdict { judgement, payload })),
         None => Ok(None),
-        Some((judgement, rest)) => with_payload(alloc, judgement, rest),
     }
 }
 
-/// A verdict, whose line goes on with `[payload BYTES]`.
-#[tactic(auto, unfolding(crate::specs::AskLine::payload_part))]
-fn with_payload(
+/// `[payload BYTES]`
+#[tactic(auto, unfolding(crate::specs::AskLine::value_part))]
+fn payload_part(
     alloc: Global,
-    judgement: Judgement,
-    rest: &[u8],
-) -> Result<Option<Template>, NoMemory>
-    ensures value { IfOk result (λ ask. ask ≡ payload_part judgement (words_of rest.now)) }
-    ensures fit { IfOk result (λ ask. IfSome ask IsTemplate) }
+    line: &[u8],
+) -> Result<Option<(Option<Bytes>, &[u8])>, NoMemory>
+    ensures value { IfOk result (λ read.
+        option_map (λ x. (x.0, words_of x.1.now)) read ≡ payload_part (words_of line.now)) }
+    ensures fit { IfOk result (λ read. IfSome read (λ x. IfSome x.0 IsPayload)) }
 {
-    if is_end(rest) {
-        return Ok(Some(Template::Verdict {
-            judgement,
-            payload: None,
-        }));
+    let Some(rest) = rest_after(line, b"payload") else {
+        return Ok(Some((None, line)));
+    };
+    let Some((word, rest)) = next_word(rest) else {
+        return Ok(None);
+    };
+    match spelled_bytes(alloc, word, MOST_PAYLOAD_BYTES)? {
+        Some(bytes) => Ok(Some((Some(bytes), rest))),
+        None => Ok(None),
     }
-    let Some(rest) = rest_after(rest, b"payload") else {
-        return Ok(None);
-    };
-    let Some(bytes) = bytes_alone(alloc, rest, MOST_PAYLOAD_BYTES)? else {
-        return Ok(None);
-    };
-    Ok(Some(Template::Verdict {
-        judgement,
-        payload: Some(bytes),
-    }))
 }
 
-/// `Q VERDICT MAX [mark N]`
+/// `Q VERDICT MAX [mark N] [priority N]`
 #[tactic(auto, unfolding(crate::specs::AskLine::batch_of))]
 fn batch(line: &[u8]) -> Option<Template>
     ensures value { result ≡ batch_of (words_of line.now) }
     ensures fit { IfSome result IsTemplate }
 {
     let (judgement, rest) = judgement(line)?;
-    if !is_end(rest) {
-        return None;
-    }
+    let judgement = with_priority(judgement, rest)?;
     Some(Template::Batch { judgement })
 }
 
@@ -224,7 +239,10 @@ fn raw(alloc: Global, line: &[u8]) -> Result<Option<Template>, NoMemory>
     ensures value { IfOk result (λ ask. ask ≡ raw_of (words_of line.now)) }
     ensures fit { IfOk result (λ ask. IfSome ask IsTemplate) }
 {
-    let Some(bytes) = bytes_alone(alloc, line, MOST_RAW_BYTES)? else {
+    let Some(word) = only_word(line) else {
+        return Ok(None);
+    };
+    let Some(bytes) = spelled_bytes(alloc, word, MOST_RAW_BYTES)? else {
         return Ok(None);
     };
     if bytes.len() == 0 {
@@ -233,18 +251,15 @@ fn raw(alloc: Global, line: &[u8]) -> Result<Option<Template>, NoMemory>
     Ok(Some(Template::Raw { bytes }))
 }
 
-/// The bytes that the only word of the line spells, at most so many.
-fn bytes_alone(alloc: Global, line: &[u8], most: usize) -> Result<Option<Bytes>, NoMemory>
-    ensures value { IfOk result (λ bytes. bytes ≡ bytes_alone most (words_of line.now)) }
+/// The bytes that a word spells, at most so many.
+fn spelled_bytes(alloc: Global, word: &[u8], most: usize) -> Result<Option<Bytes>, NoMemory>
+    ensures value { IfOk result (λ bytes. bytes ≡ bytes_of most word.now) }
     ensures few { IfOk result (λ bytes. IfSome bytes (λ bytes. length bytes ≤ most)) }
 {
-    let Some(word) = only_word(line) else {
-        return Ok(None);
-    };
-    let Some(bytes) = hexadecimal_bytes(alloc, word, most)? else {
-        return Ok(None);
-    };
-    Ok(Some(Bytes::from_vec(bytes)?))
+    match hexadecimal_bytes(alloc, word, most)? {
+        Some(bytes) => Ok(Some(Bytes::from_vec(bytes)?)),
+        None => Ok(None),
+    }
 }
 
 /// The word of a line that has just one.
@@ -255,13 +270,13 @@ pub(crate) fn only_word(line: &[u8]) -> Option<&[u8]>
     if is_end(rest) { Some(word) } else { None }
 }
 
-/// `[WORD N]`
-#[tactic(auto, unfolding(crate::specs::AskLine::number_part))]
-fn number_part<'a>(line: &'a [u8], word: &[u8]) -> Option<(Option<u32>, &'a [u8])>
+/// `[NAME N]`
+#[tactic(auto, unfolding(crate::specs::AskLine::value_part))]
+fn number_part<'a>(line: &'a [u8], name: &[u8]) -> Option<(Option<u32>, &'a [u8])>
     ensures { option_map (λ x. (x.0, words_of x.1.now)) result
-        ≡ number_part word.now (words_of line.now) }
+        ≡ number_part name.now (words_of line.now) }
 {
-    let Some(rest) = rest_after(line, word) else {
+    let Some(rest) = rest_after(line, name) else {
         return Some((None, line));
     };
     let (number, rest) = next_word(rest)?;

@@ -49,6 +49,8 @@ fn test(name: &[u8], value: &[u8]) -> Option<Condition>
     } else if is_word(name, b"longer") {
         let than = decimal(value)?;
         Some(Condition::Longer { than })
+    } else if is_word(name, b"priority") {
+        Some(Condition::Priority(decimal(value)?))
     } else {
         None
     }

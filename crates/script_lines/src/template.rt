@@ -83,6 +83,8 @@ pub struct Judgement {
     pub id: OrThis<u32>,
     /// The mark that they get.
     pub mark: Option<u32>,
+    /// The priority that they get.
+    pub priority: Option<u32>,
 }
 
 impl Judgement {
@@ -147,6 +149,7 @@ impl Template {
                     head: Some(judgement.head(notice)),
                     mark: judgement.mark,
                     payload: share_payload(payload)?,
+                    priority: judgement.priority,
                 },
             },
             Template::Batch { judgement } => AskWords::Plain {
@@ -154,6 +157,7 @@ impl Template {
                     queue: judgement.queue.of(notice.queue),
                     head: Some(judgement.head(notice)),
                     mark: judgement.mark,
+                    priority: judgement.priority,
                 },
             },
             Template::Raw { bytes } => AskWords::Raw {
@@ -178,6 +182,7 @@ impl Template {
                     head: Some(judgement.head_alone()?),
                     mark: judgement.mark,
                     payload,
+                    priority: judgement.priority,
                 },
             }),
             Template::Batch { judgement } => Some(AskWords::Plain {
@@ -185,6 +190,7 @@ impl Template {
                     queue: judgement.queue.alone()?,
                     head: Some(judgement.head_alone()?),
                     mark: judgement.mark,
+                    priority: judgement.priority,
                 },
             }),
             Template::Raw { bytes } => Some(AskWords::Raw { bytes }),

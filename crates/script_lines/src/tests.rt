@@ -23,13 +23,14 @@ const NO_IP: &[u8] = b"\x55\0\0\x14\0\x01\0\0\x40\x06\0\0\x0a\0\0\x01\x0a\0\0\x0
 const UDP: &[u8] = b"\x60\0\0\0\0\0\x11\x40\
     \x20\x01\x0d\xb8\0\0\0\0\0\0\0\0\0\0\0\x01\x20\x01\x0d\xb8\0\0\0\0\0\0\0\0\0\0\0\x02";
 
-/// The notice that queue 5 gives of a packet with id 9, mark 5 and 100 bytes.
+/// The notice that queue 5 gives of a packet with id 9, mark 5, priority 6 and 100 bytes.
 fn notice(alloc: Global, payload: &[u8]) -> Result<Notice, NoMemory> {
     Ok(Notice {
         queue: 5,
         id: 9,
         protocol: 0x0800,
         mark: 5,
+        priority: 6,
         length: 100,
         payload: Bytes::copy(alloc, payload)?,
     })
@@ -75,7 +76,7 @@ fn check(
 #[test]
 fn conditions_hold_of_what_a_notice_says(rt: HostRuntime) -> Result<(), Fail> {
     // condition, which of the port's notices it is, its payload, whether it holds
-    let rows: [(Condition, u32, &[u8], bool); 16] = [
+    let rows: [(Condition, u32, &[u8], bool); 20] = [
         (Condition::Any, 1, &[], true),
         (Condition::Id { id: 9 }, 1, TCP, true),
         (Condition::Id { id: 5 }, 1, TCP, false),
@@ -92,6 +93,10 @@ fn conditions_hold_of_what_a_notice_says(rt: HostRuntime) -> Result<(), Fail> {
         (longer(100), 1, TCP, false),
         (longer(101), 1, TCP, false),
         (longer(0), 1, &[], true),
+        (Condition::Priority(6), 1, TCP, true),
+        (Condition::Priority(5), 1, TCP, false),
+        (Condition::Priority(0), 1, TCP, false),
+        (Condition::Priority(u32::MAX), 1, TCP, false),
     ];
     check(&rt, rt.alloc(), &rows)
 }
