@@ -18,7 +18,7 @@ use Rattle.nfqa_headers.specs.Numbers.{command_kind, params_kind, maxlen_kind, m
 use Rattle.nfqa_headers.specs.Numbers.{flags_kind, verdict_header_kind, mark_kind, payload_kind}
 use Rattle.nfqa_headers.specs.Numbers.{packet_header_kind, input_device_kind, output_device_kind}
 use Rattle.nfqa_headers.specs.Numbers.{hardware_address_kind, timestamp_kind, full_length_kind}
-use Rattle.nfqa_headers.specs.Numbers.{hardware_address_length}
+use Rattle.nfqa_headers.specs.Numbers.{priority_kind, hardware_address_length}
 use Rattle.nfqa_msgs.specs.Numbers.{input_device, output_device}
 use Rattle.nfqa_headers.specs.Headers.{command_content, params_content, head_content}
 use Rattle.nfqa_headers.specs.Headers.{packet_head_content, address_content, stamp_content}
@@ -26,7 +26,7 @@ use Rattle.nfqa_headers.specs.Headers.{value_content, zeros_text, address_filler
 use Rattle.nfqa_headers.specs.AttributeWriting.{part}
 use Rattle.nfqa_msgs.specs.RequestReading.{PayloadFits}
 use Rattle.nfqa_msgs.specs.RequestWriting.{request_body}
-use Rattle.nfqa_msgs.specs.NoticeWriting.{Told, FitsTold, notice_body, mark_content}
+use Rattle.nfqa_msgs.specs.NoticeWriting.{Told, FitsTold, notice_body, nonzero_content}
 use Rattle.nfqa_msgs.specs.NoticeWriting.{payload_content}
 
 -- the text of an attribute is its length rounded up, as the codec's law says
@@ -72,9 +72,9 @@ row-goes-on head old new row more so_far step =
     ∙ append_assoc head (attributes_text row) (attributes_text more)
     ∙ ap (λ (xs : List ℕ). head ++ xs) (sym (flat_map-append attribute_text row more))
 
-pub fits-mark : (mark : ℕ) → IfSome (mark_content mark) (λ bytes. length bytes ≤ longest_payload)
-fits-mark mark =
-    elim (cases_Bool (mark == 0)) [ inl zero ↦ rw zero tt | inr other ↦ rw other (omega arith) ]
+pub fits-nonzero : (n : ℕ) → IfSome (nonzero_content n) (λ bytes. length bytes ≤ longest_payload)
+fits-nonzero n =
+    elim (cases_Bool (n == 0)) [ inl zero ↦ rw zero tt | inr other ↦ rw other (omega arith) ]
 
 pub fits-address : (source : Option (List ℕ)) →
     IfSome source (λ s. length s ≡ hardware_address_length) →
@@ -134,14 +134,16 @@ module _ (sizes : Sizes) where
       let e = one-more mask_kind _ _ _ d (fits-number mask) in
       let f = one-more flags_kind _ _ _ e (fits-number flags) in
       omega arith
-  request_body-short (Verdict queue head mark payload) fits =
+  request_body-short (Verdict queue head mark payload priority) fits =
       let a = one-part verdict_header_kind _ (fits-head head) in
       let b = one-more mark_kind _ _ _ a (fits-number mark) in
       let d = one-more payload_kind _ payload _ b fits in
+      let e = one-more priority_kind _ _ _ d (fits-number priority) in
       omega arith
-  request_body-short (Batch queue head mark) fits =
+  request_body-short (Batch queue head mark priority) fits =
       let a = one-part verdict_header_kind _ (fits-head head) in
       let b = one-more mark_kind _ _ _ a (fits-number mark) in
+      let d = one-more priority_kind _ _ _ b (fits-number priority) in
       omega arith
 
   -- a body of a notice is far shorter than a message can be
@@ -152,13 +154,15 @@ module _ (sizes : Sizes) where
       let b = one-more input_device_kind _ (Some (value_content input_device)) _ a (omega arith) in
       let d = one-more output_device_kind _ (Some (value_content output_device)) _ b (omega arith)
       in
-      let e = one-more mark_kind _ (mark_content told.mark) _ d (fits-mark told.mark) in
+      let e = one-more mark_kind _ (nonzero_content told.mark) _ d (fits-nonzero told.mark) in
+      let f = one-more priority_kind _ (nonzero_content told.priority) _ e
+      (fits-nonzero told.priority) in
       let address = fits-address told.source fits.source_fits in
-      let f = one-more hardware_address_kind _ (option_map address_content told.source) _ e address
+      let g = one-more hardware_address_kind _ (option_map address_content told.source) _ f address
       in
       let stamp : List ℕ = stamp_content told.seconds told.micros in
-      let g = one-more timestamp_kind _ (Some stamp) _ f (omega arith) in
-      let h = one-more full_length_kind _ _ _ g (fits-number told.cut_from) in
+      let h = one-more timestamp_kind _ (Some stamp) _ g (omega arith) in
+      let i = one-more full_length_kind _ _ _ h (fits-number told.cut_from) in
       let payload = fits-payload told.payload fits.payload_fits in
-      let i = one-more payload_kind _ (payload_content told.payload) _ h payload in
+      let j = one-more payload_kind _ (payload_content told.payload) _ i payload in
       omega arith

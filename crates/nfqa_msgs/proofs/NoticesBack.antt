@@ -18,7 +18,7 @@ use Rattle.netlink_codec.specs.Fields.{Field}
 use Rattle.nfqa_headers.specs.Numbers.{notice_number, packet_header_kind, mark_kind, timestamp_kind}
 use Rattle.nfqa_headers.specs.Numbers.{input_device_kind, output_device_kind, payload_kind}
 use Rattle.nfqa_headers.specs.Numbers.{hardware_address_kind, full_length_kind, forward_hook}
-use Rattle.nfqa_headers.specs.Numbers.{hardware_address_length}
+use Rattle.nfqa_headers.specs.Numbers.{priority_kind, hardware_address_length}
 use Rattle.nfqa_msgs.specs.Numbers.{input_device, output_device}
 use Rattle.nfqa_headers.specs.Kinds.{queue_kind}
 use Rattle.nfqa_headers.specs.Headers.{value_in, bytes_in, byte_text, zeros_text, low_half}
@@ -32,11 +32,11 @@ use Rattle.nfqa_headers.specs.Headers.{timestamp_length}
 use Rattle.nfqa_headers.specs.AttributeReading.{last_content, at_least, nearest_protocol}
 use Rattle.nfqa_headers.specs.AttributeWriting.{part}
 use Rattle.nfqa_msgs.specs.RequestReading.{row_in}
-use Rattle.nfqa_msgs.specs.NoticeWriting.{Told, FitsTold, mark_content, payload_content}
+use Rattle.nfqa_msgs.specs.NoticeWriting.{Told, FitsTold, nonzero_content, payload_content}
 use Rattle.nfqa_msgs.specs.NoticeWriting.{notice_parts, notice_body, notice_text}
 use Rattle.nfqa_msgs.specs.NoticeReading.{value_at, protocol_at, source_at, payload_at, above}
 use Rattle.nfqa_msgs.specs.NoticeReading.{cut_at, told_in, told_by_message, told_by}
-use Rattle.nfqa_msgs.proofs.Lengths.{Sizes, notice_body-short, fits-mark, fits-address}
+use Rattle.nfqa_msgs.proofs.Lengths.{Sizes, notice_body-short, fits-nonzero, fits-address}
 use Rattle.nfqa_msgs.proofs.Lengths.{fits-number, fits-payload}
 use Rattle.nfqa_msgs.proofs.RequestsBack.{Walks, later-nothing, last_content-append}
 use Rattle.nfqa_msgs.proofs.RequestsBack.{last_content-part, fit-append, fit-part}
@@ -48,6 +48,7 @@ record Contents : Type 0 where
   input : Option (List ℕ)
   output : Option (List ℕ)
   mark : Option (List ℕ)
+  priority : Option (List ℕ)
   address : Option (List ℕ)
   stamp : Option (List ℕ)
   cut : Option (List ℕ)
@@ -60,6 +61,7 @@ parts_with c =
     ++ part input_device_kind c.input
     ++ part output_device_kind c.output
     ++ part mark_kind c.mark
+    ++ part priority_kind c.priority
     ++ part hardware_address_kind c.address
     ++ part timestamp_kind c.stamp
     ++ part full_length_kind c.cut
@@ -70,6 +72,9 @@ with-header c = simp (last_content-append, last_content-part)
 
 with-mark : (c : Contents) → last_content mark_kind (parts_with c) ≡ c.mark
 with-mark c = simp (last_content-append, last_content-part, later-nothing)
+
+with-priority : (c : Contents) → last_content priority_kind (parts_with c) ≡ c.priority
+with-priority c = simp (last_content-append, last_content-part, later-nothing)
 
 with-address : (c : Contents) → last_content hardware_address_kind (parts_with c) ≡ c.address
 with-address c = simp (last_content-append, last_content-part, later-nothing)
@@ -99,7 +104,8 @@ contents_of told = record {
   header = Some (packet_head_content told.id told.protocol);
   input = Some (value_content input_device);
   output = Some (value_content output_device);
-  mark = mark_content told.mark;
+  mark = nonzero_content told.mark;
+  priority = nonzero_content told.priority;
   address = option_map address_content told.source;
   stamp = Some (stamp_content told.seconds told.micros);
   cut = option_map value_content told.cut_from;
@@ -112,9 +118,15 @@ header-there : (told : Told)
 unfolding contents_of
 header-there told = with-header (contents_of told)
 
-mark-there : (told : Told) → last_content mark_kind (notice_parts told) ≡ mark_content told.mark
+mark-there : (told : Told)
+    → last_content mark_kind (notice_parts told) ≡ nonzero_content told.mark
 unfolding contents_of
 mark-there told = with-mark (contents_of told)
+
+priority-there : (told : Told)
+    → last_content priority_kind (notice_parts told) ≡ nonzero_content told.priority
+unfolding contents_of
+priority-there told = with-priority (contents_of told)
 
 address-there : (told : Told)
     → last_content hardware_address_kind (notice_parts told)
@@ -179,12 +191,12 @@ protocol-back id protocol known =
     ap nearest_protocol (big_number-reads_back 2 protocol (byte_text packet_hook_field forward_hook)
     (two-bytes protocol known)) ∙ nearest-protocol protocol known
 
-mark-back : (mark : ℕ) → mark < 2 ^ 32 →
-    long_value value_length value_field (mark_content mark) ≡ mark
-mark-back mark fits =
-    elim (cases_Bool (mark == 0)) [
-      | inl zero ↦ rw zero (sym (eqb-true mark 0 zero))
-      | inr other ↦ rw other (big_number-reads_back 4 mark [] fits)
+nonzero-back : (n : ℕ) → n < 2 ^ 32 →
+    long_value value_length value_field (nonzero_content n) ≡ n
+nonzero-back n fits =
+    elim (cases_Bool (n == 0)) [
+      | inl zero ↦ rw zero (sym (eqb-true n 0 zero))
+      | inr other ↦ rw other (big_number-reads_back 4 n [] fits)
     ]
 
 address-back : (source : Option (List ℕ)) →
@@ -236,7 +248,11 @@ told_in-back told fits =
     0)) (header-there told) ∙ protocol-back told.id told.protocol fits.protocol_fits in
     let mark : value_at mark_kind value_length value_field (notice_parts told) ≡ told.mark =
     ap (long_value value_length value_field) (mark-there told)
-    ∙ mark-back told.mark fits.mark_fits in
+    ∙ nonzero-back told.mark fits.mark_fits in
+    let priority : value_at priority_kind value_length value_field (notice_parts told)
+    ≡ told.priority =
+    ap (long_value value_length value_field) (priority-there told)
+    ∙ nonzero-back told.priority fits.priority_fits in
     let source : source_at (notice_parts told) ≡ told.source =
     ap (λ (o : Option (List ℕ)). option_map (bytes_in address_field)
     (at_least packet_address_length o)) (address-there told)
@@ -256,7 +272,7 @@ told_in-back told fits =
     ap₂ (λ (xs : List ℕ) (o : Option (List ℕ)). above (length xs)
     (long_value value_length value_field o)) payload (cut-there told)
     ∙ cut-back (length told.payload) told.cut_from fits.cut_fits in
-    rw (id, protocol, mark, source, seconds, micros, cut, payload) refl
+    rw (id, protocol, mark, priority, source, seconds, micros, cut, payload) refl
 
 pub parts-fit : (told : Told) → FitsTold told → AllFit (notice_parts told)
 parts-fit told fits =
@@ -267,18 +283,21 @@ parts-fit told fits =
     (omega arith) in
     let d = one-more output_device_kind _ (Some (value_content output_device)) (omega arith) b
     (omega arith) in
-    let e = one-more mark_kind _ (mark_content told.mark) (omega arith) d (fits-mark told.mark) in
+    let e = one-more mark_kind _ (nonzero_content told.mark) (omega arith) d
+    (fits-nonzero told.mark) in
+    let f = one-more priority_kind _ (nonzero_content told.priority) (omega arith) e
+    (fits-nonzero told.priority) in
     let address = fits-address told.source fits.source_fits in
-    let f = one-more hardware_address_kind _ (option_map address_content told.source) (omega arith)
-    e address in
+    let g = one-more hardware_address_kind _ (option_map address_content told.source) (omega arith)
+    f address in
     let stamp : List ℕ = stamp_content told.seconds told.micros in
-    let g = one-more timestamp_kind _ (Some stamp) (omega arith) f (omega arith) in
+    let h = one-more timestamp_kind _ (Some stamp) (omega arith) g (omega arith) in
     let cut = fits-number told.cut_from in
-    let h = one-more full_length_kind _ (option_map value_content told.cut_from) (omega arith) g cut
+    let i = one-more full_length_kind _ (option_map value_content told.cut_from) (omega arith) h cut
     in
     let payload = fits-payload told.payload fits.payload_fits in
-    let i = one-more payload_kind _ (payload_content told.payload) (omega arith) h payload in
-    i.all
+    let j = one-more payload_kind _ (payload_content told.payload) (omega arith) i payload in
+    j.all
 
 -- ---- the whole text
 

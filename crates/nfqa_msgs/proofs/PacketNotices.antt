@@ -65,6 +65,7 @@ told-fits queue mode range id card fits = record {
   id_fits = fits.id_fits;
   protocol_fits = fits.card_fits.protocol;
   mark_fits = fits.mark_fits;
+  priority_fits = fits.priority_fits;
   source_fits = source-fits card.link fits.card_fits.link;
   seconds_fit = fits.seconds_fit;
   micros_fit = fits.micros_fit;

@@ -19,6 +19,7 @@ use Rattle.nfqa_msgs.specs.declared.request.Decoded.TheVariants.{Asked}
 use Rattle.nfqa_headers.specs.Numbers.{queue_subsystem, config_number, verdict_number, batch_number}
 use Rattle.nfqa_headers.specs.Numbers.{command_kind, params_kind, maxlen_kind, mask_kind}
 use Rattle.nfqa_headers.specs.Numbers.{flags_kind, verdict_header_kind, mark_kind, payload_kind}
+use Rattle.nfqa_headers.specs.Numbers.{priority_kind}
 use Rattle.nfqa_headers.specs.Kinds.{queue_kind, subsystem_of, number_of}
 use Rattle.nfqa_headers.specs.Headers.{queue_header, value_in, value_field, value_content}
 use Rattle.nfqa_headers.specs.Headers.{command_in, params_in, head_in, queue_in, command_content}
@@ -233,34 +234,46 @@ config-back queue command params maxlen flags mask fits =
       number-back mask fits.mask_fits,
     ) refl)
 
-verdict-reads : (queue : ℕ) (head : Option Head) (mark : Option ℕ) (payload : Option (List ℕ)) →
-    FitsVerdict queue head mark payload →
-    Reads verdict_number (parts_of (Verdict queue head mark payload))
-verdict-reads queue head mark payload fits =
-    both-read verdict_number _ _ (both-read verdict_number _ _
+verdict-reads : (queue : ℕ) (head : Option Head) (mark : Option ℕ) (payload : Option (List ℕ))
+    (priority : Option ℕ) → FitsVerdict queue head mark payload priority →
+    Reads verdict_number (parts_of (Verdict queue head mark payload priority))
+verdict-reads queue head mark payload priority fits =
+    both-read verdict_number _ _ (both-read verdict_number _ _ (both-read verdict_number _ _
     (head-reads verdict_number head (omega arith))
     (number-part verdict_number mark_kind mark (omega arith) (omega arith)))
-    (payload-part payload fits.payload_fits)
+    (payload-part payload fits.payload_fits))
+    (number-part verdict_number priority_kind priority (omega arith) (omega arith))
 
-verdict-back : (queue : ℕ) (head : Option Head) (mark : Option ℕ) (payload : Option (List ℕ)) →
-    FitsVerdict queue head mark payload
-    → verdict_in queue (parts_of (Verdict queue head mark payload))
-    ≡ Verdict queue head mark payload
-verdict-back queue head mark payload fits =
+verdict-back : (queue : ℕ) (head : Option Head) (mark : Option ℕ) (payload : Option (List ℕ))
+    (priority : Option ℕ) → FitsVerdict queue head mark payload priority
+    → verdict_in queue (parts_of (Verdict queue head mark payload priority))
+    ≡ Verdict queue head mark payload priority
+verdict-back queue head mark payload priority fits =
     simp (last_content-append, last_content-part, later-nothing)
-    (rw (head-back head fits.head_fits, number-back mark fits.mark_fits) refl)
+    (rw (
+      head-back head fits.head_fits,
+      number-back mark fits.mark_fits,
+      number-back priority fits.priority_fits,
+    ) refl)
 
-batch-reads : (queue : ℕ) (head : Option Head) (mark : Option ℕ) →
-    Reads batch_number (parts_of (Batch queue head mark))
-batch-reads queue head mark =
-    both-read batch_number _ _ (head-reads batch_number head (omega arith))
-    (number-part batch_number mark_kind mark (omega arith) (omega arith))
+batch-reads : (queue : ℕ) (head : Option Head) (mark priority : Option ℕ) →
+    Reads batch_number (parts_of (Batch queue head mark priority))
+batch-reads queue head mark priority =
+    both-read batch_number _ _ (both-read batch_number _ _
+    (head-reads batch_number head (omega arith))
+    (number-part batch_number mark_kind mark (omega arith) (omega arith)))
+    (number-part batch_number priority_kind priority (omega arith) (omega arith))
 
-batch-back : (queue : ℕ) (head : Option Head) (mark : Option ℕ) → FitsVerdict queue head mark None
-    → batch_in queue (parts_of (Batch queue head mark)) ≡ Batch queue head mark
-batch-back queue head mark fits =
+batch-back : (queue : ℕ) (head : Option Head) (mark priority : Option ℕ)
+    → FitsVerdict queue head mark None priority
+    → batch_in queue (parts_of (Batch queue head mark priority)) ≡ Batch queue head mark priority
+batch-back queue head mark priority fits =
     simp (last_content-append, last_content-part, later-nothing)
-    (rw (head-back head fits.head_fits, number-back mark fits.mark_fits) refl)
+    (rw (
+      head-back head fits.head_fits,
+      number-back mark fits.mark_fits,
+      number-back priority fits.priority_fits,
+    ) refl)
 
 -- a body has its queue's header
 body-long : (queue : ℕ) (row : List Attribute) →
@@ -282,37 +295,37 @@ spelled-decodes walks port call (Config queue command params maxlen flags mask) 
     queue row refl refl (body-long queue row) refl refl refl
     (queue-back queue row fits.queue_fits) (walks row reads.fits) reads.long
     ∙ ap Asked (config-back queue command params maxlen flags mask fits)
-spelled-decodes walks port call (Verdict queue head mark payload) fits =
-    let row = parts_of (Verdict queue head mark payload) in
-    let reads = verdict-reads queue head mark payload fits in
-    decoded-asked (spelled port call (Verdict queue head mark payload)) verdict_number queue row
+spelled-decodes walks port call (Verdict queue head mark payload priority) fits =
+    let row = parts_of (Verdict queue head mark payload priority) in
+    let reads = verdict-reads queue head mark payload priority fits in
+    decoded-asked (spelled port call (Verdict queue head mark payload priority)) verdict_number queue row
     refl refl (body-long queue row) refl refl refl (queue-back queue row fits.queue_fits)
     (walks row reads.fits) reads.long
-    ∙ ap Asked (verdict-back queue head mark payload fits)
-spelled-decodes walks port call (Batch queue head mark) fits =
-    let row = parts_of (Batch queue head mark) in
-    let reads = batch-reads queue head mark in
-    decoded-asked (spelled port call (Batch queue head mark)) batch_number queue row refl refl
+    ∙ ap Asked (verdict-back queue head mark payload priority fits)
+spelled-decodes walks port call (Batch queue head mark priority) fits =
+    let row = parts_of (Batch queue head mark priority) in
+    let reads = batch-reads queue head mark priority in
+    decoded-asked (spelled port call (Batch queue head mark priority)) batch_number queue row refl refl
     (body-long queue row) refl refl refl (queue-back queue row fits.queue_fits)
     (walks row reads.fits) reads.long
-    ∙ ap Asked (batch-back queue head mark fits)
+    ∙ ap Asked (batch-back queue head mark priority fits)
 
 -- ---- a spelling's message fits its header
 
 kind-small : (request : Request) → queue_kind (number_for request) < 2 ^ 16
 kind-small (Config queue command params maxlen flags mask) = omega arith
-kind-small (Verdict queue head mark payload) = omega arith
-kind-small (Batch queue head mark) = omega arith
+kind-small (Verdict queue head mark payload priority) = omega arith
+kind-small (Batch queue head mark priority) = omega arith
 
 flags-small : (request : Request) → flags_for request < 2 ^ 16
 flags-small (Config queue command params maxlen flags mask) = omega arith
-flags-small (Verdict queue head mark payload) = omega arith
-flags-small (Batch queue head mark) = omega arith
+flags-small (Verdict queue head mark payload priority) = omega arith
+flags-small (Batch queue head mark priority) = omega arith
 
 payload-fits : (request : Request) → FitsRequest request → PayloadFits request
 payload-fits (Config queue command params maxlen flags mask) fits = tt
-payload-fits (Verdict queue head mark payload) fits = fits.payload_fits
-payload-fits (Batch queue head mark) fits = tt
+payload-fits (Verdict queue head mark payload priority) fits = fits.payload_fits
+payload-fits (Batch queue head mark priority) fits = tt
 
 pub spelled-fits : Sizes → (port call : ℕ) (request : Request) → port < 2 ^ 32 → call < 2 ^ 32 →
     FitsRequest request → FitsHeader (spelled port call request)

@@ -3,7 +3,7 @@ use Rattle.std.proofs.Common.{Bor, arith, refl}
 use Rattle.std.specs.Prelude.{option_map}
 use Rattle.packet_entry.specs.Numbers.{longest_payload}
 use Rattle.netlink_codec.specs.Attributes.{Attribute, Holds, attribute_of, attributes}
-use Rattle.nfqa_headers.specs.Numbers.{full_length_kind}
+use Rattle.nfqa_headers.specs.Numbers.{priority_kind}
 use Rattle.nfqa_headers.specs.AttributeReading.{content_at, least_content, later, last_content}
 use Rattle.nfqa_headers.proofs.LastContent.{IfSome-seen, last_content-fits, last_content-long}
 use Rattle.nfqa_headers.proofs.LastContent.{later-nothing, walked-other}
@@ -12,7 +12,7 @@ use Rattle.nfqa_headers.proofs.attribute_reading.last_contents.Goals as goal
 use Rattle.nfqa_headers.proofs.attribute_reading.last_contents.Goals.{In-Some}
 
 -- with this attribute as the first of those to come, the row says what it said
-said : (c : In-Some) (kind : ℕ) → kind ≤ full_length_kind →
+said : (c : In-Some) (kind : ℕ) → kind ≤ priority_kind →
     later (last_content kind (attribute_of c.in-Some.attr ∷ c.next.new.self))
     (option_map (λ content. content.now) (content_at c.loop-attr.last kind))
     ≡ last_content kind (attributes c.args.row.now)
@@ -29,7 +29,7 @@ loop-attr-init c = (
   λ kind known.
       let items : List Attribute = c.into_iter-attr-iterator.result in
       ap (λ o. later (last_content kind items) (option_map (λ (x : Bor (List ℕ)). x.now) o))
-      (none-there 14 kind)
+      (none-there 22 kind)
       ∙ later-nothing (last_content kind items)
       ∙ ap (last_content kind)
       (c.into_iter-attr-iterator.ensures.into_iter_gives ∙ c.walk_attrs-attr-items.ensures.walk),

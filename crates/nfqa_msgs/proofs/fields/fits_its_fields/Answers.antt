@@ -23,6 +23,7 @@ returns-in-Verdict c =
       head_fits = c.fits_head.ensures;
       mark_fits = c.fits_value-in-Verdict.ensures;
       payload_fits = subst PayloadFits c.in-Verdict.is c.requires;
+      priority_fits = c.fits_value-in-Verdict-2.ensures;
     })
 
 pub returns-in-Batch : goal.returns-in-Batch
@@ -33,4 +34,5 @@ returns-in-Batch c =
       head_fits = c.fits_head-in-Batch.ensures;
       mark_fits = c.fits_value-in-Batch.ensures;
       payload_fits = tt;
+      priority_fits = c.fits_value-in-Batch-2.ensures;
     })

@@ -3,12 +3,12 @@ use Rattle.std.specs.Prelude.{option_map}
 use Rattle.netlink_codec.specs.Attributes.{Attribute, attributes_text}
 use Rattle.nfqa_headers.specs.Numbers.{packet_header_kind, input_device_kind, output_device_kind}
 use Rattle.nfqa_headers.specs.Numbers.{mark_kind, hardware_address_kind, timestamp_kind}
-use Rattle.nfqa_headers.specs.Numbers.{full_length_kind}
+use Rattle.nfqa_headers.specs.Numbers.{priority_kind, full_length_kind}
 use Rattle.nfqa_msgs.specs.Numbers.{input_device, output_device}
 use Rattle.nfqa_headers.specs.Headers.{queue_header, packet_head_content, address_content}
 use Rattle.nfqa_headers.specs.Headers.{stamp_content, value_content}
 use Rattle.nfqa_headers.specs.AttributeWriting.{part, value_part}
-use Rattle.nfqa_msgs.specs.NoticeWriting.{Told, family_of, mark_content}
+use Rattle.nfqa_msgs.specs.NoticeWriting.{Told, family_of, nonzero_content}
 use Rattle.nfqa_msgs.specs.Telling.{telling}
 use Rattle.nfqa_msgs.proofs.Lengths.{row-goes-on}
 use Rattle.nfqa_msgs.proofs.notice_writing.parts_before.Goals as goal
@@ -22,10 +22,11 @@ returns c =
     part packet_header_kind (Some (packet_head_content told.id told.protocol)) in
     let b : List Attribute = part input_device_kind (Some (value_content input_device)) in
     let d : List Attribute = part output_device_kind (Some (value_content output_device)) in
-    let e : List Attribute = part mark_kind (mark_content told.mark) in
-    let f : List Attribute = part hardware_address_kind (option_map address_content told.source) in
-    let g : List Attribute = part timestamp_kind (Some (stamp_content told.seconds told.micros)) in
-    let h : List Attribute = value_part full_length_kind told.cut_from in
+    let e : List Attribute = part mark_kind (nonzero_content told.mark) in
+    let f : List Attribute = part priority_kind (nonzero_content told.priority) in
+    let g : List Attribute = part hardware_address_kind (option_map address_content told.source) in
+    let h : List Attribute = part timestamp_kind (Some (stamp_content told.seconds told.micros)) in
+    let i : List Attribute = value_part full_length_kind told.cut_from in
     let start : c.in_ok-body.body.items ≡ head =
     c.in_ok-body.ensures ∙ ap (λ (family : ℕ). queue_header family told.queue) c.family.ensures in
     let one : c.put_packet_header.new.body.items ≡ head ++ attributes_text a =
@@ -35,13 +36,16 @@ returns c =
     row-goes-on head _ c.put_value-2.new.body.items (a ++ b) d two
     c.in_ok-put_value-2.ensures in
     let four =
-    row-goes-on head _ c.put_mark.new.body.items (a ++ b ++ d) e three
-    c.in_ok-put_mark.ensures in
+    row-goes-on head _ c.put_nonzero.new.body.items (a ++ b ++ d) e three
+    c.in_ok-put_nonzero.ensures in
     let five =
-    row-goes-on head _ c.put_address.new.body.items (a ++ b ++ d ++ e) f four
-    c.in_ok-put_address.ensures in
+    row-goes-on head _ c.put_nonzero-2.new.body.items (a ++ b ++ d ++ e) f four
+    c.in_ok-put_nonzero-2.ensures in
     let six =
-    row-goes-on head _ c.put_stamp.new.body.items (a ++ b ++ d ++ e ++ f) g five
+    row-goes-on head _ c.put_address.new.body.items (a ++ b ++ d ++ e ++ f) g five
+    c.in_ok-put_address.ensures in
+    let seven =
+    row-goes-on head _ c.put_stamp.new.body.items (a ++ b ++ d ++ e ++ f ++ g) h six
     c.in_ok-put_stamp.ensures in
-    row-goes-on head _ c.put_value-3.new.body.items (a ++ b ++ d ++ e ++ f ++ g) h six
+    row-goes-on head _ c.put_value-3.new.body.items (a ++ b ++ d ++ e ++ f ++ g ++ h) i seven
     c.in_ok-put_value-3.ensures

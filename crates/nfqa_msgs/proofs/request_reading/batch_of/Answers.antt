@@ -1,5 +1,6 @@
 use Rattle.std.proofs.Common.{arith}
 use Rattle.nfqa_headers.specs.Numbers.{batch_number, mark_kind, verdict_header_kind}
+use Rattle.nfqa_headers.specs.Numbers.{priority_kind}
 use Rattle.nfqa_headers.specs.Headers.{value_length, verdict_header_length}
 use Rattle.nfqa_msgs.proofs.Found.{found-long, found-some}
 use Rattle.nfqa_msgs.proofs.request_reading.batch_of.Goals as goal
@@ -13,3 +14,8 @@ pub read_value-requires : goal.read_value-requires
 read_value-requires c =
     let long = c.last_contents-contents.ensures.long batch_number mark_kind c.requires in
     found-long value_length _ _ c.content_of-2.ensures (long (omega arith))
+
+pub read_value-requires-2 : goal.read_value-requires-2
+read_value-requires-2 c =
+    let long = c.last_contents-contents.ensures.long batch_number priority_kind c.requires in
+    found-long value_length _ _ c.content_of-3.ensures (long (omega arith))
