@@ -17,9 +17,10 @@ use Rattle.std.proofs.lemmas.Option.{none-some, same_Some}
 use Rattle.text_lines.specs.declared.fault.LineFault.{LineFault}
 use Rattle.text_lines.specs.declared.fault.LineFault.TheVariants.{Bad}
 use Rattle.text_lines.specs.declared.fault.LineFault.TheVariants as fault
-use Rattle.hook_chain.specs.declared.reading.Stop.{Stop}
-use Rattle.hook_chain.specs.declared.reading.Stop.TheVariants.{Refused, NoMemory}
-use Rattle.hook_chain.specs.Reading.{IsSound, Moves, fault_of, opens, opens_table, takes_memory}
+use Rattle.text_lines.specs.declared.stop.Stop.{Stop}
+use Rattle.text_lines.specs.declared.stop.Stop.TheVariants.{Refused, NoMemory}
+use Rattle.text_lines.specs.Refusals.{fault_of}
+use Rattle.hook_chain.specs.Reading.{IsSound, Moves, opens, opens_table, takes_memory}
 use Rattle.hook_chain.specs.RulesFile.{Answers, Place, start, may_open, after, line_leads_to}
 use Rattle.hook_chain.specs.RulesFile.{tables_from, rules_of}
 use Rattle.hook_chain.proofs.Picks.{SaysPick, says_if}

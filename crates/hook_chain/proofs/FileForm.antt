@@ -3,7 +3,7 @@
 use Rattle.std.proofs.Common.{◌≡◌, ℕ, ◌+◌, ◌≤◌, inl, inr, true, cond, ltb, not, ◌&&◌, List, [], ◌∷◌}
 use Rattle.std.proofs.Common.{◌++◌, length, get_or, append-nil, Some, None, Result, Ok, Err, ◌∙◌}
 use Rattle.std.proofs.Common.{refl, sym, ap, subst, arith}
-use Rattle.std.specs.Prelude.{◌≢◌, ◌⊎◌, All, AllPairs, bytes_eq, codes, is_none, is_some, IfOk}
+use Rattle.std.specs.Prelude.{◌≢◌, ◌⊎◌, All, AllPairs, bytes_eq, codes, is_none, is_some}
 use Rattle.std.specs.List.{list_any}
 use Rattle.std.specs.Str.Lines.{lines}
 use Rattle.std.proofs.lemmas.Bool.{and_parts, false≢true}
@@ -266,21 +266,11 @@ file_stuck text line (inl h) = bad_line text line h
 file_stuck text line (inr h) = ends_early text line h
 
 -- the same of an answer
-pub found_by : (r : Result (List (List Rule)) LineFault) (text : List ℕ) →
-    Answers r (rules_of text) → IfOk r (IsFileOf text)
-found_by (Ok tables) text h = file_found text tables h
-found_by (Err fault) text h = tt
-
 pub refused_by : (r : Result (List (List Rule)) LineFault) (text : List ℕ) (line : ℕ) →
     Answers r (rules_of text) → r ≡ Err (Bad line) → IsFirstRefused text line
 refused_by r text line h e =
     file_refused text line
     (subst (λ (s : Result (List (List Rule)) LineFault). Answers s (rules_of text)) e h)
-
-pub answered_by : (r : Result (List (List Rule)) LineFault) (text : List ℕ)
-    (read : Result (List (List Rule)) ℕ) → rules_of text ≡ read → Answers r (rules_of text) →
-    Answers r read
-answered_by r text read e h = subst (Answers r) e h
 
 pub same_tables : (text : List ℕ) (a b : List (List Rule)) → IsFileOf text a →
     IsFileOf text b → a ≡ b

@@ -3,11 +3,8 @@ use Rattle.std.specs.Prelude.{ℕ, ◌≡◌, ◌||◌, Bool, true, false, IsTru
 use Rattle.std.specs.Prelude.{None, is_some, Result, Ok, Err, IfSome, length, ◌<◌}
 use Rattle.std.specs.Option.{option_map_or}
 use Rattle.hook_chain.specs.declared.reading.Reader.{Reader}
-use Rattle.hook_chain.specs.declared.reading.Stop.{Stop}
-use Rattle.hook_chain.specs.declared.reading.Stop.TheVariants.{Refused, NoMemory}
-use Rattle.text_lines.specs.declared.fault.LineFault.{LineFault}
-use Rattle.text_lines.specs.declared.fault.LineFault.TheVariants.{Bad}
-use Rattle.text_lines.specs.declared.fault.LineFault.TheVariants as fault
+use Rattle.text_lines.specs.declared.stop.Stop.{Stop}
+use Rattle.text_lines.specs.declared.stop.Stop.TheVariants.{Refused, NoMemory}
 use Rattle.hook_chain.specs.Rules.{IsTable, AreTables}
 use Rattle.hook_chain.specs.Numbers.{most_tables}
 use Rattle.hook_chain.specs.Line.{Says, Nothing, Opens, Policy, Adds, Closes, says}
@@ -43,11 +40,6 @@ abbrev pub Moves : {A : Type 0} → Bool → Result A Stop → Option Place → 
 Moves takes (Ok _) next new = next ≡ Some new
 Moves takes (Err Refused) next new = next ≡ None
 Moves takes (Err NoMemory) next new = IsTrue takes
-
--- what a call's refusal means of the file
-abbrev pub fault_of : Stop → ℕ → LineFault
-fault_of Refused line_number = Bad line_number
-fault_of NoMemory line_number = fault.NoMemory
 
 -- The bounds that a reader keeps: those of the closed tables and of the open one, which has room
 -- among them.

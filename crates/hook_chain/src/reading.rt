@@ -4,7 +4,6 @@ ghost use Rattle.std.specs.Prelude.{ℕ, List, Any, true, false, is_some, Some, 
 ghost use Rattle.std.specs.Prelude.{[], ◌+◌, ◌-◌, ◌^◌, ◌<◌, length, bytes_eq};
 ghost use Rattle.std.specs.Str.Lines.{lines};
 ghost use Rattle.std.specs.List.{list_any};
-ghost use Rattle.hook_chain.specs.declared.reading.Stop.TheVariants.{NoMemory};
 ghost use Rattle.hook_chain.specs.Rules.{AreRuleTables, AreTables, RuleTables, for_one_feeder};
 ghost use Rattle.hook_chain.specs.Rules.{with_one_feeder};
 ghost use Rattle.hook_chain.specs.Grammar.{BeginsTable, IsFirstRefused, IsRulesFile};
@@ -12,27 +11,18 @@ ghost use Rattle.hook_chain.specs.declared.rule.Rule.{Rule};
 ghost use Rattle.hook_chain.specs.Line.{Adds, Closes, Opens, Policy, said, says};
 ghost use Rattle.hook_chain.specs.RulesFile.{Answers, after, line_leads_to, may_open, start};
 ghost use Rattle.hook_chain.specs.RulesFile.{rules_of, tables_from, tables_of};
-ghost use Rattle.hook_chain.specs.Reading.{IsSound, Moves, fault_of, opens_table, place_of};
-ghost use Rattle.hook_chain.specs.Reading.{takes_memory};
+ghost use Rattle.hook_chain.specs.Reading.{IsSound, Moves, opens_table, place_of, takes_memory};
 
 use crate::line::{Line, read_line};
 use crate::rule::Rule;
 use crate::tables::{Table, TableList, Tables};
-use std::alloc::{AllocError, AllocFailed, Global};
-use text_lines::{LineFault, is_word, next_line};
+use std::alloc::Global;
+use text_lines::{LineFault, Stop, is_word, next_line};
 
 /// The most tables of a rules file, of this reader.
 const MAX_TABLES: usize = 16;
 /// The most rules of a table, of this reader.
 const MAX_RULES: usize = 1_000;
-
-/// Why a reader doesn't go on.
-#[derive(Clone, Copy)]
-enum Stop {
-    /// The line may not stand here.
-    Refused,
-    NoMemory,
-}
 
 /// The tables of a rules file as iptables-save(8) writes it, reduced to the FORWARD chain, the
 /// target NFQUEUE and the matches of protocol and mark.
@@ -97,34 +87,6 @@ fn read_lines(alloc: Global, bytes: &[u8]) -> Result<TableList, LineFault>
         line_number += 1;
     }
     reader.finish(line_number)
-}
-
-impl From<AllocError> for Stop {
-    ghost from_gives = { λ _ e. e ≡ NoMemory };
-
-    fn from(_error: AllocError) -> Stop {
-        Stop::NoMemory
-    }
-}
-
-impl<T: Drop> From<AllocFailed<T>> for Stop {
-    ghost from_gives = { λ _ e. e ≡ NoMemory };
-
-    fn from(_error: AllocFailed<T>) -> Stop {
-        Stop::NoMemory
-    }
-}
-
-impl Stop {
-    /// The fault of the file whose line `line_number` stopped the reader.
-    fn at(self, line_number: u32) -> LineFault
-        ensures { result ≡ fault_of self line_number }
-    {
-        match self {
-            Stop::Refused => LineFault::Bad { line: line_number },
-            Stop::NoMemory => LineFault::NoMemory,
-        }
-    }
 }
 
 /// Where the reading of a rules file stands.

@@ -119,11 +119,6 @@ at_below big text at fits =
 
 -- ---- tests
 
-pub chosen : {A : Type 0} (b : Bool) (x y z : A) → cond b x y ≡ z →
-    ((b ≡ true) × (x ≡ z)) ⊎ ((b ≡ false) × (y ≡ z))
-chosen true x y z e = inl (refl, e)
-chosen false x y z e = inr (refl, e)
-
 pub same_numbers : (a b m n : ℕ) → not (eqb a m && eqb b n) ≡ false → (a ≡ m) × (b ≡ n)
 same_numbers a b m n e =
     let both = and_parts (eqb a m) (eqb b n) (not-false (eqb a m && eqb b n) e) in

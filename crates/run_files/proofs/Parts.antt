@@ -16,13 +16,6 @@ pub if_ok_and : {T E : Type 0} (P R : T → Type 0) (B : Type 0) (r : Result T E
 if_ok_and P R B (Ok x) p b f = f x p b
 if_ok_and P R B (Err e) p b f = tt
 
-pub may_go_on : (text : List ℕ) (file : Option (List ℕ)) (at : ℕ) → at ≤ length text →
-    Has file at text → MayGoOn file at
-may_go_on text file zero within has = inl refl
-may_go_on text file (suc at) within has =
-    inr (sym (ap (λ f. length (bytes_of f)) (has (omega arith))
-    ∙ length-take-le (suc at) text within))
-
 -- the file with the bytes of any part behind those that it has
 has_before : (text : List ℕ) (file : Option (List ℕ)) (at : ℕ) (part : List ℕ) →
     at ≤ length text → Has file at text → written file at part ≡ take at text ++ part

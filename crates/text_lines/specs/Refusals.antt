@@ -2,6 +2,10 @@
 -- between the lines of a text and the value that they are a file of.
 use Rattle.std.specs.Prelude.{ℕ, ◌≡◌, ◌+◌, ◌⊎◌, List, [], ◌∷◌, ◌++◌, length}
 use Rattle.std.specs.Str.Lines.{lines}
+use Rattle.text_lines.specs.declared.fault.LineFault.{LineFault}
+use Rattle.text_lines.specs.declared.fault.LineFault.TheVariants as fault
+use Rattle.text_lines.specs.declared.stop.Stop.{Stop}
+use Rattle.text_lines.specs.declared.stop.Stop.TheVariants.{Refused, NoMemory}
 
 -- some lines after these make a file of them
 abbrev pub BeginFile : {A : Type 0} → (List (List ℕ) → A → Type 0) → List (List ℕ) → Type 0
@@ -30,3 +34,8 @@ pub record EndsEarly {A : Type 0} (AreLines : List (List ℕ) → A → Type 0) 
 abbrev pub IsFirstRefused : {A : Type 0} → (List (List ℕ) → A → Type 0) → List ℕ → ℕ → Type 0
 IsFirstRefused AreLines text line_number =
     IsBadLine AreLines text line_number ⊎ EndsEarly AreLines text line_number
+
+-- what it means of the file that its reader stopped at this line
+abbrev pub fault_of : Stop → ℕ → LineFault
+fault_of Refused line_number = fault.Bad line_number
+fault_of NoMemory line_number = fault.NoMemory

@@ -1,5 +1,6 @@
 use Rattle.text_lines.specs.declared.fault.LineFault.TheVariants.{NoMemory}
-use Rattle.hook_chain.specs.Reading.{fault_of, place_of}
+use Rattle.text_lines.specs.Refusals.{fault_of}
+use Rattle.hook_chain.specs.Reading.{place_of}
 use Rattle.hook_chain.proofs.Bounds.{is_fault, is_taken, same_fault, is_read_first, is_read_next}
 use Rattle.hook_chain.proofs.reading.read_lines.Goals as goal
 
