@@ -2,11 +2,11 @@
 use Rattle.std.proofs.Common.{◌≡◌, ℕ, cond, true, false, eqb, inl, inr, List, [], ◌∷◌, ◌++◌}
 use Rattle.std.proofs.Common.{length, append-nil, Option, Some, None, ◌∙◌, refl, sym, ap, subst}
 use Rattle.std.proofs.Common.{◌≤◌, arith}
-use Rattle.std.specs.Prelude.{bytes_eq, codes, option_map}
+use Rattle.std.specs.Prelude.{bytes_eq, codes}
 use Rattle.std.proofs.lemmas.Bool.{eqb-true, false_from_ne_true, false≢true}
 use Rattle.std.proofs.lemmas.Option.{cond_some, none-some, same_Some}
-use Rattle.text_lines.specs.Words.{◌>>=◌, first_word, words_after}
-use Rattle.text_lines.specs.Hexadecimal.{bytes_of}
+use Rattle.text_lines.specs.Words.{◌>>=◌, first_word}
+use Rattle.text_lines.specs.Hexadecimal.{IsSpelled, bytes_of}
 use Rattle.nfqa_headers.specs.declared.params.Params.{Params}
 use Rattle.script_lines.specs.declared.template.OrThis.{OrThis}
 use Rattle.script_lines.specs.declared.template.Judgement.{Judgement}
@@ -14,21 +14,21 @@ use Rattle.script_lines.specs.declared.template.Settings.{Settings}
 use Rattle.script_lines.specs.declared.template.Template.{Template}
 use Rattle.script_lines.specs.declared.template.Template.TheVariants as ask
 use Rattle.script_lines.specs.Numbers.{most_payload_bytes, most_raw_bytes}
-use Rattle.script_lines.specs.AskLine.{ask_of, batch_of, bytes_alone, command_named}
-use Rattle.script_lines.specs.AskLine.{command_part, config_of}
+use Rattle.script_lines.specs.AskLine.{ask_of, batch_of, command_named, command_part, config_of}
 use Rattle.script_lines.specs.AskLine.{id_of, judged, number_part, only_word, params_part}
 use Rattle.script_lines.specs.AskLine.{payload_part, queue_of, raw_of, verdict_of, verdict_word}
-use Rattle.script_lines.specs.Grammar.{IsAsk, IsConfig, IsJudgement, IsNumberPart, IsParamsPart}
-use Rattle.script_lines.specs.Grammar.{IsPayloadPart}
-use Rattle.script_lines.proofs.Wording.{Laws, bind_some, chosen, first_word_some, map_some}
+use Rattle.script_lines.specs.AskLine.{with_priority}
+use Rattle.script_lines.specs.Grammar.{IsAsk, IsConfig, IsId, IsJudgement, IsNumberPart}
+use Rattle.script_lines.specs.Grammar.{IsParamsPart, IsPayloadPart, IsQueue, IsVerdict}
+use Rattle.script_lines.proofs.Wording.{Laws, bind_some, chosen, first_word_some}
 use Rattle.script_lines.proofs.Wording.{none_left, only_word_some, passed, same_word}
-use Rattle.script_lines.proofs.Wording.{words_after_some}
 use Rattle.script_lines.proofs.WordForm.{id_again, id_some, queue_again, queue_some, verdict_again}
 use Rattle.script_lines.proofs.WordForm.{verdict_some}
 use Rattle.script_lines.proofs.AskPartForm.{Begins, command_part_again, command_part_some}
 use Rattle.script_lines.proofs.AskPartForm.{number_apart, number_apart_last}
 use Rattle.script_lines.proofs.AskPartForm.{number_last, number_some}
 use Rattle.script_lines.proofs.AskPartForm.{number_part_again, params_again, params_some}
+use Rattle.script_lines.proofs.AskPartForm.{payload_reads, value_again, value_apart, value_some}
 
 -- ---- config
 
@@ -202,10 +202,32 @@ config_again laws words queue s h =
       mask = mask.0;
     }))) None) (number_last laws (codes "mask") h.mask s.mask h.mask_is)
 
--- ---- Q VERDICT ID [mark N]
+-- ---- Q VERDICT ID [mark N] [payload BYTES] [priority N]
+
+-- a judgement with this priority
+abbrev prioritized : Judgement → Option ℕ → Judgement
+prioritized j priority = record {
+  queue = j.queue;
+  verdict = j.verdict;
+  id = j.id;
+  mark = j.mark;
+  priority = priority;
+}
+
+-- what stands before a payload and a priority
+record IsFront (words : List (List ℕ)) (j : Judgement) : Type 0 where
+  queue : List ℕ
+  verdict : List ℕ
+  id : List ℕ
+  mark : List (List ℕ)
+  queue_is : IsQueue queue j.queue
+  verdict_is : IsVerdict verdict j.verdict
+  id_is : IsId id j.id
+  mark_is : IsNumberPart (codes "mark") mark j.mark
+  words_are : words ≡ queue ∷ verdict ∷ id ∷ mark
 
 judged_some : Laws → (words : List (List ℕ)) (x : Judgement × List (List ℕ)) →
-    judged words ≡ Some x → Begins IsJudgement words x
+    judged words ≡ Some x → Begins IsFront words x
 unfolding judged
 judged_some laws words x e =
     let first = bind_some (first_word words) _ x e in
@@ -216,7 +238,7 @@ judged_some laws words x e =
     let id = bind_some (id_of (third.0).0) _ x third.2 in
     let mark = bind_some (number_part (codes "mark") (third.0).1) _ x id.2 in
     let m = number_some laws (codes "mark") (third.0).1 mark.0 mark.1 in
-    subst (Begins IsJudgement words) (same_Some _ x mark.2) (
+    subst (Begins IsFront words) (same_Some _ x mark.2) (
       (first.0).0 ∷ (second.0).0 ∷ (third.0).0 ∷ m.0,
       record {
         queue = (first.0).0;
@@ -234,25 +256,92 @@ judged_some laws words x e =
           (first_word_some (second.0).1 third.0 third.1 ∙ ap (λ ws. (third.0).0 ∷ ws) m.2)),
     )
 
-judged_again : Laws → (front rest : List (List ℕ)) (j : Judgement) → IsJudgement front j →
-    words_after (codes "mark") rest ≡ None → judged (front ++ rest) ≡ Some (j, rest)
+priority_some : Laws → (j t : Judgement) (words : List (List ℕ)) →
+    with_priority j words ≡ Some t →
+    (o : Option ℕ) × IsNumberPart (codes "priority") words o × (prioritized j o ≡ t)
+unfolding with_priority
+priority_some laws j t words e =
+    let priority = bind_some (number_part (codes "priority") words) _ t e in
+    let parts = cond_some (eqb (length (priority.0).1) 0) _ t priority.2 in
+    let p = number_some laws (codes "priority") words priority.0 priority.1 in
+    let all : p.0 ≡ words =
+    sym (p.2 ∙ ap (λ ws. p.0 ++ ws) (none_left (priority.0).1 parts.0) ∙ append-nil p.0) in (
+      (priority.0).0,
+      subst (λ (ws : List (List ℕ)). IsNumberPart (codes "priority") ws (priority.0).0) all p.1,
+      parts.1,
+    )
+
+-- the parts of a line that was read, all together
+judgement_is : (words front payload priority back : List (List ℕ)) (j : Judgement)
+    (bytes : Option (List ℕ)) (o : Option ℕ) → IsFront front j → IsPayloadPart payload bytes →
+    IsNumberPart (codes "priority") priority o → words ≡ front ++ back →
+    back ≡ payload ++ priority → IsJudgement words (prioritized j o) bytes
+judgement_is words front payload priority back j bytes o h g f words_are back_is = record {
+  queue = h.queue;
+  verdict = h.verdict;
+  id = h.id;
+  mark = h.mark;
+  payload = payload;
+  priority = priority;
+  queue_is = h.queue_is;
+  verdict_is = h.verdict_is;
+  id_is = h.id_is;
+  mark_is = h.mark_is;
+  payload_is = g;
+  priority_is = f;
+  words_are = words_are ∙ ap (λ ws. ws ++ back) h.words_are
+      ∙ ap (λ ws. h.queue ∷ h.verdict ∷ h.id ∷ (h.mark ++ ws)) back_is;
+}
+
+judged_again : Laws → (words : List (List ℕ)) (j : Judgement) (bytes : Option (List ℕ))
+    (h : IsJudgement words j bytes) →
+    judged words ≡ Some (prioritized j None, h.payload ++ h.priority)
 unfolding judged
-judged_again laws front rest j h absent =
-    ap (λ ws. judged (ws ++ rest)) h.words_are
+judged_again laws words j bytes h =
+    let rest = h.payload ++ h.priority in
+    let no_mark = value_apart (IsSpelled most_payload_bytes) (codes "payload") (codes "mark")
+    h.payload h.priority bytes refl h.payload_is
+    (number_apart_last (codes "priority") (codes "mark") h.priority j.priority refl
+    h.priority_is) in
+    ap judged h.words_are
     ∙ ap (λ o. o >>= λ queue. verdict_word h.verdict >>= λ verdict. id_of h.id >>= λ id.
-    number_part (codes "mark") (h.mark ++ rest) >>= λ mark. Some
-    (record { queue = queue; verdict = verdict; id = id; mark = mark.0 }, mark.1))
-    (queue_again laws h.queue j.queue h.queue_is)
+    number_part (codes "mark") (h.mark ++ rest) >>= λ mark. Some (record {
+      queue = queue;
+      verdict = verdict;
+      id = id;
+      mark = mark.0;
+      priority = None;
+    }, mark.1)) (queue_again laws h.queue j.queue h.queue_is)
     ∙ ap (λ o. o >>= λ verdict. id_of h.id >>= λ id.
-    number_part (codes "mark") (h.mark ++ rest) >>= λ mark. Some
-    (record { queue = j.queue; verdict = verdict; id = id; mark = mark.0 }, mark.1))
-    (verdict_again laws h.verdict j.verdict h.verdict_is)
-    ∙ ap (λ o. o >>= λ id. number_part (codes "mark") (h.mark ++ rest) >>= λ mark. Some
-    (record { queue = j.queue; verdict = j.verdict; id = id; mark = mark.0 }, mark.1))
-    (id_again laws h.id j.id h.id_is)
-    ∙ ap (λ o. o >>= λ mark. Some
-    (record { queue = j.queue; verdict = j.verdict; id = j.id; mark = mark.0 }, mark.1))
-    (number_part_again laws (codes "mark") h.mark rest j.mark h.mark_is absent)
+    number_part (codes "mark") (h.mark ++ rest) >>= λ mark. Some (record {
+      queue = j.queue;
+      verdict = verdict;
+      id = id;
+      mark = mark.0;
+      priority = None;
+    }, mark.1)) (verdict_again laws h.verdict j.verdict h.verdict_is)
+    ∙ ap (λ o. o >>= λ id. number_part (codes "mark") (h.mark ++ rest) >>= λ mark. Some (record {
+      queue = j.queue;
+      verdict = j.verdict;
+      id = id;
+      mark = mark.0;
+      priority = None;
+    }, mark.1)) (id_again laws h.id j.id h.id_is)
+    ∙ ap (λ o. o >>= λ mark. Some (record {
+      queue = j.queue;
+      verdict = j.verdict;
+      id = j.id;
+      mark = mark.0;
+      priority = None;
+    }, mark.1)) (number_part_again laws (codes "mark") h.mark rest j.mark h.mark_is no_mark)
+
+priority_again : Laws → (j : Judgement) (words : List (List ℕ)) (o : Option ℕ) →
+    IsNumberPart (codes "priority") words o →
+    with_priority (prioritized j None) words ≡ Some (prioritized j o)
+unfolding with_priority
+priority_again laws j words o h =
+    ap (λ o. o >>= λ priority. cond (eqb (length priority.1) 0)
+    (Some (prioritized j priority.0)) None) (number_last laws (codes "priority") words o h)
 
 -- ---- verdict, batch, raw
 
@@ -265,106 +354,78 @@ not_empty bytes some =
     false_from_ne_true (eqb (length bytes) 0)
     (λ e. let none : length bytes ≡ 0 = eqb-true (length bytes) 0 e in omega arith)
 
-bytes_some : Laws → (most : ℕ) (words : List (List ℕ)) (bytes : List ℕ) →
-    bytes_alone most words ≡ Some bytes →
-    (word : List ℕ) × (words ≡ word ∷ []) × (bytes_of most word ≡ Some bytes)
-bytes_some laws most words bytes e =
-    let word = bind_some (only_word words) (bytes_of most) bytes e in
-    (word.0, only_word_some words word.0 word.1, word.2)
-
-payload_some : Laws → (j : Judgement) (words : List (List ℕ)) (t : Template) →
-    payload_part j words ≡ Some t →
-    (payload : Option (List ℕ)) × IsPayloadPart words payload × (ask.Verdict j payload ≡ t)
-unfolding payload_part
-payload_some laws j words t e =
-    elim (chosen (eqb (length words) 0) _ _ (Some t) e) [
-      | inl h ↦ (None, none_left words h.0, same_Some (ask.Verdict j None) t h.1)
-      | inr h ↦
-          let found =
-          map_some (λ bytes. ask.Verdict j (Some bytes))
-          (words_after (codes "payload") words >>= bytes_alone most_payload_bytes) t h.1 in
-          let rest =
-          bind_some (words_after (codes "payload") words) (bytes_alone most_payload_bytes) found.0
-          found.1 in
-          let bytes = bytes_some laws most_payload_bytes rest.0 found.0 rest.2 in (
-            Some found.0,
-            (
-              bytes.0,
-              (laws.bytes most_payload_bytes bytes.0 found.0).0 bytes.2,
-              words_after_some (codes "payload") words rest.0 rest.1
-                  ∙ ap (λ ws. codes "payload" ∷ ws) bytes.1,
-            ),
-            found.2,
-          )
-    ]
-
 pub verdict_line_some : Laws → (words : List (List ℕ)) (t : Template) → verdict_of words ≡ Some t →
     IsAsk (codes "verdict" ∷ words) t
 unfolding verdict_of
 verdict_line_some laws words t e =
     let j = bind_some (judged words) _ t e in
+    let payload = bind_some (payload_part (j.0).1) _ t j.2 in
+    let whole = bind_some (with_priority (j.0).0 (payload.0).1) _ t payload.2 in
     let front = judged_some laws words j.0 j.1 in
-    let back = payload_some laws (j.0).0 (j.0).1 t j.2 in
-    subst (IsAsk (codes "verdict" ∷ words)) back.2
-    (front.0, (j.0).1, front.1, back.1, ap (λ ws. codes "verdict" ∷ ws) front.2)
+    let bytes = value_some (bytes_of most_payload_bytes) (IsSpelled most_payload_bytes)
+    (payload_reads laws) (codes "payload") (j.0).1 payload.0 payload.1 in
+    let priority = priority_some laws (j.0).0 whole.0 (payload.0).1 whole.1 in
+    let is = judgement_is words front.0 bytes.0 (payload.0).1 (j.0).1 (j.0).0 (payload.0).0
+    priority.0 front.1 bytes.1 priority.1 front.2 bytes.2 in
+    subst (IsAsk (codes "verdict" ∷ words)) (same_Some _ t whole.2)
+    (words, subst (λ x. IsJudgement words x (payload.0).0) priority.2 is, refl)
 
-payload_again : Laws → (j : Judgement) (words : List (List ℕ)) (payload : Option (List ℕ)) →
-    IsPayloadPart words payload → payload_part j words ≡ Some (ask.Verdict j payload)
-unfolding payload_part
-payload_again laws j words None h = ap (payload_part j) h
-payload_again laws j words (Some bytes) h =
-    ap (payload_part j) h.2
-    ∙ ap (λ o. option_map (λ bytes. ask.Verdict j (Some bytes)) o)
-    ((laws.bytes most_payload_bytes h.0 bytes).1 h.1)
-
-no_mark : (words : List (List ℕ)) (payload : Option (List ℕ)) → IsPayloadPart words payload →
-    words_after (codes "mark") words ≡ None
-no_mark words None h = ap (words_after (codes "mark")) h
-no_mark words (Some bytes) h = ap (words_after (codes "mark")) h.2
-
-verdict_line_again : Laws → (front back : List (List ℕ)) (j : Judgement)
-    (payload : Option (List ℕ)) → IsJudgement front j → IsPayloadPart back payload →
-    verdict_of (front ++ back) ≡ Some (ask.Verdict j payload)
+verdict_line_again : Laws → (words : List (List ℕ)) (j : Judgement)
+    (bytes : Option (List ℕ)) → IsJudgement words j bytes →
+    verdict_of words ≡ Some (ask.Verdict j bytes)
 unfolding verdict_of
-verdict_line_again laws front back j payload h g =
-    ap (λ o. o >>= λ (x : Judgement × List (List ℕ)). payload_part x.0 x.1)
-    (judged_again laws front back j h (no_mark back payload g))
-    ∙ payload_again laws j back payload g
+verdict_line_again laws words j bytes h =
+    let no_payload = number_apart_last (codes "priority") (codes "payload") h.priority j.priority
+    refl h.priority_is in
+    ap (λ o. o >>= λ (x : Judgement × List (List ℕ)). payload_part x.1 >>= λ payload.
+    with_priority x.0 payload.1 >>= λ judgement. Some (ask.Verdict judgement payload.0))
+    (judged_again laws words j bytes h)
+    ∙ ap (λ o. o >>= λ (payload : Option (List ℕ) × List (List ℕ)).
+    with_priority (prioritized j None) payload.1 >>= λ judgement.
+    Some (ask.Verdict judgement payload.0))
+    (value_again (bytes_of most_payload_bytes) (IsSpelled most_payload_bytes)
+    (payload_reads laws) (codes "payload") h.payload h.priority bytes h.payload_is no_payload)
+    ∙ ap (λ o. o >>= λ judgement. Some (ask.Verdict judgement bytes))
+    (priority_again laws j h.priority j.priority h.priority_is)
 
 pub batch_some : Laws → (words : List (List ℕ)) (t : Template) → batch_of words ≡ Some t →
     IsAsk (codes "batch" ∷ words) t
 unfolding batch_of
 batch_some laws words t e =
     let j = bind_some (judged words) _ t e in
-    let parts = cond_some (eqb (length (j.0).1) 0) (ask.Batch (j.0).0) t j.2 in
+    let whole = bind_some (with_priority (j.0).0 (j.0).1) _ t j.2 in
     let front = judged_some laws words j.0 j.1 in
-    let all : words ≡ front.0 =
-    front.2 ∙ ap (λ ws. front.0 ++ ws) (none_left (j.0).1 parts.0) ∙ append-nil front.0 in
-    subst (IsAsk (codes "batch" ∷ words)) parts.1
-    (front.0, front.1, ap (λ ws. codes "batch" ∷ ws) all)
+    let priority = priority_some laws (j.0).0 whole.0 (j.0).1 whole.1 in
+    let is = judgement_is words front.0 [] (j.0).1 (j.0).1 (j.0).0 None priority.0 front.1 refl
+    priority.1 front.2 refl in
+    subst (IsAsk (codes "batch" ∷ words)) (same_Some _ t whole.2)
+    (words, subst (λ x. IsJudgement words x None) priority.2 is, refl)
 
-batch_again : Laws → (words : List (List ℕ)) (j : Judgement) → IsJudgement words j →
+batch_again : Laws → (words : List (List ℕ)) (j : Judgement) → IsJudgement words j None →
     batch_of words ≡ Some (ask.Batch j)
 unfolding batch_of
 batch_again laws words j h =
-    ap batch_of (sym (append-nil words))
-    ∙ ap (λ o. o >>= λ (x : Judgement × List (List ℕ)). cond (eqb (length x.1) 0)
-    (Some (ask.Batch x.0)) None) (judged_again laws words [] j h refl)
+    ap (λ o. o >>= λ (x : Judgement × List (List ℕ)). with_priority x.0 x.1 >>= λ judgement.
+    Some (ask.Batch judgement)) (judged_again laws words j None h)
+    ∙ ap (λ ws. with_priority (prioritized j None) (ws ++ h.priority) >>= λ judgement.
+    Some (ask.Batch judgement)) h.payload_is
+    ∙ ap (λ o. o >>= λ judgement. Some (ask.Batch judgement))
+    (priority_again laws j h.priority j.priority h.priority_is)
 
 pub raw_some : Laws → (words : List (List ℕ)) (t : Template) → raw_of words ≡ Some t →
     IsAsk (codes "raw" ∷ words) t
 unfolding raw_of
 raw_some laws words t e =
-    let bytes = bind_some (bytes_alone most_raw_bytes words) _ t e in
+    let word = bind_some (only_word words) _ t e in
+    let bytes = bind_some (bytes_of most_raw_bytes word.0) _ t word.2 in
     elim (chosen (eqb (length bytes.0) 0) None (Some (ask.Raw bytes.0)) (Some t) bytes.2) [
       | inl h ↦ absurd (none-some t h.1)
       | inr h ↦
-          let word = bytes_some laws most_raw_bytes words bytes.0 bytes.1 in
           subst (IsAsk (codes "raw" ∷ words)) (same_Some (ask.Raw bytes.0) t h.1) (
             word.0,
-            (laws.bytes most_raw_bytes word.0 bytes.0).0 word.2,
+            (laws.bytes most_raw_bytes word.0 bytes.0).0 bytes.1,
             some_byte bytes.0 h.0,
-            ap (λ ws. codes "raw" ∷ ws) word.1,
+            ap (λ ws. codes "raw" ∷ ws) (only_word_some words word.0 word.1),
           )
     ]
 
@@ -410,7 +471,7 @@ unfolding ask_of
 ask_again laws words (ask.Config queue settings) h =
     ap ask_of h.2 ∙ config_again laws h.0 queue settings h.1
 ask_again laws words (ask.Verdict j payload) h =
-    ap ask_of h.4 ∙ verdict_line_again laws h.0 h.1 j payload h.2 h.3
+    ap ask_of h.2 ∙ verdict_line_again laws h.0 j payload h.1
 ask_again laws words (ask.Batch j) h = ap ask_of h.2 ∙ batch_again laws h.0 j h.1
 ask_again laws words (ask.Raw bytes) h =
     ap ask_of h.3
@@ -421,6 +482,6 @@ pub starts_apart : (words : List (List ℕ)) (t : Template) → IsAsk words t �
     (first : List ℕ) × (rest : List (List ℕ)) × (words ≡ first ∷ rest)
     × (bytes_eq first (codes "close") ≡ false)
 starts_apart words (ask.Config queue settings) h = (codes "config", h.0, h.2, refl)
-starts_apart words (ask.Verdict j payload) h = (codes "verdict", h.0 ++ h.1, h.4, refl)
+starts_apart words (ask.Verdict j payload) h = (codes "verdict", h.0, h.2, refl)
 starts_apart words (ask.Batch j) h = (codes "batch", h.0, h.2, refl)
 starts_apart words (ask.Raw bytes) h = (codes "raw", h.0 ∷ [], h.3, refl)

@@ -1,15 +1,19 @@
 -- The parts of an ask that may be missing are read exactly where the grammar has them.
 use Rattle.std.proofs.Common.{◌≡◌, ℕ, false, inl, inr, List, [], ◌∷◌, ◌++◌, append-nil}
 use Rattle.std.proofs.Common.{Option, Some, None, ◌∙◌, refl, sym, ap, subst}
-use Rattle.std.specs.Prelude.{◌^◌, bytes_eq, codes}
+use Rattle.std.specs.Prelude.{◌↔◌, ◌^◌, bytes_eq, codes}
 use Rattle.std.specs.Option.{option_map_or}
 use Rattle.std.proofs.lemmas.Option.{same_Some}
 use Rattle.text_lines.specs.Words.{◌>>=◌, first_word, words_after}
 use Rattle.text_lines.specs.Digits.{decimal, decimal_below}
+use Rattle.text_lines.specs.Hexadecimal.{IsSpelled, bytes_of}
+use Rattle.text_lines.specs.Numerals.{IsNumeral}
 use Rattle.nfqa_headers.specs.declared.params.Params.{Params}
 use Rattle.script_lines.specs.AskLine.{command_named, command_part, mode_of, number_part}
-use Rattle.script_lines.specs.AskLine.{params_part}
-use Rattle.script_lines.specs.Grammar.{IsCommandPart, IsNumberPart, IsParamsPart, command_names}
+use Rattle.script_lines.specs.AskLine.{params_part, value_part}
+use Rattle.script_lines.specs.Grammar.{IsCommandPart, IsNumberPart, IsParamsPart, IsValuePart}
+use Rattle.script_lines.specs.Grammar.{command_names}
+use Rattle.script_lines.specs.Numbers.{most_payload_bytes}
 use Rattle.script_lines.proofs.Wording.{Laws, below_again, below_some, bind_some, chosen}
 use Rattle.script_lines.proofs.Wording.{first_word_some, name_differs, number_again, passed}
 use Rattle.script_lines.proofs.Wording.{same_word, taken, word_is, words_after_some}
@@ -20,48 +24,82 @@ abbrev pub Begins : {V : Type 0} → (List (List ℕ) → V → Type 0) → List
     (V × List (List ℕ)) → Type 0
 Begins Is words x = (front : List (List ℕ)) × Is front x.0 × (words ≡ front ++ x.1)
 
--- ---- [NAME N]
+-- ---- [NAME VALUE]
 
-number_there : Laws → (name : List ℕ) (words rest : List (List ℕ))
-    (x : Option ℕ × List (List ℕ)) → words ≡ name ∷ rest →
-    (first_word rest >>= λ value. decimal value.0 >>= λ number. Some (Some number, value.1))
-    ≡ Some x → Begins (IsNumberPart name) words x
-number_there laws name words rest x is e =
-    let value = bind_some (first_word rest) _ x e in
-    let number = bind_some (decimal (value.0).0) _ x value.2 in
-    subst (Begins (IsNumberPart name) words) (same_Some _ x number.2) (
-      name ∷ (value.0).0 ∷ [],
-      ((value.0).0, (laws.numerals (value.0).0 number.0).0 number.1, refl),
-      is ∙ ap (λ ws. name ∷ ws) (first_word_some rest value.0 value.1),
+-- what is read of a word is what its production has
+abbrev pub Reads : {V : Type 0} → (List ℕ → Option V) → (List ℕ → V → Type 0) → Type 0
+Reads {V} read Is = (word : List ℕ) (x : V) → (read word ≡ Some x) ↔ Is word x
+
+pub payload_reads : Laws → Reads (bytes_of most_payload_bytes) (IsSpelled most_payload_bytes)
+payload_reads laws = laws.bytes most_payload_bytes
+
+value_there : {V : Type 0} (read : List ℕ → Option V) (Is : List ℕ → V → Type 0) →
+    Reads read Is → (name : List ℕ) (words rest : List (List ℕ)) (x : Option V × List (List ℕ)) →
+    words ≡ name ∷ rest →
+    (first_word rest >>= λ word. read word.0 >>= λ value. Some (Some value, word.1)) ≡ Some x →
+    Begins (IsValuePart Is name) words x
+value_there read Is reads name words rest x is e =
+    let word = bind_some (first_word rest) _ x e in
+    let value = bind_some (read (word.0).0) _ x word.2 in
+    subst (Begins (IsValuePart Is name) words) (same_Some _ x value.2) (
+      name ∷ (word.0).0 ∷ [],
+      ((word.0).0, (reads (word.0).0 value.0).0 value.1, refl),
+      is ∙ ap (λ ws. name ∷ ws) (first_word_some rest word.0 word.1),
     )
+
+pub value_some : {V : Type 0} (read : List ℕ → Option V) (Is : List ℕ → V → Type 0) →
+    Reads read Is → (name : List ℕ) (words : List (List ℕ)) (x : Option V × List (List ℕ)) →
+    value_part read name words ≡ Some x → Begins (IsValuePart Is name) words x
+unfolding value_part
+value_some read Is reads name words x e =
+    elim (words_after name words) as
+    (λ o. words_after name words ≡ o → option_map_or (λ rest. first_word rest >>= λ word.
+    read word.0 >>= λ value. Some (Some value, word.1)) o (Some (None, words)) ≡ Some x →
+    Begins (IsValuePart Is name) words x) [
+      | None ↦ λ is f. subst (Begins (IsValuePart Is name) words) (same_Some _ x f)
+          ([], refl, refl)
+      | Some rest ↦ λ is f. value_there read Is reads name words rest x
+          (words_after_some name words rest is) f
+    ] refl e
+
+pub value_again : {V : Type 0} (read : List ℕ → Option V) (Is : List ℕ → V → Type 0) →
+    Reads read Is → (name : List ℕ) (front rest : List (List ℕ)) (o : Option V) →
+    IsValuePart Is name front o → words_after name rest ≡ None →
+    value_part read name (front ++ rest) ≡ Some (o, rest)
+unfolding value_part
+value_again read Is reads name front rest None h absent =
+    ap (λ ws. value_part read name (ws ++ rest)) h
+    ∙ ap (λ o. option_map_or (λ ws. first_word ws >>= λ word. read word.0 >>= λ value.
+    Some (Some value, word.1)) o (Some (None, rest))) absent
+value_again read Is reads name front rest (Some x) h absent =
+    ap (λ ws. value_part read name (ws ++ rest)) h.2
+    ∙ ap (λ o. option_map_or (λ ws. first_word ws >>= λ word. read word.0 >>= λ value.
+    Some (Some value, word.1)) o (Some (None, name ∷ h.0 ∷ rest)))
+    (taken (bytes_eq name name) (Some (h.0 ∷ rest)) None (word_is name name refl))
+    ∙ ap (λ o. o >>= λ value. Some (Some value, rest)) ((reads h.0 x).1 h.1)
+
+-- another name isn't the first word there
+pub value_apart : {V : Type 0} (Is : List ℕ → V → Type 0) (name other : List ℕ)
+    (front rest : List (List ℕ)) (o : Option V) → bytes_eq name other ≡ false →
+    IsValuePart Is name front o → words_after other rest ≡ None →
+    words_after other (front ++ rest) ≡ None
+value_apart Is name other front rest None differ h absent =
+    ap (λ ws. words_after other (ws ++ rest)) h ∙ absent
+value_apart Is name other front rest (Some x) differ h absent =
+    ap (λ ws. words_after other (ws ++ rest)) h.2
+    ∙ passed (bytes_eq name other) (Some (h.0 ∷ rest)) None differ
+
+-- ---- [NAME N]
 
 pub number_some : Laws → (name : List ℕ) (words : List (List ℕ)) (x : Option ℕ × List (List ℕ)) →
     number_part name words ≡ Some x → Begins (IsNumberPart name) words x
-unfolding number_part
-number_some laws name words x e =
-    elim (words_after name words) as
-    (λ o. words_after name words ≡ o → option_map_or (λ rest. first_word rest >>= λ value.
-    decimal value.0 >>= λ number. Some (Some number, value.1)) o (Some (None, words)) ≡ Some x →
-    Begins (IsNumberPart name) words x) [
-      | None ↦ λ is f. subst (Begins (IsNumberPart name) words) (same_Some _ x f) ([], refl, refl)
-      | Some rest ↦ λ is f. number_there laws name words rest x
-          (words_after_some name words rest is) f
-    ] refl e
+number_some laws name words x e = value_some decimal IsNumeral laws.numerals name words x e
 
 pub number_part_again : Laws → (name : List ℕ) (front rest : List (List ℕ)) (o : Option ℕ) →
     IsNumberPart name front o → words_after name rest ≡ None →
     number_part name (front ++ rest) ≡ Some (o, rest)
-unfolding number_part
-number_part_again laws name front rest None h absent =
-    ap (λ ws. number_part name (ws ++ rest)) h
-    ∙ ap (λ o. option_map_or (λ ws. first_word ws >>= λ value. decimal value.0 >>= λ number.
-    Some (Some number, value.1)) o (Some (None, rest))) absent
-number_part_again laws name front rest (Some n) h absent =
-    ap (λ ws. number_part name (ws ++ rest)) h.2
-    ∙ ap (λ o. option_map_or (λ ws. first_word ws >>= λ value. decimal value.0 >>= λ number.
-    Some (Some number, value.1)) o (Some (None, name ∷ h.0 ∷ rest)))
-    (taken (bytes_eq name name) (Some (h.0 ∷ rest)) None (word_is name name refl))
-    ∙ ap (λ o. o >>= λ number. Some (Some number, rest)) (number_again laws h.0 n h.1)
+number_part_again laws name front rest o h absent =
+    value_again decimal IsNumeral laws.numerals name front rest o h absent
 
 -- the last part of a line
 pub number_last : Laws → (name : List ℕ) (front : List (List ℕ)) (o : Option ℕ) →
@@ -69,15 +107,11 @@ pub number_last : Laws → (name : List ℕ) (front : List (List ℕ)) (o : Opti
 number_last laws name front o h =
     ap (number_part name) (sym (append-nil front)) ∙ number_part_again laws name front [] o h refl
 
--- another name isn't the first word there
 pub number_apart : (name other : List ℕ) (front rest : List (List ℕ)) (o : Option ℕ) →
     bytes_eq name other ≡ false → IsNumberPart name front o → words_after other rest ≡ None →
     words_after other (front ++ rest) ≡ None
-number_apart name other front rest None differ h absent =
-    ap (λ ws. words_after other (ws ++ rest)) h ∙ absent
-number_apart name other front rest (Some n) differ h absent =
-    ap (λ ws. words_after other (ws ++ rest)) h.2
-    ∙ passed (bytes_eq name other) (Some (h.0 ∷ rest)) None differ
+number_apart name other front rest o differ h absent =
+    value_apart IsNumeral name other front rest o differ h absent
 
 pub number_apart_last : (name other : List ℕ) (front : List (List ℕ)) (o : Option ℕ) →
     bytes_eq name other ≡ false → IsNumberPart name front o → words_after other front ≡ None

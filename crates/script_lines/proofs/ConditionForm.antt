@@ -48,6 +48,20 @@ every_some laws word c e =
           (word, (laws.numerals word number.0).0 number.1, at_least_one number.0 h.0, refl)
     ]
 
+-- the last of the names
+priority_some : Laws → (name word : List ℕ) (c : Condition) →
+    cond (bytes_eq name (codes "priority")) (option_map test.Priority (decimal word)) None
+    ≡ Some c → IsCondition (name ∷ word ∷ []) c
+priority_some laws name word c e =
+    elim (chosen (bytes_eq name (codes "priority")) _ None (Some c) e) [
+      | inl h ↦ let n = map_some test.Priority (decimal word) c h.1 in
+          subst (λ (w : List ℕ). IsCondition (w ∷ word ∷ []) c)
+          (sym (same_word name (codes "priority") h.0))
+          (subst (IsCondition (codes "priority" ∷ word ∷ [])) n.2
+          (word, (laws.numerals word n.0).0 n.1, refl))
+      | inr h ↦ absurd (none-some c h.1)
+    ]
+
 test_some : Laws → (name word : List ℕ) (c : Condition) → test_of name word ≡ Some c →
     IsCondition (name ∷ word ∷ []) c
 unfolding test_of
@@ -75,14 +89,13 @@ test_some laws name word c e =
             | inr d ↦ elim (chosen (bytes_eq name (codes "every")) _ _ (Some c) d.1) [
               | inl b ↦ subst Means (sym (same_word name (codes "every") b.0))
                   (every_some laws word c b.1)
-              | inr b ↦ elim (chosen (bytes_eq name (codes "longer")) _ None
-                  (Some c) b.1) [
-                    | inl a ↦ let n = map_some test.Longer (decimal word) c a.1 in
-                        subst Means (sym (same_word name (codes "longer") a.0))
-                        (subst (IsCondition (codes "longer" ∷ word ∷ [])) n.2
-                        (word, (laws.numerals word n.0).0 n.1, refl))
-                    | inr a ↦ absurd (none-some c a.1)
-                  ]
+              | inr b ↦ elim (chosen (bytes_eq name (codes "longer")) _ _ (Some c) b.1) [
+                | inl a ↦ let n = map_some test.Longer (decimal word) c a.1 in
+                    subst Means (sym (same_word name (codes "longer") a.0))
+                    (subst (IsCondition (codes "longer" ∷ word ∷ [])) n.2
+                    (word, (laws.numerals word n.0).0 n.1, refl))
+                | inr a ↦ priority_some laws name word c a.1
+              ]
             ]
           ]
         ]
@@ -154,3 +167,5 @@ condition_again laws words (test.Every n) h =
     ∙ passed (eqb n 0) None (Some (test.Every n)) (not_zero n h.2)
 condition_again laws words (test.Longer n) h =
     ap condition_of h.2 ∙ ap (λ o. option_map test.Longer o) (number_again laws h.0 n h.1)
+condition_again laws words (test.Priority n) h =
+    ap condition_of h.2 ∙ ap (λ o. option_map test.Priority o) (number_again laws h.0 n h.1)

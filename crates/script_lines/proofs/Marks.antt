@@ -57,6 +57,7 @@ pub record IsNoTest (between : List ℕ) : Type 0 where
   pub proto : bytes_eq (codes "proto") between ≡ false
   pub every : bytes_eq (codes "every") between ≡ false
   pub longer : bytes_eq (codes "longer") between ≡ false
+  pub priority : bytes_eq (codes "priority") between ≡ false
   pub number : decimal between ≡ None
   pub pair : mark_of between ≡ None
 
@@ -91,6 +92,10 @@ condition_without laws mark none words (test.Every n) h =
 condition_without laws mark none words (test.Longer n) h =
     without mark words (codes "longer" ∷ h.0 ∷ []) h.2
     (pair mark (codes "longer") h.0 none.longer (number_apart laws mark h.0 n none.number h.1))
+condition_without laws mark none words (test.Priority n) h =
+    without mark words (codes "priority" ∷ h.0 ∷ []) h.2
+    (pair mark (codes "priority") h.0 none.priority
+    (number_apart laws mark h.0 n none.number h.1))
 
 pub and_is_no_test : IsNoTest (codes "and")
 unfolding decimal number digits_onto mark_of
@@ -102,6 +107,7 @@ and_is_no_test = record {
   proto = refl;
   every = refl;
   longer = refl;
+  priority = refl;
   number = refl;
   pair = refl;
 }
@@ -116,6 +122,7 @@ do_is_no_test = record {
   proto = refl;
   every = refl;
   longer = refl;
+  priority = refl;
   number = refl;
   pair = refl;
 }
@@ -215,19 +222,24 @@ payload_without laws words (Some bytes) h =
     (other_word (bytes_of most_payload_bytes) h.0 semicolon bytes
     ((laws.bytes most_payload_bytes h.0 bytes).1 h.1) no_payload))
 
-judgement_without : Laws → (words : List (List ℕ)) (j : Judgement) → IsJudgement words j →
-    IsWithout semicolon words
-judgement_without laws words j h =
-    without semicolon words (h.queue ∷ h.verdict ∷ h.id ∷ h.mark) h.words_are
-    (word_before semicolon h.queue (h.verdict ∷ h.id ∷ h.mark)
+judgement_without : Laws → (words : List (List ℕ)) (j : Judgement) (bytes : Option (List ℕ)) →
+    IsJudgement words j bytes → IsWithout semicolon words
+judgement_without laws words j bytes h =
+    let payload = words_before semicolon h.payload h.priority
+    (payload_without laws h.payload bytes h.payload_is)
+    (number_part_without laws (codes "priority") h.priority j.priority refl h.priority_is) in
+    let mark = words_before semicolon h.mark (h.payload ++ h.priority)
+    (number_part_without laws (codes "mark") h.mark j.mark refl h.mark_is) payload in
+    let back : List (List ℕ) = h.mark ++ (h.payload ++ h.priority) in
+    without semicolon words (h.queue ∷ h.verdict ∷ h.id ∷ back) h.words_are
+    (word_before semicolon h.queue (h.verdict ∷ h.id ∷ back)
     (other_word queue_of h.queue semicolon j.queue (queue_again laws h.queue j.queue h.queue_is)
     no_queue)
-    (word_before semicolon h.verdict (h.id ∷ h.mark)
+    (word_before semicolon h.verdict (h.id ∷ back)
     (other_word verdict_word h.verdict semicolon j.verdict
     (verdict_again laws h.verdict j.verdict h.verdict_is) no_verdict)
-    (word_before semicolon h.id h.mark
-    (other_word id_of h.id semicolon j.id (id_again laws h.id j.id h.id_is) no_id)
-    (number_part_without laws (codes "mark") h.mark j.mark refl h.mark_is))))
+    (word_before semicolon h.id back
+    (other_word id_of h.id semicolon j.id (id_again laws h.id j.id h.id_is) no_id) mark)))
 
 config_without : Laws → (words : List (List ℕ)) (queue : OrThis ℕ) (s : Settings) →
     IsConfig words queue s → IsWithout semicolon words
@@ -254,13 +266,11 @@ ask_without laws words (ask.Config queue s) h =
     without semicolon words (codes "config" ∷ h.0) h.2
     (word_before semicolon (codes "config") h.0 refl (config_without laws h.0 queue s h.1))
 ask_without laws words (ask.Verdict j payload) h =
-    without semicolon words (codes "verdict" ∷ (h.0 ++ h.1)) h.4
-    (word_before semicolon (codes "verdict") (h.0 ++ h.1) refl
-    (words_before semicolon h.0 h.1 (judgement_without laws h.0 j h.2)
-    (payload_without laws h.1 payload h.3)))
+    without semicolon words (codes "verdict" ∷ h.0) h.2
+    (word_before semicolon (codes "verdict") h.0 refl (judgement_without laws h.0 j payload h.1))
 ask_without laws words (ask.Batch j) h =
     without semicolon words (codes "batch" ∷ h.0) h.2
-    (word_before semicolon (codes "batch") h.0 refl (judgement_without laws h.0 j h.1))
+    (word_before semicolon (codes "batch") h.0 refl (judgement_without laws h.0 j None h.1))
 ask_without laws words (ask.Raw bytes) h =
     without semicolon words (codes "raw" ∷ h.0 ∷ []) h.3
     (pair semicolon (codes "raw") h.0 refl
