@@ -1,4 +1,5 @@
--- A journal's text: of which histories it is one, and how far a reader of it has come.
+-- A journal's text in a version of its format: of which histories it is one, and how far a reader of
+-- it has come.
 use Rattle.std.specs.Prelude.{◌≡◌, ◌≢◌, ℕ, ◌≤◌, ◌&&◌, nat_le, is_none, Bool, true, false, List}
 use Rattle.std.specs.Prelude.{[], ◌∷◌, ◌++◌, All, AllPairs, Option, Some, None, IfSome, map, ⊤}
 use Rattle.std.specs.Prelude.{codes}
@@ -22,20 +23,21 @@ use Rattle.journal_reading.specs.declared.line.Line.TheVariants.{End}
 use Rattle.journal_reading.specs.declared.reader.Reader.{Reader}
 use Rattle.journal_reading.specs.declared.stop.Stop.{Stop}
 use Rattle.journal_reading.specs.declared.stop.Stop.TheVariants.{Refused, NoMemory}
-use Rattle.journals.specs.Journal as text
+use Rattle.journals.specs.declared.version.Version.{Version}
+use Rattle.journals.specs.Format as text
 use Rattle.journal_reading.specs.Lines.{IsLine}
-use Rattle.journals.specs.WellFormed.{IsEntry, IsLog, IsWellFormed}
+use Rattle.journals.specs.Formed.{IsEntry, IsLog, IsWellFormedIn}
 
 -- the text is the journal of these histories, which are well formed
-pub record IsJournal (bytes : List ℕ) (h : Histories) : Type 0 where
-  pub well_formed : IsWellFormed h
-  pub text_is : bytes ≡ text.journal h
+pub record IsJournal (v : Version) (bytes : List ℕ) (h : Histories) : Type 0 where
+  pub well_formed : IsWellFormedIn v h
+  pub text_is : bytes ≡ text.journal_in v h
 
 -- ---- texts that are none
 
 -- some text behind this one makes a journal of it
-abbrev pub BeginsJournal : List ℕ → Type 0
-BeginsJournal front = (rest : List ℕ) × (h : Histories) × IsJournal (front ++ rest) h
+abbrev pub BeginsJournal : Version → List ℕ → Type 0
+BeginsJournal v front = (rest : List ℕ) × (h : Histories) × IsJournal v (front ++ rest) h
 
 -- how many lines are ended
 abbrev pub line_ends : List ℕ → ℕ
@@ -43,7 +45,7 @@ line_ends text = length (filter (λ b. b == byte "\n") text)
 
 -- a line that may not stand in its place: the text before it begins a journal, and with it and its
 -- end it doesn't
-pub record IsBadLine (text : List ℕ) (line_number : ℕ) : Type 0 where
+pub record IsBadLine (v : Version) (text : List ℕ) (line_number : ℕ) : Type 0 where
   pub front : List ℕ
   pub rest : List ℕ
   pub line : List ℕ
@@ -51,24 +53,24 @@ pub record IsBadLine (text : List ℕ) (line_number : ℕ) : Type 0 where
   pub text_is : text ≡ front ++ rest
   pub line_is : cut_at (byte "\n") rest ≡ Some (line, later)
   pub count : line_ends front + 1 ≡ line_number
-  pub begins : BeginsJournal front
-  pub refused : BeginsJournal (front ++ (line ++ codes "\n")) → ⊥
+  pub begins : BeginsJournal v front
+  pub refused : BeginsJournal v (front ++ (line ++ codes "\n")) → ⊥
 
 -- a text that ends too early: up to its last line's end it begins a journal, and it is none itself
-pub record EndsEarly (text : List ℕ) (line_number : ℕ) : Type 0 where
+pub record EndsEarly (v : Version) (text : List ℕ) (line_number : ℕ) : Type 0 where
   pub front : List ℕ
   pub piece : List ℕ
   pub text_is : text ≡ front ++ piece
   pub no_line : cut_at (byte "\n") piece ≡ None
   pub count : line_ends front + 1 ≡ line_number
-  pub begins : BeginsJournal front
-  pub unfinished : (h : Histories) → IsJournal text h → ⊥
+  pub begins : BeginsJournal v front
+  pub unfinished : (h : Histories) → IsJournal v text h → ⊥
 
 -- The number of the first line at whose end the text no longer begins a journal, or of the one that
 -- is missing at its end. `front` ends with the line before that one, or within that line: then a
 -- journal begins with the whole lines before it all the more.
-abbrev pub IsFirstRefused : List ℕ → ℕ → Type 0
-IsFirstRefused text line_number = IsBadLine text line_number ⊎ EndsEarly text line_number
+abbrev pub IsFirstRefused : Version → List ℕ → ℕ → Type 0
+IsFirstRefused v text line_number = IsBadLine v text line_number ⊎ EndsEarly v text line_number
 
 -- histories are read, unless memory runs out
 abbrev pub Answers : Result Histories JournalFault → Histories → Type 0
@@ -83,10 +85,10 @@ IsRefusedAt (Err (Bad n)) line = n ≡ line
 IsRefusedAt (Err fault.NoMemory) line = ⊤
 
 -- what a text is answered: the one value whose journal it is, or the first line that is refused
-abbrev pub IsAnswer : Result Histories JournalFault → List ℕ → Type 0
-IsAnswer (Ok h) text = IsJournal text h × ((g : Histories) → IsJournal text g → h ≡ g)
-IsAnswer (Err (Bad line)) text = IsFirstRefused text line
-IsAnswer (Err fault.NoMemory) text = ⊤
+abbrev pub IsAnswer : Version → Result Histories JournalFault → List ℕ → Type 0
+IsAnswer v (Ok h) text = IsJournal v text h × ((g : Histories) → IsJournal v text g → h ≡ g)
+IsAnswer v (Err (Bad line)) text = IsFirstRefused v text line
+IsAnswer v (Err fault.NoMemory) text = ⊤
 
 -- ---- how far a reader has come
 
@@ -119,8 +121,8 @@ abbrev pub histories_of : Place → Histories
 histories_of p = record { entries = p.entries; logs = logs_of p; lost = [] }
 
 -- what was read so far
-abbrev pub so_far : Place → List ℕ
-so_far p = codes "nfq-journal 1\n" ++ text.histories (histories_of p)
+abbrev pub so_far : Version → Place → List ℕ
+so_far v p = text.heading v ++ text.histories v (histories_of p)
 
 abbrev pub is_port : ℕ → PortLog → Bool
 is_port port l = l.port == port
@@ -181,20 +183,20 @@ IsBare logs None = logs ≡ []
 IsBare logs (Some l) = ⊤
 
 -- what a reader keeps
-pub record IsSound (p : Place) : Type 0 where
-  pub entries : All IsEntry p.entries
+pub record IsSound (v : Version) (p : Place) : Type 0 where
+  pub entries : All (IsEntry v) p.entries
   pub ascend : AllPairs (λ a b. a.queue ≤ b.queue) p.entries
   pub below : All (λ e. e.queue ≤ p.queue) p.entries
-  pub logs : All IsLog p.logs
-  pub last : IfSome p.last IsLog
+  pub logs : All (IsLog v) p.logs
+  pub last : IfSome p.last (IsLog v)
   pub bare : IsBare p.logs p.last
   pub unclosed : p.shut ≡ false → IfSome p.last (λ l. All (λ d. d ≢ Closed) l.dids)
   pub differ : AllPairs (λ a b. a ≢ b) (map (λ (l : PortLog). l.port) (logs_of p))
 
 -- what a line does: it is the last one, or one more
-abbrev pub HasRead : Bool → Place → Place → List ℕ → Type 0
-HasRead true p q line = (line ≡ codes "end") × (q ≡ p)
-HasRead false p q line = so_far q ≡ so_far p ++ (line ++ codes "\n")
+abbrev pub HasRead : Version → Bool → Place → Place → List ℕ → Type 0
+HasRead v true p q line = (line ≡ codes "end") × (q ≡ p)
+HasRead v false p q line = so_far v q ≡ so_far v p ++ (line ++ codes "\n")
 
 abbrev pub is_end : Line → Bool
 is_end Heading = false
@@ -211,8 +213,8 @@ Follows (Err Refused) p q said = (said ≢ End) × (after p said ≡ None)
 Follows (Err NoMemory) p q said = ⊤
 
 -- the same of a line's text, whatever it says
-abbrev pub FollowsText : Result Bool Stop → Place → Place → List ℕ → Type 0
-FollowsText result p q line = (said : Line) → IsLine line said → Follows result p q said
+abbrev pub FollowsText : Version → Result Bool Stop → Place → Place → List ℕ → Type 0
+FollowsText v result p q line = (said : Line) → IsLine v line said → Follows result p q said
 
 -- what is answered behind the line `end` with this number
 abbrev pub Closes : Result Histories JournalFault → Place → List ℕ → ℕ → Type 0

@@ -26,6 +26,9 @@ use Rattle.journal_reading.specs.declared.line.Line.{Line}
 use Rattle.journal_reading.specs.declared.line.Line.TheVariants.{Heading, EntryLine, PortLine, DidLine}
 use Rattle.journal_reading.specs.declared.line.Line.TheVariants.{End}
 use Rattle.histories.specs.Happenings.{queue_of}
+use Rattle.journals.specs.declared.version.Version.{Version}
+use Rattle.journals.specs.declared.version.Version.TheVariants.{First, Second}
+use Rattle.journals.specs.Format.{title}
 
 -- ---- fields in general: what is read, and the text behind it
 
@@ -124,18 +127,26 @@ said_in text = behind (codes "=") text >>= answer_in
 unfoldable pub journey_in : List ℕ → Option (((ℕ × ℕ) × ℕ) × List ℕ)
 journey_in = both (both (field decimal) (field decimal)) (field half)
 
-unfoldable pub facts_in : List ℕ → Option (((ℕ × ℕ) × (ℕ × ℕ)) × List ℕ)
-facts_in = both (both (field decimal) (field decimal)) (both (field decimal) (field half))
+-- a packet's priority; version 1 has none
+abbrev pub priority_in : Version → List ℕ → Option (ℕ × List ℕ)
+priority_in First text = Some (0, text)
+priority_in Second text = field decimal text
+
+unfoldable pub facts_in : Version → List ℕ →
+    Option ((((ℕ × ℕ) × ℕ) × (ℕ × ℕ)) × List ℕ)
+facts_in v = both (both (both (field decimal) (priority_in v)) (field decimal))
+    (both (field decimal) (field half))
 
 -- what an arrival's line says of the packet, of the bypass and of the room
-abbrev pub card_made : ((((ℕ × ℕ) × ℕ) × (Bool × Bool)) × (((ℕ × ℕ) × (ℕ × ℕ))
+abbrev pub card_made : ((((ℕ × ℕ) × ℕ) × (Bool × Bool)) × ((((ℕ × ℕ) × ℕ) × (ℕ × ℕ))
     × (List ℕ × List ℕ))) → (Card × (Bool × Bool))
 card_made x = (
   record {
     number = (((x.0).0).0).0;
     visit = (((x.0).0).0).1;
     table = ((x.0).0).1;
-    mark = (((x.1).0).0).0;
+    mark = ((((x.1).0).0).0).0;
+    priority = ((((x.1).0).0).0).1;
     seconds = (((x.1).0).0).1;
     micros = (((x.1).0).1).0;
     protocol = (((x.1).0).1).1;
@@ -145,9 +156,9 @@ card_made x = (
   (x.0).1,
 )
 
-unfoldable pub card_in : List ℕ → Option ((Card × (Bool × Bool)) × List ℕ)
-card_in = made card_made (both (both journey_in (both (field yes_no_in) (field yes_no_in)))
-    (both facts_in (both (field bytes_in) (field bytes_in))))
+unfoldable pub card_in : Version → List ℕ → Option ((Card × (Bool × Bool)) × List ℕ)
+card_in v = made card_made (both (both journey_in (both (field yes_no_in) (field yes_no_in)))
+    (both (facts_in v) (both (field bytes_in) (field bytes_in))))
 
 -- ---- requests
 
@@ -176,45 +187,51 @@ config_in = made config_made (both (field half) (both (part (codes "cmd") (field
     (both (part (codes "params") params_in) (both (part (codes "maxlen") (field decimal))
     (both (part (codes "flags") (field decimal)) (part (codes "mask") (field decimal)))))))
 
-abbrev pub verdict_made : ((ℕ × Option Head) × (Option ℕ × Option (List ℕ))) → Request
-verdict_made x = Verdict (x.0).0 (x.0).1 (x.1).0 (x.1).1
+-- the priority that a request sets; in version 1 none does
+abbrev pub new_priority_in : Version → List ℕ → Option (Option ℕ × List ℕ)
+new_priority_in First text = Some (None, text)
+new_priority_in Second text = part (codes "priority") (field decimal) text
 
-unfoldable pub verdict_in : List ℕ → Option (Request × List ℕ)
-verdict_in = made verdict_made (both (both (field half) head_in)
-    (both (part (codes "mark") (field decimal)) (part (codes "payload") (field bytes_in))))
+abbrev pub verdict_made : ((ℕ × Option Head) × (Option ℕ × (Option (List ℕ) × Option ℕ))) → Request
+verdict_made x = Verdict (x.0).0 (x.0).1 (x.1).0 ((x.1).1).0 ((x.1).1).1
 
-abbrev pub batch_made : ((ℕ × Option Head) × Option ℕ) → Request
-batch_made x = Batch (x.0).0 (x.0).1 x.1
+unfoldable pub verdict_in : Version → List ℕ → Option (Request × List ℕ)
+verdict_in v = made verdict_made (both (both (field half) head_in)
+    (both (part (codes "mark") (field decimal))
+    (both (part (codes "payload") (field bytes_in)) (new_priority_in v))))
 
-unfoldable pub batch_in : List ℕ → Option (Request × List ℕ)
-batch_in = made batch_made (both (both (field half) head_in)
-    (part (codes "mark") (field decimal)))
+abbrev pub batch_made : ((ℕ × Option Head) × (Option ℕ × Option ℕ)) → Request
+batch_made x = Batch (x.0).0 (x.0).1 (x.1).0 (x.1).1
 
-unfoldable pub request_by : List ℕ → List ℕ → Option (Request × List ℕ)
-request_by word rest =
+unfoldable pub batch_in : Version → List ℕ → Option (Request × List ℕ)
+batch_in v = made batch_made (both (both (field half) head_in)
+    (both (part (codes "mark") (field decimal)) (new_priority_in v)))
+
+unfoldable pub request_by : Version → List ℕ → List ℕ → Option (Request × List ℕ)
+request_by v word rest =
     if bytes_eq word (codes "config") then config_in rest
-    else if bytes_eq word (codes "verdict") then verdict_in rest
-    else if bytes_eq word (codes "batch") then batch_in rest
+    else if bytes_eq word (codes "verdict") then verdict_in v rest
+    else if bytes_eq word (codes "batch") then batch_in v rest
     else None
 
-unfoldable pub request_in : List ℕ → Option (Request × List ℕ)
-request_in text = cut_at (byte " ") text >>= λ parts. request_by parts.0 parts.1
+unfoldable pub request_in : Version → List ℕ → Option (Request × List ℕ)
+request_in v text = cut_at (byte " ") text >>= λ parts. request_by v parts.0 parts.1
 
 -- a request, or the bytes of another message
-unfoldable pub asked_in : List ℕ → Option (AskWords × List ℕ)
-asked_in text =
+unfoldable pub asked_in : Version → List ℕ → Option (AskWords × List ℕ)
+asked_in v text =
     option_map_or (made Raw (field bytes_in)) (behind (codes "raw") text)
-    (made Plain request_in text)
+    (made Plain (request_in v) text)
 
 -- ---- the lines by their first word
 
-unfoldable pub arrival_in : List ℕ → Option Entry
-arrival_in text =
+unfoldable pub arrival_in : Version → List ℕ → Option Entry
+arrival_in v text =
     option_map (λ x. record {
       queue = (x.0).0;
       event = Arrive ((x.0).1).0 (((x.0).1).1).0 (((x.0).1).1).1;
       reply = Arrived x.1;
-    }) (last (both (field half) card_in) outcome_in text)
+    }) (last (both (field half) (card_in v)) outcome_in text)
 
 -- the entry of a request; none where it is of another queue
 abbrev pub ask_made : (((ℕ × (ℕ × ℕ)) × Request) × (ℕ × ℕ)) → Option Entry
@@ -231,9 +248,9 @@ ask_made x =
 abbrev pub answered_in : List ℕ → Option (ℕ × ℕ)
 answered_in text = behind (codes "=") text >>= last (field half) decimal
 
-unfoldable pub ask_in : List ℕ → Option Entry
-ask_in text =
-    last (both (both (field half) (both (field decimal) (field decimal))) request_in)
+unfoldable pub ask_in : Version → List ℕ → Option Entry
+ask_in v text =
+    last (both (both (field half) (both (field decimal) (field decimal))) (request_in v))
     answered_in text >>= ask_made
 
 unfoldable pub port_closed_in : List ℕ → Option Entry
@@ -251,26 +268,26 @@ received_in text =
     option_map (λ x. Received (x.0).0 (x.0).1 x.1)
     (last (both (field half) (field decimal)) decimal text)
 
-unfoldable pub sent_in : List ℕ → Option Did
-sent_in text =
+unfoldable pub sent_in : Version → List ℕ → Option Did
+sent_in v text =
     option_map (λ x. Sent (x.0).0 (x.0).1 x.1)
-    (last (both (field decimal) asked_in) said_in text)
+    (last (both (field decimal) (asked_in v)) said_in text)
 
-unfoldable pub line_by : List ℕ → List ℕ → Option Line
-line_by word rest =
-    if bytes_eq word (codes "A") then option_map EntryLine (arrival_in rest)
-    else if bytes_eq word (codes "M") then option_map EntryLine (ask_in rest)
+unfoldable pub line_by : Version → List ℕ → List ℕ → Option Line
+line_by v word rest =
+    if bytes_eq word (codes "A") then option_map EntryLine (arrival_in v rest)
+    else if bytes_eq word (codes "M") then option_map EntryLine (ask_in v rest)
     else if bytes_eq word (codes "C") then option_map EntryLine (port_closed_in rest)
     else if bytes_eq word (codes "D") then option_map EntryLine (device_down_in rest)
     else if bytes_eq word (codes "R") then option_map DidLine (received_in rest)
-    else if bytes_eq word (codes "S") then option_map DidLine (sent_in rest)
+    else if bytes_eq word (codes "S") then option_map DidLine (sent_in v rest)
     else if bytes_eq word (codes "P") then option_map PortLine (decimal rest)
     else None
 
 -- what a line says; none where it is no line of a journal
-unfoldable pub line_in : List ℕ → Option Line
-line_in line =
-    if bytes_eq line (codes "nfq-journal 1") then Some Heading
+unfoldable pub line_in : Version → List ℕ → Option Line
+line_in v line =
+    if bytes_eq line (title v) then Some Heading
     else if bytes_eq line (codes "end") then Some End
     else if bytes_eq line (codes "X") then Some (DidLine Closed)
-    else cut_at (byte " ") line >>= λ parts. line_by parts.0 parts.1
+    else cut_at (byte " ") line >>= λ parts. line_by v parts.0 parts.1

@@ -4,8 +4,10 @@
 ghost use Rattle.std.specs.Prelude.{◌≡◌, IfOk, option_map};
 ghost use Rattle.text_lines.specs.Digits.{decimal};
 ghost use Rattle.text_lines.specs.Words.{byte, cut_at};
-ghost use Rattle.journal_reading.specs.Reading.{behind, bytes_in, field, half, small, yes_no_in};
+ghost use Rattle.journal_reading.specs.Reading.{behind, bytes_in, field, half, priority_in, small};
+ghost use Rattle.journal_reading.specs.Reading.{yes_no_in};
 
+use journals::Version;
 use packet_entry::{Bytes, NoMemory};
 use std::alloc::Global;
 use text_lines::{cut, decimal, decimal_8, decimal_16, hexadecimal_bytes, is_word};
@@ -54,6 +56,16 @@ pub(crate) fn small(text: &[u8]) -> Option<(u8, &[u8])>
 {
     let (word, rest) = word(text)?;
     Some((decimal_8(word)?, rest))
+}
+
+/// A packet's priority. Version 1 has none: there it is 0.
+pub(crate) fn priority(version: Version, text: &[u8]) -> Option<(u32, &[u8])>
+    ensures { option_map (λ x. (x.0, x.1.now)) result ≡ priority_in version text.now }
+{
+    match version {
+        Version::First => Some((0, text)),
+        Version::Second => wide(text),
+    }
 }
 
 /// `y` or `n`.

@@ -1,8 +1,10 @@
-//! Laws of journals and of their lines, each the contract of a function that does nothing.
+//! Laws of journals and of their lines, each the contract of a function that does nothing. They hold
+//! of each version of the format.
 
 ghost use Rattle.std.specs.Prelude.{◌≡◌, ◌⊎◌, ◌↔◌, ◌++◌, ℕ, List, [], Some};
 ghost use Rattle.histories.specs.declared.histories.Histories.{Histories};
 ghost use Rattle.journal_reading.specs.declared.line.Line.{Line};
+ghost use Rattle.journals.specs.declared.version.Version.{Version};
 ghost use Rattle.journals.specs.Journal.{journal};
 ghost use Rattle.journal_reading.specs.JournalFile.{IsFirstRefused, IsJournal};
 ghost use Rattle.journal_reading.specs.Lines.{IsLine};
@@ -15,7 +17,8 @@ use text_lines::{bytes_are_spelled, numbers_are_spelled};
 /// each value fits its field, a request is of its entry's queue, and a reply is of its event's
 /// kind.
 pub(crate) fn lines_say_what_is_written()
-    ensures { (line : List ℕ) (said : Line) → (line_in line ≡ Some said) ↔ IsLine line said }
+    ensures { (v : Version) (line : List ℕ) (said : Line) →
+        (line_in v line ≡ Some said) ↔ IsLine v line said }
 {
     numbers_are_spelled();
     bytes_are_spelled();
@@ -23,7 +26,8 @@ pub(crate) fn lines_say_what_is_written()
 
 /// A text is the journal of one value at most.
 pub fn a_text_has_one_value()
-    ensures { (text : List ℕ) (a b : Histories) → IsJournal text a → IsJournal text b → a ≡ b }
+    ensures { (v : Version) (text : List ℕ) (a b : Histories) → IsJournal v text a →
+        IsJournal v text b → a ≡ b }
 {
     numbers_are_spelled();
     bytes_are_spelled();
@@ -38,8 +42,8 @@ pub fn values_have_journals_of_their_own()
 
 /// No journal begins another one.
 pub fn no_journal_begins_another()
-    ensures { (text rest : List ℕ) (a b : Histories) → IsJournal text a →
-        IsJournal (text ++ rest) b → rest ≡ [] }
+    ensures { (v : Version) (text rest : List ℕ) (a b : Histories) → IsJournal v text a →
+        IsJournal v (text ++ rest) b → rest ≡ [] }
 {
     numbers_are_spelled();
     bytes_are_spelled();
@@ -47,19 +51,20 @@ pub fn no_journal_begins_another()
 
 /// A journal has no line that is refused.
 pub fn no_line_of_a_journal_is_refused()
-    ensures { (text : List ℕ) (h : Histories) (line : ℕ) → IsJournal text h →
-        IsFirstRefused text line → ⊥ }
+    ensures { (v : Version) (text : List ℕ) (h : Histories) (line : ℕ) → IsJournal v text h →
+        IsFirstRefused v text line → ⊥ }
 {}
 
 /// A text has one first line that is refused, if it has any.
 pub fn a_text_has_one_refused_line()
-    ensures { (text : List ℕ) (a b : ℕ) → IsFirstRefused text a → IsFirstRefused text b → a ≡ b }
+    ensures { (v : Version) (text : List ℕ) (a b : ℕ) → IsFirstRefused v text a →
+        IsFirstRefused v text b → a ≡ b }
 {}
 
 /// Each text is a journal, or has a first line that is refused.
 pub fn each_text_is_read_or_refused()
-    ensures { (text : List ℕ) → ((h : Histories) × IsJournal text h)
-        ⊎ ((line : ℕ) × IsFirstRefused text line) }
+    ensures { (v : Version) (text : List ℕ) → ((h : Histories) × IsJournal v text h)
+        ⊎ ((line : ℕ) × IsFirstRefused v text line) }
 {
     numbers_are_spelled();
     bytes_are_spelled();

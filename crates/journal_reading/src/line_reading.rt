@@ -2,24 +2,40 @@
 
 ghost use Rattle.std.specs.Prelude.{◌≡◌, IfOk, option_map};
 ghost use Rattle.text_lines.specs.Digits.{decimal};
+ghost use Rattle.journals.specs.Format.{title};
 ghost use Rattle.journal_reading.specs.Reading as read;
 
-use crate::fields::{behind, bytes, half, wide, word, yes_no};
+use crate::fields::{behind, bytes, half, priority, wide, word, yes_no};
 use crate::line::Line;
 use crate::request_reading::{asked, request};
 use histories::{Did, Entry, queue_of};
+use journals::Version;
 use nfqa_msgs::Request;
 use packet_entry::{Card, NoMemory};
 use queue_core::{Event, Outcome, Reply};
 use std::alloc::Global;
 use text_lines::{cut, decimal, decimal_16, is_word};
 
-/// What a line says, or `None` where it is no line of a journal.
-#[tactic(auto, unfolding(crate::specs::Reading::line_in))]
-pub(crate) fn read_line(alloc: Global, line: &[u8]) -> Result<Option<Line>, NoMemory>
-    ensures { IfOk result (λ found. found ≡ read.line_in line.now) }
+/// The first line of a journal of this version, without its end.
+pub(crate) fn title(version: Version) -> &'static [u8]
+    ensures { result.now ≡ title version }
 {
-    if is_word(line, b"nfq-journal 1") {
+    match version {
+        Version::First => b"nfq-journal 1",
+        Version::Second => b"nfq-journal 2",
+    }
+}
+
+/// What a line says, or `None` where it is no line of a journal of this version.
+#[tactic(auto, unfolding(crate::specs::Reading::line_in))]
+pub(crate) fn read_line(
+    alloc: Global,
+    version: Version,
+    line: &[u8],
+) -> Result<Option<Line>, NoMemory>
+    ensures { IfOk result (λ found. found ≡ read.line_in version line.now) }
+{
+    if is_word(line, title(version)) {
         return Ok(Some(Line::Heading));
     }
     if is_word(line, b"end") {
@@ -29,20 +45,25 @@ pub(crate) fn read_line(alloc: Global, line: &[u8]) -> Result<Option<Line>, NoMe
         return Ok(Some(Line::DidLine { did: Did::Closed }));
     }
     match word(line) {
-        Some((word, rest)) => line_by(alloc, word, rest),
+        Some((word, rest)) => line_by(alloc, version, word, rest),
         None => Ok(None),
     }
 }
 
 /// The lines by their first word.
 #[tactic(auto, unfolding(crate::specs::Reading::line_by))]
-fn line_by(alloc: Global, word: &[u8], rest: &[u8]) -> Result<Option<Line>, NoMemory>
-    ensures { IfOk result (λ found. found ≡ read.line_by word.now rest.now) }
+fn line_by(
+    alloc: Global,
+    version: Version,
+    word: &[u8],
+    rest: &[u8],
+) -> Result<Option<Line>, NoMemory>
+    ensures { IfOk result (λ found. found ≡ read.line_by version word.now rest.now) }
 {
     if is_word(word, b"A") {
-        Ok(arrival(alloc, rest)?.map(|entry| Line::EntryLine { entry }))
+        Ok(arrival(alloc, version, rest)?.map(|entry| Line::EntryLine { entry }))
     } else if is_word(word, b"M") {
-        Ok(ask(alloc, rest)?.map(|entry| Line::EntryLine { entry }))
+        Ok(ask(alloc, version, rest)?.map(|entry| Line::EntryLine { entry }))
     } else if is_word(word, b"C") {
         Ok(port_closed(rest).map(|entry| Line::EntryLine { entry }))
     } else if is_word(word, b"D") {
@@ -50,7 +71,7 @@ fn line_by(alloc: Global, word: &[u8], rest: &[u8]) -> Result<Option<Line>, NoMe
     } else if is_word(word, b"R") {
         Ok(received(rest).map(|did| Line::DidLine { did }))
     } else if is_word(word, b"S") {
-        Ok(sent(alloc, rest)?.map(|did| Line::DidLine { did }))
+        Ok(sent(alloc, version, rest)?.map(|did| Line::DidLine { did }))
     } else if is_word(word, b"P") {
         Ok(decimal(rest).map(|port| Line::PortLine { port }))
     } else {
@@ -58,15 +79,16 @@ fn line_by(alloc: Global, word: &[u8], rest: &[u8]) -> Result<Option<Line>, NoMe
     }
 }
 
-/// `Q NUMBER VISIT TABLE BYPASS ROOM MARK SECONDS MICROS PROTOCOL LINK BYTES OUTCOME`
+/// `Q NUMBER VISIT TABLE BYPASS ROOM MARK PRIORITY SECONDS MICROS PROTOCOL LINK BYTES OUTCOME`,
+/// where version 1 has no PRIORITY
 #[tactic(auto, unfolding(crate::specs::Reading::arrival_in))]
-fn arrival(alloc: Global, text: &[u8]) -> Result<Option<Entry>, NoMemory>
-    ensures { IfOk result (λ found. found ≡ read.arrival_in text.now) }
+fn arrival(alloc: Global, version: Version, text: &[u8]) -> Result<Option<Entry>, NoMemory>
+    ensures { IfOk result (λ found. found ≡ read.arrival_in version text.now) }
 {
     let Some((queue, rest)) = half(text) else {
         return Ok(None);
     };
-    let Some((card, bypass, room, rest)) = card(alloc, rest)? else {
+    let Some((card, bypass, room, rest)) = card(alloc, version, rest)? else {
         return Ok(None);
     };
     let Some(outcome) = outcome(rest) else {
@@ -81,9 +103,13 @@ fn arrival(alloc: Global, text: &[u8]) -> Result<Option<Entry>, NoMemory>
 
 /// What an arrival's line says of the packet, of the bypass and of the room.
 #[tactic(auto, unfolding(crate::specs::Reading::card_in))]
-fn card(alloc: Global, text: &[u8]) -> Result<Option<(Card, bool, bool, &[u8])>, NoMemory>
+fn card(
+    alloc: Global,
+    version: Version,
+    text: &[u8],
+) -> Result<Option<(Card, bool, bool, &[u8])>, NoMemory>
     ensures { IfOk result (λ found. option_map (λ x. ((x.0, (x.1, x.2)), x.3.now)) found
-        ≡ read.card_in text.now) }
+        ≡ read.card_in version text.now) }
 {
     let Some((number, visit, table, rest)) = journey(text) else {
         return Ok(None);
@@ -91,7 +117,7 @@ fn card(alloc: Global, text: &[u8]) -> Result<Option<(Card, bool, bool, &[u8])>,
     let Some((bypass, room, rest)) = chances(rest) else {
         return Ok(None);
     };
-    let Some((mark, seconds, micros, protocol, rest)) = facts(rest) else {
+    let Some((mark, priority, seconds, micros, protocol, rest)) = facts(version, rest) else {
         return Ok(None);
     };
     let Some((link, rest)) = bytes(alloc, rest)? else {
@@ -105,6 +131,7 @@ fn card(alloc: Global, text: &[u8]) -> Result<Option<(Card, bool, bool, &[u8])>,
         visit,
         table,
         mark,
+        priority,
         seconds,
         micros,
         protocol,
@@ -135,17 +162,18 @@ fn chances(text: &[u8]) -> Option<(bool, bool, &[u8])>
     Some((bypass, room, rest))
 }
 
-/// `MARK SECONDS MICROS PROTOCOL`
+/// `MARK PRIORITY SECONDS MICROS PROTOCOL`
 #[tactic(auto, unfolding(crate::specs::Reading::facts_in))]
-fn facts(text: &[u8]) -> Option<(u32, u32, u32, u16, &[u8])>
+fn facts(version: Version, text: &[u8]) -> Option<(u32, u32, u32, u32, u16, &[u8])>
     ensures { option_map (λ x. (((x.0, x.1), (x.2, x.3)), x.4.now)) result
         ≡ read.facts_in text.now }
 {
     let (mark, rest) = wide(text)?;
+    let (priority, rest) = priority(version, rest)?;
     let (seconds, rest) = wide(rest)?;
     let (micros, rest) = wide(rest)?;
     let (protocol, rest) = half(rest)?;
-    Some((mark, seconds, micros, protocol, rest))
+    Some((mark, priority, seconds, micros, protocol, rest))
 }
 
 #[tactic(auto, unfolding(crate::specs::Reading::outcome_in))]
@@ -204,13 +232,13 @@ fn bare(word: &[u8]) -> Option<Outcome>
 
 /// `Q PORT CALL REQUEST = ERRNO TAKEN`, where Q is the request's queue.
 #[tactic(auto, unfolding(crate::specs::Reading::ask_in))]
-fn ask(alloc: Global, text: &[u8]) -> Result<Option<Entry>, NoMemory>
-    ensures { IfOk result (λ found. found ≡ read.ask_in text.now) }
+fn ask(alloc: Global, version: Version, text: &[u8]) -> Result<Option<Entry>, NoMemory>
+    ensures { IfOk result (λ found. found ≡ read.ask_in version text.now) }
 {
     let Some((queue, port, call, rest)) = caller(text) else {
         return Ok(None);
     };
-    let Some((request, rest)) = request(alloc, rest)? else {
+    let Some((request, rest)) = request(alloc, version, rest)? else {
         return Ok(None);
     };
     let Some((errno, taken)) = answered(rest) else {
@@ -297,13 +325,13 @@ fn received(text: &[u8]) -> Option<Did>
 
 /// `CALL REQUEST = ANSWER`, or `CALL raw BYTES = ANSWER`
 #[tactic(auto, unfolding(crate::specs::Reading::sent_in))]
-fn sent(alloc: Global, text: &[u8]) -> Result<Option<Did>, NoMemory>
-    ensures { IfOk result (λ found. found ≡ read.sent_in text.now) }
+fn sent(alloc: Global, version: Version, text: &[u8]) -> Result<Option<Did>, NoMemory>
+    ensures { IfOk result (λ found. found ≡ read.sent_in version text.now) }
 {
     let Some((call, rest)) = wide(text) else {
         return Ok(None);
     };
-    let Some((ask, rest)) = asked(alloc, rest)? else {
+    let Some((ask, rest)) = asked(alloc, version, rest)? else {
         return Ok(None);
     };
     let Some(rest) = behind(rest, b"=") else {

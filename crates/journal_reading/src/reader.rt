@@ -12,6 +12,7 @@ use crate::line::Line;
 use crate::line_reading::read_line;
 use crate::stop::Stop;
 use histories::{Did, Entries, Entry, Histories, Logs, PortLog};
+use journals::Version;
 use packet_entry::{NoMemory, Sequence};
 use std::alloc::Global;
 use std::collections::BTreeSet;
@@ -46,18 +47,23 @@ impl Reader {
         }
     }
 
-    /// Goes on after this line, and says whether it was the last one.
-    pub(crate) fn read(&mut self, alloc: Global, line: &[u8]) -> Result<bool, Stop>
+    /// Goes on after this line of a journal of this version, and says whether it was the last one.
+    pub(crate) fn read(
+        &mut self,
+        alloc: Global,
+        version: Version,
+        line: &[u8],
+    ) -> Result<bool, Stop>
         requires ports { KnowsPorts self.old }
-        requires sound { IsSound (place_of self.old) }
+        requires sound { IsSound version (place_of self.old) }
         ensures ports { OnOk result (KnowsPorts self.new) }
-        ensures sound { OnOk result (IsSound (place_of self.new)) }
-        ensures more { IfOk result (λ ended. HasRead ended (place_of self.old)
+        ensures sound { OnOk result (IsSound version (place_of self.new)) }
+        ensures more { IfOk result (λ ended. HasRead version ended (place_of self.old)
             (place_of self.new) line.now) }
-        ensures follows { FollowsText result (place_of self.old) (place_of self.new) line.now }
+        ensures follows { FollowsText version result (place_of self.old) (place_of self.new) line.now }
     {
         lines_say_what_is_written();
-        match read_line(alloc, line)? {
+        match read_line(alloc, version, line)? {
             Some(said) => self.go_on(alloc, said),
             None => Err(Stop::Refused),
         }

@@ -1,24 +1,26 @@
 //! From a journal's text to histories.
 
-ghost use Rattle.std.specs.Prelude.{◌≡◌, ◌++◌, ◌<◌, ◌-◌, ◌^◌, ℕ, Err, IfOk, codes, length};
+ghost use Rattle.std.specs.Prelude.{◌≡◌, ◌++◌, ◌<◌, ◌-◌, ◌^◌, ℕ, Err, IfOk, length};
 ghost use Rattle.histories.specs.declared.histories.Histories as value;
+ghost use Rattle.journals.specs.declared.version.Version.TheVariants.{Second};
+ghost use Rattle.journals.specs.Format.{heading};
 ghost use Rattle.journal_reading.specs.declared.fault.JournalFault.TheVariants as fault;
 ghost use Rattle.journal_reading.specs.JournalFile.{Answers, Closes, IsAnswer, IsFirstRefused, IsJournal};
 ghost use Rattle.journal_reading.specs.JournalFile.{IsRefusedAt, place_of};
 
 use crate::fault::JournalFault;
+use crate::line_reading::title;
 use crate::reader::Reader;
 use histories::Histories;
+use journals::Version;
 use packet_entry::NoMemory;
 use std::alloc::Global;
 use text_lines::{bytes_are_spelled, cut, is_word, numbers_are_spelled};
 
 /// The byte that ends a line.
 const LINE_FEED: u8 = b'\n';
-/// The first line.
-const HEADING: &[u8] = b"nfq-journal 1";
 
-/// The histories whose journal a text is: they are well formed, and the text is exactly what
+/// The histories whose journal of version 2 a text is: they are well formed, and the text is exactly what
 /// [`journal_text`](crate::journal_text) writes of them.
 ///
 /// `Bad` comes only where there are none, and there it comes unless memory runs out: with the first
@@ -29,27 +31,31 @@ pub fn read_journal(alloc: Global, bytes: &[u8]) -> Result<Histories, JournalFau
     requires { length bytes.now < 2 ^ 32 - 1 }
 
     // What is read is what the text is a journal of, and a journal is read, unless memory runs out.
-    ensures found { IfOk result (IsJournal bytes.now) }
-    ensures only { (h : value.Histories) → IsJournal bytes.now h → Answers result h }
+    ensures found { IfOk result (IsJournal Second bytes.now) }
+    ensures only { (h : value.Histories) → IsJournal Second bytes.now h → Answers result h }
 
     // What is refused is no journal, and is refused at the first line that can't stand in one, or
     // at the one that is missing at the end. What has such a line is refused there, unless memory
     // runs out.
-    ensures refused { (line : ℕ) → result ≡ Err (fault.Bad line) → IsFirstRefused bytes.now line }
-    ensures stuck { (line : ℕ) → IsFirstRefused bytes.now line → IsRefusedAt result line }
+    ensures refused { (line : ℕ) → result ≡ Err (fault.Bad line) → IsFirstRefused Second bytes.now line }
+    ensures stuck { (line : ℕ) → IsFirstRefused Second bytes.now line → IsRefusedAt result line }
 {
-    read_text(alloc, bytes)
+    read_text(alloc, Version::Second, bytes)
 }
 
-/// Reads the heading, and what stands behind it.
-fn read_text(alloc: Global, bytes: &[u8]) -> Result<Histories, JournalFault>
+/// Reads a journal of this version: its heading, and what stands behind it.
+fn read_text(
+    alloc: Global,
+    version: Version,
+    bytes: &[u8],
+) -> Result<Histories, JournalFault>
     requires { length bytes.now < 2 ^ 32 - 1 }
-    ensures { IsAnswer result bytes.now }
+    ensures { IsAnswer version result bytes.now }
 {
     match cut(bytes, LINE_FEED) {
         Some((line, rest)) => {
-            if is_word(line, HEADING) {
-                read_lines(alloc, bytes, rest)
+            if is_word(line, title(version)) {
+                read_lines(alloc, version, bytes, rest)
             } else {
                 Err(JournalFault::Bad { line: 1 })
             }
@@ -59,10 +65,15 @@ fn read_text(alloc: Global, bytes: &[u8]) -> Result<Histories, JournalFault>
 }
 
 /// Reads line after line, behind the heading.
-fn read_lines(alloc: Global, bytes: &[u8], first: &[u8]) -> Result<Histories, JournalFault>
+fn read_lines(
+    alloc: Global,
+    version: Version,
+    bytes: &[u8],
+    first: &[u8],
+) -> Result<Histories, JournalFault>
     requires few { length bytes.now < 2 ^ 32 - 1 }
-    requires heading { bytes.now ≡ codes "nfq-journal 1\n" ++ first.now }
-    ensures { IsAnswer result bytes.now }
+    requires heading { bytes.now ≡ heading version ++ first.now }
+    ensures { IsAnswer version result bytes.now }
 {
     numbers_are_spelled();
     bytes_are_spelled();
@@ -70,7 +81,7 @@ fn read_lines(alloc: Global, bytes: &[u8], first: &[u8]) -> Result<Histories, Jo
     let mut rest = first;
     let mut line_number: u32 = 2;
     while let Some((line, later)) = cut(rest, LINE_FEED) {
-        match reader.read(alloc, line) {
+        match reader.read(alloc, version, line) {
             Err(stop) => return Err(stop.at(line_number)),
             Ok(true) => return finish(alloc, reader, later, line_number),
             Ok(false) => {}

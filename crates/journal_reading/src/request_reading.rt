@@ -3,11 +3,12 @@
 ghost use Rattle.std.specs.Prelude.{◌≡◌, IfOk, Option, codes, option_map};
 ghost use Rattle.text_lines.specs.Digits.{decimal};
 ghost use Rattle.journal_reading.specs.Reading.{asked_in, batch_in, both, bytes_in, config_in, field};
-ghost use Rattle.journal_reading.specs.Reading.{half, head_in, params_in, part, request_by, request_in};
-ghost use Rattle.journal_reading.specs.Reading.{small, verdict_in};
+ghost use Rattle.journal_reading.specs.Reading.{half, head_in, new_priority_in, params_in, part};
+ghost use Rattle.journal_reading.specs.Reading.{request_by, request_in, small, verdict_in};
 
 use crate::fields::{behind, bytes, half, small, wide, word};
 use histories::AskWords;
+use journals::Version;
 use nfqa_msgs::{Head, Params, Request};
 use packet_entry::{Bytes, NoMemory};
 use std::alloc::Global;
@@ -15,8 +16,13 @@ use text_lines::is_word;
 
 /// A request, or the bytes of another message.
 #[tactic(auto, unfolding(crate::specs::Reading::asked_in))]
-pub(crate) fn asked(alloc: Global, text: &[u8]) -> Result<Option<(AskWords, &[u8])>, NoMemory>
-    ensures { IfOk result (λ read. option_map (λ x. (x.0, x.1.now)) read ≡ asked_in text.now) }
+pub(crate) fn asked(
+    alloc: Global,
+    version: Version,
+    text: &[u8],
+) -> Result<Option<(AskWords, &[u8])>, NoMemory>
+    ensures { IfOk result (λ read. option_map (λ x. (x.0, x.1.now)) read
+        ≡ asked_in version text.now) }
 {
     if let Some(rest) = behind(text, b"raw") {
         return match bytes(alloc, rest)? {
@@ -24,7 +30,7 @@ pub(crate) fn asked(alloc: Global, text: &[u8]) -> Result<Option<(AskWords, &[u8
             None => Ok(None),
         };
     }
-    match request(alloc, text)? {
+    match request(alloc, version, text)? {
         Some((request, rest)) => Ok(Some((AskWords::Plain { request }, rest))),
         None => Ok(None),
     }
@@ -32,11 +38,16 @@ pub(crate) fn asked(alloc: Global, text: &[u8]) -> Result<Option<(AskWords, &[u8
 
 /// A request, by its first word.
 #[tactic(auto, unfolding(crate::specs::Reading::request_in))]
-pub(crate) fn request(alloc: Global, text: &[u8]) -> Result<Option<(Request, &[u8])>, NoMemory>
-    ensures { IfOk result (λ read. option_map (λ x. (x.0, x.1.now)) read ≡ request_in text.now) }
+pub(crate) fn request(
+    alloc: Global,
+    version: Version,
+    text: &[u8],
+) -> Result<Option<(Request, &[u8])>, NoMemory>
+    ensures { IfOk result (λ read. option_map (λ x. (x.0, x.1.now)) read
+        ≡ request_in version text.now) }
 {
     match word(text) {
-        Some((word, rest)) => request_by(alloc, word, rest),
+        Some((word, rest)) => request_by(alloc, version, word, rest),
         None => Ok(None),
     }
 }
@@ -44,18 +55,19 @@ pub(crate) fn request(alloc: Global, text: &[u8]) -> Result<Option<(Request, &[u
 #[tactic(auto, unfolding(crate::specs::Reading::request_by))]
 fn request_by<'a>(
     alloc: Global,
+    version: Version,
     word: &[u8],
     rest: &'a [u8],
 ) -> Result<Option<(Request, &'a [u8])>, NoMemory>
     ensures { IfOk result (λ read. option_map (λ x. (x.0, x.1.now)) read
-        ≡ request_by word.now rest.now) }
+        ≡ request_by version word.now rest.now) }
 {
     if is_word(word, b"config") {
         Ok(config(rest))
     } else if is_word(word, b"verdict") {
-        verdict(alloc, rest)
+        verdict(alloc, version, rest)
     } else if is_word(word, b"batch") {
-        Ok(batch(rest))
+        Ok(batch(version, rest))
     } else {
         Ok(None)
     }
@@ -83,10 +95,15 @@ fn config(text: &[u8]) -> Option<(Request, &[u8])>
     Some((request, rest))
 }
 
-/// `Q (VERDICT ID | -) [mark N] [payload BYTES]`
+/// `Q (VERDICT ID | -) [mark N] [payload BYTES] [priority N]`
 #[tactic(auto, unfolding(crate::specs::Reading::verdict_in))]
-fn verdict(alloc: Global, text: &[u8]) -> Result<Option<(Request, &[u8])>, NoMemory>
-    ensures { IfOk result (λ read. option_map (λ x. (x.0, x.1.now)) read ≡ verdict_in text.now) }
+fn verdict(
+    alloc: Global,
+    version: Version,
+    text: &[u8],
+) -> Result<Option<(Request, &[u8])>, NoMemory>
+    ensures { IfOk result (λ read. option_map (λ x. (x.0, x.1.now)) read
+        ≡ verdict_in version text.now) }
 {
     let Some((queue, head, rest)) = headed(text) else {
         return Ok(None);
@@ -97,23 +114,34 @@ fn verdict(alloc: Global, text: &[u8]) -> Result<Option<(Request, &[u8])>, NoMem
     let Some((payload, rest)) = payload_part(alloc, rest)? else {
         return Ok(None);
     };
+    let Some((priority, rest)) = new_priority(version, rest) else {
+        return Ok(None);
+    };
     let request = Request::Verdict {
         queue,
         head,
         mark,
         payload,
+        priority,
     };
     Ok(Some((request, rest)))
 }
 
-/// `Q (VERDICT MAX | -) [mark N]`
+/// `Q (VERDICT MAX | -) [mark N] [priority N]`
 #[tactic(auto, unfolding(crate::specs::Reading::batch_in))]
-fn batch(text: &[u8]) -> Option<(Request, &[u8])>
-    ensures { option_map (λ x. (x.0, x.1.now)) result ≡ batch_in text.now }
+fn batch(version: Version, text: &[u8]) -> Option<(Request, &[u8])>
+    ensures { option_map (λ x. (x.0, x.1.now)) result ≡ batch_in version text.now }
 {
     let (queue, head, rest) = headed(text)?;
     let (mark, rest) = number_part(rest, b"mark")?;
-    Some((Request::Batch { queue, head, mark }, rest))
+    let (priority, rest) = new_priority(version, rest)?;
+    let request = Request::Batch {
+        queue,
+        head,
+        mark,
+        priority,
+    };
+    Some((request, rest))
 }
 
 /// The queue and the verdict header that a verdict and a batch begin with.
@@ -179,6 +207,16 @@ fn number_part<'a>(text: &'a [u8], name: &[u8]) -> Option<(Option<u32>, &'a [u8]
             Some((Some(number), rest))
         }
         None => Some((None, text)),
+    }
+}
+
+/// `[priority N]`. Version 1 has none.
+fn new_priority(version: Version, text: &[u8]) -> Option<(Option<u32>, &[u8])>
+    ensures { option_map (λ x. (x.0, x.1.now)) result ≡ new_priority_in version text.now }
+{
+    match version {
+        Version::First => Some((None, text)),
+        Version::Second => number_part(text, b"priority"),
     }
 }
 

@@ -10,14 +10,14 @@ use std::test::Fail;
 
 /// The journal of a port that accepts the first and the third of three packets, and drops the
 /// second.
-const WORKED: &str = "nfq-journal 1
+const WORKED: &str = "nfq-journal 2
 M 0 7 1 config 0 cmd 1 = 0 0
 M 0 7 2 config 0 params 2 0 = 0 0
-A 0 1 1 1 n y 0 1 0 2048 - 4500001400010000400600000a0000010a000002 taken:1
+A 0 1 1 1 n y 0 0 1 0 2048 - 4500001400010000400600000a0000010a000002 taken:1
 M 0 7 3 verdict 0 1 1 = 0 1
-A 0 2 1 1 n y 0 2 0 2048 - 4500001400020000400600000a0000010a000002 taken:2
+A 0 2 1 1 n y 0 0 2 0 2048 - 4500001400020000400600000a0000010a000002 taken:2
 M 0 7 4 verdict 0 0 2 = 0 1
-A 0 3 1 1 n y 0 3 0 2048 - 4500001400030000400600000a0000010a000002 taken:3
+A 0 3 1 1 n y 0 0 3 0 2048 - 4500001400030000400600000a0000010a000002 taken:3
 M 0 7 5 verdict 0 1 3 = 0 1
 P 7
 S 1 config 0 cmd 1 = 0
@@ -32,7 +32,7 @@ end
 ";
 
 /// The journal of a run in which no packet came.
-const NO_PACKETS: &str = "nfq-journal 1
+const NO_PACKETS: &str = "nfq-journal 2
 M 0 7 1 config 0 cmd 1 = 0 0
 M 0 7 2 config 0 params 2 0 = 0 0
 P 7
@@ -138,7 +138,7 @@ fn push_bytes(count: u32, text: &mut String) -> Result<(), Fail> {
 /// The journal of a port that sent 150 messages of 4,096 bytes each.
 fn long_journal(alloc: Global) -> Result<String, Fail> {
     let mut text = String::new(alloc);
-    text.push_str("nfq-journal 1\nP 7\n")?;
+    text.push_str("nfq-journal 2\nP 7\n")?;
     for call in 1..151u32 {
         let front = format!(in alloc; "S {call} raw ")?;
         text.push_str(&front)?;
@@ -176,16 +176,17 @@ fn a_journal_without_packets_is_read_and_written_again(rt: HostRuntime) -> Resul
 /// changed; what stands there.
 const CHANGES: &str = "\
 1|1|
-1|1|nfq-journal 2
-1|1|nfq-journal 01
-1|1|nfq-journal  1
-1|1|_nfq-journal 1
-1|1|nfq-journal 1_
-1|1|nfq-journal 1^
-1|1|NFQ-journal 1
+1|1|nfq-journal 1
+1|1|nfq-journal 3
+1|1|nfq-journal 02
+1|1|nfq-journal  2
+1|1|_nfq-journal 2
+1|1|nfq-journal 2_
+1|1|nfq-journal 2^
+1|1|NFQ-journal 2
 1|1|end
-2|1|nfq-journal 1~nfq-journal 1
-2|1|nfq-journal 1~
+2|1|nfq-journal 2~nfq-journal 2
+2|1|nfq-journal 2~
 2|2|
 2|2|M 00 7 1 config 0 cmd 1 = 0 0
 2|2|M 0 07 1 config 0 cmd 1 = 0 0
@@ -226,27 +227,31 @@ const CHANGES: &str = "\
 3|3|M 0 7 2 config 0 params 2 4294967296 = 0 0
 3|3|M 0 7 2 config 0 params 2 = 0 0
 4|3|M 5 7 2 config 5 params 2 0 = 0 0
-4|4|A 0 1 1 1 n y 0 1 0 2048 - 45  = 0 0
-4|4|A 0 1 1 1 n y 0 1 0 2048 - 45 0
-4|4|A 0 1 1 1 n y 0 1 0 2048 - 45 taken
-4|4|A 0 1 1 1 n y 0 1 0 2048 - 45 taken:
-4|4|A 0 1 1 1 n y 0 1 0 2048 - 45 taken:01
-4|4|A 0 1 1 1 n y 0 1 0 2048 - 45 taken: 1
-4|4|A 0 1 1 1 n y 0 1 0 2048 - 45 taken:4294967296
-4|4|A 0 1 1 1 n y 0 1 0 2048 - 45 overflow:1
-4|4|A 0 1 1 1 n y 0 1 0 2048 - 45 userfull
-4|4|A 0 1 1 1 n y 0 1 0 2048 - 45 dropped
-4|4|A 0 1 1 1 n y 0 1 0 2048 - 45 loop_
-4|4|A 0 1 1 1 N y 0 1 0 2048 - 45 loop
-4|4|A 0 1 1 1 n 1 0 1 0 2048 - 45 loop
-4|4|A 0 1 1 65536 n y 0 1 0 2048 - 45 loop
-4|4|A 0 1 1 1 n y 4294967296 1 0 2048 - 45 loop
-4|4|A 0 1 1 1 n y 0 1 0 65536 - 45 loop
-4|4|A 0 1 1 1 n y 0 1 0 2048  45 loop
-4|4|A 0 1 1 1 n y 0 1 0 2048 - 4 loop
-4|4|A 0 1 1 1 n y 0 1 0 2048 - 4F loop
-4|4|A 0 1 1 1 n y 0 1 0 2048 - 4g loop
-4|4|A 0 1 1 1 n y 0 1 0 2048 -- 45 loop
+4|4|A 0 1 1 1 n y 0 0 1 0 2048 - 45  = 0 0
+4|4|A 0 1 1 1 n y 0 0 1 0 2048 - 45 0
+4|4|A 0 1 1 1 n y 0 0 1 0 2048 - 45 taken
+4|4|A 0 1 1 1 n y 0 0 1 0 2048 - 45 taken:
+4|4|A 0 1 1 1 n y 0 0 1 0 2048 - 45 taken:01
+4|4|A 0 1 1 1 n y 0 0 1 0 2048 - 45 taken: 1
+4|4|A 0 1 1 1 n y 0 0 1 0 2048 - 45 taken:4294967296
+4|4|A 0 1 1 1 n y 0 0 1 0 2048 - 45 overflow:1
+4|4|A 0 1 1 1 n y 0 0 1 0 2048 - 45 userfull
+4|4|A 0 1 1 1 n y 0 0 1 0 2048 - 45 dropped
+4|4|A 0 1 1 1 n y 0 0 1 0 2048 - 45 loop_
+4|4|A 0 1 1 1 N y 0 0 1 0 2048 - 45 loop
+4|4|A 0 1 1 1 n 1 0 0 1 0 2048 - 45 loop
+4|4|A 0 1 1 65536 n y 0 0 1 0 2048 - 45 loop
+4|4|A 0 1 1 1 n y 4294967296 0 1 0 2048 - 45 loop
+4|4|A 0 1 1 1 n y 0 4294967296 1 0 2048 - 45 loop
+4|4|A 0 1 1 1 n y 0 00 1 0 2048 - 45 loop
+4|4|A 0 1 1 1 n y 0 - 1 0 2048 - 45 loop
+4|4|A 0 1 1 1 n y 0 1 0 2048 - 45 loop
+4|4|A 0 1 1 1 n y 0 0 1 0 65536 - 45 loop
+4|4|A 0 1 1 1 n y 0 0 1 0 2048  45 loop
+4|4|A 0 1 1 1 n y 0 0 1 0 2048 - 4 loop
+4|4|A 0 1 1 1 n y 0 0 1 0 2048 - 4F loop
+4|4|A 0 1 1 1 n y 0 0 1 0 2048 - 4g loop
+4|4|A 0 1 1 1 n y 0 0 1 0 2048 -- 45 loop
 4|4|C 0 7 taken:0
 4|4|C 0 7
 4|4|C 0 7 = 0 0
@@ -259,9 +264,17 @@ const CHANGES: &str = "\
 5|5|M 0 7 3 verdict 0 1 1 payload 0 = 0 1
 5|5|M 0 7 3 verdict 0 1 1 payload = 0 1
 5|5|M 0 7 3 verdict 0 1 1 payload 00 mark 1 = 0 1
+5|5|M 0 7 3 verdict 0 1 1 priority 1 payload 00 = 0 1
+5|5|M 0 7 3 verdict 0 1 1 priority 1 mark 1 = 0 1
+5|5|M 0 7 3 verdict 0 1 1 priority = 0 1
+5|5|M 0 7 3 verdict 0 1 1 priority 01 = 0 1
+5|5|M 0 7 3 verdict 0 1 1 priority 4294967296 = 0 1
+5|5|M 0 7 3 verdict 0 1 1 priority 1 priority 1 = 0 1
+5|5|M 0 7 3 config 0 priority 1 = 0 1
+5|5|M 0 7 3 batch 0 1 1 priority 1 mark 1 = 0 1
 5|5|M 0 7 3 batch 0 1 1 payload 00 = 0 1
 5|5|M 0 7 3 batch 1 1 1 = 0 1
-6|6|A 0 2 1 1 n y 0 2 0 2048 - 4500001400020000400600000a0000010a000002 taken:02
+6|6|A 0 2 1 1 n y 0 0 2 0 2048 - 4500001400020000400600000a0000010a000002 taken:02
 10|10|P
 10|10|P 07
 10|10|P 4294967296
@@ -295,12 +308,17 @@ const CHANGES: &str = "\
 0|2|M 0 7 1 config 0 = 0 0
 0|2|M 0 4294967295 4294967295 config 0 cmd 255 maxlen 4294967295 mask 0 = 65535 4294967295
 0|3|M 0 7 2 config 0 params 255 4294967295 flags 4294967295 = 0 0
-0|4|A 0 4294967295 4294967295 65535 y n 4294967295 9 999999 65535 00ff - overflow-open
+0|4|A 0 4294967295 4294967295 65535 y n 4294967295 4294967295 9 999999 65535 00ff - overflow-open
 0|5|M 0 7 3 verdict 0 - mark 1 payload - = 0 1
+0|5|M 0 7 3 verdict 0 1 1 mark 1 payload 00 priority 4294967295 = 0 1
+0|5|M 0 7 3 verdict 0 - priority 0 = 0 1
 0|5|M 0 7 3 batch 0 - = 0 1
+0|5|M 0 7 3 batch 0 1 1 priority 6 = 0 1
+0|5|M 0 7 3 batch 0 1 1 mark 5 priority 6 = 0 1
 0|9|C 65535 7 0~D 65535 2 4294967295
 0|10|P 7~X~P 8
 0|11|S 1 raw - = -
+0|11|S 1 batch 0 1 1 mark 5 priority 6 = -
 0|11|S 1 raw 0a0b = 65535
 0|19|X~end";
 
