@@ -73,7 +73,8 @@ batch_closed : (ruling : Ruling) (q : Option Bound) (mark priority : Option ℕ)
 batch_closed (Refused errno) q mark priority = record { none = tt }
 batch_closed (Allowed b head) q mark priority = of_share (share b.waiting head.id)
   where
-    each : (ws : List (ℕ × Card)) → NoneOpen (map (λ v. leaving head (batch_edit mark priority) v.1) ws)
+    each : (ws : List (ℕ × Card)) →
+        NoneOpen (map (λ v. leaving head (batch_edit mark priority) v.1) ws)
     each [] = tt
     each (w ∷ ws) = (decided (decision_of head.verdict), each ws)
 
@@ -94,7 +95,8 @@ request_closed laws q port (Config queue command params maximum flags mask) =
       }));
     }
 request_closed laws q port (Verdict queue head mark payload priority) =
-    verdict_closed (refusal q port head) q (record { mark = mark; payload = payload; priority = priority })
+    verdict_closed (refusal q port head) q
+    (record { mark = mark; payload = payload; priority = priority })
 request_closed laws q port (Batch queue head mark priority) =
     batch_closed (refusal q port head) q mark priority
 

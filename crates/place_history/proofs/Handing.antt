@@ -54,7 +54,8 @@ pub all_kept : (q : Bound) (head : Head) (mark priority : Option ℕ) →
 all_kept q head mark priority kept = each (share q.waiting head.id)
   where
     each : (ws : List (ℕ × Card)) →
-        all_handed (ways_of (map (handed_as head mark priority) ws)) ≡ map (handed_as head mark priority) ws
+        all_handed (ways_of (map (handed_as head mark priority) ws))
+        ≡ map (handed_as head mark priority) ws
     each [] = refl
     each (w ∷ ws) =
         rw (kept_handed head.verdict (handed_as head mark priority w).0 kept, each ws) refl

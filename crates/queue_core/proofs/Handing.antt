@@ -54,6 +54,8 @@ handed_out q head mark priority (w ∷ ws) =
 -- a batch that isn't refused hands out its share
 pub batch_shares : (q : Bound) (head : Head) (mark priority : Option ℕ) → IsVerdict head.verdict →
     batch (Some q) q.port (Some head) mark priority
-    ≡ hands_out (without_oldest q (length (share q.waiting head.id))) (batch_handed q head mark priority)
+    ≡ hands_out (without_oldest q (length (share q.waiting head.id)))
+    (batch_handed q head mark priority)
 batch_shares q head mark priority known =
-    rw (eq-eqb q.port q.port refl, known) (handed_out q head mark priority (share q.waiting head.id))
+    rw (eq-eqb q.port q.port refl, known)
+    (handed_out q head mark priority (share q.waiting head.id))

@@ -245,11 +245,14 @@ keeps_batch : (q : Option Bound) (port : ℕ) (head : Option Head) (mark priorit
 keeps_batch None port head mark priority = λ test. refl
 keeps_batch (Some q) port None mark priority = λ test. refl
 keeps_batch (Some q) port (Some head) mark priority =
-    either (λ r. Keeps (Some q) [] (batch_under r (Some q) mark priority)) (not (q.port == port)) _ _
+    either (λ r. Keeps (Some q) [] (batch_under r (Some q) mark priority)) (not (q.port == port))
+    _ _
     (λ test. refl)
-    (either (λ r. Keeps (Some q) [] (batch_under r (Some q) mark priority)) (not (is_verdict head.verdict))
+    (either (λ r. Keeps (Some q) [] (batch_under r (Some q) mark priority))
+    (not (is_verdict head.verdict))
     _ _ (λ test. refl)
-    (keeps_shared q head mark priority (share q.waiting head.id) (share_and_others q.waiting head.id)))
+    (keeps_shared q head mark priority (share q.waiting head.id)
+    (share_and_others q.waiting head.id)))
 
 keeps_port : (q : Option Bound) → Keeps q [] (port_closed q)
 keeps_port None = λ test. refl
@@ -269,7 +272,8 @@ conserving q (event.Ask port call (request.Config queue command params maximum f
     keeps_config q port (asking command params maximum flags mask)
 conserving q (event.Ask port call (request.Verdict queue head mark payload priority)) =
     keeps_verdict q port head _
-conserving q (event.Ask port call (request.Batch queue head mark priority)) = keeps_batch q port head mark priority
+conserving q (event.Ask port call (request.Batch queue head mark priority)) =
+    keeps_batch q port head mark priority
 conserving q (event.PortClosed port) = keeps_port q
 conserving q (event.DeviceDown device) = keeps_device q device
 
@@ -341,7 +345,8 @@ counts_batch None port head mark priority = refl
 counts_batch (Some q) port None mark priority = refl
 counts_batch (Some q) port (Some head) mark priority =
     either (λ r. Counts (batch_under r (Some q) mark priority)) (not (q.port == port)) _ _ refl
-    (either (λ r. Counts (batch_under r (Some q) mark priority)) (not (is_verdict head.verdict)) _ _ refl
+    (either (λ r. Counts (batch_under r (Some q) mark priority))
+    (not (is_verdict head.verdict)) _ _ refl
     (counts_shared q head mark priority (share q.waiting head.id)))
 
 counts_port : (q : Option Bound) → CountsFlush (port_closed q)
@@ -362,7 +367,8 @@ counting q (event.Ask port call (request.Config queue command params maximum fla
     counts_config q port (asking command params maximum flags mask)
 counting q (event.Ask port call (request.Verdict queue head mark payload priority)) =
     counts_verdict q port head _
-counting q (event.Ask port call (request.Batch queue head mark priority)) = counts_batch q port head mark priority
+counting q (event.Ask port call (request.Batch queue head mark priority)) =
+    counts_batch q port head mark priority
 counting q (event.PortClosed port) = counts_port q
 counting q (event.DeviceDown device) = counts_device q device
 
@@ -514,13 +520,16 @@ apart_verdict (Some q) port (Some head) edit apart =
     (either (λ r. AreApart (verdict_under r (Some q) edit).state) (not (is_verdict head.verdict)) _
     _ apart (apart_carried q head edit (card_under q head.id) apart))
 
-apart_batch : (q : Option Bound) (port : ℕ) (head : Option Head) (mark priority : Option ℕ) → AreApart q →
+apart_batch : (q : Option Bound) (port : ℕ) (head : Option Head) (mark priority : Option ℕ) →
+    AreApart q →
     AreApart (batch q port head mark priority).state
 apart_batch None port head mark priority apart = tt
 apart_batch (Some q) port None mark priority apart = apart
 apart_batch (Some q) port (Some head) mark priority apart =
-    either (λ r. AreApart (batch_under r (Some q) mark priority).state) (not (q.port == port)) _ _ apart
-    (either (λ r. AreApart (batch_under r (Some q) mark priority).state) (not (is_verdict head.verdict)) _ _
+    either (λ r. AreApart (batch_under r (Some q) mark priority).state) (not (q.port == port)) _ _
+    apart
+    (either (λ r. AreApart (batch_under r (Some q) mark priority).state)
+    (not (is_verdict head.verdict)) _ _
     apart (apart_shared q head mark priority (share q.waiting head.id) apart))
 
 apart_port : (q : Option Bound) → AreApart (port_closed q).state

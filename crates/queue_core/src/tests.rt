@@ -414,17 +414,17 @@ fn each_verdict_goes_its_way(rt: HostRuntime) -> Result<(), Fail> {
         ),
         (
             1,
-            (Some(LAST), Some(b""), None),
+            (Some(MOST), Some(b""), None),
             Decision::Accept,
-            (LAST, 0),
+            (MOST, 0),
             0,
         ),
         (1, (None, None, Some(6)), Decision::Accept, (0, 6), 20),
         (
             4,
-            (Some(1), Some(b"new"), Some(LAST)),
+            (Some(1), Some(b"new"), Some(MOST)),
             Decision::Repeat,
-            (1, LAST),
+            (1, MOST),
             3,
         ),
         (4, (None, None, None), Decision::Repeat, (0, 0), 20),
@@ -447,7 +447,7 @@ fn each_verdict_goes_its_way(rt: HostRuntime) -> Result<(), Fail> {
 type Sets = (Option<u32>, Option<&'static [u8]>, Option<u32>);
 
 /// The largest mark, and the largest priority.
-const LAST: u32 = u32::MAX;
+const MOST: u32 = u32::MAX;
 
 /// To these queues, without the bypass.
 const TO_0: Decision = Decision::Queue {

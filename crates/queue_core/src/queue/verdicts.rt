@@ -62,8 +62,8 @@ impl Queue {
 
     /// Carries out a batch that isn't refused: from the oldest on, packets leave, up to but without
     /// the first whose id is after the id of `head`. Each gets the mark and the priority that
-    /// are given, and is appended to `out` with the decision of `head`. Answers how many. `NoMemory`
-    /// leaves the queue and `out` as they were.
+    /// are given, and is appended to `out` with the decision of `head`. Answers how many.
+    /// `NoMemory` leaves the queue and `out` as they were.
     pub fn batch(
         &mut self,
         head: Head,

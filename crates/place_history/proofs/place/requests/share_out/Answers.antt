@@ -16,10 +16,9 @@ append-requires-clause-ahead c =
     rw (c.answered.ensures, c.errno_of-errno.ensures, changes.by.1, c.requires.no_offer)
     (ahead c.args.held.now c.take_share.new.queues _ c.requires.replayed
     (rw c.requires.no_offer tt) number changes
-    (served_makes changes.before changes.after c.args.asker
-    request hs changes.by.0
-    (asked_step c.args.held.now c.args.asker changes.before c.requires.allowed.0
-    request (hands_out changes.after.state hs)
+    (served_makes changes.before changes.after c.args.asker request hs changes.by.0
+    (asked_step c.args.held.now c.args.asker changes.before c.requires.allowed.0 request
+    (hands_out changes.after.state hs)
     c.requires.replayed changes.was c.requires.allowed.1 c.requires.allowed.2
     (changes.by.3 c.args.asker.queue c.args.asker.call))))
 
@@ -33,10 +32,8 @@ returns-clause-entered c =
     rw (c.errno_of-errno.ensures, changes.by.1) (record {
       handed = all_handed (ways_of hs);
       entered = served_enters c.args.held.now c.append.new.held changes.before changes.after
-          c.args.asker request hs
-          c.requires.replayed changes.was
-          (asked_step c.args.held.now c.args.asker changes.before c.requires.allowed.0
-          request
+          c.args.asker request hs c.requires.replayed changes.was
+          (asked_step c.args.held.now c.args.asker changes.before c.requires.allowed.0 request
           (hands_out changes.after.state hs) c.requires.replayed changes.was
           c.requires.allowed.1 c.requires.allowed.2
           (changes.by.3 c.args.asker.queue c.args.asker.call)) appended;

@@ -39,5 +39,6 @@ returns-clause-step c =
       c.edit.ensures,
       c.decision_of.ensures,
     )
-    (verdict_found _ c.args.head (record { mark = c.args.mark; payload = c.args.payload; priority = c.args.priority })
+    (verdict_found _ c.args.head
+    (record { mark = c.args.mark; payload = c.args.payload; priority = c.args.priority })
     c.in-Some.packet c.requires.known found)

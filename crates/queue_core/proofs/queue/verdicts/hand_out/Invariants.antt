@@ -8,5 +8,6 @@ abbrev pub invariant-loop : goal.invariant-loop
 invariant-loop l =
     (l.waiting.items ≡ drop l.counter l.fn.waiting.items)
     × (l.out.items ≡ l.fn.out.items
-    ++ map (λ w. (edited w.1 l.mark None l.priority, l.decision)) (take l.counter l.fn.waiting.items))
+    ++ map (λ w. (edited w.1 l.mark None l.priority, l.decision))
+    (take l.counter l.fn.waiting.items))
     × (deque_len l.out + (l.count - l.counter) ≤ deque_capacity l.out)
