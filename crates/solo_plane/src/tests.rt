@@ -38,6 +38,8 @@ enum Ask {
     Verdict(u32, u32),
     /// A verdict for this id, and the packet's new mark.
     Marking(u32, u32, u32),
+    /// A verdict for this id, and the packet's new priority.
+    Prioritizing(u32, u32, u32),
 }
 
 /// Its request.
@@ -53,8 +55,13 @@ fn request(queue: u16, ask: Ask) -> Request
         Ask::Whole => config(queue, None, Some(whole), None, None),
         Ask::Maxlen(maxlen) => config(queue, None, None, Some(maxlen), None),
         Ask::Flags(flags) => config(queue, None, None, None, Some(flags)),
-        Ask::Verdict(verdict, id) => verdict_on(queue, Head { verdict, id }, None),
-        Ask::Marking(verdict, id, mark) => verdict_on(queue, Head { verdict, id }, Some(mark)),
+        Ask::Verdict(verdict, id) => verdict_on(queue, Head { verdict, id }, None, None),
+        Ask::Marking(verdict, id, mark) => {
+            verdict_on(queue, Head { verdict, id }, Some(mark), None)
+        }
+        Ask::Prioritizing(verdict, id, priority) => {
+            verdict_on(queue, Head { verdict, id }, None, Some(priority))
+        }
     }
 }
 
@@ -79,7 +86,7 @@ fn config(
 }
 
 /// A verdict on one packet.
-fn verdict_on(queue: u16, head: Head, mark: Option<u32>) -> Request
+fn verdict_on(queue: u16, head: Head, mark: Option<u32>, priority: Option<u32>) -> Request
     ensures { PayloadFits result }
 {
     Request::Verdict {
@@ -87,6 +94,7 @@ fn verdict_on(queue: u16, head: Head, mark: Option<u32>) -> Request
         head: Some(head),
         mark,
         payload: None,
+        priority,
     }
 }
 

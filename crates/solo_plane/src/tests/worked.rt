@@ -24,6 +24,8 @@ enum Step {
     Feed(u32),
     /// Port 7 receives a notice.
     Receive,
+    /// Port 7 receives this notice, and no other.
+    Told(&'static [u8]),
 }
 
 /// Queue, then number and mark of the packet that arrives (0 and 0 for a request), and the reply.
@@ -47,8 +49,22 @@ fn happen(plane: &mut SoloPlane, alloc: Global, step: Step, steps: u32) -> Resul
         Step::Receive => {
             receive(plane, steps)?;
         }
+        Step::Told(bytes) => told(plane, bytes, steps)?,
     }
     Ok(None)
+}
+
+/// Port 7 receives a notice, which has to have these bytes.
+fn told(plane: &mut SoloPlane, bytes: &[u8], fed: u32) -> Result<(), Fail>
+    requires { IsGoing fed plane.old }
+    ensures { IsGoing fed plane.new }
+{
+    let _ = fed;
+    match plane.receive(7)? {
+        Some(letter) if letter.bytes.as_slice() == bytes => Ok(()),
+        Some(_) => Err(Fail::new("another notice")),
+        None => Err(Fail::new("no notice")),
+    }
 }
 
 /// These steps: what became of each packet that was fed.
@@ -365,6 +381,46 @@ fn the_last_mark_counts_and_other_attributes_do_not(rt: HostRuntime) -> Result<(
             last_two(rt.alloc(), TWO_TABLES, Step::Send(bytes))?,
             wanted
         );
+    }
+    Ok(())
+}
+
+/// Packet 1 waits at queue 1 under id 1 and has priority 5.
+const WITH_PRIORITY_AT_1: &[u8] = &[
+    0x64, 0, 0, 0, 0, 3, 0, 0, 0, 0, 0, 0, 0, 0, 0, 0, 2, 0, 0, 1, 0x0b, 0, 1, 0, 0, 0, 0, 1, 8, 0,
+    2, 0, 8, 0, 5, 0, 0, 0, 0, 1, 8, 0, 6, 0, 0, 0, 0, 2, 8, 0, 0x15, 0, 0, 0, 0, 5, 0x14, 0, 4, 0,
+    0, 0, 0, 0, 0, 0, 0, 1, 0, 0, 0, 0, 0, 0, 0, 0, 0x18, 0, 0x0a, 0, 0x45, 0, 0, 20, 0, 1, 0, 0,
+    0x40, 6, 0, 0, 10, 0, 0, 1, 10, 0, 0, 2,
+];
+
+/// The same at queue 0, where it waits again, under id 2.
+const WITH_PRIORITY_AGAIN: &[u8] = &[
+    0x64, 0, 0, 0, 0, 3, 0, 0, 0, 0, 0, 0, 0, 0, 0, 0, 2, 0, 0, 0, 0x0b, 0, 1, 0, 0, 0, 0, 2, 8, 0,
+    2, 0, 8, 0, 5, 0, 0, 0, 0, 1, 8, 0, 6, 0, 0, 0, 0, 2, 8, 0, 0x15, 0, 0, 0, 0, 5, 0x14, 0, 4, 0,
+    0, 0, 0, 0, 0, 0, 0, 1, 0, 0, 0, 0, 0, 0, 0, 0, 0x18, 0, 0x0a, 0, 0x45, 0, 0, 20, 0, 1, 0, 0,
+    0x40, 6, 0, 0, 10, 0, 0, 1, 10, 0, 0, 2,
+];
+
+#[test]
+fn a_priority_goes_with_its_packet(rt: HostRuntime) -> Result<(), Fail> {
+    // The rules, the verdict on packet 1 at queue 0, and the notice of its next stay.
+    const ROWS: [(&[u8], u32, &[u8]); 2] = [
+        (TWO_TABLES, 1, WITH_PRIORITY_AT_1),
+        (ONE_RULE, 4, WITH_PRIORITY_AGAIN),
+    ];
+    for &(rules, verdict, notice) in &ROWS {
+        let steps = [
+            Step::Ask(0, Ask::Bind),
+            Step::Ask(0, Ask::Whole),
+            Step::Ask(1, Ask::Bind),
+            Step::Ask(1, Ask::Whole),
+            Step::Feed(1),
+            Step::Receive,
+            Step::Ask(0, Ask::Prioritizing(verdict, 1, 5)),
+            Step::Told(notice),
+        ];
+        let (fed, lines) = played(rt.alloc(), rules, 1024, &steps)?;
+        assert_eq!(rt; (fed.as_slice(), lines.len()), (&[Fed::Waiting][..], 7));
     }
     Ok(())
 }
