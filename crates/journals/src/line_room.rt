@@ -5,7 +5,7 @@ ghost use Rattle.text_lines.specs.Hexadecimal.{hexadecimal};
 ghost use Rattle.nfqa_msgs.specs.declared.request.Request.TheVariants.{Config};
 ghost use Rattle.journals.specs.declared.version.Version.TheVariants.{Second};
 ghost use Rattle.journals.specs.Format as text;
-ghost use Rattle.journals.specs.Journal.{entry};
+ghost use Rattle.journals.specs.Journal as today;
 
 use crate::writing::{DIGITS, yes_no};
 use histories::{Entry, Event, Reply};
@@ -25,7 +25,7 @@ const REPLY: usize = 50;
 /// So many bytes hold the line of an entry with its end; `None` where they are too many to be
 /// counted.
 pub fn entry_room(entry: &Entry) -> Option<usize>
-    ensures { IfSome result (λ room. length (entry entry.now) ≤ room) }
+    ensures { IfSome result (λ room. length (today.entry entry.now) ≤ room) }
 {
     reply_is_short(&entry.reply);
     event_room(entry.queue, &entry.event)?.checked_add(REPLY)
@@ -95,8 +95,8 @@ fn request_room(request: &Request) -> Option<usize>
         } => {
             number_is_short(*queue as u64);
             head_is_short(*head);
-            value_is_short(*mark);
-            value_is_short(*priority);
+            mark_is_short(*mark);
+            priority_is_short(*priority);
             payload_room(payload)?.checked_add(REQUEST)
         }
         Request::Batch {
@@ -107,8 +107,8 @@ fn request_room(request: &Request) -> Option<usize>
         } => {
             number_is_short(*queue as u64);
             head_is_short(*head);
-            value_is_short(*mark);
-            value_is_short(*priority);
+            mark_is_short(*mark);
+            priority_is_short(*priority);
             Some(REQUEST)
         }
     }
@@ -240,6 +240,18 @@ fn value_is_short(value: Option<u32>)
     if let Some(value) = value {
         number_is_short(value as u64);
     }
+}
+
+fn mark_is_short(mark: Option<u32>)
+    ensures { length (text.part (codes " mark ") mark) ≤ 26 }
+{
+    value_is_short(mark);
+}
+
+fn priority_is_short(priority: Option<u32>)
+    ensures { length (text.new_priority Second priority) ≤ 30 }
+{
+    value_is_short(priority);
 }
 
 /// A number of 64 bits has at most 20 digits.

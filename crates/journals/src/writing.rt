@@ -5,7 +5,7 @@ ghost use Rattle.std.specs.Prelude.{decimal};
 ghost use Rattle.text_lines.specs.Hexadecimal.{hexadecimal};
 ghost use Rattle.journals.specs.Appending.{Appends};
 ghost use Rattle.journals.specs.Format as text;
-ghost use Rattle.journals.specs.Journal.{entry, heading, journal, tail};
+ghost use Rattle.journals.specs.Journal as today;
 
 use crate::appending::{append_number, append_text, append_word};
 use crate::room::{room_for, room_for_logs};
@@ -25,7 +25,7 @@ pub(crate) const DIGITS: usize = 2;
 ///
 /// A journal has no line for packets that were lost: it tells all only of histories without any.
 pub fn journal_text(alloc: Global, histories: &Histories, out: &mut Vec<u8>) -> Result<(), NoMemory>
-    ensures ok { OnOk result (out.new.items ≡ out.old.items ++ journal histories.now) }
+    ensures ok { OnOk result (out.new.items ≡ out.old.items ++ today.journal histories.now) }
     ensures err { OnErr result (out.new.items ≡ out.old.items) }
 {
     let mut journal = Vec::with_capacity(alloc, room_for(histories))?;
@@ -49,7 +49,7 @@ fn push_journal(
 /// Appends a journal's first line. So a journal can be written part by part: this line, each entry's
 /// ([`append_entry`]), and its tail ([`journal_tail`]).
 pub fn append_heading(out: &mut Vec<u8>) -> Result<(), AllocError>
-    ensures { Appends result out.old out.new heading }
+    ensures { Appends result out.old out.new today.heading }
 {
     push_heading(WRITTEN, out)
 }
@@ -65,7 +65,7 @@ fn push_heading(version: Version, out: &mut Vec<u8>) -> Result<(), AllocError>
 
 /// What stands behind the entries of a journal: the ports' logs, and the last line.
 pub fn journal_tail(alloc: Global, logs: &Logs) -> Result<Vec<u8>, NoMemory>
-    ensures { IfOk result (λ told. told.items ≡ tail logs.now) }
+    ensures { IfOk result (λ tail. tail.items ≡ today.tail logs.now) }
 {
     let mut tail = Vec::with_capacity(alloc, room_for_logs(logs))?;
     push_logs(WRITTEN, logs, &mut tail)?;
@@ -128,7 +128,7 @@ fn push_dids(version: Version, dids: &Dids, out: &mut Vec<u8>) -> Result<(), All
 /// Appends the line of an entry, with its end. Takes no memory where there is room for the line, as
 /// [`entry_room`](crate::entry_room) bytes are. Out of memory a part of the line may stand there.
 pub fn append_entry(entry: &Entry, out: &mut Vec<u8>) -> Result<(), AllocError>
-    ensures { Appends result out.old out.new (entry entry.now) }
+    ensures { Appends result out.old out.new (today.entry entry.now) }
 {
     push_entry(WRITTEN, entry, out)
 }
