@@ -93,9 +93,7 @@ fn request_said(alloc: Global, request: &Request) -> Result<String, Fail> {
             mark,
             payload,
             priority,
-        } => format!(in alloc;
-            "verdict {queue} {verdict} {id} {mark:?} {payload:?} {priority:?}"
-        )?,
+        } => format!(in alloc; "verdict {queue} {verdict} {id} {mark:?} {payload:?} {priority:?}")?,
         Request::Batch {
             queue,
             head: Some(Head { verdict, id }),

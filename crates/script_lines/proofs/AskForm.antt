@@ -305,35 +305,47 @@ judged_again laws words j bytes h =
     h.priority_is) in
     ap judged h.words_are
     ∙ ap (λ o. o >>= λ queue. verdict_word h.verdict >>= λ verdict. id_of h.id >>= λ id.
-    number_part (codes "mark") (h.mark ++ rest) >>= λ mark. Some (record {
-      queue = queue;
-      verdict = verdict;
-      id = id;
-      mark = mark.0;
-      priority = None;
-    }, mark.1)) (queue_again laws h.queue j.queue h.queue_is)
+    number_part (codes "mark") (h.mark ++ rest) >>= λ mark. Some (
+      record {
+        queue = queue;
+        verdict = verdict;
+        id = id;
+        mark = mark.0;
+        priority = None;
+      },
+      mark.1,
+    )) (queue_again laws h.queue j.queue h.queue_is)
     ∙ ap (λ o. o >>= λ verdict. id_of h.id >>= λ id.
-    number_part (codes "mark") (h.mark ++ rest) >>= λ mark. Some (record {
-      queue = j.queue;
-      verdict = verdict;
-      id = id;
-      mark = mark.0;
-      priority = None;
-    }, mark.1)) (verdict_again laws h.verdict j.verdict h.verdict_is)
-    ∙ ap (λ o. o >>= λ id. number_part (codes "mark") (h.mark ++ rest) >>= λ mark. Some (record {
-      queue = j.queue;
-      verdict = j.verdict;
-      id = id;
-      mark = mark.0;
-      priority = None;
-    }, mark.1)) (id_again laws h.id j.id h.id_is)
-    ∙ ap (λ o. o >>= λ mark. Some (record {
-      queue = j.queue;
-      verdict = j.verdict;
-      id = j.id;
-      mark = mark.0;
-      priority = None;
-    }, mark.1)) (number_part_again laws (codes "mark") h.mark rest j.mark h.mark_is no_mark)
+    number_part (codes "mark") (h.mark ++ rest) >>= λ mark. Some (
+      record {
+        queue = j.queue;
+        verdict = verdict;
+        id = id;
+        mark = mark.0;
+        priority = None;
+      },
+      mark.1,
+    )) (verdict_again laws h.verdict j.verdict h.verdict_is)
+    ∙ ap (λ o. o >>= λ id. number_part (codes "mark") (h.mark ++ rest) >>= λ mark. Some (
+      record {
+        queue = j.queue;
+        verdict = j.verdict;
+        id = id;
+        mark = mark.0;
+        priority = None;
+      },
+      mark.1,
+    )) (id_again laws h.id j.id h.id_is)
+    ∙ ap (λ o. o >>= λ mark. Some (
+      record {
+        queue = j.queue;
+        verdict = j.verdict;
+        id = j.id;
+        mark = mark.0;
+        priority = None;
+      },
+      mark.1,
+    )) (number_part_again laws (codes "mark") h.mark rest j.mark h.mark_is no_mark)
 
 priority_again : Laws → (j : Judgement) (words : List (List ℕ)) (o : Option ℕ) →
     IsNumberPart (codes "priority") words o →

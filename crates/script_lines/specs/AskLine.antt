@@ -123,13 +123,16 @@ judged words = do
   third ← first_word second.1
   id ← id_of third.0
   mark ← number_part (codes "mark") third.1
-  Some (record {
-    queue = queue;
-    verdict = verdict;
-    id = id;
-    mark = mark.0;
-    priority = None;
-  }, mark.1)
+  Some (
+    record {
+      queue = queue;
+      verdict = verdict;
+      id = id;
+      mark = mark.0;
+      priority = None;
+    },
+    mark.1,
+  )
 
 -- the same with the priority of `[priority N]`, which ends the line
 unfoldable pub with_priority : Judgement → List (List ℕ) → Option Judgement

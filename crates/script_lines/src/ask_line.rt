@@ -202,10 +202,7 @@ fn verdict(alloc: Global, line: &[u8]) -> Result<Option<Template>, NoMemory>
 
 /// `[payload BYTES]`
 #[tactic(auto, unfolding(crate::specs::AskLine::value_part))]
-fn payload_part(
-    alloc: Global,
-    line: &[u8],
-) -> Result<Option<(Option<Bytes>, &[u8])>, NoMemory>
+fn payload_part(alloc: Global, line: &[u8]) -> Result<Option<(Option<Bytes>, &[u8])>, NoMemory>
     ensures value { IfOk result (λ read.
         option_map (λ x. (x.0, words_of x.1.now)) read ≡ payload_part (words_of line.now)) }
     ensures fit { IfOk result (λ read. IfSome read (λ x. IfSome x.0 IsPayload)) }
