@@ -94,6 +94,25 @@ const HEAD_OF_SEVEN: &[u8] =
 
 const MARKED_TWICE: &[u8] = b"\x30\0\0\0\x01\x03\x01\0\x03\0\0\0\x07\0\0\0\0\0\0\0\
     \x0c\0\x02\0\0\0\0\x01\0\0\0\x01\x08\0\x03\0\0\0\0\x05\x08\0\x03\0\0\0\0\x09";
+/// The verdict ACCEPT for id 1 with priority 6.
+const WITH_PRIORITY: &[u8] = b"\x28\0\0\0\x01\x03\x01\0\x03\0\0\0\x07\0\0\0\0\0\0\0\
+    \x0c\0\x02\0\0\0\0\x01\0\0\0\x01\x08\0\x15\0\0\0\0\x06";
+/// Head, mark, payload and priority, by ascending kind.
+const WITH_ALL: &[u8] = b"\x3c\0\0\0\x01\x03\x01\0\x03\0\0\0\x07\0\0\0\0\0\x02\x01\
+    \x0c\0\x02\0\0\0\0\x01\x0a\x0b\x0c\x0d\x08\0\x03\0\x01\x02\x03\x04\
+    \x09\0\x0a\0hello\0\0\0\x08\0\x15\0\x05\x06\x07\x08";
+
+const PRIORITY_TWICE: &[u8] = b"\x30\0\0\0\x01\x03\x01\0\x03\0\0\0\x07\0\0\0\0\0\0\0\
+    \x0c\0\x02\0\0\0\0\x01\0\0\0\x01\x08\0\x15\0\0\0\0\x05\x08\0\x15\0\0\0\0\x09";
+/// A priority of two bytes.
+const SHORT_PRIORITY: &[u8] = b"\x28\0\0\0\x01\x03\x01\0\x03\0\0\0\x07\0\0\0\0\0\0\0\
+    \x0c\0\x02\0\0\0\0\x01\0\0\0\x01\x06\0\x15\0\0\0\0\0";
+
+const BATCH_WITH_PRIORITY: &[u8] = b"\x30\0\0\0\x03\x03\x01\0\x03\0\0\0\x07\0\0\0\0\0\0\x01\
+    \x0c\0\x02\0\0\x02\0\x03\0\0\0\x09\x08\0\x03\0\0\0\0\x10\x08\0\x15\0\xff\xff\xff\xfe";
+/// A priority of three bytes in a batch.
+const SHORT_PRIORITY_IN_A_BATCH: &[u8] =
+    b"\x1c\0\0\0\x03\x03\x01\0\x03\0\0\0\x07\0\0\0\0\0\0\x01\x07\0\x15\0\0\0\x06\0";
 /// An attribute of kind 127 after the head.
 const WITH_UNKNOWN: &[u8] = b"\x28\0\0\0\x01\x03\x01\0\x03\0\0\0\x07\0\0\0\0\0\0\0\
     \x0c\0\x02\0\0\0\0\x01\0\0\0\x01\x05\0\x7f\0\x2a\0\0\0";
@@ -159,6 +178,9 @@ fn same(payload: &Option<Bytes>, wanted: Option<&[u8]>) -> bool {
     }
 }
 
+/// Mark and priority of a verdict or a batch.
+type Values = (Option<u32>, Option<u32>);
+
 #[test]
 fn verdicts_are_decoded(rt: HostRuntime) -> Result<(), Fail> {
     const FIRST: Option<Head> = Some(Head { verdict: 1, id: 1 });
@@ -167,26 +189,31 @@ fn verdicts_are_decoded(rt: HostRuntime) -> Result<(), Fail> {
         id: 0x0a0b_0c0d,
     });
     const HELLO: Option<&[u8]> = Some(b"hello");
-    const ROWS: [(&[u8], u16, Option<Head>, Option<u32>, Option<&[u8]>); 7] = [
-        (ACCEPT, 0, FIRST, None, None),
-        (EMPTY_VERDICT, 513, None, None, None),
-        (FULL_VERDICT, 513, FAR, Some(0x0102_0304), HELLO),
-        (NO_BYTES, 0, None, None, Some(b"")),
-        (CUT, 0, None, None, None),
-        (MARKED_TWICE, 0, FIRST, Some(9), None),
-        (WITH_UNKNOWN, 0, FIRST, None, None),
+    const MARK: Option<u32> = Some(0x0102_0304);
+    const ROWS: [(&[u8], u16, Option<Head>, Values, Option<&[u8]>); 10] = [
+        (ACCEPT, 0, FIRST, (None, None), None),
+        (EMPTY_VERDICT, 513, None, (None, None), None),
+        (FULL_VERDICT, 513, FAR, (MARK, None), HELLO),
+        (NO_BYTES, 0, None, (None, None), Some(b"")),
+        (CUT, 0, None, (None, None), None),
+        (MARKED_TWICE, 0, FIRST, (Some(9), None), None),
+        (WITH_PRIORITY, 0, FIRST, (None, Some(6)), None),
+        (WITH_ALL, 513, FAR, (MARK, Some(0x0506_0708)), HELLO),
+        (PRIORITY_TWICE, 0, FIRST, (None, Some(9)), None),
+        (WITH_UNKNOWN, 0, FIRST, (None, None), None),
     ];
-    for &(text, queue, head, mark, bytes) in &ROWS {
+    for &(text, queue, head, values, bytes) in &ROWS {
         match decoded_of(rt.alloc(), text)? {
             Decoded::Asked {
                 request: Request::Verdict {
                     queue: at,
                     head: told,
-                    mark: set,
+                    mark,
                     payload,
+                    priority,
                 },
             } => {
-                assert_eq!(rt; (at, told, set), (queue, head, mark));
+                assert_eq!(rt; (at, told, (mark, priority)), (queue, head, values));
                 assert!(rt; same(&payload, bytes), "other bytes");
             }
             _ => assert!(rt; false, "is no verdict"),
@@ -201,19 +228,25 @@ fn batches_are_decoded(rt: HostRuntime) -> Result<(), Fail> {
         verdict: 0x0002_0003,
         id: 9,
     };
-    const ROWS: [(&[u8], Option<Head>, Option<u32>); 2] = [
-        (EMPTY_BATCH, None, None),
-        (FULL_BATCH, Some(UP_TO_NINE), Some(16)),
+    const ROWS: [(&[u8], Option<Head>, Values); 3] = [
+        (EMPTY_BATCH, None, (None, None)),
+        (FULL_BATCH, Some(UP_TO_NINE), (Some(16), None)),
+        (
+            BATCH_WITH_PRIORITY,
+            Some(UP_TO_NINE),
+            (Some(16), Some(0xffff_fffe)),
+        ),
     ];
-    for &(text, head, mark) in &ROWS {
+    for &(text, head, values) in &ROWS {
         match decoded_of(rt.alloc(), text)? {
             Decoded::Asked {
                 request: Request::Batch {
                     queue,
                     head: told,
-                    mark: set,
+                    mark,
+                    priority,
                 },
-            } => assert_eq!(rt; (queue, told, set), (1, head, mark)),
+            } => assert_eq!(rt; (queue, told, (mark, priority)), (1, head, values)),
             _ => assert!(rt; false, "is no batch"),
         }
     }
@@ -222,8 +255,10 @@ fn batches_are_decoded(rt: HostRuntime) -> Result<(), Fail> {
 
 #[test]
 fn refusals_and_silence_come_by_the_lines(rt: HostRuntime) -> Result<(), Fail> {
-    const ROWS: [(&[u8], u16); 3] = [
+    const ROWS: [(&[u8], u16); 5] = [
         (HEAD_OF_SEVEN, 34),
+        (SHORT_PRIORITY, 34),
+        (SHORT_PRIORITY_IN_A_BATCH, 34),
         (UNKNOWN_NUMBER, 22),
         (ASKED_AS_NOTICE, 95),
     ];
@@ -252,7 +287,7 @@ fn rewritten(alloc: Global, call: u32, text: &[u8]) -> Result<Vec<u8>, Fail> {
 
 #[test]
 fn requests_are_written_as_they_were_read(rt: HostRuntime) -> Result<(), Fail> {
-    const ROWS: [(&[u8], u32); 10] = [
+    const ROWS: [(&[u8], u32); 13] = [
         (BIND_QUEUE, 1),
         (SET_PARAMS, 1),
         (EMPTY_CONFIG, 1),
@@ -261,8 +296,11 @@ fn requests_are_written_as_they_were_read(rt: HostRuntime) -> Result<(), Fail> {
         (EMPTY_VERDICT, 3),
         (FULL_VERDICT, 3),
         (NO_BYTES, 3),
+        (WITH_PRIORITY, 3),
+        (WITH_ALL, 3),
         (EMPTY_BATCH, 3),
         (FULL_BATCH, 3),
+        (BATCH_WITH_PRIORITY, 3),
     ];
     for &(text, call) in &ROWS {
         assert_eq!(rt; rewritten(rt.alloc(), call, text)?.as_slice(), text);
@@ -279,6 +317,10 @@ const META_TAGGED: &[u8] = b"\x5c\0\0\0\0\x03\0\0\0\0\0\0\0\0\0\0\x02\0\0\0\
     \x0b\0\x01\0\0\0\0\x01\x08\0\x02\0\x08\0\x05\0\0\0\0\x01\x08\0\x06\0\0\0\0\x02\
     \x08\0\x03\0\0\0\0\x2a\x10\0\x09\0\0\x06\0\0\x02\0\0\0\0\x01\0\0\
     \x14\0\x04\0\0\0\0\0\0\0\0\x01\0\0\0\0\0\0\0\0";
+/// With priority 5, and so the eight bytes of this attribute after the devices.
+const META_PRIORITY: &[u8] = b"\x4c\0\0\0\0\x03\0\0\0\0\0\0\0\0\0\0\x02\0\0\0\
+    \x0b\0\x01\0\0\0\0\x01\x08\0\x02\0\x08\0\x05\0\0\0\0\x01\x08\0\x06\0\0\0\0\x02\
+    \x08\0\x15\0\0\0\0\x05\x14\0\x04\0\0\0\0\0\0\0\0\x01\0\0\0\0\0\0\0\0";
 /// Range 0: the length, and no bytes.
 const RANGE_0: &[u8] = b"\x4c\0\0\0\0\x03\0\0\0\0\0\0\0\0\0\0\x02\0\0\0\
     \x0b\0\x01\0\0\0\0\x01\x08\0\x02\0\x08\0\x05\0\0\0\0\x01\x08\0\x06\0\0\0\0\x02\
@@ -288,17 +330,19 @@ const RANGE_5: &[u8] = b"\x58\0\0\0\0\x03\0\0\0\0\0\0\0\0\0\0\x02\0\0\0\
     \x0b\0\x01\0\0\0\0\x01\x08\0\x02\0\x08\0\x05\0\0\0\0\x01\x08\0\x06\0\0\0\0\x02\
     \x14\0\x04\0\0\0\0\0\0\0\0\x01\0\0\0\0\0\0\0\0\x08\0\x0d\0\0\0\0\x14\
     \x09\0\x0a\0\x45\0\0\x14\0\0\0\0";
-/// IPv6 with mark and Ethernet header under range 8: all eight attributes.
-const ALL_V6: &[u8] = b"\x70\0\0\0\0\x03\0\0\0\0\0\0\0\0\0\0\x0a\0\0\0\
+/// IPv6 with mark, priority and Ethernet header under range 8: all nine attributes.
+const ALL_V6: &[u8] = b"\x78\0\0\0\0\x03\0\0\0\0\0\0\0\0\0\0\x0a\0\0\0\
     \x0b\0\x01\0\0\0\0\x01\x86\xdd\x02\0\x08\0\x05\0\0\0\0\x01\x08\0\x06\0\0\0\0\x02\
-    \x08\0\x03\0\x01\x02\x03\x04\x10\0\x09\0\0\x06\0\0\x02\0\0\0\0\x01\0\0\
+    \x08\0\x03\0\x01\x02\x03\x04\x08\0\x15\0\x05\x06\x07\x08\
+    \x10\0\x09\0\0\x06\0\0\x02\0\0\0\0\x01\0\0\
     \x14\0\x04\0\0\0\0\0\0\0\0\x01\0\0\0\0\0\0\0\0\x08\0\x0d\0\0\0\0\x28\
     \x0c\0\x0a\0\x60\0\0\0\0\0\x3b\x40";
 
-/// A packet as it waits in queue 0 under id 1, captured one second after 1970 began.
+/// A packet of this mark and priority as it waits in queue 0 under id 1, captured one second after
+/// 1970 began.
 fn waiting(
     alloc: Global,
-    mark: u32,
+    values: (u32, u32),
     protocol: u16,
     link: &[u8],
     bytes: &[u8],
@@ -313,7 +357,8 @@ fn waiting(
         return Err(Fail::new("a long packet"));
     }
     let mut packet = Packet::new(alloc, 1, 1, 0, protocol, link, bytes)?;
-    packet.edit(Some(mark), None);
+    let (mark, priority) = values;
+    packet.edit(Some(mark), None, Some(priority));
     Ok(packet)
 }
 
@@ -330,12 +375,12 @@ fn noticed(alloc: Global, mode: u8, range: u32, packet: Packet) -> Result<Vec<u8
     Ok(out)
 }
 
-/// Mode, range, mark, protocol, link header and bytes of a packet, its notice, and the length and
-/// the number of bytes that this tells.
+/// Mode, range, mark and priority, protocol, link header and bytes of a packet, its notice, and the
+/// length and the number of bytes that this tells.
 type Noticed = (
     u8,
     u32,
-    u32,
+    (u32, u32),
     u16,
     &'static [u8],
     &'static [u8],
@@ -344,19 +389,23 @@ type Noticed = (
     usize,
 );
 
-const NOTICES: [Noticed; 6] = [
-    (META, 0, 0, IPV4, b"", V4, META_V4, 0, 0),
-    (META, 0, 42, IPV4, TAGGED, V4, META_TAGGED, 0, 0),
-    (PACKET, MAX_RANGE, 0, IPV4, b"", V4, NOTICE, 20, 20),
-    (PACKET, 0, 0, IPV4, b"", V4, RANGE_0, 20, 0),
-    (PACKET, 5, 0, IPV4, b"", V4, RANGE_5, 20, 5),
-    (PACKET, 8, 0x0102_0304, IPV6, LINK, V6, ALL_V6, 40, 8),
+const NOTICES: [Noticed; 7] = [
+    (META, 0, (0, 0), IPV4, b"", V4, META_V4, 0, 0),
+    (META, 0, (42, 0), IPV4, TAGGED, V4, META_TAGGED, 0, 0),
+    (META, 0, (0, 5), IPV4, b"", V4, META_PRIORITY, 0, 0),
+    (PACKET, MAX_RANGE, (0, 0), IPV4, b"", V4, NOTICE, 20, 20),
+    (PACKET, 0, (0, 0), IPV4, b"", V4, RANGE_0, 20, 0),
+    (PACKET, 5, (0, 0), IPV4, b"", V4, RANGE_5, 20, 5),
+    (PACKET, 8, ALL_VALUES, IPV6, LINK, V6, ALL_V6, 40, 8),
 ];
+
+/// The mark and the priority of the packet whose notice has all attributes.
+const ALL_VALUES: (u32, u32) = (0x0102_0304, 0x0506_0708);
 
 #[test]
 fn notices_are_written_and_read(rt: HostRuntime) -> Result<(), Fail> {
-    for &(mode, range, mark, protocol, link, bytes, text, length, told) in &NOTICES {
-        let packet = waiting(rt.alloc(), mark, protocol, link, bytes)?;
+    for &(mode, range, values, protocol, link, bytes, text, length, told) in &NOTICES {
+        let packet = waiting(rt.alloc(), values, protocol, link, bytes)?;
         let written = noticed(rt.alloc(), mode, range, packet)?;
         assert_eq!(rt; written.as_slice(), text);
         let notice = decode_notice(rt.alloc(), text)?.ok_or("no notice")?;
@@ -364,7 +413,8 @@ fn notices_are_written_and_read(rt: HostRuntime) -> Result<(), Fail> {
             (notice.queue, notice.id, notice.protocol),
             (0, 1, protocol)
         );
-        assert_eq!(rt; (notice.mark, notice.length), (mark, length));
+        assert_eq!(rt; (notice.mark, notice.priority), values);
+        assert_eq!(rt; notice.length, length);
         assert_eq!(rt; Some(notice.payload.as_slice()), bytes.get(..told));
     }
     Ok(())
@@ -385,7 +435,7 @@ fn the_longest_payload_is_told(rt: HostRuntime) -> Result<(), Fail> {
     const ROWS: [(usize, &[u8]); 2] = [(65_531, LONGEST), (65_532, CUT_BY_ONE)];
     for &(size, front) in &ROWS {
         let bytes = vec![in rt.alloc(); 0x45; size]?;
-        let packet = waiting(rt.alloc(), 0, IPV4, b"", &bytes)?;
+        let packet = waiting(rt.alloc(), (0, 0), IPV4, b"", &bytes)?;
         let written = noticed(rt.alloc(), PACKET, MAX_RANGE, packet)?;
         let mut text = Vec::from_slice(rt.alloc(), front)?;
         text.extend_from_slice(&told)?;
