@@ -65,7 +65,7 @@ module _ (queue at : ℕ) where
   -- ---- all leave
 
   all_leave : (f : Fate) (ws : Waiting) →
-      first_leave (how_at queue at f) None (length ws) ws
+      first_leave (how_at queue at f) None None (length ws) ws
       ≡ departing queue at (λ way. f) (map (λ (w : ℕ × Card). (w.1, Gone)) ws)
   all_leave f [] = refl
   all_leave f (w ∷ ws) = ap (λ hs. happening (how_at queue at f) w.1 ∷ hs) (all_leave f ws)

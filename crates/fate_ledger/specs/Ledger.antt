@@ -39,12 +39,16 @@ is_release other = false
 abbrev pub place : ℕ → ℕ → List ℕ
 place queue at = if at == 0 then codes "- -" else decimal queue ++ codes " " ++ decimal at
 
+-- the packet's mark, its priority and the number of its bytes
+abbrev pub packet : FateLine → List ℕ
+packet l =
+    codes " " ++ decimal l.mark ++ codes " " ++ decimal l.priority ++ codes " "
+    ++ decimal (length l.payload) ++ codes "\n"
+
 -- NUMBER FATE QUEUE AT MARK PRIORITY LENGTH
 abbrev pub line : FateLine → List ℕ
 line l =
-    (decimal l.number ++ codes " " ++ name l.fate ++ codes " ") ++ place l.queue l.at
-    ++ (codes " " ++ decimal l.mark ++ codes " " ++ decimal l.priority ++ codes " "
-    ++ decimal (length l.payload) ++ codes "\n")
+    (decimal l.number ++ codes " " ++ name l.fate ++ codes " ") ++ place l.queue l.at ++ packet l
 
 abbrev pub lines : List FateLine → List ℕ
 lines [] = []

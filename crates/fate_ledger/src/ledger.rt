@@ -46,6 +46,13 @@ fn push_line(line: &FateLine, out: &mut Vec<u8>) -> Result<(), AllocError>
     append_word(line.fate.name(), out)?;
     append_word(" ", out)?;
     push_place(line.queue, line.at, out)?;
+    push_packet(line, out)
+}
+
+/// The packet's mark, its priority and the number of its bytes.
+fn push_packet(line: &FateLine, out: &mut Vec<u8>) -> Result<(), AllocError>
+    ensures { OnOk result (out.new.items ≡ out.old.items ++ text.packet line.now) }
+{
     append_number(" ", line.mark as u64, out)?;
     append_number(" ", line.priority as u64, out)?;
     append_number(" ", line.payload.len() as u64, out)?;
