@@ -20,7 +20,7 @@ use Rattle.nfqa_headers.specs.declared.params.Params.{Params}
 use Rattle.nfqa_headers.specs.Headers.{command_content, params_content, head_content, value_content}
 use Rattle.nfqa_headers.specs.Headers.{queue_header, queue_header_length, queue_in}
 use Rattle.nfqa_headers.specs.Numbers.{any_family, command_kind, params_kind, maxlen_kind}
-use Rattle.nfqa_headers.specs.Numbers.{mask_kind}
+use Rattle.nfqa_headers.specs.Numbers.{mask_kind, priority_kind}
 use Rattle.nfqa_headers.specs.Numbers.{flags_kind, verdict_header_kind, mark_kind, payload_kind}
 use Rattle.nfqa_headers.specs.Numbers.{config_number, verdict_number, notice_number}
 use Rattle.nfqa_msgs.specs.RequestReading.{PayloadFits, AskedFits, decoded, request_in}
@@ -106,17 +106,21 @@ parts_size sizes (Config queue command params maxlen flags mask) fits =
     (part_size sizes maxlen_kind 8 _ (mapped value_content 8 maxlen value_size)))
     (part_size sizes mask_kind 8 _ (mapped value_content 8 mask value_size)))
     (part_size sizes flags_kind 8 _ (mapped value_content 8 flags value_size))) (omega arith)
-parts_size sizes (Verdict queue head mark payload) fits =
-    at_most (32 + (most_payload_bytes + 8)) _ (beside _ (part payload_kind payload) 32
-    (most_payload_bytes + 8)
+parts_size sizes (Verdict queue head mark payload priority) fits =
+    at_most (32 + (most_payload_bytes + 8) + 16) _ (beside _ (value_part priority_kind priority)
+    (32 + (most_payload_bytes + 8)) 16
+    (beside _ (part payload_kind payload) 32 (most_payload_bytes + 8)
     (beside (head_part head) (value_part mark_kind mark) 16 16
     (part_size sizes verdict_header_kind 8 _ (mapped head_content 8 head head_size))
     (part_size sizes mark_kind 8 _ (mapped value_content 8 mark value_size)))
-    (part_size sizes payload_kind most_payload_bytes payload fits)) (omega arith)
-parts_size sizes (Batch queue head mark) fits =
-    at_most 32 _ (beside (head_part head) (value_part mark_kind mark) 16 16
+    (part_size sizes payload_kind most_payload_bytes payload fits))
+    (part_size sizes priority_kind 8 _ (mapped value_content 8 priority value_size))) (omega arith)
+parts_size sizes (Batch queue head mark priority) fits =
+    at_most 48 _ (beside _ (value_part priority_kind priority) 32 16
+    (beside (head_part head) (value_part mark_kind mark) 16 16
     (part_size sizes verdict_header_kind 8 _ (mapped head_content 8 head head_size))
-    (part_size sizes mark_kind 8 _ (mapped value_content 8 mark value_size))) (omega arith)
+    (part_size sizes mark_kind 8 _ (mapped value_content 8 mark value_size)))
+    (part_size sizes priority_kind 8 _ (mapped value_content 8 priority value_size))) (omega arith)
 
 spelling_size : Sizes → (port call : ℕ) (request : Request) → IsRequest request →
     length (spelling port call request) ≤ longest_payload

@@ -125,12 +125,12 @@ verdict_frees p (Allowed b head) q edit so free = by (card_under b head.id)
     by None = so
     by (Some card) = so
 
-batch_frees : (p : ℕ) (r : Ruling) (q : Option Bound) (mark : Option ℕ) → IsFree p r →
-    is_bound_to p q ≡ false → is_bound_to p (batch_under r q mark).state ≡ false
-batch_frees p (Refused errno) q mark so free = free
-batch_frees p (Allowed b head) q mark so free = by (share b.waiting head.id)
+batch_frees : (p : ℕ) (r : Ruling) (q : Option Bound) (mark priority : Option ℕ) → IsFree p r →
+    is_bound_to p q ≡ false → is_bound_to p (batch_under r q mark priority).state ≡ false
+batch_frees p (Refused errno) q mark priority so free = free
+batch_frees p (Allowed b head) q mark priority so free = by (share b.waiting head.id)
   where
-    by : (ws : List (ℕ × Card)) → is_bound_to p (shared_out b head mark ws).state ≡ false
+    by : (ws : List (ℕ × Card)) → is_bound_to p (shared_out b head mark priority ws).state ≡ false
     by [] = so
     by (w ∷ ws) = so
 
@@ -144,11 +144,12 @@ ask_frees p q port (Config queue command params maximum flags mask) other free =
       flags = flags;
       mask = mask;
     }) other free
-ask_frees p q port (Verdict queue head mark payload) other free =
-    verdict_frees p (refusal q port head) q (record { mark = mark; payload = payload })
+ask_frees p q port (Verdict queue head mark payload priority) other free =
+    verdict_frees p (refusal q port head) q
+    (record { mark = mark; payload = payload; priority = priority })
     (ruling_free p q port head free) free
-ask_frees p q port (Batch queue head mark) other free =
-    batch_frees p (refusal q port head) q mark (ruling_free p q port head free) free
+ask_frees p q port (Batch queue head mark priority) other free =
+    batch_frees p (refusal q port head) q mark priority (ruling_free p q port head free) free
 
 -- no step but a request of the port itself
 pub step_frees : (p : ℕ) (q : Option Bound) (e : Event) → is_by p e ≡ false →

@@ -23,11 +23,12 @@ fits told =
     nat_lt told.queue (2 ^ 16) && (nat_lt told.id (2 ^ 32)
     && (((told.protocol == ipv4_type) || (told.protocol == ipv6_type))
     && (nat_lt told.mark (2 ^ 32)
+    && (nat_lt told.priority (2 ^ 32)
     && (is_source told.source
     && (nat_lt told.seconds (2 ^ 32)
     && (nat_lt told.micros (2 ^ 32)
     && (is_cut (length told.payload) told.cut_from
-    && nat_le (length told.payload) longest_payload)))))))
+    && nat_le (length told.payload) longest_payload))))))))
 
 -- what is read, where these bytes are its text
 abbrev pub where_it_is : List ℕ → Option Told → Option Told

@@ -27,7 +27,7 @@ use Rattle.queue_core.specs.Step.{Way, Gone, Stepped, step, arrive, arrive_in_ti
 use Rattle.queue_core.specs.Step.{config, ConfigAsk, unbind, is_command, has_unknown_flags}
 use Rattle.queue_core.specs.Step.{has_refused_flags, is_bound_elsewhere, set_up, verdict_under}
 use Rattle.queue_core.specs.Step.{batch_under, carried_out, shared_out, card_under}
-use Rattle.queue_core.specs.Step.{leaving, marking}
+use Rattle.queue_core.specs.Step.{leaving, batch_edit}
 use Rattle.queue_core.specs.Step.{Ruling, Refused, Allowed, refusal, ask, is_full}
 use Rattle.histories.specs.declared.entry.Entry.{Entry}
 use Rattle.histories.specs.History.{history, is_of, replay, replay_from}
@@ -101,16 +101,17 @@ drop_small zero ws all = all
 drop_small (suc n) [] all = tt
 drop_small (suc n) (w ∷ ws) all = drop_small n ws all.1
 
-edited_small : (c : Card) (mark : Option ℕ) (payload : Option (List ℕ)) → IsSmall c →
-    IfSome payload (λ bytes. length bytes ≤ longest_payload) → IsSmall (edited c mark payload)
-edited_small c mark None small fits = small
-edited_small c mark (Some bytes) small fits = omega (arith, fits)
+edited_small : (c : Card) (mark : Option ℕ) (payload : Option (List ℕ)) (priority : Option ℕ) →
+    IsSmall c → IfSome payload (λ bytes. length bytes ≤ longest_payload) →
+    IsSmall (edited c mark payload priority)
+edited_small c mark None priority small fits = small
+edited_small c mark (Some bytes) priority small fits = omega (arith, fits)
 
-marked_small : (head : Head) (mark : Option ℕ) (ws : List (ℕ × Card)) → AllWait ws →
-    AllLeave (map (λ (v : ℕ × Card). leaving head (marking mark) v.1) ws)
-marked_small head mark [] all = tt
-marked_small head mark (w ∷ ws) all =
-    (edited_small w.1 mark None all.0 tt, marked_small head mark ws all.1)
+marked_small : (head : Head) (mark priority : Option ℕ) (ws : List (ℕ × Card)) → AllWait ws →
+    AllLeave (map (λ (v : ℕ × Card). leaving head (batch_edit mark priority) v.1) ws)
+marked_small head mark priority [] all = tt
+marked_small head mark priority (w ∷ ws) all =
+    (edited_small w.1 mark None priority all.0 tt, marked_small head mark priority ws all.1)
 
 -- ---- steps
 
@@ -187,29 +188,32 @@ ruling_good (Some q) port (Some head) held =
     either IsAllowed (not (q.port == port)) (Refused eperm) _ tt
     (either IsAllowed (not (is_verdict head.verdict)) (Refused einval) (Allowed q head) tt held)
 
-verdict_good : (r : Ruling) (q : Option Bound) (mark : Option ℕ) (payload : Option (List ℕ)) →
-    IsAllowed r → HoldsSmall q → IfSome payload (λ bytes. length bytes ≤ longest_payload) →
-    IsGood (verdict_under r q (record { mark = mark; payload = payload }))
-verdict_good (Refused errno) q mark payload so held fits = (held, tt)
-verdict_good (Allowed b head) q mark payload so held fits =
+verdict_good : (r : Ruling) (q : Option Bound) (mark : Option ℕ) (payload : Option (List ℕ))
+    (priority : Option ℕ) → IsAllowed r → HoldsSmall q →
+    IfSome payload (λ bytes. length bytes ≤ longest_payload) →
+    IsGood (verdict_under r q (record { mark = mark; payload = payload; priority = priority }))
+verdict_good (Refused errno) q mark payload priority so held fits = (held, tt)
+verdict_good (Allowed b head) q mark payload priority so held fits =
     by (card_under b head.id) (found_small (is_id head.id) b.waiting so)
   where
     by : (o : Option Card) → IfSome o IsSmall →
-        IsGood (carried_out b head (record { mark = mark; payload = payload }) o)
+        IsGood (carried_out b head
+        (record { mark = mark; payload = payload; priority = priority }) o)
     by None small = (so, tt)
     by (Some card) small =
-        (rest_small (is_id head.id) b.waiting so, (edited_small card mark payload small fits, tt))
+        (rest_small (is_id head.id) b.waiting so,
+        (edited_small card mark payload priority small fits, tt))
 
-batch_good : (r : Ruling) (q : Option Bound) (mark : Option ℕ) → IsAllowed r → HoldsSmall q →
-    IsGood (batch_under r q mark)
-batch_good (Refused errno) q mark so held = (held, tt)
-batch_good (Allowed b head) q mark so held =
+batch_good : (r : Ruling) (q : Option Bound) (mark priority : Option ℕ) → IsAllowed r →
+    HoldsSmall q → IsGood (batch_under r q mark priority)
+batch_good (Refused errno) q mark priority so held = (held, tt)
+batch_good (Allowed b head) q mark priority so held =
     by (share b.waiting head.id) (share_small b.waiting head.id so)
   where
-    by : (ws : List (ℕ × Card)) → AllWait ws → IsGood (shared_out b head mark ws)
+    by : (ws : List (ℕ × Card)) → AllWait ws → IsGood (shared_out b head mark priority ws)
     by [] all = (so, tt)
     by (w ∷ ws) all =
-        (drop_small (length (w ∷ ws)) b.waiting so, marked_small head mark (w ∷ ws) all)
+        (drop_small (length (w ∷ ws)) b.waiting so, marked_small head mark priority (w ∷ ws) all)
 
 ask_good : (q : Option Bound) (port : ℕ) (request : Request) → PayloadFits request →
     HoldsSmall q → IsGood (ask q port request)
@@ -221,10 +225,11 @@ ask_good q port (Config queue command params maximum flags mask) fits held =
       flags = flags;
       mask = mask;
     }) held
-ask_good q port (Verdict queue head mark payload) fits held =
-    verdict_good (refusal q port head) q mark payload (ruling_good q port head held) held fits
-ask_good q port (Batch queue head mark) fits held =
-    batch_good (refusal q port head) q mark (ruling_good q port head held) held
+ask_good q port (Verdict queue head mark payload priority) fits held =
+    verdict_good (refusal q port head) q mark payload priority (ruling_good q port head held) held
+    fits
+ask_good q port (Batch queue head mark priority) fits held =
+    batch_good (refusal q port head) q mark priority (ruling_good q port head held) held
 
 pub step_good : (q : Option Bound) (e : Event) → Fits e → HoldsSmall q → IsGood (step q e)
 step_good q (Arrive card bypass room) fits held = arrive_good q card bypass room fits held
