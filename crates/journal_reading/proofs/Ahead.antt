@@ -19,9 +19,9 @@ use Rattle.histories.specs.declared.log.Did.TheVariants.{Received, Sent, Closed}
 use Rattle.histories.specs.declared.log.PortLog.{PortLog}
 use Rattle.journal_reading.specs.declared.line.Line.{Line}
 use Rattle.journal_reading.specs.declared.line.Line.TheVariants.{EntryLine, PortLine, DidLine, End}
-use Rattle.journals.specs.Journal as text
+use Rattle.journals.specs.Format as text
 use Rattle.journal_reading.specs.Lines.{IsLine}
-use Rattle.journals.specs.WellFormed.{FitsDid, IsEntry, IsLog, IsWellFormed}
+use Rattle.journals.specs.Formed.{FitsDid, IsEntry, IsLog, IsWellFormed}
 use Rattle.journal_reading.specs.JournalFile.{Place, after, histories_of, is_closing, is_port, so_far}
 use Rattle.journal_reading.specs.JournalFile.{start}
 use Rattle.journal_reading.proofs.LineForm.{line_word}

@@ -18,10 +18,10 @@ use Rattle.journal_reading.specs.declared.line.Line.{Line}
 use Rattle.journal_reading.specs.declared.line.Line.TheVariants.{End}
 use Rattle.journal_reading.specs.declared.stop.Stop.{Stop}
 use Rattle.journal_reading.specs.declared.stop.Stop.TheVariants.{Refused, NoMemory}
-use Rattle.journals.specs.Journal as text
+use Rattle.journals.specs.Format as text
 use Rattle.journal_reading.specs.Lines.{IsLine}
 use Rattle.journal_reading.specs.Reading.{line_in}
-use Rattle.journals.specs.WellFormed.{IsWellFormed}
+use Rattle.journals.specs.Formed.{IsWellFormed}
 use Rattle.histories.specs.declared.entry.Entry.{Entry}
 use Rattle.journal_reading.specs.JournalFile.{Answers, BeginsJournal, Closes, FollowsText}
 use Rattle.journal_reading.specs.JournalFile.{IsAnswer, IsFirstRefused, IsJournal, IsSound}

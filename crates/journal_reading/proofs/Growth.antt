@@ -11,7 +11,7 @@ use Rattle.histories.specs.declared.log.PortLog.{PortLog}
 use Rattle.journal_reading.specs.declared.line.Line.{Line}
 use Rattle.journal_reading.specs.declared.line.Line.TheVariants.{Heading, EntryLine, PortLine, DidLine}
 use Rattle.journal_reading.specs.declared.line.Line.TheVariants.{End}
-use Rattle.journals.specs.Journal as text
+use Rattle.journals.specs.Format as text
 use Rattle.journal_reading.specs.Lines.{line_text}
 use Rattle.journal_reading.specs.JournalFile.{Place, after, so_far, is_port}
 use Rattle.journal_reading.specs.JournalFile.{IsBare}

@@ -20,10 +20,10 @@ use Rattle.histories.specs.declared.log.AskWords.{AskWords}
 use Rattle.journal_reading.specs.declared.line.Line.{Line}
 use Rattle.journal_reading.specs.declared.line.Line.TheVariants.{Heading, EntryLine, PortLine, DidLine}
 use Rattle.journal_reading.specs.declared.line.Line.TheVariants.{End}
-use Rattle.journals.specs.Journal as text
+use Rattle.journals.specs.Format as text
 use Rattle.journal_reading.specs.Lines.{FitsLine, line_text}
-use Rattle.journals.specs.WellFormed.{FitsAsk, FitsDid, FitsOutcome, FitsRequest}
-use Rattle.journals.specs.WellFormed.{IsEventAt, IsHalf, IsReplyTo, IsWide}
+use Rattle.journals.specs.Formed.{FitsAsk, FitsDid, FitsOutcome, FitsRequest}
+use Rattle.journals.specs.Formed.{IsEventAt, IsHalf, IsReplyTo, IsWide}
 use Rattle.histories.specs.Happenings.{queue_of}
 use Rattle.journal_reading.specs.Reading.{answered_in, arrival_in, ask_in, ask_made, asked_in, behind}
 use Rattle.journal_reading.specs.Reading.{both, card_in, device_down_in, field, half, last, line_by}

@@ -4,6 +4,7 @@ use Rattle.std.proofs.Common.{[], ◌∷◌, ◌++◌, Option, Some, None, ◌�
 use Rattle.std.proofs.Common.{append_assoc, decimal}
 use Rattle.std.specs.Prelude.{codes, option_map}
 use Rattle.std.specs.Option.{option_map_or}
+use Rattle.std.proofs.lemmas.Option.{some_pair_parts}
 use Rattle.hex.specs.Hex.{IsBytes}
 use Rattle.text_lines.specs.Words.{cut_at}
 use Rattle.text_lines.specs.Digits as digits
@@ -15,12 +16,15 @@ use Rattle.nfqa_msgs.specs.declared.request.Request.{Request}
 use Rattle.nfqa_msgs.specs.declared.request.Request.TheVariants.{Config, Verdict, Batch}
 use Rattle.histories.specs.declared.log.AskWords.{AskWords}
 use Rattle.histories.specs.declared.log.AskWords.TheVariants.{Plain, Raw}
-use Rattle.journals.specs.Journal as text
-use Rattle.journals.specs.WellFormed.{FitsAsk, FitsCard}
-use Rattle.journals.specs.WellFormed.{IsHalf, IsWide}
+use Rattle.journals.specs.Format as text
+use Rattle.journals.specs.declared.version.Version.{Version}
+use Rattle.journals.specs.declared.version.Version.TheVariants.{First, Second}
+use Rattle.journals.specs.Formed.{FitsAsk, FitsCard, FitsPriority}
+use Rattle.journals.specs.Formed.{IsHalf, IsWide}
 use Rattle.journal_reading.specs.Reading.{asked_in, behind}
 use Rattle.journal_reading.specs.Reading.{both, bytes_in, card_in, card_made, facts_in}
 use Rattle.journal_reading.specs.Reading.{field, half, journey_in, made}
+use Rattle.journal_reading.specs.Reading.{priority_in}
 use Rattle.journal_reading.specs.Reading.{request_in}
 use Rattle.journal_reading.specs.Reading.{yes_no_in}
 use Rattle.journal_reading.proofs.Wording.{Laws, map_some}
@@ -30,7 +34,7 @@ use Rattle.journal_reading.proofs.Formats.{made_is, part_text}
 use Rattle.journal_reading.proofs.Spelt.{Always, bytes_field, number_field}
 use Rattle.journal_reading.proofs.Spelt.{yes_no_field}
 use Rattle.journal_reading.proofs.Requests.{bytes_text, half_field, number_text, params_text, head_text}
-use Rattle.journal_reading.proofs.Requests.{request_field, request_text}
+use Rattle.journal_reading.proofs.Requests.{new_priority_text, request_field, request_text}
 
 -- ---- texts whose words are joined by blanks, and those with a blank behind each word
 
@@ -73,6 +77,11 @@ shift_payload None z = refl
 shift_payload (Some bs) z =
     ap (λ w. codes " payload " ++ w) (sym (append_assoc (hexadecimal bs) (32 ∷ []) z))
 
+shift_priority : (v : Version) (o : Option ℕ) →
+    IsShifted (text.new_priority v o) (new_priority_text v o)
+shift_priority First o z = refl
+shift_priority Second o z = shift_number (codes "priority") o z
+
 spaced_head : (o : Option Head) → IsSpaced (text.head o) (head_text o)
 spaced_head None z = refl
 spaced_head (Some h) z = shift_two (decimal h.verdict) (decimal h.id) z
@@ -84,8 +93,13 @@ config_regroup : (a c p l f m z : List ℕ) →
     (((((a ++ c) ++ p) ++ l) ++ f) ++ m) ++ z ≡ (a ++ (c ++ (p ++ (l ++ (f ++ m))))) ++ z
 config_regroup a c p l f m z = simp append_assoc
 
-pub spaced_request : (r : Request) → IsSpaced (text.request r) (request_text r)
-spaced_request (Config q c p l f m) z =
+body_regroup : (a m b n z : List ℕ) →
+    (((a ++ m) ++ b) ++ n) ++ z ≡ (a ++ (m ++ (b ++ n))) ++ z
+body_regroup a m b n z = simp append_assoc
+
+pub spaced_request : (v : Version) (r : Request) →
+    IsSpaced (text.request v r) (request_text v r)
+spaced_request v (Config q c p l f m) z =
     let a : List ℕ = codes "config " ++ decimal q in
     let b : List ℕ = a ++ 32 ∷ [] in
     let ct = part_text (codes "cmd") number_text c in
@@ -105,85 +119,95 @@ spaced_request (Config q c p l f m) z =
     (shift_params p)) (shift_number (codes "maxlen") l)) (shift_number (codes "flags") f))
     (shift_number (codes "mask") m) z
     ∙ config_regroup b ct pt lt ft mt z
-spaced_request (Verdict q h m b) z =
+spaced_request v (Verdict q h m b n) z =
     let a : List ℕ = codes "verdict " ++ (decimal q ++ 32 ∷ []) in
     let mt = part_text (codes "mark") number_text m in
     let bt = part_text (codes "payload") bytes_text b in
-    more ((a ++ text.head h) ++ text.part (codes " mark ") m) ((a ++ head_text h) ++ mt)
-    (text.payload b) bt
+    let nt = new_priority_text v n in
+    let ma : List ℕ = (a ++ text.head h) ++ text.part (codes " mark ") m in
+    more (ma ++ text.payload b) (((a ++ head_text h) ++ mt) ++ bt) (text.new_priority v n) nt
+    (more ma ((a ++ head_text h) ++ mt) (text.payload b) bt
     (more (a ++ text.head h) (a ++ head_text h) (text.part (codes " mark ") m) mt
     (behind_front a (text.head h) (head_text h) (spaced_head h)) (shift_number (codes "mark") m))
-    (shift_payload b) z
-    ∙ ap (λ w. w ++ z) (append_assoc (a ++ head_text h) mt bt)
-spaced_request (Batch q h m) z =
+    (shift_payload b)) (shift_priority v n) z
+    ∙ body_regroup (a ++ head_text h) mt bt nt z
+spaced_request v (Batch q h m n) z =
     let a : List ℕ = codes "batch " ++ (decimal q ++ 32 ∷ []) in
-    more (a ++ text.head h) (a ++ head_text h) (text.part (codes " mark ") m)
-    (part_text (codes "mark") number_text m)
-    (behind_front a (text.head h) (head_text h) (spaced_head h)) (shift_number (codes "mark") m) z
+    let mt = part_text (codes "mark") number_text m in
+    let nt = new_priority_text v n in
+    more ((a ++ text.head h) ++ text.part (codes " mark ") m) ((a ++ head_text h) ++ mt)
+    (text.new_priority v n) nt
+    (more (a ++ text.head h) (a ++ head_text h) (text.part (codes " mark ") m) mt
+    (behind_front a (text.head h) (head_text h) (spaced_head h)) (shift_number (codes "mark") m))
+    (shift_priority v n) z
+    ∙ ap (λ w. w ++ z) (append_assoc (a ++ head_text h) mt nt)
 
 -- ---- what ports sent
 
-abbrev pub asked_text : AskWords → List ℕ
-asked_text (Plain r) = request_text r
-asked_text (Raw bs) = codes "raw " ++ bytes_text bs
+abbrev pub asked_text : Version → AskWords → List ℕ
+asked_text v (Plain r) = request_text v r
+asked_text v (Raw bs) = codes "raw " ++ bytes_text bs
 
-pub spaced_ask : (a : AskWords) → IsSpaced (text.ask a) (asked_text a)
-spaced_ask (Plain r) z = spaced_request r z
-spaced_ask (Raw bs) z =
+pub spaced_ask : (v : Version) (a : AskWords) → IsSpaced (text.ask v a) (asked_text v a)
+spaced_ask v (Plain r) z = spaced_request v r z
+spaced_ask v (Raw bs) z =
     ap (λ w. codes "raw " ++ w) (sym (append_assoc (hexadecimal bs) (32 ∷ []) z))
 
-not_raw : (r : Request) (rest : List ℕ) → behind (codes "raw") (request_text r ++ rest) ≡ None
-not_raw (Config q c p l f m) rest = refl
-not_raw (Verdict q h m b) rest = refl
-not_raw (Batch q h m) rest = refl
+not_raw : (v : Version) (r : Request) (rest : List ℕ) →
+    behind (codes "raw") (request_text v r ++ rest) ≡ None
+not_raw v (Config q c p l f m) rest = refl
+not_raw v (Verdict q h m b n) rest = refl
+not_raw v (Batch q h m n) rest = refl
 
-asked_again : Laws → (a : AskWords) (rest : List ℕ) → FitsAsk a → BeforeEquals rest →
-    asked_in (asked_text a ++ rest) ≡ Some (a, rest)
+asked_again : (v : Version) → Laws → (a : AskWords) (rest : List ℕ) → FitsAsk v a →
+    BeforeEquals rest → asked_in v (asked_text v a ++ rest) ≡ Some (a, rest)
 unfolding asked_in
-asked_again laws (Plain r) rest fits before =
+asked_again v laws (Plain r) rest fits before =
     ap (λ (o : Option (List ℕ)). option_map_or {T = List ℕ} {U = Option (AskWords × List ℕ)}
-    (made Raw (field bytes_in)) o (made Plain request_in (request_text r ++ rest)))
-    (not_raw r rest)
+    (made Raw (field bytes_in)) o (made Plain (request_in v) (request_text v r ++ rest)))
+    (not_raw v r rest)
     ∙ ap (option_map (λ (x : Request × List ℕ). (Plain x.0, x.1)))
-    ((request_field laws).again r rest fits before)
-asked_again laws (Raw bs) rest fits before =
+    ((request_field v laws).again r rest fits before)
+asked_again v laws (Raw bs) rest fits before =
     ap (option_map (λ (x : List ℕ × List ℕ). (Raw x.0, x.1)))
     ((bytes_field laws).again bs rest fits tt)
 
-abbrev IsAskedText : List ℕ → (AskWords × List ℕ) → Type 0
-IsAskedText front p = FitsAsk p.0 × (front ≡ asked_text p.0 ++ p.1)
+abbrev IsAskedText : Version → List ℕ → (AskWords × List ℕ) → Type 0
+IsAskedText v front p = FitsAsk v p.0 × (front ≡ asked_text v p.0 ++ p.1)
 
-asked_spelled : Laws → (front : List ℕ) (a : AskWords) (rest : List ℕ) →
-    asked_in front ≡ Some (a, rest) → FitsAsk a × (front ≡ asked_text a ++ rest)
+asked_spelled : (v : Version) → Laws → (front : List ℕ) (a : AskWords) (rest : List ℕ) →
+    asked_in v front ≡ Some (a, rest) → FitsAsk v a × (front ≡ asked_text v a ++ rest)
 unfolding asked_in
-asked_spelled laws front a rest e =
+asked_spelled v laws front a rest e =
     elim (behind (codes "raw") front) as (λ b. behind (codes "raw") front ≡ b →
     option_map_or {T = List ℕ} {U = Option (AskWords × List ℕ)} (made Raw (field bytes_in)) b
-    (made Plain request_in front) ≡ Some (a, rest) → IsAskedText front (a, rest)) [
+    (made Plain (request_in v) front) ≡ Some (a, rest) → IsAskedText v front (a, rest)) [
       | None ↦ λ is f.
-          let x = map_some (λ (y : Request × List ℕ). (Plain y.0, y.1)) (request_in front) (a, rest)
+          let x = map_some (λ (y : Request × List ℕ). (Plain y.0, y.1)) (request_in v front) (a, rest)
           f in
-          subst (IsAskedText front) x.2 ((request_field laws).spelled front (x.0).0 (x.0).1 x.1)
+          subst (IsAskedText v front) x.2 ((request_field v laws).spelled front (x.0).0 (x.0).1 x.1)
       | Some later ↦ λ is f.
           let x = map_some (λ (y : List ℕ × List ℕ). (Raw y.0, y.1)) (field bytes_in later)
           (a, rest) f in
           let s = (bytes_field laws).spelled later (x.0).0 (x.0).1 x.1 in
-          subst (IsAskedText front) x.2 (
+          subst (IsAskedText v front) x.2 (
             s.0,
             behind_some (codes "raw") front later is ∙ ap (λ z. codes "raw " ++ z) s.1,
           )
     ] refl e
 
-asked_line : Laws → (a : AskWords) → FitsAsk a → cut_at 10 (asked_text a) ≡ None
-asked_line laws (Plain r) fits = (request_field laws).one_line r fits
-asked_line laws (Raw bs) fits =
+asked_line : (v : Version) → Laws → (a : AskWords) → FitsAsk v a →
+    cut_at 10 (asked_text v a) ≡ None
+asked_line v laws (Plain r) fits = (request_field v laws).one_line r fits
+asked_line v laws (Raw bs) fits =
     uncut_append 10 (codes "raw ") (bytes_text bs) refl ((bytes_field laws).one_line bs fits)
 
-pub asked_field : Laws → IsField asked_in asked_text FitsAsk BeforeEquals
-asked_field laws = record {
-  again = asked_again laws;
-  spelled = asked_spelled laws;
-  one_line = asked_line laws;
+pub asked_field : (v : Version) → Laws →
+    IsField (asked_in v) (asked_text v) (FitsAsk v) BeforeEquals
+asked_field v laws = record {
+  again = asked_again v laws;
+  spelled = asked_spelled v laws;
+  one_line = asked_line v laws;
 }
 
 -- ---- cards
@@ -217,8 +241,49 @@ journey_field laws =
     both_is pair_read (field half) pair_text number_text FitsPair IsHalf Any Any (pair_field laws)
     (half_field laws) (λ y rest f a. tt)
 
+abbrev Marks : Type 0
+Marks = (ℕ × ℕ) × ℕ
+
 abbrev Facts : Type 0
-Facts = (ℕ × ℕ) × (ℕ × ℕ)
+Facts = Marks × (ℕ × ℕ)
+
+priority_field : (v : Version) → Laws →
+    IsField (priority_in v) (text.priority v) (FitsPriority v) Any
+priority_field First laws = record {
+  again = λ x rest fits any. ap (λ (n : ℕ). Some (n, rest)) (sym fits);
+  spelled = λ front x rest e.
+      let parts = some_pair_parts {A = ℕ} 0 x front rest e in (sym parts.0, parts.1);
+  one_line = λ x fits. refl;
+}
+priority_field Second laws = number_field laws
+
+abbrev mark_read : Version → List ℕ → Option ((ℕ × ℕ) × List ℕ)
+mark_read v = both (field digits.decimal) (priority_in v)
+
+abbrev mark_text : Version → (ℕ × ℕ) → List ℕ
+mark_text v p = number_text p.0 ++ text.priority v p.1
+
+abbrev FitsMark : Version → (ℕ × ℕ) → Type 0
+FitsMark v p = IsWide p.0 × FitsPriority v p.1
+
+mark_field : (v : Version) → Laws → IsField (mark_read v) (mark_text v) (FitsMark v) Any
+mark_field v laws =
+    both_is (field digits.decimal) (priority_in v) number_text (text.priority v) IsWide
+    (FitsPriority v) Any Any (number_field laws) (priority_field v laws) (λ y rest f a. tt)
+
+abbrev marks_read : Version → List ℕ → Option (Marks × List ℕ)
+marks_read v = both (mark_read v) (field digits.decimal)
+
+abbrev marks_text : Version → Marks → List ℕ
+marks_text v p = mark_text v p.0 ++ number_text p.1
+
+abbrev FitsMarks : Version → Marks → Type 0
+FitsMarks v p = FitsMark v p.0 × IsWide p.1
+
+marks_field : (v : Version) → Laws → IsField (marks_read v) (marks_text v) (FitsMarks v) Any
+marks_field v laws =
+    both_is (mark_read v) (field digits.decimal) (mark_text v) number_text (FitsMark v) IsWide Any
+    Any (mark_field v laws) (number_field laws) (λ y rest f a. tt)
 
 abbrev timed_text : (ℕ × ℕ) → List ℕ
 timed_text p = number_text p.0 ++ number_text p.1
@@ -231,17 +296,17 @@ timed_field laws =
     both_is (field digits.decimal) (field half) number_text number_text IsWide IsHalf Any Any
     (number_field laws) (half_field laws) (λ y rest f a. tt)
 
-abbrev facts_text : Facts → List ℕ
-facts_text p = pair_text p.0 ++ timed_text p.1
+abbrev facts_text : Version → Facts → List ℕ
+facts_text v p = marks_text v p.0 ++ timed_text p.1
 
-abbrev FitsFacts : Facts → Type 0
-FitsFacts p = FitsPair p.0 × FitsTimed p.1
+abbrev FitsFacts : Version → Facts → Type 0
+FitsFacts v p = FitsMarks v p.0 × FitsTimed p.1
 
-facts_field : Laws → IsField facts_in facts_text FitsFacts Any
+facts_field : (v : Version) → Laws → IsField (facts_in v) (facts_text v) (FitsFacts v) Any
 unfolding facts_in
-facts_field laws =
-    both_is pair_read (both (field digits.decimal) (field half)) pair_text timed_text FitsPair
-    FitsTimed Any Any (pair_field laws) (timed_field laws) (λ y rest f a. tt)
+facts_field v laws =
+    both_is (marks_read v) (both (field digits.decimal) (field half)) (marks_text v) timed_text
+    (FitsMarks v) FitsTimed Any Any (marks_field v laws) (timed_field laws) (λ y rest f a. tt)
 
 abbrev chances_text : (Bool × Bool) → List ℕ
 chances_text p = (text.yes_no p.0 ++ 32 ∷ []) ++ (text.yes_no p.1 ++ 32 ∷ [])
@@ -271,20 +336,20 @@ Rear = Facts × (List ℕ × List ℕ)
 abbrev fore_text : Fore → List ℕ
 fore_text p = journey_text p.0 ++ chances_text p.1
 
-abbrev rear_text : Rear → List ℕ
-rear_text p = facts_text p.0 ++ texts_text p.1
+abbrev rear_text : Version → Rear → List ℕ
+rear_text v p = facts_text v p.0 ++ texts_text p.1
 
 abbrev FitsFore : Fore → Type 0
 FitsFore p = FitsJourney p.0 × (Unit {0} × Unit {0})
 
-abbrev FitsRear : Rear → Type 0
-FitsRear p = FitsFacts p.0 × (IsBytes (p.1).0 × IsBytes (p.1).1)
+abbrev FitsRear : Version → Rear → Type 0
+FitsRear v p = FitsFacts v p.0 × (IsBytes (p.1).0 × IsBytes (p.1).1)
 
 abbrev fore_read : List ℕ → Option (Fore × List ℕ)
 fore_read = both journey_in (both (field yes_no_in) (field yes_no_in))
 
-abbrev rear_read : List ℕ → Option (Rear × List ℕ)
-rear_read = both facts_in (both (field bytes_in) (field bytes_in))
+abbrev rear_read : Version → List ℕ → Option (Rear × List ℕ)
+rear_read v = both (facts_in v) (both (field bytes_in) (field bytes_in))
 
 fore_field : Laws → IsField fore_read fore_text FitsFore Any
 fore_field laws =
@@ -292,10 +357,10 @@ fore_field laws =
     FitsJourney (λ (p : Bool × Bool). Unit {0} × Unit {0}) Any Any (journey_field laws)
     chances_field (λ y rest f a. tt)
 
-rear_field : Laws → IsField rear_read rear_text FitsRear Any
-rear_field laws =
-    both_is facts_in (both (field bytes_in) (field bytes_in)) facts_text texts_text FitsFacts
-    (λ (p : List ℕ × List ℕ). IsBytes p.0 × IsBytes p.1) Any Any (facts_field laws)
+rear_field : (v : Version) → Laws → IsField (rear_read v) (rear_text v) (FitsRear v) Any
+rear_field v laws =
+    both_is (facts_in v) (both (field bytes_in) (field bytes_in)) (facts_text v) texts_text
+    (FitsFacts v) (λ (p : List ℕ × List ℕ). IsBytes p.0 × IsBytes p.1) Any Any (facts_field v laws)
     (texts_field laws) (λ y rest f a. tt)
 
 abbrev pub Told : Type 0
@@ -304,36 +369,38 @@ Told = Card × (Bool × Bool)
 abbrev card_parts : Told → (Fore × Rear)
 card_parts x = (
   (((x.0.number, x.0.visit), x.0.table), x.1),
-  (((x.0.mark, x.0.seconds), (x.0.micros, x.0.protocol)), (x.0.link, x.0.bytes)),
+  ((((x.0.mark, x.0.priority), x.0.seconds), (x.0.micros, x.0.protocol)),
+      (x.0.link, x.0.bytes)),
 )
 
-abbrev pub card_text : Told → List ℕ
-card_text x = fore_text (card_parts x).0 ++ rear_text (card_parts x).1
+abbrev pub card_text : Version → Told → List ℕ
+card_text v x = fore_text (card_parts x).0 ++ rear_text v (card_parts x).1
 
-abbrev pub FitsTold : Told → Type 0
-FitsTold x = FitsFore (card_parts x).0 × FitsRear (card_parts x).1
+abbrev pub FitsTold : Version → Told → Type 0
+FitsTold v x = FitsFore (card_parts x).0 × FitsRear v (card_parts x).1
 
-pub card_field : Laws → IsField card_in card_text FitsTold Any
+pub card_field : (v : Version) → Laws → IsField (card_in v) (card_text v) (FitsTold v) Any
 unfolding card_in
-card_field laws =
-    made_is card_made card_parts (both fore_read rear_read)
-    (λ (p : Fore × Rear). fore_text p.0 ++ rear_text p.1)
-    (λ (p : Fore × Rear). FitsFore p.0 × FitsRear p.1) Any (λ b. refl) (λ a. refl)
-    (both_is fore_read rear_read fore_text rear_text FitsFore FitsRear Any Any (fore_field laws)
-    (rear_field laws) (λ y rest f a. tt))
+card_field v laws =
+    made_is card_made card_parts (both fore_read (rear_read v))
+    (λ (p : Fore × Rear). fore_text p.0 ++ rear_text v p.1)
+    (λ (p : Fore × Rear). FitsFore p.0 × FitsRear v p.1) Any (λ b. refl) (λ a. refl)
+    (both_is fore_read (rear_read v) fore_text (rear_text v) FitsFore (FitsRear v) Any Any
+    (fore_field laws) (rear_field v laws) (λ y rest f a. tt))
 
-pub fits_told : (x : Told) → FitsCard x.0 → FitsTold x
-fits_told x f = (
+pub fits_told : (v : Version) (x : Told) → FitsCard v x.0 → FitsTold v x
+fits_told v x f = (
   (((f.number, f.visit), f.table), (tt, tt)),
-  (((f.mark, f.seconds), (f.micros, f.protocol)), (f.link, f.bytes)),
+  ((((f.mark, f.priority), f.seconds), (f.micros, f.protocol)), (f.link, f.bytes)),
 )
 
-pub told_fits : (x : Told) → FitsTold x → FitsCard x.0
-told_fits x f = record {
+pub told_fits : (v : Version) (x : Told) → FitsTold v x → FitsCard v x.0
+told_fits v x f = record {
   number = (((f.0).0).0).0;
   visit = (((f.0).0).0).1;
   table = ((f.0).0).1;
-  mark = (((f.1).0).0).0;
+  mark = ((((f.1).0).0).0).0;
+  priority = ((((f.1).0).0).0).1;
   seconds = (((f.1).0).0).1;
   micros = (((f.1).0).1).0;
   protocol = (((f.1).0).1).1;
@@ -341,20 +408,20 @@ told_fits x f = record {
   bytes = ((f.1).1).1;
 }
 
-card_regroup : (n v t b r m s u p l x : List ℕ) →
+card_regroup : (n v t b r m q s u p l x : List ℕ) →
     ((((((((n ++ 32 ∷ []) ++ v) ++ 32 ∷ []) ++ t) ++ 32 ∷ [])
     ++ (((b ++ 32 ∷ []) ++ r) ++ 32 ∷ []))
-    ++ (((((((m ++ 32 ∷ []) ++ s) ++ 32 ∷ []) ++ u) ++ 32 ∷ []) ++ p) ++ 32 ∷ []))
+    ++ ((((((((m ++ 32 ∷ []) ++ q) ++ s) ++ 32 ∷ []) ++ u) ++ 32 ∷ []) ++ p) ++ 32 ∷ []))
     ++ l ++ 32 ∷ []) ++ x ++ 32 ∷ []
     ≡ ((((n ++ 32 ∷ []) ++ (v ++ 32 ∷ [])) ++ (t ++ 32 ∷ []))
     ++ ((b ++ 32 ∷ []) ++ (r ++ 32 ∷ [])))
-    ++ ((((m ++ 32 ∷ []) ++ (s ++ 32 ∷ [])) ++ ((u ++ 32 ∷ []) ++ (p ++ 32 ∷ [])))
+    ++ (((((m ++ 32 ∷ []) ++ q) ++ (s ++ 32 ∷ [])) ++ ((u ++ 32 ∷ []) ++ (p ++ 32 ∷ [])))
     ++ ((l ++ 32 ∷ []) ++ (x ++ 32 ∷ [])))
-card_regroup n v t b r m s u p l x = simp append_assoc
+card_regroup n v t b r m q s u p l x = simp append_assoc
 
-pub card_told : (c : Card) (b r : Bool) →
-    text.card c (text.yes_no b) (text.yes_no r) ≡ card_text (c, (b, r))
-card_told c b r =
+pub card_told : (v : Version) (c : Card) (b r : Bool) →
+    text.card v c (text.yes_no b) (text.yes_no r) ≡ card_text v (c, (b, r))
+card_told v c b r =
     card_regroup (decimal c.number) (decimal c.visit) (decimal c.table) (text.yes_no b)
-    (text.yes_no r) (decimal c.mark) (decimal c.seconds) (decimal c.micros) (decimal c.protocol)
+    (text.yes_no r) (decimal c.mark) (text.priority v c.priority) (decimal c.seconds) (decimal c.micros) (decimal c.protocol)
     (hexadecimal c.link) (hexadecimal c.bytes)

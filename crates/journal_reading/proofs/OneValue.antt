@@ -6,10 +6,10 @@ use Rattle.std.proofs.lemmas.Option.{none-some, same_Some}
 use Rattle.text_lines.specs.Words.{cut_at}
 use Rattle.histories.specs.declared.histories.Histories.{Histories}
 use Rattle.journal_reading.specs.declared.line.Line.{Line}
-use Rattle.journals.specs.Journal as text
+use Rattle.journals.specs.Format as text
 use Rattle.journal_reading.specs.Lines.{IsLine}
 use Rattle.journal_reading.specs.Reading.{line_in}
-use Rattle.journals.specs.WellFormed.{IsWellFormed}
+use Rattle.journals.specs.Formed.{IsWellFormed}
 use Rattle.journal_reading.specs.JournalFile.{IsJournal, IsSound, Place, after, histories_of, so_far}
 use Rattle.journal_reading.specs.JournalFile.{start}
 use Rattle.journal_reading.proofs.Ahead.{Ahead, IsFront, front_more, front_start, next}

@@ -1,10 +1,10 @@
 -- The requests of a journal's lines are read exactly where they are written.
 use Rattle.std.proofs.Common.{◌≡◌, ℕ, cond, List, [], ◌∷◌}
-use Rattle.std.proofs.Common.{◌++◌, Option, Some, None, ◌∙◌, refl, ap, subst, arith}
+use Rattle.std.proofs.Common.{◌++◌, Option, Some, None, ◌∙◌, refl, sym, ap, subst, arith}
 use Rattle.std.proofs.Common.{append_assoc, decimal}
 use Rattle.std.specs.Prelude.{◌^◌, bytes_eq, codes, option_map, IfSome}
 use Rattle.std.specs.Option.{option_map_or}
-use Rattle.std.proofs.lemmas.Option.{none-some, same_Some}
+use Rattle.std.proofs.lemmas.Option.{none-some, same_Some, some_pair_parts}
 use Rattle.hex.specs.Hex.{IsBytes}
 use Rattle.text_lines.specs.Words.{◌>>=◌, cut_at}
 use Rattle.text_lines.specs.Digits as digits
@@ -13,10 +13,13 @@ use Rattle.nfqa_headers.specs.declared.params.Params.{Params}
 use Rattle.nfqa_headers.specs.declared.verdict_header.Head.{Head}
 use Rattle.nfqa_msgs.specs.declared.request.Request.{Request}
 use Rattle.nfqa_msgs.specs.declared.request.Request.TheVariants.{Config, Verdict, Batch}
-use Rattle.journals.specs.WellFormed.{FitsHead, FitsParams, FitsRequest, IsHalf, IsSmall}
-use Rattle.journals.specs.WellFormed.{IsWide}
+use Rattle.journals.specs.declared.version.Version.{Version}
+use Rattle.journals.specs.declared.version.Version.TheVariants.{First, Second}
+use Rattle.journals.specs.Formed.{FitsHead, FitsNewPriority, FitsParams, FitsRequest, IsHalf}
+use Rattle.journals.specs.Formed.{IsSmall, IsWide}
 use Rattle.journal_reading.specs.Reading.{batch_in, batch_made, behind, both, bytes_in}
 use Rattle.journal_reading.specs.Reading.{config_in, config_made, field, half, head_in, head_made, made}
+use Rattle.journal_reading.specs.Reading.{new_priority_in}
 use Rattle.journal_reading.specs.Reading.{params_in, params_made, part, request_by, request_in, small}
 use Rattle.journal_reading.specs.Reading.{verdict_in, verdict_made}
 use Rattle.journal_reading.proofs.Wording.{Laws, bind_some, cut_front, cut_some, map_some, passed}
@@ -277,6 +280,31 @@ config_field laws =
     both_is (field half) command_read number_text command_text IsHalf FitsCommand Any BeforeEquals
     (half_field laws) (command_field laws) (λ y rest fits before. tt)
 
+-- ---- the priority that a request sets
+
+abbrev pub new_priority_text : Version → Option ℕ → List ℕ
+new_priority_text First o = []
+new_priority_text Second o = part_text (codes "priority") number_text o
+
+new_priority_field : (v : Version) → Laws →
+    IsField (new_priority_in v) (new_priority_text v) (FitsNewPriority v) BeforeEquals
+new_priority_field First laws = record {
+  again = λ x rest fits before. ap (λ (o : Option ℕ). Some (o, rest)) (sym fits);
+  spelled = λ front x rest e.
+      let parts = some_pair_parts {A = Option ℕ} None x front rest e in (sym parts.0, parts.1);
+  one_line = λ x fits. refl;
+}
+new_priority_field Second laws = last_part laws (codes "priority") refl refl (λ z. refl)
+
+-- a name that it doesn't have
+priority_apart : (v : Version) (name rest : List ℕ) (o : Option ℕ) →
+    ((z : List ℕ) → NotBehind name (codes "priority " ++ z)) →
+    ((z : List ℕ) → NotBehind name (61 ∷ 32 ∷ z)) → BeforeEquals rest →
+    NotBehind name (new_priority_text v o ++ rest)
+priority_apart First name rest o a b before = equals_apart name rest b before
+priority_apart Second name rest o a b before =
+    apart name (codes "priority") number_text o rest a (equals_apart name rest b before)
+
 -- ---- verdicts and batches
 
 abbrev headed_read : List ℕ → Option ((ℕ × Option Head) × List ℕ)
@@ -293,58 +321,103 @@ headed_field laws =
     both_is (field half) head_in number_text head_text IsHalf FitsHeads Any Any (half_field laws)
     (head_field laws) (λ y rest fits any. tt)
 
-abbrev body_read : List ℕ → Option ((Option ℕ × Option (List ℕ)) × List ℕ)
-body_read =
-    both (part (codes "mark") (field digits.decimal)) (part (codes "payload") (field bytes_in))
+abbrev Change : Type 0
+Change = Option (List ℕ) × Option ℕ
 
-abbrev body_text : (Option ℕ × Option (List ℕ)) → List ℕ
-body_text p = part_text (codes "mark") number_text p.0 ++ part_text (codes "payload") bytes_text p.1
+abbrev change_read : Version → List ℕ → Option (Change × List ℕ)
+change_read v = both (part (codes "payload") (field bytes_in)) (new_priority_in v)
 
-abbrev FitsBody : (Option ℕ × Option (List ℕ)) → Type 0
-FitsBody p = IfSome p.0 IsWide × IfSome p.1 IsBytes
+abbrev change_text : Version → Change → List ℕ
+change_text v p = part_text (codes "payload") bytes_text p.0 ++ new_priority_text v p.1
 
-body_field : Laws → IsField body_read body_text FitsBody BeforeEquals
-body_field laws =
-    both_is (part (codes "mark") (field digits.decimal)) (part (codes "payload") (field bytes_in))
-    (part_text (codes "mark") number_text) (part_text (codes "payload") bytes_text)
-    (λ o. IfSome o IsWide) (λ o. IfSome o IsBytes) (NotBehind (codes "mark")) BeforeEquals
-    (number_part laws (codes "mark") refl refl)
-    (weaker (part (codes "payload") (field bytes_in)) (part_text (codes "payload") bytes_text)
-    (λ o. IfSome o IsBytes) (NotBehind (codes "payload")) BeforeEquals
+abbrev FitsChange : Version → Change → Type 0
+FitsChange v p = IfSome p.0 IsBytes × FitsNewPriority v p.1
+
+change_field : (v : Version) → Laws →
+    IsField (change_read v) (change_text v) (FitsChange v) BeforeEquals
+change_field v laws =
+    both_is (part (codes "payload") (field bytes_in)) (new_priority_in v)
+    (part_text (codes "payload") bytes_text) (new_priority_text v) (λ o. IfSome o IsBytes)
+    (FitsNewPriority v) (NotBehind (codes "payload")) BeforeEquals
     (part_is (codes "payload") (field bytes_in) bytes_text IsBytes refl refl (bytes_field laws))
-    (λ rest before. equals_apart (codes "payload") rest (λ z. refl) before))
-    (λ y rest fits before. apart (codes "mark") (codes "payload") bytes_text y rest (λ z. refl)
-    (equals_apart (codes "mark") rest (λ z. refl) before))
+    (new_priority_field v laws) (λ y rest fits before.
+    priority_apart v (codes "payload") rest y (λ z. refl) (λ z. refl) before)
 
-verdict_field : Laws → IsField (both headed_read body_read)
-    (λ p. headed_text p.0 ++ body_text p.1) (λ p. FitsHeaded p.0 × FitsBody p.1) BeforeEquals
-verdict_field laws =
-    both_is headed_read body_read headed_text body_text FitsHeaded FitsBody Any BeforeEquals
-    (headed_field laws) (body_field laws) (λ y rest fits before. tt)
+change_apart : (v : Version) (rest : List ℕ) (p : Change) → BeforeEquals rest →
+    NotBehind (codes "mark") (change_text v p ++ rest)
+change_apart v rest p before =
+    ap (behind (codes "mark")) (append_assoc (part_text (codes "payload") bytes_text p.0)
+    (new_priority_text v p.1) rest)
+    ∙ apart (codes "mark") (codes "payload") bytes_text p.0 _ (λ z. refl)
+    (priority_apart v (codes "mark") rest p.1 (λ z. refl) (λ z. refl) before)
 
-batch_field : Laws →
-    IsField (both headed_read (part (codes "mark") (field digits.decimal)))
-    (λ p. headed_text p.0 ++ part_text (codes "mark") number_text p.1)
-    (λ p. FitsHeaded p.0 × IfSome p.1 IsWide) BeforeEquals
-batch_field laws =
-    both_is headed_read (part (codes "mark") (field digits.decimal)) headed_text
-    (part_text (codes "mark") number_text) FitsHeaded (λ o. IfSome o IsWide) Any BeforeEquals
-    (headed_field laws) (last_part laws (codes "mark") refl refl (λ z. refl))
-    (λ y rest fits before. tt)
+abbrev Body : Type 0
+Body = Option ℕ × Change
+
+abbrev body_read : Version → List ℕ → Option (Body × List ℕ)
+body_read v = both (part (codes "mark") (field digits.decimal)) (change_read v)
+
+abbrev body_text : Version → Body → List ℕ
+body_text v p = part_text (codes "mark") number_text p.0 ++ change_text v p.1
+
+abbrev FitsBody : Version → Body → Type 0
+FitsBody v p = IfSome p.0 IsWide × FitsChange v p.1
+
+body_field : (v : Version) → Laws →
+    IsField (body_read v) (body_text v) (FitsBody v) BeforeEquals
+body_field v laws =
+    both_is (part (codes "mark") (field digits.decimal)) (change_read v)
+    (part_text (codes "mark") number_text) (change_text v) (λ o. IfSome o IsWide) (FitsChange v)
+    (NotBehind (codes "mark")) BeforeEquals (number_part laws (codes "mark") refl refl)
+    (change_field v laws) (λ y rest fits before. change_apart v rest y before)
+
+verdict_field : (v : Version) → Laws → IsField (both headed_read (body_read v))
+    (λ p. headed_text p.0 ++ body_text v p.1) (λ p. FitsHeaded p.0 × FitsBody v p.1) BeforeEquals
+verdict_field v laws =
+    both_is headed_read (body_read v) headed_text (body_text v) FitsHeaded (FitsBody v) Any
+    BeforeEquals (headed_field laws) (body_field v laws) (λ y rest fits before. tt)
+
+abbrev Edit : Type 0
+Edit = Option ℕ × Option ℕ
+
+abbrev edit_read : Version → List ℕ → Option (Edit × List ℕ)
+edit_read v = both (part (codes "mark") (field digits.decimal)) (new_priority_in v)
+
+abbrev edit_text : Version → Edit → List ℕ
+edit_text v p = part_text (codes "mark") number_text p.0 ++ new_priority_text v p.1
+
+abbrev FitsEdit : Version → Edit → Type 0
+FitsEdit v p = IfSome p.0 IsWide × FitsNewPriority v p.1
+
+edit_field : (v : Version) → Laws →
+    IsField (edit_read v) (edit_text v) (FitsEdit v) BeforeEquals
+edit_field v laws =
+    both_is (part (codes "mark") (field digits.decimal)) (new_priority_in v)
+    (part_text (codes "mark") number_text) (new_priority_text v) (λ o. IfSome o IsWide)
+    (FitsNewPriority v) (NotBehind (codes "mark")) BeforeEquals
+    (number_part laws (codes "mark") refl refl) (new_priority_field v laws)
+    (λ y rest fits before.
+    priority_apart v (codes "mark") rest y (λ z. refl) (λ z. refl) before)
+
+batch_field : (v : Version) → Laws → IsField (both headed_read (edit_read v))
+    (λ p. headed_text p.0 ++ edit_text v p.1) (λ p. FitsHeaded p.0 × FitsEdit v p.1) BeforeEquals
+batch_field v laws =
+    both_is headed_read (edit_read v) headed_text (edit_text v) FitsHeaded (FitsEdit v) Any
+    BeforeEquals (headed_field laws) (edit_field v laws) (λ y rest fits before. tt)
 
 -- ---- requests
 
 -- a request's words, each with the blank behind it
-abbrev pub request_text : Request → List ℕ
-request_text (Config q c p l f m) = codes "config " ++ config_text (q, (c, (p, (l, (f, m)))))
-request_text (Verdict q h m b) = codes "verdict " ++ (headed_text (q, h) ++ body_text (m, b))
-request_text (Batch q h m) =
-    codes "batch " ++ (headed_text (q, h) ++ part_text (codes "mark") number_text m)
+abbrev pub request_text : Version → Request → List ℕ
+request_text v (Config q c p l f m) = codes "config " ++ config_text (q, (c, (p, (l, (f, m)))))
+request_text v (Verdict q h m b n) =
+    codes "verdict " ++ (headed_text (q, h) ++ body_text v (m, (b, n)))
+request_text v (Batch q h m n) = codes "batch " ++ (headed_text (q, h) ++ edit_text v (m, n))
 
-request_again : Laws → (r : Request) (rest : List ℕ) → FitsRequest r → BeforeEquals rest →
-    request_in (request_text r ++ rest) ≡ Some (r, rest)
+request_again : (v : Version) → Laws → (r : Request) (rest : List ℕ) → FitsRequest v r →
+    BeforeEquals rest → request_in v (request_text v r ++ rest) ≡ Some (r, rest)
 unfolding request_in request_by config_in verdict_in batch_in
-request_again laws (Config q c p l f m) rest fits before =
+request_again v laws (Config q c p l f m) rest fits before =
     ap (option_map (λ (x : (ℕ × Command) × List ℕ). (config_made x.0, x.1)))
     ((config_field laws).again (q, (c, (p, (l, (f, m))))) rest (
       fits.queue_fits,
@@ -362,30 +435,29 @@ request_again laws (Config q c p l f m) rest fits before =
         ),
       ),
     ) before)
-request_again laws (Verdict q h m b) rest fits before =
-    ap (option_map (λ (x : ((ℕ × Option Head) × (Option ℕ × Option (List ℕ))) × List ℕ).
-    (verdict_made x.0, x.1)))
-    ((verdict_field laws).again ((q, h), (m, b)) rest
-    ((fits.queue_fits, fits.head_fits), (fits.mark_fits, fits.payload_fits)) before)
-request_again laws (Batch q h m) rest fits before =
-    ap (option_map (λ (x : ((ℕ × Option Head) × Option ℕ) × List ℕ). (batch_made x.0, x.1)))
-    ((batch_field laws).again ((q, h), m) rest
-    ((fits.queue_fits, fits.head_fits), fits.mark_fits) before)
+request_again v laws (Verdict q h m b n) rest fits before =
+    ap (option_map (λ (x : ((ℕ × Option Head) × Body) × List ℕ). (verdict_made x.0, x.1)))
+    ((verdict_field v laws).again ((q, h), (m, (b, n))) rest ((fits.queue_fits, fits.head_fits),
+    (fits.mark_fits, (fits.payload_fits, fits.priority_fits))) before)
+request_again v laws (Batch q h m n) rest fits before =
+    ap (option_map (λ (x : ((ℕ × Option Head) × Edit) × List ℕ). (batch_made x.0, x.1)))
+    ((batch_field v laws).again ((q, h), (m, n)) rest
+    ((fits.queue_fits, fits.head_fits), (fits.mark_fits, fits.priority_fits)) before)
 
-abbrev IsRequestText : List ℕ → (Request × List ℕ) → Type 0
-IsRequestText front p = FitsRequest p.0 × (front ≡ request_text p.0 ++ p.1)
+abbrev IsRequestText : Version → List ℕ → (Request × List ℕ) → Type 0
+IsRequestText v front p = FitsRequest v p.0 × (front ≡ request_text v p.0 ++ p.1)
 
-request_by_spelled : Laws → (front word more : List ℕ) (p : Request × List ℕ) →
-    front ≡ word ++ 32 ∷ more → request_by word more ≡ Some p → IsRequestText front p
+request_by_spelled : (v : Version) → Laws → (front word more : List ℕ) (p : Request × List ℕ) →
+    front ≡ word ++ 32 ∷ more → request_by v word more ≡ Some p → IsRequestText v front p
 unfolding request_by config_in verdict_in batch_in
-request_by_spelled laws front word more p is e =
-    pick word (codes "config") _ _ p (IsRequestText front p) e
+request_by_spelled v laws front word more p is e =
+    pick word (codes "config") _ _ p (IsRequestText v front p) e
     (λ named f.
     let x = map_some (λ (y : (ℕ × Command) × List ℕ). (config_made y.0, y.1)) (config_read more) p
     f in
     let s = (config_field laws).spelled more (x.0).0 (x.0).1 x.1 in
     let t = s.0 in
-    subst (IsRequestText front) x.2 (
+    subst (IsRequestText v front) x.2 (
       record {
         queue_fits = t.0;
         command_fits = (t.1).0;
@@ -396,48 +468,51 @@ request_by_spelled laws front word more p is e =
       },
       is ∙ ap (λ z. z ++ 32 ∷ more) named ∙ ap (λ z. codes "config " ++ z) s.1,
     ))
-    (λ g. pick word (codes "verdict") _ _ p (IsRequestText front p) g
+    (λ g. pick word (codes "verdict") _ _ p (IsRequestText v front p) g
     (λ named f.
-    let x = map_some (λ (y : ((ℕ × Option Head) × (Option ℕ × Option (List ℕ))) × List ℕ).
-    (verdict_made y.0, y.1)) (both headed_read body_read more) p f in
-    let s = (verdict_field laws).spelled more (x.0).0 (x.0).1 x.1 in
+    let x = map_some (λ (y : ((ℕ × Option Head) × Body) × List ℕ). (verdict_made y.0, y.1))
+    (both headed_read (body_read v) more) p f in
+    let s = (verdict_field v laws).spelled more (x.0).0 (x.0).1 x.1 in
     let t = s.0 in
-    subst (IsRequestText front) x.2 (
+    subst (IsRequestText v front) x.2 (
       record {
         queue_fits = (t.0).0;
         head_fits = (t.0).1;
         mark_fits = (t.1).0;
-        payload_fits = (t.1).1;
+        payload_fits = ((t.1).1).0;
+        priority_fits = ((t.1).1).1;
       },
       is ∙ ap (λ z. z ++ 32 ∷ more) named ∙ ap (λ z. codes "verdict " ++ z) s.1,
     ))
-    (λ h. pick word (codes "batch") _ _ p (IsRequestText front p) h
+    (λ h. pick word (codes "batch") _ _ p (IsRequestText v front p) h
     (λ named f.
-    let x = map_some (λ (y : ((ℕ × Option Head) × Option ℕ) × List ℕ). (batch_made y.0, y.1))
-    (both headed_read (part (codes "mark") (field digits.decimal)) more) p f in
-    let s = (batch_field laws).spelled more (x.0).0 (x.0).1 x.1 in
+    let x = map_some (λ (y : ((ℕ × Option Head) × Edit) × List ℕ). (batch_made y.0, y.1))
+    (both headed_read (edit_read v) more) p f in
+    let s = (batch_field v laws).spelled more (x.0).0 (x.0).1 x.1 in
     let t = s.0 in
-    subst (IsRequestText front) x.2 (
+    subst (IsRequestText v front) x.2 (
       record {
         queue_fits = (t.0).0;
         head_fits = (t.0).1;
-        mark_fits = t.1;
+        mark_fits = (t.1).0;
         payload_fits = tt;
+        priority_fits = (t.1).1;
       },
       is ∙ ap (λ z. z ++ 32 ∷ more) named ∙ ap (λ z. codes "batch " ++ z) s.1,
     ))
     (λ i. absurd (none-some p i))))
 
-request_spelled : Laws → (front : List ℕ) (r : Request) (rest : List ℕ) →
-    request_in front ≡ Some (r, rest) → FitsRequest r × (front ≡ request_text r ++ rest)
+request_spelled : (v : Version) → Laws → (front : List ℕ) (r : Request) (rest : List ℕ) →
+    request_in v front ≡ Some (r, rest) → FitsRequest v r × (front ≡ request_text v r ++ rest)
 unfolding request_in
-request_spelled laws front r rest e =
+request_spelled v laws front r rest e =
     let cut = bind_some (cut_at 32 front) _ (r, rest) e in
-    request_by_spelled laws front (cut.0).0 (cut.0).1 (r, rest) (cut_some 32 front cut.0 cut.1)
+    request_by_spelled v laws front (cut.0).0 (cut.0).1 (r, rest) (cut_some 32 front cut.0 cut.1)
     cut.2
 
-request_line : Laws → (r : Request) → FitsRequest r → cut_at 10 (request_text r) ≡ None
-request_line laws (Config q c p l f m) fits =
+request_line : (v : Version) → Laws → (r : Request) → FitsRequest v r →
+    cut_at 10 (request_text v r) ≡ None
+request_line v laws (Config q c p l f m) fits =
     uncut_append 10 (codes "config ") (config_text (q, (c, (p, (l, (f, m)))))) refl
     ((config_field laws).one_line (q, (c, (p, (l, (f, m))))) (
       fits.queue_fits,
@@ -455,18 +530,19 @@ request_line laws (Config q c p l f m) fits =
         ),
       ),
     ))
-request_line laws (Verdict q h m b) fits =
-    uncut_append 10 (codes "verdict ") (headed_text (q, h) ++ body_text (m, b)) refl
-    ((verdict_field laws).one_line ((q, h), (m, b))
-    ((fits.queue_fits, fits.head_fits), (fits.mark_fits, fits.payload_fits)))
-request_line laws (Batch q h m) fits =
-    uncut_append 10 (codes "batch ") (headed_text (q, h) ++ part_text (codes "mark") number_text m)
-    refl ((batch_field laws).one_line ((q, h), m)
-    ((fits.queue_fits, fits.head_fits), fits.mark_fits))
+request_line v laws (Verdict q h m b n) fits =
+    uncut_append 10 (codes "verdict ") (headed_text (q, h) ++ body_text v (m, (b, n))) refl
+    ((verdict_field v laws).one_line ((q, h), (m, (b, n))) ((fits.queue_fits, fits.head_fits),
+    (fits.mark_fits, (fits.payload_fits, fits.priority_fits))))
+request_line v laws (Batch q h m n) fits =
+    uncut_append 10 (codes "batch ") (headed_text (q, h) ++ edit_text v (m, n)) refl
+    ((batch_field v laws).one_line ((q, h), (m, n))
+    ((fits.queue_fits, fits.head_fits), (fits.mark_fits, fits.priority_fits)))
 
-pub request_field : Laws → IsField request_in request_text FitsRequest BeforeEquals
-request_field laws = record {
-  again = request_again laws;
-  spelled = request_spelled laws;
-  one_line = request_line laws;
+pub request_field : (v : Version) → Laws →
+    IsField (request_in v) (request_text v) (FitsRequest v) BeforeEquals
+request_field v laws = record {
+  again = request_again v laws;
+  spelled = request_spelled v laws;
+  one_line = request_line v laws;
 }

@@ -18,7 +18,7 @@ use Rattle.journal_reading.specs.declared.line.Line.{Line}
 use Rattle.journal_reading.specs.declared.line.Line.TheVariants.{Heading, EntryLine, PortLine, DidLine}
 use Rattle.journal_reading.specs.declared.line.Line.TheVariants.{End}
 use Rattle.journal_reading.specs.Lines.{FitsLine}
-use Rattle.journals.specs.WellFormed.{FitsDid, IsEntry, IsLog, IsWide, IsWellFormed}
+use Rattle.journals.specs.Formed.{FitsDid, IsEntry, IsLog, IsWide, IsWellFormed}
 use Rattle.journal_reading.specs.JournalFile.{IsSound, Place, after, histories_of, is_closing, is_port}
 use Rattle.journal_reading.specs.JournalFile.{start}
 use Rattle.journal_reading.proofs.Wording.{chosen}

@@ -16,8 +16,8 @@ use Rattle.queue_core.specs.declared.offers.Outcome.{Outcome}
 use Rattle.queue_core.specs.declared.offers.Outcome.TheVariants.{Taken, Overflow, OverflowOpen}
 use Rattle.queue_core.specs.declared.offers.Outcome.TheVariants.{UserFull, UserFullOpen, NoQueue}
 use Rattle.queue_core.specs.declared.offers.Outcome.TheVariants.{Bypassed, CopyNone, Loop}
-use Rattle.journals.specs.Journal as text
-use Rattle.journals.specs.WellFormed.{FitsOutcome, IsHalf, IsWide}
+use Rattle.journals.specs.Format as text
+use Rattle.journals.specs.Formed.{FitsOutcome, IsHalf, IsWide}
 use Rattle.journal_reading.specs.Reading.{answer_in, bare, bytes_in, field, numbered, outcome_in, said_in}
 use Rattle.journal_reading.specs.Reading.{yes_no_in}
 use Rattle.journal_reading.proofs.Wording.{Laws, below_again, below_some, bind_some, chosen, cut_some}

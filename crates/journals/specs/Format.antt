@@ -161,10 +161,13 @@ logs v (l ∷ ls) = log v l ++ logs v ls
 abbrev pub histories : Version → Histories → List ℕ
 histories v h = entries v h.entries ++ logs v h.logs
 
+abbrev pub version_number : Version → List ℕ
+version_number First = codes "1"
+version_number Second = codes "2"
+
 -- the first line, without its end
 abbrev pub title : Version → List ℕ
-title First = codes "nfq-journal 1"
-title Second = codes "nfq-journal 2"
+title v = codes "nfq-journal " ++ version_number v
 
 abbrev pub heading : Version → List ℕ
 heading v = title v ++ codes "\n"
