@@ -19,9 +19,10 @@ use Rattle.histories.specs.declared.log.Did.TheVariants.{Received, Sent, Closed}
 use Rattle.histories.specs.declared.log.PortLog.{PortLog}
 use Rattle.journal_reading.specs.declared.line.Line.{Line}
 use Rattle.journal_reading.specs.declared.line.Line.TheVariants.{EntryLine, PortLine, DidLine, End}
+use Rattle.journals.specs.declared.version.Version.{Version}
 use Rattle.journals.specs.Format as text
 use Rattle.journal_reading.specs.Lines.{IsLine}
-use Rattle.journals.specs.Formed.{FitsDid, IsEntry, IsLog, IsWellFormed}
+use Rattle.journals.specs.Formed.{FitsDid, IsEntry, IsLog, IsWellFormedIn}
 use Rattle.journal_reading.specs.JournalFile.{Place, after, histories_of, is_closing, is_port, so_far}
 use Rattle.journal_reading.specs.JournalFile.{start}
 use Rattle.journal_reading.proofs.LineForm.{line_word}
@@ -75,18 +76,18 @@ abbrev pub whole : PortLog → List Did → PortLog
 whole l dids = record { port = l.port; dids = l.dids ++ dids }
 
 -- among the entries: those that are left, and all logs
-pub record AtEntries (es : List Entry) (n : ℕ) (ls : List PortLog) (h : Histories)
+pub record AtEntries (v : Version) (es : List Entry) (n : ℕ) (ls : List PortLog) (h : Histories)
     (rest : List ℕ) : Type 0 where
   pub left : List Entry
   pub entries : h.entries ≡ es ++ left
   pub bare : ls ≡ []
   pub above : All (λ (e : Entry). n ≤ e.queue) left
   pub ascend : AllPairs (λ (a b : Entry). a.queue ≤ b.queue) left
-  pub fit : All IsEntry left
-  pub text_is : rest ≡ text.entries left ++ (text.logs h.logs ++ codes "end\n")
+  pub fit : All (IsEntry v) left
+  pub text_is : rest ≡ text.entries v left ++ (text.logs v h.logs ++ codes "end\n")
 
 -- in a log: what is left of it, and the logs behind it
-pub record InLog (es : List Entry) (ls : List PortLog) (l : PortLog) (s : Bool) (h : Histories)
+pub record InLog (v : Version) (es : List Entry) (ls : List PortLog) (l : PortLog) (s : Bool) (h : Histories)
     (rest : List ℕ) : Type 0 where
   pub dids : List Did
   pub more : List PortLog
@@ -94,25 +95,25 @@ pub record InLog (es : List Entry) (ls : List PortLog) (l : PortLog) (s : Bool) 
   pub logs : h.logs ≡ ls ++ whole l dids ∷ more
   pub shut : s ≡ true → dids ≡ []
   pub closed_last : AllPairs (λ (a b : Did). a ≢ Closed) dids
-  pub fit : All FitsDid dids
-  pub logs_fit : All IsLog more
-  pub text_is : rest ≡ text.dids dids ++ (text.logs more ++ codes "end\n")
+  pub fit : All (FitsDid v) dids
+  pub logs_fit : All (IsLog v) more
+  pub text_is : rest ≡ text.dids v dids ++ (text.logs v more ++ codes "end\n")
 
-abbrev pub AheadOf : List Entry → ℕ → List PortLog → Option PortLog → Bool → Histories → List ℕ →
+abbrev pub AheadOf : Version → List Entry → ℕ → List PortLog → Option PortLog → Bool → Histories → List ℕ →
     Type 0
-AheadOf es n ls None s h rest = AtEntries es n ls h rest
-AheadOf es n ls (Some l) s h rest = InLog es ls l s h rest
+AheadOf v es n ls None s h rest = AtEntries v es n ls h rest
+AheadOf v es n ls (Some l) s h rest = InLog v es ls l s h rest
 
-abbrev pub Ahead : Place → Histories → List ℕ → Type 0
-Ahead p h rest = AheadOf p.entries p.queue p.logs p.last p.shut h rest
+abbrev pub Ahead : Version → Place → Histories → List ℕ → Type 0
+Ahead v p h rest = AheadOf v p.entries p.queue p.logs p.last p.shut h rest
 
 -- the next line says something with which the reader goes on
-pub record GoesOn (p : Place) (h : Histories) (line later : List ℕ) : Type 0 where
+pub record GoesOn (v : Version) (p : Place) (h : Histories) (line later : List ℕ) : Type 0 where
   pub said : Line
   pub place : Place
-  pub is : IsLine line said
+  pub is : IsLine v line said
   pub after_is : after p said ≡ Some place
-  pub ahead : Ahead place h later
+  pub ahead : Ahead v place h later
 
 -- or it is the last one, and all was read
 pub record Ends (p : Place) (h : Histories) (line later : List ℕ) : Type 0 where
@@ -120,8 +121,8 @@ pub record Ends (p : Place) (h : Histories) (line later : List ℕ) : Type 0 whe
   pub nothing : later ≡ []
   pub all : h ≡ histories_of p
 
-abbrev pub Next : Place → Histories → List ℕ → List ℕ → Type 0
-Next p h line later = GoesOn p h line later ⊎ Ends p h line later
+abbrev pub Next : Version → Place → Histories → List ℕ → List ℕ → Type 0
+Next v p h line later = GoesOn v p h line later ⊎ Ends p h line later
 
 -- ---- line by line
 
@@ -148,12 +149,12 @@ same_histories h g a b c =
     ∙ ap (λ (x : List PortLog). made g.entries x h.lost) b
     ∙ ap (λ (x : List Lost). made g.entries g.logs x) c
 
-ended : (es : List Entry) (n : ℕ) (ls : List PortLog) (o : Option PortLog) (s : Bool)
-    (h : Histories) (rest line later : List ℕ) → IsWellFormed h → h.entries ≡ es →
+ended : (v : Version) (es : List Entry) (n : ℕ) (ls : List PortLog) (o : Option PortLog) (s : Bool)
+    (h : Histories) (rest line later : List ℕ) → IsWellFormedIn v h → h.entries ≡ es →
     h.logs ≡ ls ++ option_to_list o → rest ≡ codes "end\n" →
     cut_at 10 rest ≡ Some (line, later) → Ends (place_at es n ls o s) h line later
 unfolding place_at
-ended es n ls o s h rest line later wf e f t cut =
+ended v es n ls o s h rest line later wf e f t cut =
     let at = split (codes "end") [] rest line later refl t cut in
     record {
       is = at.0;
@@ -162,22 +163,22 @@ ended es n ls o s h rest line later wf e f t cut =
     }
 
 -- a log begins
-begins : Laws → (es : List Entry) (n : ℕ) (ls : List PortLog) (o : Option PortLog) (s : Bool)
+begins : (v : Version) → Laws → (es : List Entry) (n : ℕ) (ls : List PortLog) (o : Option PortLog) (s : Bool)
     (h : Histories) (rest line later : List ℕ) (m : PortLog) (ms : List PortLog) →
     h.entries ≡ es → h.logs ≡ (ls ++ option_to_list o) ++ m ∷ ms →
-    list_any (is_port m.port) (ls ++ option_to_list o) ≡ false → All IsLog (m ∷ ms) →
-    rest ≡ text.logs (m ∷ ms) ++ codes "end\n" → cut_at 10 rest ≡ Some (line, later) →
-    GoesOn (place_at es n ls o s) h line later
+    list_any (is_port m.port) (ls ++ option_to_list o) ≡ false → All (IsLog v) (m ∷ ms) →
+    rest ≡ text.logs v (m ∷ ms) ++ codes "end\n" → cut_at 10 rest ≡ Some (line, later) →
+    GoesOn v (place_at es n ls o s) h line later
 unfolding after place_at
-begins laws es n ls o s h rest line later m ms e f new fit t cut =
-    let log = All-head IsLog m ms fit in
+begins v laws es n ls o s h rest line later m ms e f new fit t cut =
+    let log = All-head (IsLog v) m ms fit in
     let at = split (text.port_line m.port)
-    (text.dids m.dids ++ (text.logs ms ++ codes "end\n")) rest line later
-    ((line_word laws).one_line (PortLine m.port) log.port)
-    (t ∙ append_assoc ((text.port_line m.port ++ codes "\n") ++ text.dids m.dids) (text.logs ms)
+    (text.dids v m.dids ++ (text.logs v ms ++ codes "end\n")) rest line later
+    ((line_word v laws).one_line (PortLine m.port) log.port)
+    (t ∙ append_assoc ((text.port_line m.port ++ codes "\n") ++ text.dids v m.dids) (text.logs v ms)
     (codes "end\n")
-    ∙ append_assoc (text.port_line m.port ++ codes "\n") (text.dids m.dids)
-    (text.logs ms ++ codes "end\n")) cut in
+    ∙ append_assoc (text.port_line m.port ++ codes "\n") (text.dids v m.dids)
+    (text.logs v ms ++ codes "end\n")) cut in
     record {
       said = PortLine m.port;
       place =
@@ -192,38 +193,38 @@ begins laws es n ls o s h rest line later m ms e f new fit t cut =
         shut = λ g. absurd (false≢true g);
         closed_last = log.closed_last;
         fit = log.dids;
-        logs_fit = All-tail IsLog m ms fit;
+        logs_fit = All-tail (IsLog v) m ms fit;
         text_is = at.1;
       };
     }
 
-at_logs : Laws → (es : List Entry) (n : ℕ) (ls : List PortLog) (s : Bool) (h : Histories)
-    (rest line later : List ℕ) (logs : List PortLog) → IsWellFormed h → h.logs ≡ logs →
-    h.entries ≡ es → ls ≡ [] → rest ≡ text.logs logs ++ codes "end\n" → All IsLog logs →
-    cut_at 10 rest ≡ Some (line, later) → Next (place_at es n ls None s) h line later
-at_logs laws es n ls s h rest line later [] wf f e bare t fit cut =
-    inr (ended es n ls None s h rest line later wf e
+at_logs : (v : Version) → Laws → (es : List Entry) (n : ℕ) (ls : List PortLog) (s : Bool) (h : Histories)
+    (rest line later : List ℕ) (logs : List PortLog) → IsWellFormedIn v h → h.logs ≡ logs →
+    h.entries ≡ es → ls ≡ [] → rest ≡ text.logs v logs ++ codes "end\n" → All (IsLog v) logs →
+    cut_at 10 rest ≡ Some (line, later) → Next v (place_at es n ls None s) h line later
+at_logs v laws es n ls s h rest line later [] wf f e bare t fit cut =
+    inr (ended v es n ls None s h rest line later wf e
     (f ∙ ap (λ (k : List PortLog). k ++ []) (sym bare)) t cut)
-at_logs laws es n ls s h rest line later (m ∷ ms) wf f e bare t fit cut =
-    inl (begins laws es n ls None s h rest line later m ms e
+at_logs v laws es n ls s h rest line later (m ∷ ms) wf f e bare t fit cut =
+    inl (begins v laws es n ls None s h rest line later m ms e
     (f ∙ ap (λ (k : List PortLog). (k ++ []) ++ m ∷ ms) (sym bare))
     (ap (λ (k : List PortLog). list_any (is_port m.port) (k ++ [])) bare) fit t cut)
 
-at_entries : Laws → (es : List Entry) (n : ℕ) (ls : List PortLog) (s : Bool) (h : Histories)
-    (rest line later : List ℕ) (left : List Entry) → IsWellFormed h → h.entries ≡ es ++ left →
+at_entries : (v : Version) → Laws → (es : List Entry) (n : ℕ) (ls : List PortLog) (s : Bool) (h : Histories)
+    (rest line later : List ℕ) (left : List Entry) → IsWellFormedIn v h → h.entries ≡ es ++ left →
     ls ≡ [] → All (λ (e : Entry). n ≤ e.queue) left →
-    AllPairs (λ (a b : Entry). a.queue ≤ b.queue) left → All IsEntry left →
-    rest ≡ text.entries left ++ (text.logs h.logs ++ codes "end\n") →
-    cut_at 10 rest ≡ Some (line, later) → Next (place_at es n ls None s) h line later
+    AllPairs (λ (a b : Entry). a.queue ≤ b.queue) left → All (IsEntry v) left →
+    rest ≡ text.entries v left ++ (text.logs v h.logs ++ codes "end\n") →
+    cut_at 10 rest ≡ Some (line, later) → Next v (place_at es n ls None s) h line later
 unfolding after place_at
-at_entries laws es n ls s h rest line later [] wf e bare above ascend fit t cut =
-    at_logs laws es n ls s h rest line later h.logs wf refl (e ∙ append-nil es) bare t wf.logs cut
-at_entries laws es n ls s h rest line later (x ∷ xs) wf e bare above ascend fit t cut =
-    let entry = All-head IsEntry x xs fit in
-    let at = split (text.entry_line x)
-    (text.entries xs ++ (text.logs h.logs ++ codes "end\n")) rest line later
-    ((line_word laws).one_line (EntryLine x) entry)
-    (t ∙ append_assoc (text.entry x) (text.entries xs) (text.logs h.logs ++ codes "end\n")) cut in
+at_entries v laws es n ls s h rest line later [] wf e bare above ascend fit t cut =
+    at_logs v laws es n ls s h rest line later h.logs wf refl (e ∙ append-nil es) bare t wf.logs cut
+at_entries v laws es n ls s h rest line later (x ∷ xs) wf e bare above ascend fit t cut =
+    let entry = All-head (IsEntry v) x xs fit in
+    let at = split (text.entry_line v x)
+    (text.entries v xs ++ (text.logs v h.logs ++ codes "end\n")) rest line later
+    ((line_word v laws).one_line (EntryLine x) entry)
+    (t ∙ append_assoc (text.entry v x) (text.entries v xs) (text.logs v h.logs ++ codes "end\n")) cut in
     inl (record {
       said = EntryLine x;
       place = place_at (es ++ x ∷ []) x.queue ls None s;
@@ -236,42 +237,42 @@ at_entries laws es n ls s h rest line later (x ∷ xs) wf e bare above ascend fi
         bare = bare;
         above = pairs_head (λ (a b : Entry). a.queue ≤ b.queue) x xs ascend;
         ascend = pairs_tail (λ (a b : Entry). a.queue ≤ b.queue) x xs ascend;
-        fit = All-tail IsEntry x xs fit;
+        fit = All-tail (IsEntry v) x xs fit;
         text_is = at.1;
       };
     })
 
-behind_log : Laws → (es : List Entry) (n : ℕ) (ls : List PortLog) (l : PortLog) (s : Bool)
-    (h : Histories) (rest line later : List ℕ) (more : List PortLog) → IsWellFormed h →
-    h.entries ≡ es → h.logs ≡ ls ++ l ∷ more → All IsLog more →
-    rest ≡ text.logs more ++ codes "end\n" → cut_at 10 rest ≡ Some (line, later) →
-    Next (place_at es n ls (Some l) s) h line later
-behind_log laws es n ls l s h rest line later [] wf e f fit t cut =
-    inr (ended es n ls (Some l) s h rest line later wf e f t cut)
-behind_log laws es n ls l s h rest line later (m ∷ ms) wf e f fit t cut =
+behind_log : (v : Version) → Laws → (es : List Entry) (n : ℕ) (ls : List PortLog) (l : PortLog) (s : Bool)
+    (h : Histories) (rest line later : List ℕ) (more : List PortLog) → IsWellFormedIn v h →
+    h.entries ≡ es → h.logs ≡ ls ++ l ∷ more → All (IsLog v) more →
+    rest ≡ text.logs v more ++ codes "end\n" → cut_at 10 rest ≡ Some (line, later) →
+    Next v (place_at es n ls (Some l) s) h line later
+behind_log v laws es n ls l s h rest line later [] wf e f fit t cut =
+    inr (ended v es n ls (Some l) s h rest line later wf e f t cut)
+behind_log v laws es n ls l s h rest line later (m ∷ ms) wf e f fit t cut =
     let logs : h.logs ≡ (ls ++ l ∷ []) ++ m ∷ ms = f ∙ sym (append_assoc ls (l ∷ []) (m ∷ ms)) in
-    inl (begins laws es n ls (Some l) s h rest line later m ms e logs
+    inl (begins v laws es n ls (Some l) s h rest line later m ms e logs
     (fresh (ls ++ l ∷ []) m ms (subst (λ (k : List PortLog).
     AllPairs (λ a b. a ≢ b) (map (λ (x : PortLog). x.port) k)) logs wf.ports_differ)) fit t cut)
 
-in_log : Laws → (es : List Entry) (n : ℕ) (ls : List PortLog) (l : PortLog) (s : Bool)
+in_log : (v : Version) → Laws → (es : List Entry) (n : ℕ) (ls : List PortLog) (l : PortLog) (s : Bool)
     (h : Histories) (rest line later : List ℕ) (dids : List Did) (more : List PortLog) →
-    IsWellFormed h → h.entries ≡ es → h.logs ≡ ls ++ whole l dids ∷ more →
-    (s ≡ true → dids ≡ []) → AllPairs (λ (a b : Did). a ≢ Closed) dids → All FitsDid dids →
-    All IsLog more → rest ≡ text.dids dids ++ (text.logs more ++ codes "end\n") →
-    cut_at 10 rest ≡ Some (line, later) → Next (place_at es n ls (Some l) s) h line later
+    IsWellFormedIn v h → h.entries ≡ es → h.logs ≡ ls ++ whole l dids ∷ more →
+    (s ≡ true → dids ≡ []) → AllPairs (λ (a b : Did). a ≢ Closed) dids → All (FitsDid v) dids →
+    All (IsLog v) more → rest ≡ text.dids v dids ++ (text.logs v more ++ codes "end\n") →
+    cut_at 10 rest ≡ Some (line, later) → Next v (place_at es n ls (Some l) s) h line later
 unfolding after place_at
-in_log laws es n ls l s h rest line later [] more wf e f shut closed fit logs_fit t cut =
-    behind_log laws es n ls l s h rest line later more wf e
+in_log v laws es n ls l s h rest line later [] more wf e f shut closed fit logs_fit t cut =
+    behind_log v laws es n ls l s h rest line later more wf e
     (f ∙ ap (λ (ds : List Did). ls ++ record { port = l.port; dids = ds } ∷ more)
     (append-nil l.dids)) logs_fit t cut
-in_log laws es n ls l true h rest line later (d ∷ ds) more wf e f shut closed fit logs_fit t cut =
+in_log v laws es n ls l true h rest line later (d ∷ ds) more wf e f shut closed fit logs_fit t cut =
     absurd (omega (arith, ap length (shut refl)))
-in_log laws es n ls l false h rest line later (d ∷ ds) more wf e f shut closed fit logs_fit t cut =
-    let one = All-head FitsDid d ds fit in
-    let at = split (text.did_line d) (text.dids ds ++ (text.logs more ++ codes "end\n")) rest line
-    later ((line_word laws).one_line (DidLine d) one)
-    (t ∙ append_assoc (text.did d) (text.dids ds) (text.logs more ++ codes "end\n")) cut in
+in_log v laws es n ls l false h rest line later (d ∷ ds) more wf e f shut closed fit logs_fit t cut =
+    let one = All-head (FitsDid v) d ds fit in
+    let at = split (text.did_line v d) (text.dids v ds ++ (text.logs v more ++ codes "end\n")) rest line
+    later ((line_word v laws).one_line (DidLine d) one)
+    (t ∙ append_assoc (text.did v d) (text.dids v ds) (text.logs v more ++ codes "end\n")) cut in
     inl (record {
       said = DidLine d;
       place = place_at es n ls (Some (whole l (d ∷ []))) (is_closing d);
@@ -285,48 +286,50 @@ in_log laws es n ls l false h rest line later (d ∷ ds) more wf e f shut closed
             (sym (append_assoc l.dids (d ∷ []) ds));
         shut = ends_there d ds closed;
         closed_last = pairs_tail (λ (a b : Did). a ≢ Closed) d ds closed;
-        fit = All-tail FitsDid d ds fit;
+        fit = All-tail (FitsDid v) d ds fit;
         logs_fit = logs_fit;
         text_is = at.1;
       };
     })
 
-next_by : Laws → (es : List Entry) (n : ℕ) (ls : List PortLog) (o : Option PortLog) (s : Bool)
-    (h : Histories) (rest line later : List ℕ) → IsWellFormed h → AheadOf es n ls o s h rest →
-    cut_at 10 rest ≡ Some (line, later) → Next (place_at es n ls o s) h line later
-next_by laws es n ls None s h rest line later wf a cut =
-    at_entries laws es n ls s h rest line later a.left wf a.entries a.bare a.above a.ascend a.fit
+next_by : (v : Version) → Laws → (es : List Entry) (n : ℕ) (ls : List PortLog) (o : Option PortLog) (s : Bool)
+    (h : Histories) (rest line later : List ℕ) → IsWellFormedIn v h → AheadOf v es n ls o s h rest →
+    cut_at 10 rest ≡ Some (line, later) → Next v (place_at es n ls o s) h line later
+next_by v laws es n ls None s h rest line later wf a cut =
+    at_entries v laws es n ls s h rest line later a.left wf a.entries a.bare a.above a.ascend a.fit
     a.text_is cut
-next_by laws es n ls (Some l) s h rest line later wf a cut =
-    in_log laws es n ls l s h rest line later a.dids a.more wf a.entries a.logs a.shut
+next_by v laws es n ls (Some l) s h rest line later wf a cut =
+    in_log v laws es n ls l s h rest line later a.dids a.more wf a.entries a.logs a.shut
     a.closed_last a.fit a.logs_fit a.text_is cut
 
 -- behind a place of a journal its next line stands
-pub next : Laws → (p : Place) (h : Histories) (rest line later : List ℕ) → IsWellFormed h →
-    Ahead p h rest → cut_at 10 rest ≡ Some (line, later) → Next p h line later
+pub next : (v : Version) → Laws → (p : Place) (h : Histories) (rest line later : List ℕ) → IsWellFormedIn v h →
+    Ahead v p h rest → cut_at 10 rest ≡ Some (line, later) → Next v p h line later
 unfolding place_at
-next laws p h rest line later wf a cut =
-    next_by laws p.entries p.queue p.logs p.last p.shut h rest line later wf a cut
+next v laws p h rest line later wf a cut =
+    next_by v laws p.entries p.queue p.logs p.last p.shut h rest line later wf a cut
 
 -- ---- places to which only their own text leads
 
 -- each journal that begins as this place's text has what the place holds, and goes on behind it
-abbrev pub IsFront : Place → Type 0
-IsFront p =
-    (h : Histories) (rest : List ℕ) → IsWellFormed h → so_far p ++ rest ≡ text.journal h →
-    Ahead p h rest
+abbrev pub IsFront : Version → Place → Type 0
+IsFront v p =
+    (h : Histories) (rest : List ℕ) → IsWellFormedIn v h → so_far v p ++ rest ≡ text.journal_in v h →
+    Ahead v p h rest
 
-pub front_start : (p : Place) → p ≡ start → IsFront p
-front_start p e = subst IsFront (sym e) (λ h rest wf t. record {
+pub front_start : (v : Version) (p : Place) → p ≡ start → IsFront v p
+front_start v p e = subst (IsFront v) (sym e) (λ h rest wf t. record {
   left = h.entries;
   entries = refl;
   bare = refl;
   above = λ k d less. omega arith;
   ascend = wf.queues_ascend;
   fit = wf.entries;
-  text_is = append_cancel_left (codes "nfq-journal 1\n") rest
-      ((text.entries h.entries ++ text.logs h.logs) ++ codes "end\n") t
-      ∙ append_assoc (text.entries h.entries) (text.logs h.logs) (codes "end\n");
+  text_is = append_cancel_left (text.heading v) rest
+      ((text.entries v h.entries ++ text.logs v h.logs) ++ codes "end\n")
+      (sym (ap (λ z. z ++ rest) (append-nil (text.heading v))) ∙ t
+      ∙ append_assoc (text.heading v) (text.histories v h) (codes "end\n"))
+      ∙ append_assoc (text.entries v h.entries) (text.logs v h.logs) (codes "end\n");
 })
 
 pub line_before : (front line rest : List ℕ) →
@@ -335,15 +338,15 @@ line_before front line rest =
     append_assoc front (line ++ codes "\n") rest
     ∙ ap (λ z. front ++ z) (append_assoc line (10 ∷ []) rest)
 
-pub front_more : Laws → (p q : Place) (line : List ℕ) → IsFront p → cut_at 10 line ≡ None →
-    so_far q ≡ so_far p ++ (line ++ codes "\n") →
-    ((said : Line) → IsLine line said → after p said ≡ Some q) → IsFront q
+pub front_more : (v : Version) → Laws → (p q : Place) (line : List ℕ) → IsFront v p → cut_at 10 line ≡ None →
+    so_far v q ≡ so_far v p ++ (line ++ codes "\n") →
+    ((said : Line) → IsLine v line said → after p said ≡ Some q) → IsFront v q
 unfolding after
-front_more laws p q line front whole more go h rest wf t =
+front_more v laws p q line front whole more go h rest wf t =
     let ahead = front h (line ++ 10 ∷ rest) wf
-    (sym (ap (λ z. z ++ rest) more ∙ line_before (so_far p) line rest) ∙ t) in
-    elim (next laws p h (line ++ 10 ∷ rest) line rest wf ahead (cut_front 10 line rest whole)) [
-      | inl on ↦ subst (λ (r : Place). Ahead r h rest)
+    (sym (ap (λ z. z ++ rest) more ∙ line_before (so_far v p) line rest) ∙ t) in
+    elim (next v laws p h (line ++ 10 ∷ rest) line rest wf ahead (cut_front 10 line rest whole)) [
+      | inl on ↦ subst (λ (r : Place). Ahead v r h rest)
           (same_Some on.place q (sym on.after_is ∙ go on.said on.is)) on.ahead
       | inr end ↦ absurd (none-some q (go End (tt, end.is)))
     ]

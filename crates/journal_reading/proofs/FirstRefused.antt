@@ -18,17 +18,18 @@ use Rattle.journal_reading.specs.declared.line.Line.{Line}
 use Rattle.journal_reading.specs.declared.line.Line.TheVariants.{End}
 use Rattle.journal_reading.specs.declared.stop.Stop.{Stop}
 use Rattle.journal_reading.specs.declared.stop.Stop.TheVariants.{Refused, NoMemory}
+use Rattle.journals.specs.declared.version.Version.{Version}
 use Rattle.journals.specs.Format as text
 use Rattle.journal_reading.specs.Lines.{IsLine}
 use Rattle.journal_reading.specs.Reading.{line_in}
-use Rattle.journals.specs.Formed.{IsWellFormed}
+use Rattle.journals.specs.Formed.{IsWellFormedIn}
 use Rattle.histories.specs.declared.entry.Entry.{Entry}
 use Rattle.journal_reading.specs.JournalFile.{Answers, BeginsJournal, Closes, FollowsText}
 use Rattle.journal_reading.specs.JournalFile.{IsAnswer, IsFirstRefused, IsJournal, IsSound}
 use Rattle.journal_reading.specs.JournalFile.{Place, after, fault_of, histories_of, line_ends, so_far}
 use Rattle.journal_reading.specs.JournalFile.{start}
 use Rattle.journal_reading.proofs.Ahead.{Ahead, AheadOf, IsFront, line_before, next}
-use Rattle.journal_reading.proofs.LineForm.{line_word}
+use Rattle.journal_reading.proofs.LineForm.{line_word, title_whole}
 use Rattle.journal_reading.proofs.Sound.{sound_start, well_formed}
 use Rattle.journal_reading.proofs.Wording.{Laws, chosen, cut_front, cut_some, map_none, map_some, passed}
 use Rattle.journal_reading.proofs.Wording.{word_is}
@@ -86,161 +87,161 @@ uncut_tail (b ∷ bs) rest e =
 
 -- ---- places
 
-pub begins_at : (p : Place) → IsSound p → BeginsJournal (so_far p)
-begins_at p h =
-    (codes "end\n", histories_of p, record { well_formed = well_formed p h; text_is = refl })
+pub begins_at : (v : Version) (p : Place) → IsSound v p → BeginsJournal v (so_far v p)
+begins_at v p h =
+    (codes "end\n", histories_of p, record { well_formed = well_formed v p h; text_is = refl })
 
-pub begins_nothing : BeginsJournal []
-begins_nothing = (
-  text.journal (histories_of start),
+pub begins_nothing : (v : Version) → BeginsJournal v []
+begins_nothing v = (
+  text.journal_in v (histories_of start),
   histories_of start,
   record {
-    well_formed = well_formed start (sound_start start refl);
+    well_formed = well_formed v start (sound_start v start refl);
     text_is = refl;
   },
 )
 
 -- a line that says nothing that may stand at this place
-pub not_begun : Laws → (p : Place) (line : List ℕ) → IsFront p → cut_at 10 line ≡ None →
-    ((said : Line) → IsLine line said → (said ≢ End) × (after p said ≡ None)) →
-    BeginsJournal (so_far p ++ (line ++ codes "\n")) → ⊥
-not_begun laws p line front none refused begun =
+pub not_begun : (v : Version) → Laws → (p : Place) (line : List ℕ) → IsFront v p → cut_at 10 line ≡ None →
+    ((said : Line) → IsLine v line said → (said ≢ End) × (after p said ≡ None)) →
+    BeginsJournal v (so_far v p ++ (line ++ codes "\n")) → ⊥
+not_begun v laws p line front none refused begun =
     let rest = begun.0 in
     let h = begun.1 in
     let j = begun.2 in
     let ahead = front h (line ++ 10 ∷ rest) j.well_formed
-    (sym (line_before (so_far p) line rest) ∙ j.text_is) in
-    elim (next laws p h (line ++ 10 ∷ rest) line rest j.well_formed ahead
+    (sym (line_before (so_far v p) line rest) ∙ j.text_is) in
+    elim (next v laws p h (line ++ 10 ∷ rest) line rest j.well_formed ahead
     (cut_front 10 line rest none)) [
       | inl on ↦ none-some on.place (sym (refused on.said on.is).1 ∙ on.after_is)
       | inr end ↦ (refused End (tt, end.is)).0 refl
     ]
 
 -- behind the end of a journal stands nothing, and it is of what was read
-pub ends_here : Laws → (p : Place) (h : Histories) (rest : List ℕ) → IsFront p →
-    IsJournal (so_far p ++ (codes "end\n" ++ rest)) h → (rest ≡ []) × (h ≡ histories_of p)
+pub ends_here : (v : Version) → Laws → (p : Place) (h : Histories) (rest : List ℕ) → IsFront v p →
+    IsJournal v (so_far v p ++ (codes "end\n" ++ rest)) h → (rest ≡ []) × (h ≡ histories_of p)
 unfolding after
-ends_here laws p h rest front j =
-    elim (next laws p h (codes "end\n" ++ rest) (codes "end") rest j.well_formed
+ends_here v laws p h rest front j =
+    elim (next v laws p h (codes "end\n" ++ rest) (codes "end") rest j.well_formed
     (front h (codes "end\n" ++ rest) j.well_formed j.text_is)
     (cut_front 10 (codes "end") rest refl)) [
       | inl on ↦
           let says_end : Some End ≡ Some on.said =
-          sym ((line_word laws).again End tt) ∙ ap line_in on.is.1
-          ∙ (line_word laws).again on.said on.is.0 in
+          sym ((line_word v laws).again End tt) ∙ ap (line_in v) on.is.1
+          ∙ (line_word v laws).again on.said on.is.0 in
           absurd (none-some on.place (subst (λ (l : Line). after p l ≡ Some on.place)
           (sym (same_Some End on.said says_end)) on.after_is))
       | inr end ↦ (end.nothing, end.all)
     ]
 
-pub tail_of : (p : Place) (h : Histories) (rest : List ℕ) → Ahead p h rest →
+pub tail_of : (v : Version) (p : Place) (h : Histories) (rest : List ℕ) → Ahead v p h rest →
     (front : List ℕ) × (rest ≡ front ++ codes "end\n")
-tail_of p h rest a = tail_by p.entries p.queue p.logs p.last p.shut h rest a
+tail_of v p h rest a = tail_by v p.entries p.queue p.logs p.last p.shut h rest a
   where
-    tail_by : (es : List Entry) (n : ℕ) (ls : List PortLog) (o : Option PortLog) (s : Bool)
-        (h : Histories) (rest : List ℕ) → AheadOf es n ls o s h rest →
+    tail_by : (v : Version) (es : List Entry) (n : ℕ) (ls : List PortLog) (o : Option PortLog) (s : Bool)
+        (h : Histories) (rest : List ℕ) → AheadOf v es n ls o s h rest →
         (front : List ℕ) × (rest ≡ front ++ codes "end\n")
-    tail_by es n ls None s h rest a = (
-      text.entries a.left ++ text.logs h.logs,
+    tail_by v es n ls None s h rest a = (
+      text.entries v a.left ++ text.logs v h.logs,
       a.text_is
-          ∙ sym (append_assoc (text.entries a.left) (text.logs h.logs) (codes "end\n")),
+          ∙ sym (append_assoc (text.entries v a.left) (text.logs v h.logs) (codes "end\n")),
     )
-    tail_by es n ls (Some l) s h rest a = (
-      text.dids a.dids ++ text.logs a.more,
+    tail_by v es n ls (Some l) s h rest a = (
+      text.dids v a.dids ++ text.logs v a.more,
       a.text_is
-          ∙ sym (append_assoc (text.dids a.dids) (text.logs a.more) (codes "end\n")),
+          ∙ sym (append_assoc (text.dids v a.dids) (text.logs v a.more) (codes "end\n")),
     )
 
 -- a text without a further line's end is none
-pub unfinished : (p : Place) (h : Histories) (rest : List ℕ) → IsFront p →
-    cut_at 10 rest ≡ None → IsJournal (so_far p ++ rest) h → ⊥
-unfinished p h rest front none j =
-    let tail = tail_of p h rest (front h rest j.well_formed j.text_is) in
+pub unfinished : (v : Version) (p : Place) (h : Histories) (rest : List ℕ) → IsFront v p →
+    cut_at 10 rest ≡ None → IsJournal v (so_far v p ++ rest) h → ⊥
+unfinished v p h rest front none j =
+    let tail = tail_of v p h rest (front h rest j.well_formed j.text_is) in
     none-some (codes "end", [])
     (sym (uncut_tail tail.0 (codes "end\n") (sym (ap (cut_at 10) tail.1) ∙ none)))
 
 -- ---- answers
 
 -- at a line
-pub stopped : Laws → (stop : Stop) (p q : Place) (bytes rest line later : List ℕ) (n : ℕ) →
-    IsSound p → IsFront p → bytes ≡ so_far p ++ rest → line_ends (so_far p) + 1 ≡ n →
-    cut_at 10 rest ≡ Some (line, later) → FollowsText (Err stop) p q line →
-    IsAnswer (Err (fault_of stop n)) bytes
-stopped laws NoMemory p q bytes rest line later n sound front t count cut refused = tt
-stopped laws Refused p q bytes rest line later n sound front t count cut refused =
+pub stopped : (v : Version) → Laws → (stop : Stop) (p q : Place) (bytes rest line later : List ℕ) (n : ℕ) →
+    IsSound v p → IsFront v p → bytes ≡ so_far v p ++ rest → line_ends (so_far v p) + 1 ≡ n →
+    cut_at 10 rest ≡ Some (line, later) → FollowsText v (Err stop) p q line →
+    IsAnswer v (Err (fault_of stop n)) bytes
+stopped v laws NoMemory p q bytes rest line later n sound front t count cut refused = tt
+stopped v laws Refused p q bytes rest line later n sound front t count cut refused =
     inl (record {
-      front = so_far p;
+      front = so_far v p;
       rest = rest;
       line = line;
       later = later;
       text_is = t;
       line_is = cut;
       count = count;
-      begins = begins_at p sound;
-      refused = not_begun laws p line front (line_is_whole rest (line, later) cut) refused;
+      begins = begins_at v p sound;
+      refused = not_begun v laws p line front (line_is_whole rest (line, later) cut) refused;
     })
 
 -- where the lines end
-pub stopped_early : (p : Place) (bytes rest : List ℕ) (n : ℕ) → IsSound p → IsFront p →
-    bytes ≡ so_far p ++ rest → line_ends (so_far p) + 1 ≡ n → cut_at 10 rest ≡ None →
-    IsFirstRefused bytes n
-stopped_early p bytes rest n sound front t count none =
+pub stopped_early : (v : Version) (p : Place) (bytes rest : List ℕ) (n : ℕ) → IsSound v p → IsFront v p →
+    bytes ≡ so_far v p ++ rest → line_ends (so_far v p) + 1 ≡ n → cut_at 10 rest ≡ None →
+    IsFirstRefused v bytes n
+stopped_early v p bytes rest n sound front t count none =
     inr (record {
-      front = so_far p;
+      front = so_far v p;
       piece = rest;
       text_is = t;
       no_line = none;
       count = count;
-      begins = begins_at p sound;
+      begins = begins_at v p sound;
       unfinished = λ h j.
-          unfinished p h rest front none (subst (λ (z : List ℕ). IsJournal z h) t j);
+          unfinished v p h rest front none (subst (λ (z : List ℕ). IsJournal v z h) t j);
     })
 
 -- behind the end
-behind_end : Laws → (p : Place) (bytes behind : List ℕ) (n : ℕ) → IsSound p → IsFront p →
-    bytes ≡ (so_far p ++ codes "end\n") ++ behind → line_ends (so_far p) + 1 ≡ n → behind ≢ [] →
-    (o : Option (List ℕ × List ℕ)) → cut_at 10 behind ≡ o → IsFirstRefused bytes (n + 1)
-behind_end laws p bytes behind n sound front t count some None cut =
+behind_end : (v : Version) → Laws → (p : Place) (bytes behind : List ℕ) (n : ℕ) → IsSound v p → IsFront v p →
+    bytes ≡ (so_far v p ++ codes "end\n") ++ behind → line_ends (so_far v p) + 1 ≡ n → behind ≢ [] →
+    (o : Option (List ℕ × List ℕ)) → cut_at 10 behind ≡ o → IsFirstRefused v bytes (n + 1)
+behind_end v laws p bytes behind n sound front t count some None cut =
     inr (record {
-      front = so_far p ++ codes "end\n";
+      front = so_far v p ++ codes "end\n";
       piece = behind;
       text_is = t;
       no_line = cut;
-      count = omega (arith, count, one_line_more (so_far p) (codes "end") refl);
+      count = omega (arith, count, one_line_more (so_far v p) (codes "end") refl);
       begins = (
         [],
         histories_of p,
         record {
-          well_formed = well_formed p sound;
-          text_is = append-nil (so_far p ++ codes "end\n");
+          well_formed = well_formed v p sound;
+          text_is = append-nil (so_far v p ++ codes "end\n");
         },
       );
-      unfinished = λ h j. some (ends_here laws p h behind front
-          (subst (λ (z : List ℕ). IsJournal z h)
-          (t ∙ append_assoc (so_far p) (codes "end\n") behind) j)).0;
+      unfinished = λ h j. some (ends_here v laws p h behind front
+          (subst (λ (z : List ℕ). IsJournal v z h)
+          (t ∙ append_assoc (so_far v p) (codes "end\n") behind) j)).0;
     })
-behind_end laws p bytes behind n sound front t count some (Some parts) cut =
+behind_end v laws p bytes behind n sound front t count some (Some parts) cut =
     inl (record {
-      front = so_far p ++ codes "end\n";
+      front = so_far v p ++ codes "end\n";
       rest = behind;
       line = parts.0;
       later = parts.1;
       text_is = t;
       line_is = cut;
-      count = omega (arith, count, one_line_more (so_far p) (codes "end") refl);
+      count = omega (arith, count, one_line_more (so_far v p) (codes "end") refl);
       begins = (
         [],
         histories_of p,
         record {
-          well_formed = well_formed p sound;
-          text_is = append-nil (so_far p ++ codes "end\n");
+          well_formed = well_formed v p sound;
+          text_is = append-nil (so_far v p ++ codes "end\n");
         },
       );
       refused = λ begun.
-          let none = (ends_here laws p begun.1 ((parts.0 ++ 10 ∷ []) ++ begun.0) front
-          (subst (λ (z : List ℕ). IsJournal z begun.1)
-          (append_assoc (so_far p ++ codes "end\n") (parts.0 ++ 10 ∷ []) begun.0
-          ∙ append_assoc (so_far p) (codes "end\n") ((parts.0 ++ 10 ∷ []) ++ begun.0)) begun.2)).0
+          let none = (ends_here v laws p begun.1 ((parts.0 ++ 10 ∷ []) ++ begun.0) front
+          (subst (λ (z : List ℕ). IsJournal v z begun.1)
+          (append_assoc (so_far v p ++ codes "end\n") (parts.0 ++ 10 ∷ []) begun.0
+          ∙ append_assoc (so_far v p) (codes "end\n") ((parts.0 ++ 10 ∷ []) ++ begun.0)) begun.2)).0
           in
           not_nothing parts.0 begun.0 none;
     })
@@ -249,27 +250,34 @@ behind_end laws p bytes behind n sound front t count some (Some parts) cut =
     not_nothing [] rest e = omega (arith, ap length e)
     not_nothing (b ∷ bs) rest e = omega (arith, ap length e)
 
-pub closed_by : Laws → (r : Result Histories JournalFault) (p : Place) (bytes behind : List ℕ)
-    (n : ℕ) → IsSound p → IsFront p → bytes ≡ (so_far p ++ codes "end\n") ++ behind →
-    line_ends (so_far p) + 1 ≡ n → Closes r p behind n → IsAnswer r bytes
-closed_by laws (Ok h) p bytes behind n sound front t count e = (
+pub closed_by : (v : Version) → Laws → (r : Result Histories JournalFault) (p : Place) (bytes behind : List ℕ)
+    (n : ℕ) → IsSound v p → IsFront v p → bytes ≡ (so_far v p ++ codes "end\n") ++ behind →
+    line_ends (so_far v p) + 1 ≡ n → Closes r p behind n → IsAnswer v r bytes
+closed_by v laws (Ok h) p bytes behind n sound front t count e = (
   record {
-    well_formed = subst IsWellFormed (sym e.1) (well_formed p sound);
-    text_is = t ∙ ap (λ z. (so_far p ++ codes "end\n") ++ z) e.0
-        ∙ append-nil (so_far p ++ codes "end\n")
-        ∙ ap text.journal (sym e.1);
+    well_formed = subst (IsWellFormedIn v) (sym e.1) (well_formed v p sound);
+    text_is = t ∙ ap (λ z. (so_far v p ++ codes "end\n") ++ z) e.0
+        ∙ append-nil (so_far v p ++ codes "end\n")
+        ∙ ap (text.journal_in v) (sym e.1);
   },
-  λ g j. e.1 ∙ sym (ends_here laws p g behind front (subst (λ (z : List ℕ). IsJournal z g)
-      (t ∙ append_assoc (so_far p) (codes "end\n") behind) j)).1,
+  λ g j. e.1 ∙ sym (ends_here v laws p g behind front (subst (λ (z : List ℕ). IsJournal v z g)
+      (t ∙ append_assoc (so_far v p) (codes "end\n") behind) j)).1,
 )
-closed_by laws (Err (Bad line)) p bytes behind n sound front t count e =
-    subst (λ (m : ℕ). IsFirstRefused bytes m) (sym e.1)
-    (behind_end laws p bytes behind n sound front t count e.0 (cut_at 10 behind) refl)
-closed_by laws (Err fault.NoMemory) p bytes behind n sound front t count e = tt
+closed_by v laws (Err (Bad line)) p bytes behind n sound front t count e =
+    subst (λ (m : ℕ). IsFirstRefused v bytes m) (sym e.1)
+    (behind_end v laws p bytes behind n sound front t count e.0 (cut_at 10 behind) refl)
+closed_by v laws (Err fault.NoMemory) p bytes behind n sound front t count e = tt
 
-pub no_heading : (bytes line later : List ℕ) → cut_at 10 bytes ≡ Some (line, later) →
-    bytes_eq line (codes "nfq-journal 1") ≡ false → IsFirstRefused bytes 1
-no_heading bytes line later cut other =
+first_line : (v : Version) (h : Histories) →
+    cut_at 10 (text.journal_in v h) ≡ Some (text.title v, text.histories v h ++ codes "end\n")
+first_line v h =
+    ap (cut_at 10) (append_assoc (text.heading v) (text.histories v h) (codes "end\n")
+    ∙ append_assoc (text.title v) (10 ∷ []) (text.histories v h ++ codes "end\n"))
+    ∙ cut_front 10 (text.title v) (text.histories v h ++ codes "end\n") (title_whole v)
+
+pub no_heading : (v : Version) (bytes line later : List ℕ) → cut_at 10 bytes ≡ Some (line, later) →
+    bytes_eq line (text.title v) ≡ false → IsFirstRefused v bytes 1
+no_heading v bytes line later cut other =
     inl (record {
       front = [];
       rest = bytes;
@@ -278,36 +286,36 @@ no_heading bytes line later cut other =
       text_is = refl;
       line_is = cut;
       count = refl;
-      begins = begins_nothing;
+      begins = begins_nothing v;
       refused = λ begun.
           let first : Some (line, begun.0)
-          ≡ Some (codes "nfq-journal 1", text.histories begun.1 ++ codes "end\n") =
+          ≡ Some (text.title v, text.histories v begun.1 ++ codes "end\n") =
           sym (cut_front 10 line begun.0 (line_is_whole bytes (line, later) cut))
           ∙ sym (ap (cut_at 10) (append_assoc line (10 ∷ []) begun.0))
-          ∙ ap (cut_at 10) begun.2.text_is in
-          let same : line ≡ codes "nfq-journal 1" =
+          ∙ ap (cut_at 10) begun.2.text_is ∙ first_line v begun.1 in
+          let same : line ≡ text.title v =
           ap (λ (x : List ℕ × List ℕ). x.0) (same_Some _ _ first) in
-          false≢true (sym other ∙ word_is line (codes "nfq-journal 1") same);
+          false≢true (sym other ∙ word_is line (text.title v) same);
     })
 
-pub no_line : (bytes : List ℕ) → cut_at 10 bytes ≡ None → IsFirstRefused bytes 1
-no_line bytes none =
+pub no_line : (v : Version) (bytes : List ℕ) → cut_at 10 bytes ≡ None → IsFirstRefused v bytes 1
+no_line v bytes none =
     inr (record {
       front = [];
       piece = bytes;
       text_is = refl;
       no_line = none;
       count = refl;
-      begins = begins_nothing;
-      unfinished = λ h j. none-some (codes "nfq-journal 1", text.histories h ++ codes "end\n")
-          (sym none ∙ ap (cut_at 10) j.text_is);
+      begins = begins_nothing v;
+      unfinished = λ h j. none-some (text.title v, text.histories v h ++ codes "end\n")
+          (sym none ∙ ap (cut_at 10) j.text_is ∙ first_line v h);
     })
 
 -- ---- what an answer says
 
-pub never_both : (text : List ℕ) (h : Histories) (line : ℕ) → IsJournal text h →
-    IsFirstRefused text line → ⊥
-never_both text h n j (inl bad) =
+pub never_both : (v : Version) (text : List ℕ) (h : Histories) (line : ℕ) → IsJournal v text h →
+    IsFirstRefused v text line → ⊥
+never_both v text h n j (inl bad) =
     bad.refused (
       bad.later,
       h,
@@ -319,19 +327,19 @@ never_both text h n j (inl bad) =
             ∙ sym bad.text_is ∙ j.text_is;
       },
     )
-never_both text h n j (inr early) = early.unfinished h j
+never_both v text h n j (inr early) = early.unfinished h j
 
-pub found_by : (r : Result Histories JournalFault) (text : List ℕ) → IsAnswer r text →
-    IfOk r (IsJournal text)
-found_by (Ok h) text a = a.0
-found_by (Err e) text a = tt
+pub found_by : (v : Version) (r : Result Histories JournalFault) (text : List ℕ) → IsAnswer v r text →
+    IfOk r (IsJournal v text)
+found_by v (Ok h) text a = a.0
+found_by v (Err e) text a = tt
 
-pub only_by : (r : Result Histories JournalFault) (text : List ℕ) → IsAnswer r text →
-    (h : Histories) → IsJournal text h → Answers r h
-only_by (Ok g) text a h j = a.1 h j
-only_by (Err (Bad line)) text a h j = absurd (never_both text h line j a)
-only_by (Err fault.NoMemory) text a h j = tt
+pub only_by : (v : Version) (r : Result Histories JournalFault) (text : List ℕ) → IsAnswer v r text →
+    (h : Histories) → IsJournal v text h → Answers r h
+only_by v (Ok g) text a h j = a.1 h j
+only_by v (Err (Bad line)) text a h j = absurd (never_both v text h line j a)
+only_by v (Err fault.NoMemory) text a h j = tt
 
-pub refused_by : (r : Result Histories JournalFault) (text : List ℕ) → IsAnswer r text →
-    (line : ℕ) → r ≡ Err (Bad line) → IsFirstRefused text line
-refused_by r text a line e = subst (λ (s : Result Histories JournalFault). IsAnswer s text) e a
+pub refused_by : (v : Version) (r : Result Histories JournalFault) (text : List ℕ) → IsAnswer v r text →
+    (line : ℕ) → r ≡ Err (Bad line) → IsFirstRefused v text line
+refused_by v r text a line e = subst (λ (s : Result Histories JournalFault). IsAnswer v s text) e a

@@ -11,6 +11,7 @@ use Rattle.journal_reading.specs.declared.stop.Stop.{Stop}
 use Rattle.journal_reading.specs.declared.stop.Stop.TheVariants.{Refused, NoMemory}
 use Rattle.journal_reading.specs.JournalFile.{Follows, FollowsText, HasRead, IsSound, Moves, Place}
 use Rattle.journal_reading.specs.JournalFile.{after, is_end, so_far}
+use Rattle.journals.specs.declared.version.Version.{Version}
 use Rattle.journal_reading.specs.Lines.{FitsLine, IsLine, line_text}
 use Rattle.journal_reading.proofs.Growth.{grows}
 use Rattle.journal_reading.proofs.Sound.{stays_sound}
@@ -32,20 +33,20 @@ followed NoMemory p q l e moves = tt
 
 -- ---- the same of a line's text
 
-pub sound_by : (r : Result Bool Stop) (p q : Place) (l : Line) → IsSound p → FitsLine l →
-    Follows r p q l → OnOk r (IsSound q)
-sound_by (Ok true) p q l sound fits f = subst IsSound (sym f.1) sound
-sound_by (Ok false) p q l sound fits f = stays_sound p q l sound fits f
-sound_by (Err stop) p q l sound fits f = tt
+pub sound_by : (v : Version) (r : Result Bool Stop) (p q : Place) (l : Line) → IsSound v p → FitsLine v l →
+    Follows r p q l → OnOk r (IsSound v q)
+sound_by v (Ok true) p q l sound fits f = subst (IsSound v) (sym f.1) sound
+sound_by v (Ok false) p q l sound fits f = stays_sound v p q l sound fits f
+sound_by v (Err stop) p q l sound fits f = tt
 
-pub more_by : (r : Result Bool Stop) (p q : Place) (l : Line) (line : List ℕ) → IsSound p →
-    line ≡ line_text l → Follows r p q l → IfOk r (λ ended. HasRead ended p q line)
-more_by (Ok true) p q l line sound e f = (e ∙ ap line_text f.0, f.1)
-more_by (Ok false) p q l line sound e f =
-    grows p q l sound.bare f ∙ ap (λ z. so_far p ++ (z ++ codes "\n")) (sym e)
-more_by (Err stop) p q l line sound e f = tt
+pub more_by : (v : Version) (r : Result Bool Stop) (p q : Place) (l : Line) (line : List ℕ) → IsSound v p →
+    line ≡ line_text v l → Follows r p q l → IfOk r (λ ended. HasRead v ended p q line)
+more_by v (Ok true) p q l line sound e f = (e ∙ ap (line_text v) f.0, f.1)
+more_by v (Ok false) p q l line sound e f =
+    grows v p q l sound.bare f ∙ ap (λ z. so_far v p ++ (z ++ codes "\n")) (sym e)
+more_by v (Err stop) p q l line sound e f = tt
 
-pub text_by : (r : Result Bool Stop) (p q : Place) (l : Line) (line : List ℕ) →
-    ((said : Line) → IsLine line said → said ≡ l) → Follows r p q l → FollowsText r p q line
-text_by r p q l line one f =
+pub text_by : (v : Version) (r : Result Bool Stop) (p q : Place) (l : Line) (line : List ℕ) →
+    ((said : Line) → IsLine v line said → said ≡ l) → Follows r p q l → FollowsText v r p q line
+text_by v r p q l line one f =
     λ said is. subst (λ (m : Line). Follows r p q m) (sym (one said is)) f

@@ -2,7 +2,7 @@
 use Rattle.std.proofs.Common.{◌≡◌, ℕ, Bool, eqb, List}
 use Rattle.std.proofs.Common.{[], ◌∷◌, ◌++◌, Option, Some, None, ◌∙◌, refl, sym, ap, subst}
 use Rattle.std.proofs.Common.{append_assoc, decimal, eq-eqb}
-use Rattle.std.specs.Prelude.{codes, option_map, IfSome}
+use Rattle.std.specs.Prelude.{bytes_eq, codes, option_map, IfSome}
 use Rattle.std.proofs.lemmas.Bool.{eqb-true}
 use Rattle.std.proofs.lemmas.Option.{none-some, same_Some, cond_some}
 use Rattle.text_lines.specs.Words.{◌>>=◌, cut_at}
@@ -20,6 +20,8 @@ use Rattle.histories.specs.declared.log.AskWords.{AskWords}
 use Rattle.journal_reading.specs.declared.line.Line.{Line}
 use Rattle.journal_reading.specs.declared.line.Line.TheVariants.{Heading, EntryLine, PortLine, DidLine}
 use Rattle.journal_reading.specs.declared.line.Line.TheVariants.{End}
+use Rattle.journals.specs.declared.version.Version.{Version}
+use Rattle.journals.specs.declared.version.Version.TheVariants.{First, Second}
 use Rattle.journals.specs.Format as text
 use Rattle.journal_reading.specs.Lines.{FitsLine, line_text}
 use Rattle.journals.specs.Formed.{FitsAsk, FitsDid, FitsOutcome, FitsRequest}
@@ -30,6 +32,7 @@ use Rattle.journal_reading.specs.Reading.{both, card_in, device_down_in, field, 
 use Rattle.journal_reading.specs.Reading.{line_in, outcome_in, port_closed_in, received_in, request_in}
 use Rattle.journal_reading.specs.Reading.{said_in, sent_in}
 use Rattle.journal_reading.proofs.Wording.{Laws, bind_some, cut_some, map_some, taken, uncut_append}
+use Rattle.journal_reading.proofs.Wording.{word_is}
 use Rattle.journal_reading.proofs.Formats.{Any, BeforeEquals, IsField, IsWord, behind_some, both_is}
 use Rattle.journal_reading.proofs.Formats.{last_is}
 use Rattle.journal_reading.proofs.Spelt.{number_field, number_word, outcome_word, pick, said_text}
@@ -44,21 +47,21 @@ use Rattle.journal_reading.proofs.Lines.{spaced_request, told_fits}
 abbrev Arrival : Type 0
 Arrival = (ℕ × Told) × Outcome
 
-abbrev arrival_read : List ℕ → Option Arrival
-arrival_read = last (both (field half) card_in) outcome_in
+abbrev arrival_read : Version → List ℕ → Option Arrival
+arrival_read v = last (both (field half) (card_in v)) outcome_in
 
-abbrev arrival_text : Arrival → List ℕ
-arrival_text x = (number_text (x.0).0 ++ card_text (x.0).1) ++ text.outcome x.1
+abbrev arrival_text : Version → Arrival → List ℕ
+arrival_text v x = (number_text (x.0).0 ++ card_text v (x.0).1) ++ text.outcome x.1
 
-abbrev FitsArrival : Arrival → Type 0
-FitsArrival x = (IsHalf (x.0).0 × FitsTold (x.0).1) × FitsOutcome x.1
+abbrev FitsArrival : Version → Arrival → Type 0
+FitsArrival v x = (IsHalf (x.0).0 × FitsTold v (x.0).1) × FitsOutcome x.1
 
-arrival_word : Laws → IsWord arrival_read arrival_text FitsArrival
-arrival_word laws =
-    last_is (both (field half) card_in) outcome_in (λ (p : ℕ × Told). number_text p.0
-    ++ card_text p.1) text.outcome (λ (p : ℕ × Told). IsHalf p.0 × FitsTold p.1) FitsOutcome Any
-    (both_is (field half) card_in number_text card_text IsHalf FitsTold Any Any (half_field laws)
-    (card_field laws) (λ y rest f a. tt)) (outcome_word laws) (λ y f. tt)
+arrival_word : (v : Version) → Laws → IsWord (arrival_read v) (arrival_text v) (FitsArrival v)
+arrival_word v laws =
+    last_is (both (field half) (card_in v)) outcome_in (λ (p : ℕ × Told). number_text p.0
+    ++ card_text v p.1) text.outcome (λ (p : ℕ × Told). IsHalf p.0 × FitsTold v p.1) FitsOutcome Any
+    (both_is (field half) (card_in v) number_text (card_text v) IsHalf (FitsTold v) Any Any
+    (half_field laws) (card_field v laws) (λ y rest f a. tt)) (outcome_word laws) (λ y f. tt)
 
 -- ---- requests
 
@@ -108,22 +111,22 @@ answered_word laws = record {
       ((counts_word laws).one_line x fits);
 }
 
-abbrev asking_read : List ℕ → Option Asking
-asking_read = last (both caller_read request_in) answered_in
+abbrev asking_read : Version → List ℕ → Option Asking
+asking_read v = last (both caller_read (request_in v)) answered_in
 
-abbrev asking_text : Asking → List ℕ
-asking_text x = (caller_text (x.0).0 ++ request_text (x.0).1) ++ answered_text x.1
+abbrev asking_text : Version → Asking → List ℕ
+asking_text v x = (caller_text (x.0).0 ++ request_text v (x.0).1) ++ answered_text x.1
 
-abbrev FitsAsking : Asking → Type 0
-FitsAsking x = (FitsCaller (x.0).0 × FitsRequest (x.0).1) × (IsHalf (x.1).0 × IsWide (x.1).1)
+abbrev FitsAsking : Version → Asking → Type 0
+FitsAsking v x = (FitsCaller (x.0).0 × FitsRequest v (x.0).1) × (IsHalf (x.1).0 × IsWide (x.1).1)
 
-asking_word : Laws → IsWord asking_read asking_text FitsAsking
-asking_word laws =
-    last_is (both caller_read request_in) answered_in (λ (p : Caller × Request). caller_text p.0
-    ++ request_text p.1) answered_text (λ (p : Caller × Request). FitsCaller p.0
-    × FitsRequest p.1) (λ (p : Pair). IsHalf p.0 × IsWide p.1) BeforeEquals
-    (both_is caller_read request_in caller_text request_text FitsCaller FitsRequest Any BeforeEquals
-    (caller_field laws) (request_field laws) (λ y rest f a. tt)) (answered_word laws)
+asking_word : (v : Version) → Laws → IsWord (asking_read v) (asking_text v) (FitsAsking v)
+asking_word v laws =
+    last_is (both caller_read (request_in v)) answered_in (λ (p : Caller × Request). caller_text p.0
+    ++ request_text v p.1) answered_text (λ (p : Caller × Request). FitsCaller p.0
+    × FitsRequest v p.1) (λ (p : Pair). IsHalf p.0 × IsWide p.1) BeforeEquals
+    (both_is caller_read (request_in v) caller_text (request_text v) FitsCaller (FitsRequest v) Any
+    BeforeEquals (caller_field laws) (request_field v laws) (λ y rest f a. tt)) (answered_word laws)
     (λ y f. (number_text y.0 ++ decimal y.1, refl))
 
 -- ---- closed ports, devices, notices
@@ -152,35 +155,35 @@ triple_word laws =
 abbrev Message : Type 0
 Message = (ℕ × AskWords) × Option ℕ
 
-abbrev message_read : List ℕ → Option Message
-message_read = last (both (field digits.decimal) asked_in) said_in
+abbrev message_read : Version → List ℕ → Option Message
+message_read v = last (both (field digits.decimal) (asked_in v)) said_in
 
-abbrev message_text : Message → List ℕ
-message_text x = (number_text (x.0).0 ++ asked_text (x.0).1) ++ said_text x.1
+abbrev message_text : Version → Message → List ℕ
+message_text v x = (number_text (x.0).0 ++ asked_text v (x.0).1) ++ said_text x.1
 
-abbrev FitsMessage : Message → Type 0
-FitsMessage x = (IsWide (x.0).0 × FitsAsk (x.0).1) × IfSome x.1 IsHalf
+abbrev FitsMessage : Version → Message → Type 0
+FitsMessage v x = (IsWide (x.0).0 × FitsAsk v (x.0).1) × IfSome x.1 IsHalf
 
 said_before : (o : Option ℕ) → BeforeEquals (said_text o)
 said_before None = (45 ∷ [], refl)
 said_before (Some n) = (decimal n, refl)
 
-message_word : Laws → IsWord message_read message_text FitsMessage
-message_word laws =
-    last_is (both (field digits.decimal) asked_in) said_in (λ (p : ℕ × AskWords). number_text p.0
-    ++ asked_text p.1) said_text (λ (p : ℕ × AskWords). IsWide p.0 × FitsAsk p.1)
-    (λ o. IfSome o IsHalf) BeforeEquals
-    (both_is (field digits.decimal) asked_in number_text asked_text IsWide FitsAsk Any BeforeEquals
-    (number_field laws) (asked_field laws) (λ y rest f a. tt)) (said_word laws)
+message_word : (v : Version) → Laws → IsWord (message_read v) (message_text v) (FitsMessage v)
+message_word v laws =
+    last_is (both (field digits.decimal) (asked_in v)) said_in (λ (p : ℕ × AskWords).
+    number_text p.0 ++ asked_text v p.1) said_text (λ (p : ℕ × AskWords). IsWide p.0
+    × FitsAsk v p.1) (λ o. IfSome o IsHalf) BeforeEquals
+    (both_is (field digits.decimal) (asked_in v) number_text (asked_text v) IsWide (FitsAsk v) Any
+    BeforeEquals (number_field laws) (asked_field v laws) (λ y rest f a. tt)) (said_word laws)
     (λ y f. said_before y)
 
 -- ---- the lines as they are written
 
-arrival_told : (q : ℕ) (c : Card) (b r : Bool) (o : Outcome) →
-    text.event q (Arrive c b r) ++ text.reply (Arrived o)
-    ≡ codes "A " ++ arrival_text ((q, (c, (b, r))), o)
-arrival_told q c b r o =
-    ap (λ w. (codes "A " ++ (decimal q ++ 32 ∷ []) ++ w) ++ text.outcome o) (card_told c b r)
+arrival_told : (v : Version) (q : ℕ) (c : Card) (b r : Bool) (o : Outcome) →
+    text.event v q (Arrive c b r) ++ text.reply (Arrived o)
+    ≡ codes "A " ++ arrival_text v ((q, (c, (b, r))), o)
+arrival_told v q c b r o =
+    ap (λ w. (codes "A " ++ (decimal q ++ 32 ∷ []) ++ w) ++ text.outcome o) (card_told v c b r)
 
 asking_regroup : (q p c r s z : List ℕ) → r ++ 32 ∷ z ≡ s ++ z →
     ((((((q ++ 32 ∷ []) ++ p) ++ 32 ∷ []) ++ c) ++ 32 ∷ []) ++ r) ++ 32 ∷ z
@@ -192,12 +195,12 @@ asking_regroup q p c r s z spaced =
     append_assoc h r (32 ∷ z) ∙ ap (λ w. h ++ w) spaced ∙ sym (append_assoc h s z)
     ∙ ap (λ w. (w ++ s) ++ z) same
 
-asking_told : (q p c : ℕ) (r : Request) (errno count : ℕ) →
-    text.event q (Ask p c r) ++ text.reply (Answer errno count)
-    ≡ codes "M " ++ asking_text (((q, (p, c)), r), (errno, count))
-asking_told q p c r errno count =
-    ap (λ w. codes "M " ++ w) (asking_regroup (decimal q) (decimal p) (decimal c) (text.request r)
-    (request_text r) (answered_text (errno, count)) (spaced_request r
+asking_told : (v : Version) (q p c : ℕ) (r : Request) (errno count : ℕ) →
+    text.event v q (Ask p c r) ++ text.reply (Answer errno count)
+    ≡ codes "M " ++ asking_text v (((q, (p, c)), r), (errno, count))
+asking_told v q p c r errno count =
+    ap (λ w. codes "M " ++ w) (asking_regroup (decimal q) (decimal p) (decimal c) (text.request v r)
+    (request_text v r) (answered_text (errno, count)) (spaced_request v r
     (answered_text (errno, count))))
 
 triple_regroup : (q p t : List ℕ) → ((q ++ 32 ∷ []) ++ p) ++ 32 ∷ t
@@ -208,283 +211,288 @@ received_regroup : (q p t : List ℕ) → (((q ++ 32 ∷ []) ++ p) ++ 32 ∷ [])
     ≡ ((q ++ 32 ∷ []) ++ (p ++ 32 ∷ [])) ++ t
 received_regroup q p t = simp append_assoc
 
-message_told : (c : ℕ) (a : AskWords) (o : Option ℕ) →
-    text.did_line (Sent c a o) ≡ codes "S " ++ message_text ((c, a), o)
-message_told c a None =
-    ap (λ w. codes "S " ++ w) (append_assoc (number_text c) (text.ask a) (32 ∷ codes "= -")
-    ∙ ap (λ w. number_text c ++ w) (spaced_ask a (codes "= -"))
-    ∙ sym (append_assoc (number_text c) (asked_text a) (codes "= -")))
-message_told c a (Some n) =
-    ap (λ w. codes "S " ++ w) (append_assoc (number_text c) (text.ask a)
+message_told : (v : Version) (c : ℕ) (a : AskWords) (o : Option ℕ) →
+    text.did_line v (Sent c a o) ≡ codes "S " ++ message_text v ((c, a), o)
+message_told v c a None =
+    ap (λ w. codes "S " ++ w) (append_assoc (number_text c) (text.ask v a) (32 ∷ codes "= -")
+    ∙ ap (λ w. number_text c ++ w) (spaced_ask v a (codes "= -"))
+    ∙ sym (append_assoc (number_text c) (asked_text v a) (codes "= -")))
+message_told v c a (Some n) =
+    ap (λ w. codes "S " ++ w) (append_assoc (number_text c) (text.ask v a)
     (32 ∷ (codes "= " ++ decimal n))
-    ∙ ap (λ w. number_text c ++ w) (spaced_ask a (codes "= " ++ decimal n))
-    ∙ sym (append_assoc (number_text c) (asked_text a) (codes "= " ++ decimal n)))
+    ∙ ap (λ w. number_text c ++ w) (spaced_ask v a (codes "= " ++ decimal n))
+    ∙ sym (append_assoc (number_text c) (asked_text v a) (codes "= " ++ decimal n)))
 
 -- ---- and as they are read
 
-ask_again : Laws → (q p c : ℕ) (r : Request) (errno count : ℕ) →
-    FitsAsking (((q, (p, c)), r), (errno, count)) → queue_of r ≡ q →
-    ask_in (asking_text (((q, (p, c)), r), (errno, count)))
+ask_again : (v : Version) → Laws → (q p c : ℕ) (r : Request) (errno count : ℕ) →
+    FitsAsking v (((q, (p, c)), r), (errno, count)) → queue_of r ≡ q →
+    ask_in v (asking_text v (((q, (p, c)), r), (errno, count)))
     ≡ Some (record { queue = q; event = Ask p c r; reply = Answer errno count })
 unfolding ask_in
-ask_again laws q p c r errno count fits same =
+ask_again v laws q p c r errno count fits same =
     ap (λ (o : Option Asking). o >>= ask_made)
-    ((asking_word laws).again (((q, (p, c)), r), (errno, count)) fits)
+    ((asking_word v laws).again (((q, (p, c)), r), (errno, count)) fits)
     ∙ taken (eqb (queue_of r) q) _ None (eq-eqb (queue_of r) q same)
 
-entry_again : Laws → (q : ℕ) (event : Event) (reply : Reply) → IsHalf q → IsEventAt q event →
-    IsReplyTo event reply → line_in (text.event q event ++ text.reply reply)
+entry_again : (v : Version) → Laws → (q : ℕ) (event : Event) (reply : Reply) → IsHalf q → IsEventAt v q event →
+    IsReplyTo event reply → line_in v (text.event v q event ++ text.reply reply)
     ≡ Some (EntryLine (record { queue = q; event = event; reply = reply }))
 unfolding line_in line_by arrival_in port_closed_in device_down_in
-entry_again laws q (Arrive c b r) (Arrived o) qf ef rf =
-    ap line_in (arrival_told q c b r o)
+entry_again v laws q (Arrive c b r) (Arrived o) qf ef rf =
+    ap (line_in v) (arrival_told v q c b r o)
     ∙ ap (λ (x : Option Arrival). option_map EntryLine (option_map (λ (y : Arrival). record {
       queue = (y.0).0;
       event = Arrive ((y.0).1).0 (((y.0).1).1).0 (((y.0).1).1).1;
       reply = Arrived y.1;
-    }) x)) ((arrival_word laws).again ((q, (c, (b, r))), o)
-    ((qf, fits_told (c, (b, r)) ef), rf))
-entry_again laws q (Arrive c b r) (Answer e t) qf ef rf = absurd rf
-entry_again laws q (Arrive c b r) (Flushed t) qf ef rf = absurd rf
-entry_again laws q (Ask p c r) (Arrived o) qf ef rf = absurd rf
-entry_again laws q (Ask p c r) (Answer e t) qf ef rf =
-    ap line_in (asking_told q p c r e t)
-    ∙ ap (option_map EntryLine) (ask_again laws q p c r e t
+    }) x)) ((arrival_word v laws).again ((q, (c, (b, r))), o)
+    ((qf, fits_told v (c, (b, r)) ef), rf))
+entry_again v laws q (Arrive c b r) (Answer e t) qf ef rf = absurd rf
+entry_again v laws q (Arrive c b r) (Flushed t) qf ef rf = absurd rf
+entry_again v laws q (Ask p c r) (Arrived o) qf ef rf = absurd rf
+entry_again v laws q (Ask p c r) (Answer e t) qf ef rf =
+    ap (line_in v) (asking_told v q p c r e t)
+    ∙ ap (option_map EntryLine) (ask_again v laws q p c r e t
     (((qf, (ef.0, ef.1)), ef.2), (rf.0, rf.1)) ef.3)
-entry_again laws q (Ask p c r) (Flushed t) qf ef rf = absurd rf
-entry_again laws q (PortClosed p) (Arrived o) qf ef rf = absurd rf
-entry_again laws q (PortClosed p) (Answer e t) qf ef rf = absurd rf
-entry_again laws q (PortClosed p) (Flushed t) qf ef rf =
-    ap (λ w. line_in (codes "C " ++ w)) (triple_regroup (decimal q) (decimal p) (decimal t))
+entry_again v laws q (Ask p c r) (Flushed t) qf ef rf = absurd rf
+entry_again v laws q (PortClosed p) (Arrived o) qf ef rf = absurd rf
+entry_again v laws q (PortClosed p) (Answer e t) qf ef rf = absurd rf
+entry_again v laws q (PortClosed p) (Flushed t) qf ef rf =
+    ap (λ w. line_in v (codes "C " ++ w)) (triple_regroup (decimal q) (decimal p) (decimal t))
     ∙ ap (λ (x : Option Triple). option_map EntryLine (option_map (λ (y : Triple). record {
       queue = (y.0).0;
       event = PortClosed (y.0).1;
       reply = Flushed y.1;
     }) x)) ((triple_word laws).again ((q, p), t) ((qf, ef), rf))
-entry_again laws q (DeviceDown p) (Arrived o) qf ef rf = absurd rf
-entry_again laws q (DeviceDown p) (Answer e t) qf ef rf = absurd rf
-entry_again laws q (DeviceDown p) (Flushed t) qf ef rf =
-    ap (λ w. line_in (codes "D " ++ w)) (triple_regroup (decimal q) (decimal p) (decimal t))
+entry_again v laws q (DeviceDown p) (Arrived o) qf ef rf = absurd rf
+entry_again v laws q (DeviceDown p) (Answer e t) qf ef rf = absurd rf
+entry_again v laws q (DeviceDown p) (Flushed t) qf ef rf =
+    ap (λ w. line_in v (codes "D " ++ w)) (triple_regroup (decimal q) (decimal p) (decimal t))
     ∙ ap (λ (x : Option Triple). option_map EntryLine (option_map (λ (y : Triple). record {
       queue = (y.0).0;
       event = DeviceDown (y.0).1;
       reply = Flushed y.1;
     }) x)) ((triple_word laws).again ((q, p), t) ((qf, ef), rf))
 
-did_again : Laws → (d : Did) → FitsDid d → line_in (text.did_line d) ≡ Some (DidLine d)
+did_again : (v : Version) → Laws → (d : Did) → FitsDid v d → line_in v (text.did_line v d) ≡ Some (DidLine d)
 unfolding line_in line_by received_in sent_in
-did_again laws (Received q n v) fits =
-    ap (λ w. line_in (codes "R " ++ w)) (received_regroup (decimal q) (decimal n) (decimal v))
+did_again v laws (Received q n t) fits =
+    ap (λ w. line_in v (codes "R " ++ w)) (received_regroup (decimal q) (decimal n) (decimal t))
     ∙ ap (λ (x : Option Triple). option_map DidLine (option_map (λ (y : Triple).
-    Received (y.0).0 (y.0).1 y.1) x)) ((triple_word laws).again ((q, n), v)
+    Received (y.0).0 (y.0).1 y.1) x)) ((triple_word laws).again ((q, n), t)
     ((fits.0, fits.1), fits.2))
-did_again laws (Sent c a o) fits =
-    ap line_in (message_told c a o)
+did_again v laws (Sent c a o) fits =
+    ap (line_in v) (message_told v c a o)
     ∙ ap (λ (x : Option Message). option_map DidLine (option_map (λ (y : Message).
-    Sent (y.0).0 (y.0).1 y.1) x)) ((message_word laws).again ((c, a), o)
+    Sent (y.0).0 (y.0).1 y.1) x)) ((message_word v laws).again ((c, a), o)
     ((fits.0, fits.1), fits.2))
-did_again laws Closed fits = refl
+did_again v laws Closed fits = refl
 
-line_again : Laws → (l : Line) → FitsLine l → line_in (line_text l) ≡ Some l
+line_again : (v : Version) → Laws → (l : Line) → FitsLine v l → line_in v (line_text v l) ≡ Some l
 unfolding line_in line_by
-line_again laws Heading fits = refl
-line_again laws (EntryLine e) fits =
-    entry_again laws e.queue e.event e.reply fits.queue fits.event fits.reply
-line_again laws (PortLine p) fits = ap (option_map PortLine) ((number_word laws).again p fits)
-line_again laws (DidLine d) fits = did_again laws d fits
-line_again laws End fits = refl
+line_again v laws Heading fits =
+    taken (bytes_eq (text.title v) (text.title v)) _ _ (word_is (text.title v) (text.title v) refl)
+line_again v laws (EntryLine e) fits =
+    entry_again v laws e.queue e.event e.reply fits.queue fits.event fits.reply
+line_again v laws (PortLine p) fits = ap (option_map PortLine) ((number_word laws).again p fits)
+line_again v laws (DidLine d) fits = did_again v laws d fits
+line_again v laws End fits = refl
 
 -- ---- what is read is written so
 
-abbrev IsLineText : List ℕ → Line → Type 0
-IsLineText line l = FitsLine l × (line ≡ line_text l)
+abbrev IsLineText : Version → List ℕ → Line → Type 0
+IsLineText v line l = FitsLine v l × (line ≡ line_text v l)
 
-arrival_spelled : Laws → (line rest : List ℕ) (l : Line) → line ≡ codes "A " ++ rest →
-    option_map EntryLine (arrival_in rest) ≡ Some l → IsLineText line l
+arrival_spelled : (v : Version) → Laws → (line rest : List ℕ) (l : Line) → line ≡ codes "A " ++ rest →
+    option_map EntryLine (arrival_in v rest) ≡ Some l → IsLineText v line l
 unfolding arrival_in
-arrival_spelled laws line rest l is e =
-    let entry = map_some EntryLine (arrival_in rest) l e in
-    let x = map_some _ (arrival_read rest) entry.0 entry.1 in
-    let s = (arrival_word laws).spelled rest x.0 x.1 in
+arrival_spelled v laws line rest l is e =
+    let entry = map_some EntryLine (arrival_in v rest) l e in
+    let x = map_some _ (arrival_read v rest) entry.0 entry.1 in
+    let s = (arrival_word v laws).spelled rest x.0 x.1 in
     let t = s.0 in
     let told = (((x.0).0).1) in
-    subst (IsLineText line) (ap EntryLine x.2 ∙ entry.2) (
-      record { queue = (t.0).0; event = told_fits told (t.0).1; reply = t.1 },
+    subst (IsLineText v line) (ap EntryLine x.2 ∙ entry.2) (
+      record { queue = (t.0).0; event = told_fits v told (t.0).1; reply = t.1 },
       is ∙ ap (λ w. codes "A " ++ w) s.1
-          ∙ sym (arrival_told ((x.0).0).0 told.0 (told.1).0 (told.1).1 (x.0).1),
+          ∙ sym (arrival_told v ((x.0).0).0 told.0 (told.1).0 (told.1).1 (x.0).1),
     )
 
-asking_spelled : Laws → (line rest : List ℕ) (l : Line) → line ≡ codes "M " ++ rest →
-    option_map EntryLine (ask_in rest) ≡ Some l → IsLineText line l
+asking_spelled : (v : Version) → Laws → (line rest : List ℕ) (l : Line) → line ≡ codes "M " ++ rest →
+    option_map EntryLine (ask_in v rest) ≡ Some l → IsLineText v line l
 unfolding ask_in
-asking_spelled laws line rest l is e =
-    let entry = map_some EntryLine (ask_in rest) l e in
-    let x = bind_some (asking_read rest) ask_made entry.0 entry.1 in
-    let s = (asking_word laws).spelled rest x.0 x.1 in
+asking_spelled v laws line rest l is e =
+    let entry = map_some EntryLine (ask_in v rest) l e in
+    let x = bind_some (asking_read v rest) ask_made entry.0 entry.1 in
+    let s = (asking_word v laws).spelled rest x.0 x.1 in
     let t = s.0 in
     let made = cond_some (eqb (queue_of ((x.0).0).1) (((x.0).0).0).0) _ entry.0 x.2 in
-    subst (IsLineText line) (ap EntryLine made.1 ∙ entry.2) (
+    subst (IsLineText v line) (ap EntryLine made.1 ∙ entry.2) (
       record {
         queue = ((t.0).0).0;
         event = ((((t.0).0).1).0, (((t.0).0).1).1, (t.0).1, eqb-true _ _ made.0);
         reply = ((t.1).0, (t.1).1);
       },
       is ∙ ap (λ w. codes "M " ++ w) s.1
-          ∙ sym (asking_told (((x.0).0).0).0 ((((x.0).0).0).1).0 ((((x.0).0).0).1).1 ((x.0).0).1
+          ∙ sym (asking_told v (((x.0).0).0).0 ((((x.0).0).0).1).0 ((((x.0).0).0).1).1 ((x.0).0).1
           ((x.0).1).0 ((x.0).1).1),
     )
 
-port_closed_spelled : Laws → (line rest : List ℕ) (l : Line) → line ≡ codes "C " ++ rest →
-    option_map EntryLine (port_closed_in rest) ≡ Some l → IsLineText line l
+port_closed_spelled : (v : Version) → Laws → (line rest : List ℕ) (l : Line) → line ≡ codes "C " ++ rest →
+    option_map EntryLine (port_closed_in rest) ≡ Some l → IsLineText v line l
 unfolding port_closed_in
-port_closed_spelled laws line rest l is e =
+port_closed_spelled v laws line rest l is e =
     let entry = map_some EntryLine (port_closed_in rest) l e in
     let x = map_some _ (triple_read rest) entry.0 entry.1 in
     let s = (triple_word laws).spelled rest x.0 x.1 in
     let t = s.0 in
-    subst (IsLineText line) (ap EntryLine x.2 ∙ entry.2) (
+    subst (IsLineText v line) (ap EntryLine x.2 ∙ entry.2) (
       record { queue = (t.0).0; event = (t.0).1; reply = t.1 },
       is ∙ ap (λ w. codes "C " ++ w) (s.1
           ∙ sym (triple_regroup (decimal ((x.0).0).0) (decimal ((x.0).0).1) (decimal (x.0).1))),
     )
 
-device_down_spelled : Laws → (line rest : List ℕ) (l : Line) → line ≡ codes "D " ++ rest →
-    option_map EntryLine (device_down_in rest) ≡ Some l → IsLineText line l
+device_down_spelled : (v : Version) → Laws → (line rest : List ℕ) (l : Line) → line ≡ codes "D " ++ rest →
+    option_map EntryLine (device_down_in rest) ≡ Some l → IsLineText v line l
 unfolding device_down_in
-device_down_spelled laws line rest l is e =
+device_down_spelled v laws line rest l is e =
     let entry = map_some EntryLine (device_down_in rest) l e in
     let x = map_some _ (triple_read rest) entry.0 entry.1 in
     let s = (triple_word laws).spelled rest x.0 x.1 in
     let t = s.0 in
-    subst (IsLineText line) (ap EntryLine x.2 ∙ entry.2) (
+    subst (IsLineText v line) (ap EntryLine x.2 ∙ entry.2) (
       record { queue = (t.0).0; event = (t.0).1; reply = t.1 },
       is ∙ ap (λ w. codes "D " ++ w) (s.1
           ∙ sym (triple_regroup (decimal ((x.0).0).0) (decimal ((x.0).0).1) (decimal (x.0).1))),
     )
 
-received_spelled : Laws → (line rest : List ℕ) (l : Line) → line ≡ codes "R " ++ rest →
-    option_map DidLine (received_in rest) ≡ Some l → IsLineText line l
+received_spelled : (v : Version) → Laws → (line rest : List ℕ) (l : Line) → line ≡ codes "R " ++ rest →
+    option_map DidLine (received_in rest) ≡ Some l → IsLineText v line l
 unfolding received_in
-received_spelled laws line rest l is e =
+received_spelled v laws line rest l is e =
     let did = map_some DidLine (received_in rest) l e in
     let x = map_some _ (triple_read rest) did.0 did.1 in
     let s = (triple_word laws).spelled rest x.0 x.1 in
     let t = s.0 in
-    subst (IsLineText line) (ap DidLine x.2 ∙ did.2) (
+    subst (IsLineText v line) (ap DidLine x.2 ∙ did.2) (
       ((t.0).0, (t.0).1, t.1),
       is ∙ ap (λ w. codes "R " ++ w) (s.1
           ∙ sym (received_regroup (decimal ((x.0).0).0) (decimal ((x.0).0).1) (decimal (x.0).1))),
     )
 
-sent_spelled : Laws → (line rest : List ℕ) (l : Line) → line ≡ codes "S " ++ rest →
-    option_map DidLine (sent_in rest) ≡ Some l → IsLineText line l
+sent_spelled : (v : Version) → Laws → (line rest : List ℕ) (l : Line) → line ≡ codes "S " ++ rest →
+    option_map DidLine (sent_in v rest) ≡ Some l → IsLineText v line l
 unfolding sent_in
-sent_spelled laws line rest l is e =
-    let did = map_some DidLine (sent_in rest) l e in
-    let x = map_some _ (message_read rest) did.0 did.1 in
-    let s = (message_word laws).spelled rest x.0 x.1 in
+sent_spelled v laws line rest l is e =
+    let did = map_some DidLine (sent_in v rest) l e in
+    let x = map_some _ (message_read v rest) did.0 did.1 in
+    let s = (message_word v laws).spelled rest x.0 x.1 in
     let t = s.0 in
-    subst (IsLineText line) (ap DidLine x.2 ∙ did.2) (
+    subst (IsLineText v line) (ap DidLine x.2 ∙ did.2) (
       ((t.0).0, (t.0).1, t.1),
       is ∙ ap (λ w. codes "S " ++ w) s.1
-          ∙ sym (message_told ((x.0).0).0 ((x.0).0).1 (x.0).1),
+          ∙ sym (message_told v ((x.0).0).0 ((x.0).0).1 (x.0).1),
     )
 
-port_spelled : Laws → (line rest : List ℕ) (l : Line) → line ≡ codes "P " ++ rest →
-    option_map PortLine (digits.decimal rest) ≡ Some l → IsLineText line l
-port_spelled laws line rest l is e =
+port_spelled : (v : Version) → Laws → (line rest : List ℕ) (l : Line) → line ≡ codes "P " ++ rest →
+    option_map PortLine (digits.decimal rest) ≡ Some l → IsLineText v line l
+port_spelled v laws line rest l is e =
     let port = map_some PortLine (digits.decimal rest) l e in
     let s = (number_word laws).spelled rest port.0 port.1 in
-    subst (IsLineText line) port.2 (s.0, is ∙ ap (λ w. codes "P " ++ w) s.1)
+    subst (IsLineText v line) port.2 (s.0, is ∙ ap (λ w. codes "P " ++ w) s.1)
 
-by_spelled : Laws → (line word rest : List ℕ) (l : Line) → line ≡ word ++ 32 ∷ rest →
-    line_by word rest ≡ Some l → IsLineText line l
+by_spelled : (v : Version) → Laws → (line word rest : List ℕ) (l : Line) → line ≡ word ++ 32 ∷ rest →
+    line_by v word rest ≡ Some l → IsLineText v line l
 unfolding line_by
-by_spelled laws line word rest l is e =
+by_spelled v laws line word rest l is e =
     let front = λ (name : List ℕ) (named : word ≡ name).
     is ∙ ap (λ z. z ++ 32 ∷ rest) named in
-    pick word (codes "A") _ _ l (IsLineText line l) e
-    (λ n f. arrival_spelled laws line rest l (front (codes "A") n) f)
-    (λ e1. pick word (codes "M") _ _ l (IsLineText line l) e1
-    (λ n f. asking_spelled laws line rest l (front (codes "M") n) f)
-    (λ e2. pick word (codes "C") _ _ l (IsLineText line l) e2
-    (λ n f. port_closed_spelled laws line rest l (front (codes "C") n) f)
-    (λ e3. pick word (codes "D") _ _ l (IsLineText line l) e3
-    (λ n f. device_down_spelled laws line rest l (front (codes "D") n) f)
-    (λ e4. pick word (codes "R") _ _ l (IsLineText line l) e4
-    (λ n f. received_spelled laws line rest l (front (codes "R") n) f)
-    (λ e5. pick word (codes "S") _ _ l (IsLineText line l) e5
-    (λ n f. sent_spelled laws line rest l (front (codes "S") n) f)
-    (λ e6. pick word (codes "P") _ _ l (IsLineText line l) e6
-    (λ n f. port_spelled laws line rest l (front (codes "P") n) f)
+    pick word (codes "A") _ _ l (IsLineText v line l) e
+    (λ n f. arrival_spelled v laws line rest l (front (codes "A") n) f)
+    (λ e1. pick word (codes "M") _ _ l (IsLineText v line l) e1
+    (λ n f. asking_spelled v laws line rest l (front (codes "M") n) f)
+    (λ e2. pick word (codes "C") _ _ l (IsLineText v line l) e2
+    (λ n f. port_closed_spelled v laws line rest l (front (codes "C") n) f)
+    (λ e3. pick word (codes "D") _ _ l (IsLineText v line l) e3
+    (λ n f. device_down_spelled v laws line rest l (front (codes "D") n) f)
+    (λ e4. pick word (codes "R") _ _ l (IsLineText v line l) e4
+    (λ n f. received_spelled v laws line rest l (front (codes "R") n) f)
+    (λ e5. pick word (codes "S") _ _ l (IsLineText v line l) e5
+    (λ n f. sent_spelled v laws line rest l (front (codes "S") n) f)
+    (λ e6. pick word (codes "P") _ _ l (IsLineText v line l) e6
+    (λ n f. port_spelled v laws line rest l (front (codes "P") n) f)
     (λ e7. absurd (none-some l e7))))))))
 
-line_spelled : Laws → (line : List ℕ) (l : Line) → line_in line ≡ Some l → IsLineText line l
+line_spelled : (v : Version) → Laws → (line : List ℕ) (l : Line) → line_in v line ≡ Some l → IsLineText v line l
 unfolding line_in
-line_spelled laws line l e =
-    pick line (codes "nfq-journal 1") _ _ l (IsLineText line l) e
-    (λ n f. subst (IsLineText line) (same_Some Heading l f) (tt, n))
-    (λ e1. pick line (codes "end") _ _ l (IsLineText line l) e1
-    (λ n f. subst (IsLineText line) (same_Some End l f) (tt, n))
-    (λ e2. pick line (codes "X") _ _ l (IsLineText line l) e2
-    (λ n f. subst (IsLineText line) (same_Some (DidLine Closed) l f) (tt, n))
+line_spelled v laws line l e =
+    pick line (text.title v) _ _ l (IsLineText v line l) e
+    (λ n f. subst (IsLineText v line) (same_Some Heading l f) (tt, n))
+    (λ e1. pick line (codes "end") _ _ l (IsLineText v line l) e1
+    (λ n f. subst (IsLineText v line) (same_Some End l f) (tt, n))
+    (λ e2. pick line (codes "X") _ _ l (IsLineText v line l) e2
+    (λ n f. subst (IsLineText v line) (same_Some (DidLine Closed) l f) (tt, n))
     (λ e3. let cut = bind_some (cut_at 32 line) _ l e3 in
-    by_spelled laws line (cut.0).0 (cut.0).1 l (cut_some 32 line cut.0 cut.1) cut.2)))
+    by_spelled v laws line (cut.0).0 (cut.0).1 l (cut_some 32 line cut.0 cut.1) cut.2)))
 
 -- ---- no line has a line's end in it
 
-entry_line : Laws → (q : ℕ) (event : Event) (reply : Reply) → IsHalf q → IsEventAt q event →
-    IsReplyTo event reply → cut_at 10 (text.event q event ++ text.reply reply) ≡ None
-entry_line laws q (Arrive c b r) (Arrived o) qf ef rf =
-    ap (cut_at 10) (arrival_told q c b r o)
-    ∙ uncut_append 10 (codes "A ") (arrival_text ((q, (c, (b, r))), o)) refl
-    ((arrival_word laws).one_line ((q, (c, (b, r))), o) ((qf, fits_told (c, (b, r)) ef), rf))
-entry_line laws q (Arrive c b r) (Answer e t) qf ef rf = absurd rf
-entry_line laws q (Arrive c b r) (Flushed t) qf ef rf = absurd rf
-entry_line laws q (Ask p c r) (Arrived o) qf ef rf = absurd rf
-entry_line laws q (Ask p c r) (Answer e t) qf ef rf =
-    ap (cut_at 10) (asking_told q p c r e t)
-    ∙ uncut_append 10 (codes "M ") (asking_text (((q, (p, c)), r), (e, t))) refl
-    ((asking_word laws).one_line (((q, (p, c)), r), (e, t))
+entry_line : (v : Version) → Laws → (q : ℕ) (event : Event) (reply : Reply) → IsHalf q → IsEventAt v q event →
+    IsReplyTo event reply → cut_at 10 (text.event v q event ++ text.reply reply) ≡ None
+entry_line v laws q (Arrive c b r) (Arrived o) qf ef rf =
+    ap (cut_at 10) (arrival_told v q c b r o)
+    ∙ uncut_append 10 (codes "A ") (arrival_text v ((q, (c, (b, r))), o)) refl
+    ((arrival_word v laws).one_line ((q, (c, (b, r))), o) ((qf, fits_told v (c, (b, r)) ef), rf))
+entry_line v laws q (Arrive c b r) (Answer e t) qf ef rf = absurd rf
+entry_line v laws q (Arrive c b r) (Flushed t) qf ef rf = absurd rf
+entry_line v laws q (Ask p c r) (Arrived o) qf ef rf = absurd rf
+entry_line v laws q (Ask p c r) (Answer e t) qf ef rf =
+    ap (cut_at 10) (asking_told v q p c r e t)
+    ∙ uncut_append 10 (codes "M ") (asking_text v (((q, (p, c)), r), (e, t))) refl
+    ((asking_word v laws).one_line (((q, (p, c)), r), (e, t))
     (((qf, (ef.0, ef.1)), ef.2), (rf.0, rf.1)))
-entry_line laws q (Ask p c r) (Flushed t) qf ef rf = absurd rf
-entry_line laws q (PortClosed p) (Arrived o) qf ef rf = absurd rf
-entry_line laws q (PortClosed p) (Answer e t) qf ef rf = absurd rf
-entry_line laws q (PortClosed p) (Flushed t) qf ef rf =
+entry_line v laws q (Ask p c r) (Flushed t) qf ef rf = absurd rf
+entry_line v laws q (PortClosed p) (Arrived o) qf ef rf = absurd rf
+entry_line v laws q (PortClosed p) (Answer e t) qf ef rf = absurd rf
+entry_line v laws q (PortClosed p) (Flushed t) qf ef rf =
     ap (λ w. cut_at 10 (codes "C " ++ w)) (triple_regroup (decimal q) (decimal p) (decimal t))
     ∙ uncut_append 10 (codes "C ") (triple_text ((q, p), t)) refl
     ((triple_word laws).one_line ((q, p), t) ((qf, ef), rf))
-entry_line laws q (DeviceDown p) (Arrived o) qf ef rf = absurd rf
-entry_line laws q (DeviceDown p) (Answer e t) qf ef rf = absurd rf
-entry_line laws q (DeviceDown p) (Flushed t) qf ef rf =
+entry_line v laws q (DeviceDown p) (Arrived o) qf ef rf = absurd rf
+entry_line v laws q (DeviceDown p) (Answer e t) qf ef rf = absurd rf
+entry_line v laws q (DeviceDown p) (Flushed t) qf ef rf =
     ap (λ w. cut_at 10 (codes "D " ++ w)) (triple_regroup (decimal q) (decimal p) (decimal t))
     ∙ uncut_append 10 (codes "D ") (triple_text ((q, p), t)) refl
     ((triple_word laws).one_line ((q, p), t) ((qf, ef), rf))
 
-did_line : Laws → (d : Did) → FitsDid d → cut_at 10 (text.did_line d) ≡ None
-did_line laws (Received q n v) fits =
-    ap (λ w. cut_at 10 (codes "R " ++ w)) (received_regroup (decimal q) (decimal n) (decimal v))
-    ∙ uncut_append 10 (codes "R ") (triple_text ((q, n), v)) refl
-    ((triple_word laws).one_line ((q, n), v) ((fits.0, fits.1), fits.2))
-did_line laws (Sent c a o) fits =
-    ap (cut_at 10) (message_told c a o)
-    ∙ uncut_append 10 (codes "S ") (message_text ((c, a), o)) refl
-    ((message_word laws).one_line ((c, a), o) ((fits.0, fits.1), fits.2))
-did_line laws Closed fits = refl
+did_line : (v : Version) → Laws → (d : Did) → FitsDid v d → cut_at 10 (text.did_line v d) ≡ None
+did_line v laws (Received q n t) fits =
+    ap (λ w. cut_at 10 (codes "R " ++ w)) (received_regroup (decimal q) (decimal n) (decimal t))
+    ∙ uncut_append 10 (codes "R ") (triple_text ((q, n), t)) refl
+    ((triple_word laws).one_line ((q, n), t) ((fits.0, fits.1), fits.2))
+did_line v laws (Sent c a o) fits =
+    ap (cut_at 10) (message_told v c a o)
+    ∙ uncut_append 10 (codes "S ") (message_text v ((c, a), o)) refl
+    ((message_word v laws).one_line ((c, a), o) ((fits.0, fits.1), fits.2))
+did_line v laws Closed fits = refl
 
-one_line : Laws → (l : Line) → FitsLine l → cut_at 10 (line_text l) ≡ None
-one_line laws Heading fits = refl
-one_line laws (EntryLine e) fits =
-    entry_line laws e.queue e.event e.reply fits.queue fits.event fits.reply
-one_line laws (PortLine p) fits =
+pub title_whole : (v : Version) → cut_at 10 (text.title v) ≡ None
+title_whole First = refl
+title_whole Second = refl
+
+one_line : (v : Version) → Laws → (l : Line) → FitsLine v l → cut_at 10 (line_text v l) ≡ None
+one_line v laws Heading fits = title_whole v
+one_line v laws (EntryLine e) fits =
+    entry_line v laws e.queue e.event e.reply fits.queue fits.event fits.reply
+one_line v laws (PortLine p) fits =
     uncut_append 10 (codes "P ") (decimal p) refl ((number_word laws).one_line p fits)
-one_line laws (DidLine d) fits = did_line laws d fits
-one_line laws End fits = refl
+one_line v laws (DidLine d) fits = did_line v laws d fits
+one_line v laws End fits = refl
 
 -- what is read of a line is what it says
-pub line_word : Laws → IsWord line_in line_text FitsLine
-line_word laws = record {
-  again = line_again laws;
-  spelled = line_spelled laws;
-  one_line = one_line laws;
+pub line_word : (v : Version) → Laws → IsWord (line_in v) (line_text v) (FitsLine v)
+line_word v laws = record {
+  again = line_again v laws;
+  spelled = line_spelled v laws;
+  one_line = one_line v laws;
 }

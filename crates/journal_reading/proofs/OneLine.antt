@@ -7,6 +7,7 @@ use Rattle.std.proofs.lemmas.Bool.{ltb-false, ltb-true}
 use Rattle.std.proofs.lemmas.Option.{none-some}
 use Rattle.text_lines.specs.Words.{cut_at}
 use Rattle.histories.specs.declared.histories.Histories.{Histories}
+use Rattle.journals.specs.declared.version.Version.{Version}
 use Rattle.journal_reading.specs.declared.fault.JournalFault.{JournalFault}
 use Rattle.journal_reading.specs.declared.fault.JournalFault.TheVariants.{Bad}
 use Rattle.journal_reading.specs.declared.fault.JournalFault.TheVariants as fault
@@ -62,22 +63,22 @@ holds_line (x ∷ xs) line later (y ∷ ys) rest none e less =
     (more.0, ap (λ d. d ∷ ys) (sym head) ∙ ap (λ ds. x ∷ ds) more.1)
 
 -- what both kinds of refusal say of the text before
-record Before (text : List ℕ) (n : ℕ) : Type 0 where
+record Before (v : Version) (text : List ℕ) (n : ℕ) : Type 0 where
   pub front : List ℕ
   pub rest : List ℕ
   pub text_is : text ≡ front ++ rest
   pub count : line_ends front + 1 ≡ n
-  pub begins : BeginsJournal front
+  pub begins : BeginsJournal v front
 
-before : (text : List ℕ) (n : ℕ) → IsFirstRefused text n → Before text n
-before text n (inl h) = record {
+before : (v : Version) (text : List ℕ) (n : ℕ) → IsFirstRefused v text n → Before v text n
+before v text n (inl h) = record {
   front = h.front;
   rest = h.rest;
   text_is = h.text_is;
   count = h.count;
   begins = h.begins;
 }
-before text n (inr h) = record {
+before v text n (inr h) = record {
   front = h.front;
   rest = h.piece;
   text_is = h.text_is;
@@ -85,8 +86,8 @@ before text n (inr h) = record {
   begins = h.begins;
 }
 
-not_before : (text : List ℕ) (a b : ℕ) → IsFirstRefused text a → Before text b → a < b → ⊥
-not_before text a b (inl bad) h less =
+not_before : (v : Version) (text : List ℕ) (a b : ℕ) → IsFirstRefused v text a → Before v text b → a < b → ⊥
+not_before v text a b (inl bad) h less =
     let held = holds_line bad.front bad.line bad.later h.front h.rest
     (line_is_whole bad.rest (bad.line, bad.later) bad.line_is)
     (ap (λ z. bad.front ++ z) (sym (cut_some 10 bad.rest (bad.line, bad.later) bad.line_is))
@@ -95,11 +96,11 @@ not_before text a b (inl bad) h less =
     bad.refused (
       held.0 ++ more.0,
       more.1,
-      subst (λ (z : List ℕ). IsJournal z more.1)
+      subst (λ (z : List ℕ). IsJournal v z more.1)
           (ap (λ z. z ++ more.0) held.1
           ∙ append_assoc (bad.front ++ (bad.line ++ 10 ∷ [])) held.0 more.0) more.2,
     )
-not_before text a b (inr early) h less =
+not_before v text a b (inr early) h less =
     omega (
       arith,
       less,
@@ -111,18 +112,18 @@ not_before text a b (inr early) h less =
       ap line_ends (sym early.text_is ∙ h.text_is),
     )
 
-pub same_line : (text : List ℕ) (a b : ℕ) → IsFirstRefused text a → IsFirstRefused text b → a ≡ b
-same_line text a b x y =
+pub same_line : (v : Version) (text : List ℕ) (a b : ℕ) → IsFirstRefused v text a → IsFirstRefused v text b → a ≡ b
+same_line v text a b x y =
     elim (ltb a b) as (λ c. ltb a b ≡ c → a ≡ b) [
-      | true ↦ λ e. absurd (not_before text a b x (before text b y) (ltb-true a b e))
+      | true ↦ λ e. absurd (not_before v text a b x (before v text b y) (ltb-true a b e))
       | false ↦ λ e. elim (ltb b a) as (λ c. ltb b a ≡ c → a ≡ b) [
-        | true ↦ λ f. absurd (not_before text b a y (before text a x) (ltb-true b a f))
+        | true ↦ λ f. absurd (not_before v text b a y (before v text a x) (ltb-true b a f))
         | false ↦ λ f. omega (arith, ltb-false a b e, ltb-false b a f)
       ] refl
     ] refl
 
-pub stuck_by : (r : Result Histories JournalFault) (text : List ℕ) → IsAnswer r text →
-    (line : ℕ) → IsFirstRefused text line → IsRefusedAt r line
-stuck_by (Ok h) text a line refused = never_both text h line a.0 refused
-stuck_by (Err (Bad n)) text a line refused = same_line text n line a refused
-stuck_by (Err fault.NoMemory) text a line refused = tt
+pub stuck_by : (v : Version) (r : Result Histories JournalFault) (text : List ℕ) → IsAnswer v r text →
+    (line : ℕ) → IsFirstRefused v text line → IsRefusedAt r line
+stuck_by v (Ok h) text a line refused = never_both v text h line a.0 refused
+stuck_by v (Err (Bad n)) text a line refused = same_line v text n line a refused
+stuck_by v (Err fault.NoMemory) text a line refused = tt

@@ -1,6 +1,6 @@
 //! One line of a journal.
 
-ghost use Rattle.std.specs.Prelude.{◌≡◌, IfOk, option_map};
+ghost use Rattle.std.specs.Prelude.{◌≡◌, IfOk, bytes_eq, option_map};
 ghost use Rattle.text_lines.specs.Digits.{decimal};
 ghost use Rattle.journals.specs.Format.{title};
 ghost use Rattle.journal_reading.specs.Reading as read;
@@ -16,13 +16,13 @@ use queue_core::{Event, Outcome, Reply};
 use std::alloc::Global;
 use text_lines::{cut, decimal, decimal_16, is_word};
 
-/// The first line of a journal of this version, without its end.
-pub(crate) fn title(version: Version) -> &'static [u8]
-    ensures { result.now ≡ title version }
+/// Whether this is the first line of a journal of this version.
+pub(crate) fn is_title(version: Version, line: &[u8]) -> bool
+    ensures { result ≡ bytes_eq line.now (title version) }
 {
     match version {
-        Version::First => b"nfq-journal 1",
-        Version::Second => b"nfq-journal 2",
+        Version::First => is_word(line, b"nfq-journal 1"),
+        Version::Second => is_word(line, b"nfq-journal 2"),
     }
 }
 
@@ -35,7 +35,7 @@ pub(crate) fn read_line(
 ) -> Result<Option<Line>, NoMemory>
     ensures { IfOk result (λ found. found ≡ read.line_in version line.now) }
 {
-    if is_word(line, title(version)) {
+    if is_title(version, line) {
         return Ok(Some(Line::Heading));
     }
     if is_word(line, b"end") {
@@ -165,8 +165,8 @@ fn chances(text: &[u8]) -> Option<(bool, bool, &[u8])>
 /// `MARK PRIORITY SECONDS MICROS PROTOCOL`
 #[tactic(auto, unfolding(crate::specs::Reading::facts_in))]
 fn facts(version: Version, text: &[u8]) -> Option<(u32, u32, u32, u32, u16, &[u8])>
-    ensures { option_map (λ x. (((x.0, x.1), (x.2, x.3)), x.4.now)) result
-        ≡ read.facts_in text.now }
+    ensures { option_map (λ x. ((((x.0, x.1), x.2), (x.3, x.4)), x.5.now)) result
+        ≡ read.facts_in version text.now }
 {
     let (mark, rest) = wide(text)?;
     let (priority, rest) = priority(version, rest)?;

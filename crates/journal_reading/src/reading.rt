@@ -9,13 +9,13 @@ ghost use Rattle.journal_reading.specs.JournalFile.{Answers, Closes, IsAnswer, I
 ghost use Rattle.journal_reading.specs.JournalFile.{IsRefusedAt, place_of};
 
 use crate::fault::JournalFault;
-use crate::line_reading::title;
+use crate::line_reading::is_title;
 use crate::reader::Reader;
 use histories::Histories;
 use journals::Version;
 use packet_entry::NoMemory;
 use std::alloc::Global;
-use text_lines::{bytes_are_spelled, cut, is_word, numbers_are_spelled};
+use text_lines::{bytes_are_spelled, cut, numbers_are_spelled};
 
 /// The byte that ends a line.
 const LINE_FEED: u8 = b'\n';
@@ -54,7 +54,7 @@ fn read_text(
 {
     match cut(bytes, LINE_FEED) {
         Some((line, rest)) => {
-            if is_word(line, title(version)) {
+            if is_title(version, line) {
                 read_lines(alloc, version, bytes, rest)
             } else {
                 Err(JournalFault::Bad { line: 1 })

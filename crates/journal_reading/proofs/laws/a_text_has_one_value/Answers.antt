@@ -8,4 +8,4 @@ returns c =
       numerals = c.numbers_are_spelled.ensures;
       bytes = c.bytes_are_spelled.ensures;
     } in
-    one_value laws
+    λ v. one_value v laws

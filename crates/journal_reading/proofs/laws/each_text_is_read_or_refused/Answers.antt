@@ -8,4 +8,4 @@ returns c =
       numerals = c.numbers_are_spelled.ensures;
       bytes = c.bytes_are_spelled.ensures;
     } in
-    each_text laws
+    λ v. each_text v laws

@@ -10,7 +10,7 @@ returns c =
       numerals = c.numbers_are_spelled.ensures;
       bytes = c.bytes_are_spelled.ensures;
     } in
-    λ line said. (
-      λ e. (line_word laws).spelled line said e,
-      λ h. ap line_in h.1 ∙ (line_word laws).again said h.0,
+    λ v line said. (
+      λ e. (line_word v laws).spelled line said e,
+      λ h. ap (line_in v) h.1 ∙ (line_word v laws).again said h.0,
     )

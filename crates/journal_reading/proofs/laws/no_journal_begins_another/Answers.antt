@@ -8,4 +8,4 @@ returns c =
       numerals = c.numbers_are_spelled.ensures;
       bytes = c.bytes_are_spelled.ensures;
     } in
-    λ text rest a b j k. (same_journal laws text rest a b j k).0
+    λ v text rest a b j k. (same_journal v laws text rest a b j k).0
