@@ -87,7 +87,8 @@ pub record AtEntries (v : Version) (es : List Entry) (n : ℕ) (ls : List PortLo
   pub text_is : rest ≡ text.entries v left ++ (text.logs v h.logs ++ codes "end\n")
 
 -- in a log: what is left of it, and the logs behind it
-pub record InLog (v : Version) (es : List Entry) (ls : List PortLog) (l : PortLog) (s : Bool) (h : Histories)
+pub record InLog (v : Version) (es : List Entry) (ls : List PortLog) (l : PortLog) (s : Bool)
+    (h : Histories)
     (rest : List ℕ) : Type 0 where
   pub dids : List Did
   pub more : List PortLog
@@ -99,7 +100,8 @@ pub record InLog (v : Version) (es : List Entry) (ls : List PortLog) (l : PortLo
   pub logs_fit : All (IsLog v) more
   pub text_is : rest ≡ text.dids v dids ++ (text.logs v more ++ codes "end\n")
 
-abbrev pub AheadOf : Version → List Entry → ℕ → List PortLog → Option PortLog → Bool → Histories → List ℕ →
+abbrev pub AheadOf : Version → List Entry → ℕ → List PortLog → Option PortLog → Bool → Histories →
+    List ℕ →
     Type 0
 AheadOf v es n ls None s h rest = AtEntries v es n ls h rest
 AheadOf v es n ls (Some l) s h rest = InLog v es ls l s h rest
@@ -163,7 +165,8 @@ ended v es n ls o s h rest line later wf e f t cut =
     }
 
 -- a log begins
-begins : (v : Version) → Laws → (es : List Entry) (n : ℕ) (ls : List PortLog) (o : Option PortLog) (s : Bool)
+begins : (v : Version) → Laws → (es : List Entry) (n : ℕ) (ls : List PortLog) (o : Option PortLog)
+    (s : Bool)
     (h : Histories) (rest line later : List ℕ) (m : PortLog) (ms : List PortLog) →
     h.entries ≡ es → h.logs ≡ (ls ++ option_to_list o) ++ m ∷ ms →
     list_any (is_port m.port) (ls ++ option_to_list o) ≡ false → All (IsLog v) (m ∷ ms) →
@@ -198,7 +201,8 @@ begins v laws es n ls o s h rest line later m ms e f new fit t cut =
       };
     }
 
-at_logs : (v : Version) → Laws → (es : List Entry) (n : ℕ) (ls : List PortLog) (s : Bool) (h : Histories)
+at_logs : (v : Version) → Laws → (es : List Entry) (n : ℕ) (ls : List PortLog) (s : Bool)
+    (h : Histories)
     (rest line later : List ℕ) (logs : List PortLog) → IsWellFormedIn v h → h.logs ≡ logs →
     h.entries ≡ es → ls ≡ [] → rest ≡ text.logs v logs ++ codes "end\n" → All (IsLog v) logs →
     cut_at 10 rest ≡ Some (line, later) → Next v (place_at es n ls None s) h line later
@@ -210,7 +214,8 @@ at_logs v laws es n ls s h rest line later (m ∷ ms) wf f e bare t fit cut =
     (f ∙ ap (λ (k : List PortLog). (k ++ []) ++ m ∷ ms) (sym bare))
     (ap (λ (k : List PortLog). list_any (is_port m.port) (k ++ [])) bare) fit t cut)
 
-at_entries : (v : Version) → Laws → (es : List Entry) (n : ℕ) (ls : List PortLog) (s : Bool) (h : Histories)
+at_entries : (v : Version) → Laws → (es : List Entry) (n : ℕ) (ls : List PortLog) (s : Bool)
+    (h : Histories)
     (rest line later : List ℕ) (left : List Entry) → IsWellFormedIn v h → h.entries ≡ es ++ left →
     ls ≡ [] → All (λ (e : Entry). n ≤ e.queue) left →
     AllPairs (λ (a b : Entry). a.queue ≤ b.queue) left → All (IsEntry v) left →
@@ -224,7 +229,8 @@ at_entries v laws es n ls s h rest line later (x ∷ xs) wf e bare above ascend 
     let at = split (text.entry_line v x)
     (text.entries v xs ++ (text.logs v h.logs ++ codes "end\n")) rest line later
     ((line_word v laws).one_line (EntryLine x) entry)
-    (t ∙ append_assoc (text.entry v x) (text.entries v xs) (text.logs v h.logs ++ codes "end\n")) cut in
+    (t ∙ append_assoc (text.entry v x) (text.entries v xs) (text.logs v h.logs ++ codes "end\n"))
+    cut in
     inl (record {
       said = EntryLine x;
       place = place_at (es ++ x ∷ []) x.queue ls None s;
@@ -242,7 +248,8 @@ at_entries v laws es n ls s h rest line later (x ∷ xs) wf e bare above ascend 
       };
     })
 
-behind_log : (v : Version) → Laws → (es : List Entry) (n : ℕ) (ls : List PortLog) (l : PortLog) (s : Bool)
+behind_log : (v : Version) → Laws → (es : List Entry) (n : ℕ) (ls : List PortLog) (l : PortLog)
+    (s : Bool)
     (h : Histories) (rest line later : List ℕ) (more : List PortLog) → IsWellFormedIn v h →
     h.entries ≡ es → h.logs ≡ ls ++ l ∷ more → All (IsLog v) more →
     rest ≡ text.logs v more ++ codes "end\n" → cut_at 10 rest ≡ Some (line, later) →
@@ -255,7 +262,8 @@ behind_log v laws es n ls l s h rest line later (m ∷ ms) wf e f fit t cut =
     (fresh (ls ++ l ∷ []) m ms (subst (λ (k : List PortLog).
     AllPairs (λ a b. a ≢ b) (map (λ (x : PortLog). x.port) k)) logs wf.ports_differ)) fit t cut)
 
-in_log : (v : Version) → Laws → (es : List Entry) (n : ℕ) (ls : List PortLog) (l : PortLog) (s : Bool)
+in_log : (v : Version) → Laws → (es : List Entry) (n : ℕ) (ls : List PortLog) (l : PortLog)
+    (s : Bool)
     (h : Histories) (rest line later : List ℕ) (dids : List Did) (more : List PortLog) →
     IsWellFormedIn v h → h.entries ≡ es → h.logs ≡ ls ++ whole l dids ∷ more →
     (s ≡ true → dids ≡ []) → AllPairs (λ (a b : Did). a ≢ Closed) dids → All (FitsDid v) dids →
@@ -268,9 +276,11 @@ in_log v laws es n ls l s h rest line later [] more wf e f shut closed fit logs_
     (append-nil l.dids)) logs_fit t cut
 in_log v laws es n ls l true h rest line later (d ∷ ds) more wf e f shut closed fit logs_fit t cut =
     absurd (omega (arith, ap length (shut refl)))
-in_log v laws es n ls l false h rest line later (d ∷ ds) more wf e f shut closed fit logs_fit t cut =
+in_log v laws es n ls l false h rest line later (d ∷ ds)
+    more wf e f shut closed fit logs_fit t cut =
     let one = All-head (FitsDid v) d ds fit in
-    let at = split (text.did_line v d) (text.dids v ds ++ (text.logs v more ++ codes "end\n")) rest line
+    let at = split (text.did_line v d)
+    (text.dids v ds ++ (text.logs v more ++ codes "end\n")) rest line
     later ((line_word v laws).one_line (DidLine d) one)
     (t ∙ append_assoc (text.did v d) (text.dids v ds) (text.logs v more ++ codes "end\n")) cut in
     inl (record {
@@ -292,7 +302,8 @@ in_log v laws es n ls l false h rest line later (d ∷ ds) more wf e f shut clos
       };
     })
 
-next_by : (v : Version) → Laws → (es : List Entry) (n : ℕ) (ls : List PortLog) (o : Option PortLog) (s : Bool)
+next_by : (v : Version) → Laws → (es : List Entry) (n : ℕ) (ls : List PortLog) (o : Option PortLog)
+    (s : Bool)
     (h : Histories) (rest line later : List ℕ) → IsWellFormedIn v h → AheadOf v es n ls o s h rest →
     cut_at 10 rest ≡ Some (line, later) → Next v (place_at es n ls o s) h line later
 next_by v laws es n ls None s h rest line later wf a cut =
@@ -303,7 +314,8 @@ next_by v laws es n ls (Some l) s h rest line later wf a cut =
     a.closed_last a.fit a.logs_fit a.text_is cut
 
 -- behind a place of a journal its next line stands
-pub next : (v : Version) → Laws → (p : Place) (h : Histories) (rest line later : List ℕ) → IsWellFormedIn v h →
+pub next : (v : Version) → Laws → (p : Place) (h : Histories) (rest line later : List ℕ) →
+    IsWellFormedIn v h →
     Ahead v p h rest → cut_at 10 rest ≡ Some (line, later) → Next v p h line later
 unfolding place_at
 next v laws p h rest line later wf a cut =
@@ -314,8 +326,8 @@ next v laws p h rest line later wf a cut =
 -- each journal that begins as this place's text has what the place holds, and goes on behind it
 abbrev pub IsFront : Version → Place → Type 0
 IsFront v p =
-    (h : Histories) (rest : List ℕ) → IsWellFormedIn v h → so_far v p ++ rest ≡ text.journal_in v h →
-    Ahead v p h rest
+    (h : Histories) (rest : List ℕ) → IsWellFormedIn v h →
+    so_far v p ++ rest ≡ text.journal_in v h → Ahead v p h rest
 
 pub front_start : (v : Version) (p : Place) → p ≡ start → IsFront v p
 front_start v p e = subst (IsFront v) (sym e) (λ h rest wf t. record {
@@ -338,7 +350,8 @@ line_before front line rest =
     append_assoc front (line ++ codes "\n") rest
     ∙ ap (λ z. front ++ z) (append_assoc line (10 ∷ []) rest)
 
-pub front_more : (v : Version) → Laws → (p q : Place) (line : List ℕ) → IsFront v p → cut_at 10 line ≡ None →
+pub front_more : (v : Version) → Laws → (p q : Place) (line : List ℕ) → IsFront v p →
+    cut_at 10 line ≡ None →
     so_far v q ≡ so_far v p ++ (line ++ codes "\n") →
     ((said : Line) → IsLine v line said → after p said ≡ Some q) → IsFront v q
 unfolding after

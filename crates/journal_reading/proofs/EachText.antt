@@ -47,7 +47,8 @@ at_end v laws p text (b ∷ bs) sound front t =
           (λ e. absurd (omega (arith, ap length e)), refl),
     )
 
-judge : (v : Version) → Laws → (n : ℕ) (p : Place) (text rest : List ℕ) → length rest < n → IsSound v p →
+judge : (v : Version) → Laws → (n : ℕ) (p : Place) (text rest : List ℕ) → length rest < n →
+    IsSound v p →
     IsFront v p → text ≡ so_far v p ++ rest → Judged v text
 judge v laws zero p text rest less sound front t = absurd (omega (arith, less))
 judge v laws (suc n) p text rest less sound front t =

@@ -102,7 +102,8 @@ begins_nothing v = (
 )
 
 -- a line that says nothing that may stand at this place
-pub not_begun : (v : Version) → Laws → (p : Place) (line : List ℕ) → IsFront v p → cut_at 10 line ≡ None →
+pub not_begun : (v : Version) → Laws → (p : Place) (line : List ℕ) → IsFront v p →
+    cut_at 10 line ≡ None →
     ((said : Line) → IsLine v line said → (said ≢ End) × (after p said ≡ None)) →
     BeginsJournal v (so_far v p ++ (line ++ codes "\n")) → ⊥
 not_begun v laws p line front none refused begun =
@@ -138,7 +139,8 @@ pub tail_of : (v : Version) (p : Place) (h : Histories) (rest : List ℕ) → Ah
     (front : List ℕ) × (rest ≡ front ++ codes "end\n")
 tail_of v p h rest a = tail_by v p.entries p.queue p.logs p.last p.shut h rest a
   where
-    tail_by : (v : Version) (es : List Entry) (n : ℕ) (ls : List PortLog) (o : Option PortLog) (s : Bool)
+    tail_by : (v : Version) (es : List Entry) (n : ℕ) (ls : List PortLog) (o : Option PortLog)
+        (s : Bool)
         (h : Histories) (rest : List ℕ) → AheadOf v es n ls o s h rest →
         (front : List ℕ) × (rest ≡ front ++ codes "end\n")
     tail_by v es n ls None s h rest a = (
@@ -163,7 +165,8 @@ unfinished v p h rest front none j =
 -- ---- answers
 
 -- at a line
-pub stopped : (v : Version) → Laws → (stop : Stop) (p q : Place) (bytes rest line later : List ℕ) (n : ℕ) →
+pub stopped : (v : Version) → Laws → (stop : Stop) (p q : Place) (bytes rest line later : List ℕ)
+    (n : ℕ) →
     IsSound v p → IsFront v p → bytes ≡ so_far v p ++ rest → line_ends (so_far v p) + 1 ≡ n →
     cut_at 10 rest ≡ Some (line, later) → FollowsText v (Err stop) p q line →
     IsAnswer v (Err (fault_of stop n)) bytes
@@ -182,7 +185,8 @@ stopped v laws Refused p q bytes rest line later n sound front t count cut refus
     })
 
 -- where the lines end
-pub stopped_early : (v : Version) (p : Place) (bytes rest : List ℕ) (n : ℕ) → IsSound v p → IsFront v p →
+pub stopped_early : (v : Version) (p : Place) (bytes rest : List ℕ) (n : ℕ) → IsSound v p →
+    IsFront v p →
     bytes ≡ so_far v p ++ rest → line_ends (so_far v p) + 1 ≡ n → cut_at 10 rest ≡ None →
     IsFirstRefused v bytes n
 stopped_early v p bytes rest n sound front t count none =
@@ -198,7 +202,8 @@ stopped_early v p bytes rest n sound front t count none =
     })
 
 -- behind the end
-behind_end : (v : Version) → Laws → (p : Place) (bytes behind : List ℕ) (n : ℕ) → IsSound v p → IsFront v p →
+behind_end : (v : Version) → Laws → (p : Place) (bytes behind : List ℕ) (n : ℕ) → IsSound v p →
+    IsFront v p →
     bytes ≡ (so_far v p ++ codes "end\n") ++ behind → line_ends (so_far v p) + 1 ≡ n → behind ≢ [] →
     (o : Option (List ℕ × List ℕ)) → cut_at 10 behind ≡ o → IsFirstRefused v bytes (n + 1)
 behind_end v laws p bytes behind n sound front t count some None cut =
@@ -250,7 +255,8 @@ behind_end v laws p bytes behind n sound front t count some (Some parts) cut =
     not_nothing [] rest e = omega (arith, ap length e)
     not_nothing (b ∷ bs) rest e = omega (arith, ap length e)
 
-pub closed_by : (v : Version) → Laws → (r : Result Histories JournalFault) (p : Place) (bytes behind : List ℕ)
+pub closed_by : (v : Version) → Laws → (r : Result Histories JournalFault) (p : Place)
+    (bytes behind : List ℕ)
     (n : ℕ) → IsSound v p → IsFront v p → bytes ≡ (so_far v p ++ codes "end\n") ++ behind →
     line_ends (so_far v p) + 1 ≡ n → Closes r p behind n → IsAnswer v r bytes
 closed_by v laws (Ok h) p bytes behind n sound front t count e = (
@@ -329,17 +335,20 @@ never_both v text h n j (inl bad) =
     )
 never_both v text h n j (inr early) = early.unfinished h j
 
-pub found_by : (v : Version) (r : Result Histories JournalFault) (text : List ℕ) → IsAnswer v r text →
+pub found_by : (v : Version) (r : Result Histories JournalFault) (text : List ℕ) →
+    IsAnswer v r text →
     IfOk r (IsJournal v text)
 found_by v (Ok h) text a = a.0
 found_by v (Err e) text a = tt
 
-pub only_by : (v : Version) (r : Result Histories JournalFault) (text : List ℕ) → IsAnswer v r text →
+pub only_by : (v : Version) (r : Result Histories JournalFault) (text : List ℕ) →
+    IsAnswer v r text →
     (h : Histories) → IsJournal v text h → Answers r h
 only_by v (Ok g) text a h j = a.1 h j
 only_by v (Err (Bad line)) text a h j = absurd (never_both v text h line j a)
 only_by v (Err fault.NoMemory) text a h j = tt
 
-pub refused_by : (v : Version) (r : Result Histories JournalFault) (text : List ℕ) → IsAnswer v r text →
+pub refused_by : (v : Version) (r : Result Histories JournalFault) (text : List ℕ) →
+    IsAnswer v r text →
     (line : ℕ) → r ≡ Err (Bad line) → IsFirstRefused v text line
 refused_by v r text a line e = subst (λ (s : Result Histories JournalFault). IsAnswer v s text) e a

@@ -33,13 +33,15 @@ followed NoMemory p q l e moves = tt
 
 -- ---- the same of a line's text
 
-pub sound_by : (v : Version) (r : Result Bool Stop) (p q : Place) (l : Line) → IsSound v p → FitsLine v l →
+pub sound_by : (v : Version) (r : Result Bool Stop) (p q : Place) (l : Line) → IsSound v p →
+    FitsLine v l →
     Follows r p q l → OnOk r (IsSound v q)
 sound_by v (Ok true) p q l sound fits f = subst (IsSound v) (sym f.1) sound
 sound_by v (Ok false) p q l sound fits f = stays_sound v p q l sound fits f
 sound_by v (Err stop) p q l sound fits f = tt
 
-pub more_by : (v : Version) (r : Result Bool Stop) (p q : Place) (l : Line) (line : List ℕ) → IsSound v p →
+pub more_by : (v : Version) (r : Result Bool Stop) (p q : Place) (l : Line) (line : List ℕ) →
+    IsSound v p →
     line ≡ line_text v l → Follows r p q l → IfOk r (λ ended. HasRead v ended p q line)
 more_by v (Ok true) p q l line sound e f = (e ∙ ap (line_text v) f.0, f.1)
 more_by v (Ok false) p q l line sound e f =

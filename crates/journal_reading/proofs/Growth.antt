@@ -25,7 +25,8 @@ entries_more v (x ∷ es) e =
     ap (λ z. text.entry v x ++ z) (entries_more v es e)
     ∙ sym (append_assoc (text.entry v x) (text.entries v es) (text.entry v e))
 
-dids_more : (v : Version) (ds : List Did) (d : Did) → text.dids v (ds ++ d ∷ []) ≡ text.dids v ds ++ text.did v d
+dids_more : (v : Version) (ds : List Did) (d : Did) →
+    text.dids v (ds ++ d ∷ []) ≡ text.dids v ds ++ text.did v d
 dids_more v [] d = append-nil (text.did v d)
 dids_more v (x ∷ ds) d =
     ap (λ z. text.did v x ++ z) (dids_more v ds d)
@@ -83,7 +84,8 @@ log_more v l d =
     ap (λ z. (text.port_line l.port ++ codes "\n") ++ z) (dids_more v l.dids d)
     ∙ sym (append_assoc (text.port_line l.port ++ codes "\n") (text.dids v l.dids) (text.did v d))
 
-grows_by : (v : Version) (es : List Entry) (n : ℕ) (ls : List PortLog) (o : Option PortLog) (s : Bool)
+grows_by : (v : Version) (es : List Entry) (n : ℕ) (ls : List PortLog) (o : Option PortLog)
+    (s : Bool)
     (q : Place) (l : Line) → IsBare ls o → after (place es n ls o s) l ≡ Some q →
     so_far v q ≡ so_far v (place es n ls o s) ++ (line_text v l ++ codes "\n")
 unfolding after place

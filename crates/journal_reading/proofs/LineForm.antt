@@ -235,7 +235,8 @@ ask_again v laws q p c r errno count fits same =
     ((asking_word v laws).again (((q, (p, c)), r), (errno, count)) fits)
     ∙ taken (eqb (queue_of r) q) _ None (eq-eqb (queue_of r) q same)
 
-entry_again : (v : Version) → Laws → (q : ℕ) (event : Event) (reply : Reply) → IsHalf q → IsEventAt v q event →
+entry_again : (v : Version) → Laws → (q : ℕ) (event : Event) (reply : Reply) → IsHalf q →
+    IsEventAt v q event →
     IsReplyTo event reply → line_in v (text.event v q event ++ text.reply reply)
     ≡ Some (EntryLine (record { queue = q; event = event; reply = reply }))
 unfolding line_in line_by arrival_in port_closed_in device_down_in
@@ -274,7 +275,8 @@ entry_again v laws q (DeviceDown p) (Flushed t) qf ef rf =
       reply = Flushed y.1;
     }) x)) ((triple_word laws).again ((q, p), t) ((qf, ef), rf))
 
-did_again : (v : Version) → Laws → (d : Did) → FitsDid v d → line_in v (text.did_line v d) ≡ Some (DidLine d)
+did_again : (v : Version) → Laws → (d : Did) → FitsDid v d →
+    line_in v (text.did_line v d) ≡ Some (DidLine d)
 unfolding line_in line_by received_in sent_in
 did_again v laws (Received q n t) fits =
     ap (λ w. line_in v (codes "R " ++ w)) (received_regroup (decimal q) (decimal n) (decimal t))
@@ -303,7 +305,8 @@ line_again v laws End fits = refl
 abbrev IsLineText : Version → List ℕ → Line → Type 0
 IsLineText v line l = FitsLine v l × (line ≡ line_text v l)
 
-arrival_spelled : (v : Version) → Laws → (line rest : List ℕ) (l : Line) → line ≡ codes "A " ++ rest →
+arrival_spelled : (v : Version) → Laws → (line rest : List ℕ) (l : Line) →
+    line ≡ codes "A " ++ rest →
     option_map EntryLine (arrival_in v rest) ≡ Some l → IsLineText v line l
 unfolding arrival_in
 arrival_spelled v laws line rest l is e =
@@ -318,7 +321,8 @@ arrival_spelled v laws line rest l is e =
           ∙ sym (arrival_told v ((x.0).0).0 told.0 (told.1).0 (told.1).1 (x.0).1),
     )
 
-asking_spelled : (v : Version) → Laws → (line rest : List ℕ) (l : Line) → line ≡ codes "M " ++ rest →
+asking_spelled : (v : Version) → Laws → (line rest : List ℕ) (l : Line) →
+    line ≡ codes "M " ++ rest →
     option_map EntryLine (ask_in v rest) ≡ Some l → IsLineText v line l
 unfolding ask_in
 asking_spelled v laws line rest l is e =
@@ -338,7 +342,8 @@ asking_spelled v laws line rest l is e =
           ((x.0).1).0 ((x.0).1).1),
     )
 
-port_closed_spelled : (v : Version) → Laws → (line rest : List ℕ) (l : Line) → line ≡ codes "C " ++ rest →
+port_closed_spelled : (v : Version) → Laws → (line rest : List ℕ) (l : Line) →
+    line ≡ codes "C " ++ rest →
     option_map EntryLine (port_closed_in rest) ≡ Some l → IsLineText v line l
 unfolding port_closed_in
 port_closed_spelled v laws line rest l is e =
@@ -352,7 +357,8 @@ port_closed_spelled v laws line rest l is e =
           ∙ sym (triple_regroup (decimal ((x.0).0).0) (decimal ((x.0).0).1) (decimal (x.0).1))),
     )
 
-device_down_spelled : (v : Version) → Laws → (line rest : List ℕ) (l : Line) → line ≡ codes "D " ++ rest →
+device_down_spelled : (v : Version) → Laws → (line rest : List ℕ) (l : Line) →
+    line ≡ codes "D " ++ rest →
     option_map EntryLine (device_down_in rest) ≡ Some l → IsLineText v line l
 unfolding device_down_in
 device_down_spelled v laws line rest l is e =
@@ -366,7 +372,8 @@ device_down_spelled v laws line rest l is e =
           ∙ sym (triple_regroup (decimal ((x.0).0).0) (decimal ((x.0).0).1) (decimal (x.0).1))),
     )
 
-received_spelled : (v : Version) → Laws → (line rest : List ℕ) (l : Line) → line ≡ codes "R " ++ rest →
+received_spelled : (v : Version) → Laws → (line rest : List ℕ) (l : Line) →
+    line ≡ codes "R " ++ rest →
     option_map DidLine (received_in rest) ≡ Some l → IsLineText v line l
 unfolding received_in
 received_spelled v laws line rest l is e =
@@ -401,7 +408,8 @@ port_spelled v laws line rest l is e =
     let s = (number_word laws).spelled rest port.0 port.1 in
     subst (IsLineText v line) port.2 (s.0, is ∙ ap (λ w. codes "P " ++ w) s.1)
 
-by_spelled : (v : Version) → Laws → (line word rest : List ℕ) (l : Line) → line ≡ word ++ 32 ∷ rest →
+by_spelled : (v : Version) → Laws → (line word rest : List ℕ) (l : Line) →
+    line ≡ word ++ 32 ∷ rest →
     line_by v word rest ≡ Some l → IsLineText v line l
 unfolding line_by
 by_spelled v laws line word rest l is e =
@@ -423,7 +431,8 @@ by_spelled v laws line word rest l is e =
     (λ n f. port_spelled v laws line rest l (front (codes "P") n) f)
     (λ e7. absurd (none-some l e7))))))))
 
-line_spelled : (v : Version) → Laws → (line : List ℕ) (l : Line) → line_in v line ≡ Some l → IsLineText v line l
+line_spelled : (v : Version) → Laws → (line : List ℕ) (l : Line) → line_in v line ≡ Some l →
+    IsLineText v line l
 unfolding line_in
 line_spelled v laws line l e =
     pick line (text.title v) _ _ l (IsLineText v line l) e
@@ -437,7 +446,8 @@ line_spelled v laws line l e =
 
 -- ---- no line has a line's end in it
 
-entry_line : (v : Version) → Laws → (q : ℕ) (event : Event) (reply : Reply) → IsHalf q → IsEventAt v q event →
+entry_line : (v : Version) → Laws → (q : ℕ) (event : Event) (reply : Reply) → IsHalf q →
+    IsEventAt v q event →
     IsReplyTo event reply → cut_at 10 (text.event v q event ++ text.reply reply) ≡ None
 entry_line v laws q (Arrive c b r) (Arrived o) qf ef rf =
     ap (cut_at 10) (arrival_told v q c b r o)

@@ -183,7 +183,8 @@ asked_spelled v laws front a rest e =
     option_map_or {T = List ℕ} {U = Option (AskWords × List ℕ)} (made Raw (field bytes_in)) b
     (made Plain (request_in v) front) ≡ Some (a, rest) → IsAskedText v front (a, rest)) [
       | None ↦ λ is f.
-          let x = map_some (λ (y : Request × List ℕ). (Plain y.0, y.1)) (request_in v front) (a, rest)
+          let x = map_some (λ (y : Request × List ℕ). (Plain y.0, y.1)) (request_in v front)
+          (a, rest)
           f in
           subst (IsAskedText v front) x.2 ((request_field v laws).spelled front (x.0).0 (x.0).1 x.1)
       | Some later ↦ λ is f.
@@ -369,8 +370,10 @@ Told = Card × (Bool × Bool)
 abbrev card_parts : Told → (Fore × Rear)
 card_parts x = (
   (((x.0.number, x.0.visit), x.0.table), x.1),
-  ((((x.0.mark, x.0.priority), x.0.seconds), (x.0.micros, x.0.protocol)),
-      (x.0.link, x.0.bytes)),
+  (
+    (((x.0.mark, x.0.priority), x.0.seconds), (x.0.micros, x.0.protocol)),
+    (x.0.link, x.0.bytes),
+  ),
 )
 
 abbrev pub card_text : Version → Told → List ℕ
@@ -423,5 +426,6 @@ pub card_told : (v : Version) (c : Card) (b r : Bool) →
     text.card v c (text.yes_no b) (text.yes_no r) ≡ card_text v (c, (b, r))
 card_told v c b r =
     card_regroup (decimal c.number) (decimal c.visit) (decimal c.table) (text.yes_no b)
-    (text.yes_no r) (decimal c.mark) (text.priority v c.priority) (decimal c.seconds) (decimal c.micros) (decimal c.protocol)
+    (text.yes_no r) (decimal c.mark) (text.priority v c.priority) (decimal c.seconds)
+    (decimal c.micros) (decimal c.protocol)
     (hexadecimal c.link) (hexadecimal c.bytes)

@@ -86,7 +86,8 @@ before v text n (inr h) = record {
   begins = h.begins;
 }
 
-not_before : (v : Version) (text : List ℕ) (a b : ℕ) → IsFirstRefused v text a → Before v text b → a < b → ⊥
+not_before : (v : Version) (text : List ℕ) (a b : ℕ) → IsFirstRefused v text a → Before v text b →
+    a < b → ⊥
 not_before v text a b (inl bad) h less =
     let held = holds_line bad.front bad.line bad.later h.front h.rest
     (line_is_whole bad.rest (bad.line, bad.later) bad.line_is)
@@ -112,7 +113,8 @@ not_before v text a b (inr early) h less =
       ap line_ends (sym early.text_is ∙ h.text_is),
     )
 
-pub same_line : (v : Version) (text : List ℕ) (a b : ℕ) → IsFirstRefused v text a → IsFirstRefused v text b → a ≡ b
+pub same_line : (v : Version) (text : List ℕ) (a b : ℕ) → IsFirstRefused v text a →
+    IsFirstRefused v text b → a ≡ b
 same_line v text a b x y =
     elim (ltb a b) as (λ c. ltb a b ≡ c → a ≡ b) [
       | true ↦ λ e. absurd (not_before v text a b x (before v text b y) (ltb-true a b e))
@@ -122,7 +124,8 @@ same_line v text a b x y =
       ] refl
     ] refl
 
-pub stuck_by : (v : Version) (r : Result Histories JournalFault) (text : List ℕ) → IsAnswer v r text →
+pub stuck_by : (v : Version) (r : Result Histories JournalFault) (text : List ℕ) →
+    IsAnswer v r text →
     (line : ℕ) → IsFirstRefused v text line → IsRefusedAt r line
 stuck_by v (Ok h) text a line refused = never_both v text h line a.0 refused
 stuck_by v (Err (Bad n)) text a line refused = same_line v text n line a refused

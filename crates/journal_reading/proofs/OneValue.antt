@@ -22,7 +22,8 @@ use Rattle.journal_reading.proofs.Underway.{shorter}
 use Rattle.journal_reading.proofs.Wording.{Laws}
 
 -- a line says one thing
-pub same_said : (v : Version) → Laws → (line : List ℕ) (a b : Line) → IsLine v line a → IsLine v line b → a ≡ b
+pub same_said : (v : Version) → Laws → (line : List ℕ) (a b : Line) → IsLine v line a →
+    IsLine v line b → a ≡ b
 same_said v laws line a b x y =
     same_Some a b (sym ((line_word v laws).again a x.0) ∙ ap (line_in v) (sym x.1 ∙ y.1)
     ∙ (line_word v laws).again b y.0)
@@ -33,7 +34,8 @@ pub record Reached (v : Version) (h : Histories) : Type 0 where
   pub front : IsFront v place
   pub all : h ≡ histories_of place
 
-reach : (v : Version) → Laws → (n : ℕ) (p : Place) (h : Histories) (rest : List ℕ) → length rest < n →
+reach : (v : Version) → Laws → (n : ℕ) (p : Place) (h : Histories) (rest : List ℕ) →
+    length rest < n →
     IsWellFormedIn v h → IsSound v p → IsFront v p → Ahead v p h rest → Reached v h
 reach v laws zero p h rest less wf sound front a = absurd (omega (arith, less))
 reach v laws (suc n) p h rest less wf sound front a =
@@ -68,7 +70,8 @@ reached v laws h wf =
     ∙ sym (append_assoc (text.heading v) (text.histories v h) (codes "end\n"))))
 
 -- a journal that begins with a journal is that journal
-pub same_journal : (v : Version) → Laws → (text rest : List ℕ) (a b : Histories) → IsJournal v text a →
+pub same_journal : (v : Version) → Laws → (text rest : List ℕ) (a b : Histories) →
+    IsJournal v text a →
     IsJournal v (text ++ rest) b → (rest ≡ []) × (b ≡ a)
 same_journal v laws t rest a b j k =
     let at = reached v laws a j.well_formed in
@@ -79,7 +82,8 @@ same_journal v laws t rest a b j k =
     (subst (λ (z : List ℕ). IsJournal v z b) e k) in
     (end.0, end.1 ∙ sym at.all)
 
-pub one_value : (v : Version) → Laws → (text : List ℕ) (a b : Histories) → IsJournal v text a → IsJournal v text b →
+pub one_value : (v : Version) → Laws → (text : List ℕ) (a b : Histories) → IsJournal v text a →
+    IsJournal v text b →
     a ≡ b
 one_value v laws t a b j k =
     sym (same_journal v laws t [] a b j

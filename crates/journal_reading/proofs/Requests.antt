@@ -437,8 +437,10 @@ request_again v laws (Config q c p l f m) rest fits before =
     ) before)
 request_again v laws (Verdict q h m b n) rest fits before =
     ap (option_map (λ (x : ((ℕ × Option Head) × Body) × List ℕ). (verdict_made x.0, x.1)))
-    ((verdict_field v laws).again ((q, h), (m, (b, n))) rest ((fits.queue_fits, fits.head_fits),
-    (fits.mark_fits, (fits.payload_fits, fits.priority_fits))) before)
+    ((verdict_field v laws).again ((q, h), (m, (b, n))) rest (
+      (fits.queue_fits, fits.head_fits),
+      (fits.mark_fits, (fits.payload_fits, fits.priority_fits)),
+    ) before)
 request_again v laws (Batch q h m n) rest fits before =
     ap (option_map (λ (x : ((ℕ × Option Head) × Edit) × List ℕ). (batch_made x.0, x.1)))
     ((batch_field v laws).again ((q, h), (m, n)) rest
@@ -532,8 +534,10 @@ request_line v laws (Config q c p l f m) fits =
     ))
 request_line v laws (Verdict q h m b n) fits =
     uncut_append 10 (codes "verdict ") (headed_text (q, h) ++ body_text v (m, (b, n))) refl
-    ((verdict_field v laws).one_line ((q, h), (m, (b, n))) ((fits.queue_fits, fits.head_fits),
-    (fits.mark_fits, (fits.payload_fits, fits.priority_fits))))
+    ((verdict_field v laws).one_line ((q, h), (m, (b, n))) (
+      (fits.queue_fits, fits.head_fits),
+      (fits.mark_fits, (fits.payload_fits, fits.priority_fits)),
+    ))
 request_line v laws (Batch q h m n) fits =
     uncut_append 10 (codes "batch ") (headed_text (q, h) ++ edit_text v (m, n)) refl
     ((batch_field v laws).one_line ((q, h), (m, n))

@@ -54,8 +54,8 @@ same_differ ls l m e h =
     ∙ ap (λ p. map (λ (x : PortLog). x.port) ls ++ p ∷ []) e
     ∙ sym (map_push (λ (x : PortLog). x.port) ls m)) h
 
-all_logs : (v : Version) (ls : List PortLog) (o : Option PortLog) → All (IsLog v) ls → IfSome o (IsLog v) →
-    All (IsLog v) (ls ++ option_to_list o)
+all_logs : (v : Version) (ls : List PortLog) (o : Option PortLog) → All (IsLog v) ls →
+    IfSome o (IsLog v) → All (IsLog v) (ls ++ option_to_list o)
 all_logs v ls None h g = subst (All (IsLog v)) (sym (append-nil ls)) h
 all_logs v ls (Some l) h g = All-push (IsLog v) ls l h g
 
@@ -85,7 +85,8 @@ entry_sound v es n ls s x h fits le = record {
   differ = h.differ;
 }
 
-port_sound : (v : Version) (es : List Entry) (n : ℕ) (ls : List PortLog) (o : Option PortLog) (s : Bool)
+port_sound : (v : Version) (es : List Entry) (n : ℕ) (ls : List PortLog) (o : Option PortLog)
+    (s : Bool)
     (port : ℕ) → IsSound v (place es n ls o s) → IsWide port →
     list_any (is_port port) (ls ++ option_to_list o) ≡ false →
     IsSound v (place es n (ls ++ option_to_list o) (Some (record { port = port; dids = [] })) false)
@@ -126,7 +127,8 @@ did_sound v es n ls l d h fits = record {
   differ = same_differ ls l (record { port = l.port; dids = l.dids ++ d ∷ [] }) refl h.differ;
 }
 
-sound_by : (v : Version) (es : List Entry) (n : ℕ) (ls : List PortLog) (o : Option PortLog) (s : Bool)
+sound_by : (v : Version) (es : List Entry) (n : ℕ) (ls : List PortLog) (o : Option PortLog)
+    (s : Bool)
     (q : Place) (l : Line) → IsSound v (place es n ls o s) → FitsLine v l →
     after (place es n ls o s) l ≡ Some q → IsSound v q
 unfolding after place
@@ -150,7 +152,8 @@ sound_by v es n ls (Some l) true q (DidLine d) h fits e = absurd (none-some q e)
 sound_by v es n ls (Some l) false q (DidLine d) h fits e =
     subst (IsSound v) (same_Some _ q e) (did_sound v es n ls l d h fits)
 
-pub stays_sound : (v : Version) (p q : Place) (l : Line) → IsSound v p → FitsLine v l → after p l ≡ Some q →
+pub stays_sound : (v : Version) (p q : Place) (l : Line) → IsSound v p → FitsLine v l →
+    after p l ≡ Some q →
     IsSound v q
 unfolding place
 stays_sound v p q l h fits e =

@@ -13,7 +13,8 @@ use Rattle.journal_reading.proofs.FirstRefused.{line_is_whole, one_line_more}
 use Rattle.journal_reading.proofs.Sound.{sound_start}
 use Rattle.journal_reading.proofs.Wording.{Laws, cut_some, same_word}
 
-pub record IsUnderway (v : Version) (bytes : List ℕ) (p : Place) (rest : List ℕ) (line_number : ℕ) : Type 0 where
+pub record IsUnderway (v : Version) (bytes : List ℕ) (p : Place) (rest : List ℕ)
+    (line_number : ℕ) : Type 0 where
   pub sound : IsSound v p
   pub text_is : bytes ≡ so_far v p ++ rest
   pub count : line_number + length rest ≤ length bytes + 1
@@ -47,7 +48,8 @@ pub shorter : (rest line later : List ℕ) → cut_at 10 rest ≡ Some (line, la
 shorter rest line later e =
     omega (arith, ap length (cut_some 10 rest (line, later) e), length-append line (10 ∷ later))
 
-pub goes_on : (v : Version) → Laws → (bytes rest line later : List ℕ) (p q : Place) (line_number : ℕ) →
+pub goes_on : (v : Version) → Laws → (bytes rest line later : List ℕ) (p q : Place)
+    (line_number : ℕ) →
     IsUnderway v bytes p rest line_number → cut_at 10 rest ≡ Some (line, later) → IsSound v q →
     so_far v q ≡ so_far v p ++ (line ++ codes "\n") → FollowsText v (Ok false) p q line →
     IsUnderway v bytes q later (line_number + 1)

@@ -1,5 +1,5 @@
--- A journal's text in a version of its format: of which histories it is one, and how far a reader of
--- it has come.
+-- A journal's text in a version of its format: of which histories it is one, and how far a reader
+-- of it has come.
 use Rattle.std.specs.Prelude.{◌≡◌, ◌≢◌, ℕ, ◌≤◌, ◌&&◌, nat_le, is_none, Bool, true, false, List}
 use Rattle.std.specs.Prelude.{[], ◌∷◌, ◌++◌, All, AllPairs, Option, Some, None, IfSome, map, ⊤}
 use Rattle.std.specs.Prelude.{codes}

@@ -1,5 +1,5 @@
-//! Laws of journals and of their lines, each the contract of a function that does nothing. They hold
-//! of each version of the format.
+//! Laws of journals and of their lines, each the contract of a function that does nothing. All but
+//! one are laws of each version of the format.
 
 ghost use Rattle.std.specs.Prelude.{◌≡◌, ◌⊎◌, ◌↔◌, ◌++◌, ℕ, List, [], Some};
 ghost use Rattle.histories.specs.declared.histories.Histories.{Histories};

@@ -60,7 +60,8 @@ impl Reader {
         ensures sound { OnOk result (IsSound version (place_of self.new)) }
         ensures more { IfOk result (λ ended. HasRead version ended (place_of self.old)
             (place_of self.new) line.now) }
-        ensures follows { FollowsText version result (place_of self.old) (place_of self.new) line.now }
+        ensures follows { FollowsText version result (place_of self.old) (place_of self.new)
+            line.now }
     {
         lines_say_what_is_written();
         match read_line(alloc, version, line)? {

@@ -20,8 +20,8 @@ use text_lines::{bytes_are_spelled, cut, numbers_are_spelled};
 /// The byte that ends a line.
 const LINE_FEED: u8 = b'\n';
 
-/// The histories whose journal of version 2 a text is: they are well formed, and the text is exactly what
-/// [`journal_text`](crate::journal_text) writes of them.
+/// The histories whose journal a text is, in version 2 of the format: they are well formed, and the
+/// text is exactly what [`journal_text`](crate::journal_text) writes of them.
 ///
 /// `Bad` comes only where there are none, and there it comes unless memory runs out: with the first
 /// line at whose end the text no longer begins a journal, or with the number of line ends plus 1
@@ -37,14 +37,15 @@ pub fn read_journal(alloc: Global, bytes: &[u8]) -> Result<Histories, JournalFau
     // What is refused is no journal, and is refused at the first line that can't stand in one, or
     // at the one that is missing at the end. What has such a line is refused there, unless memory
     // runs out.
-    ensures refused { (line : ℕ) → result ≡ Err (fault.Bad line) → IsFirstRefused Second bytes.now line }
+    ensures refused { (line : ℕ) → result ≡ Err (fault.Bad line) →
+        IsFirstRefused Second bytes.now line }
     ensures stuck { (line : ℕ) → IsFirstRefused Second bytes.now line → IsRefusedAt result line }
 {
     read_text(alloc, Version::Second, bytes)
 }
 
 /// Reads a journal of this version: its heading, and what stands behind it.
-fn read_text(
+pub(crate) fn read_text(
     alloc: Global,
     version: Version,
     bytes: &[u8],

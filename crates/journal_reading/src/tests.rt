@@ -1,9 +1,10 @@
 //! What no contract says: that a journal is read where there is memory, with each kind of line, and
 //! where bad ones are refused.
 
+use crate::reading::read_text;
 use crate::{JournalFault, read_journal};
 use histories::Histories;
-use journals::{append_entry, append_heading, entry_room, journal_tail, journal_text};
+use journals::{Version, append_entry, append_heading, entry_room, journal_tail, journal_text};
 use packet_entry::NoMemory;
 use std::alloc::Global;
 use std::test::Fail;
@@ -77,6 +78,36 @@ fn append_parts(alloc: Global, histories: &Histories, out: &mut Vec<u8>) -> Resu
         append_entry(entry, out)?;
     }
     out.append(&mut journal_tail(alloc, &histories.logs)?)?;
+    Ok(())
+}
+
+/// A journal of version 1, and of version 2 with the same histories.
+const OLD: &str = "nfq-journal 1
+A 0 1 1 1 n y 3 1 0 2048 - 45 taken:1
+M 0 7 3 verdict 0 1 1 mark 4 payload 46 = 0 1
+P 7
+S 3 batch 0 1 1 mark 4 = -
+end
+";
+
+const NEW: &str = "nfq-journal 2
+A 0 1 1 1 n y 3 0 1 0 2048 - 45 taken:1
+M 0 7 3 verdict 0 1 1 mark 4 payload 46 = 0 1
+P 7
+S 3 batch 0 1 1 mark 4 = -
+end
+";
+
+#[test]
+fn the_same_is_read_in_version_1(rt: HostRuntime) -> Result<(), Fail> {
+    let mut out = Vec::new(rt.alloc());
+    match read_text(rt.alloc(), Version::First, OLD.as_bytes()) {
+        Ok(histories) => journal_text(rt.alloc(), &histories, &mut out)?,
+        Err(fault) => return Err(Fail::new(fault)),
+    }
+    assert_eq!(rt; &out[..], NEW.as_bytes());
+    let other = read_text(rt.alloc(), Version::First, NEW.as_bytes());
+    assert!(rt; matches!(other, Err(JournalFault::Bad { line: 1 })));
     Ok(())
 }
 

@@ -1,5 +1,5 @@
--- The journal's text in each version of its format: one line for each entry, and for each thing that
--- a port did. Words are separated by one blank, numbers are decimal, bytes are lower-case
+-- The journal's text in each version of its format: one line for each entry, and for each thing
+-- that a port did. Words are separated by one blank, numbers are decimal, bytes are lower-case
 -- hexadecimal, `-` for none. Version 1 tells no priorities.
 use Rattle.std.specs.Prelude.{ℕ, List, [], ◌∷◌, ◌++◌, Option, Some, None, Bool, true, false, codes}
 use Rattle.std.specs.Prelude.{decimal}

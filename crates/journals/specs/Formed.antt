@@ -1,7 +1,7 @@
--- The histories that a journal of each version tells in full: nothing was lost, the entries stand by
--- queue, no port has two logs or did anything after its closing, each request is of its entry's queue
--- and each reply of its event's kind, and each value is one that its field can hold. Version 1 has no
--- field for priorities: it tells only of packets whose priority is 0, and of requests that set none.
+-- The histories that a journal of each version tells in full: nothing was lost, the entries stand
+-- by queue, no port has two logs or did anything after its closing, each request is of its entry's
+-- queue and each reply of its event's kind, and each value is one that its field can hold. Version
+-- 1 has no field for priorities: there each packet has priority 0, and no request sets one.
 use Rattle.std.specs.Prelude.{ℕ, ◌≡◌, ◌≢◌, ◌<◌, ◌≤◌, ◌^◌, ⊤, List, [], map, All, AllPairs, Option}
 use Rattle.std.specs.Prelude.{None, IfSome}
 use Rattle.hex.specs.Hex.{IsBytes}

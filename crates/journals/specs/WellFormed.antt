@@ -9,8 +9,8 @@ use Rattle.histories.specs.declared.log.PortLog.{PortLog}
 use Rattle.histories.specs.declared.histories.Histories.{Histories}
 use Rattle.journals.specs.declared.version.Version.TheVariants.{Second}
 use Rattle.journals.specs.Formed as formed
-use Rattle.journals.specs.Formed.{FitsCard, FitsDid, FitsOutcome, FitsRequest, IsHalf, IsWellFormedIn}
-use Rattle.journals.specs.Formed.{IsWide}
+use Rattle.journals.specs.Formed.{FitsCard, FitsDid, FitsOutcome, FitsRequest, IsHalf}
+use Rattle.journals.specs.Formed.{IsWellFormedIn, IsWide}
 
 abbrev pub IsWellFormed : Histories → Type 0
 IsWellFormed h = IsWellFormedIn Second h

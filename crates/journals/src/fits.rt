@@ -3,8 +3,8 @@
 ghost use Rattle.std.specs.Prelude.{All, IfSome};
 ghost use Rattle.hex.specs.Hex.{IsBytes};
 ghost use Rattle.journals.specs.declared.version.Version.TheVariants.{Second};
-ghost use Rattle.journals.specs.Formed.{FitsAsk, FitsCard, FitsDid, FitsHead, FitsOutcome, FitsParams};
-ghost use Rattle.journals.specs.Formed.{FitsRequest, IsHalf, IsSmall, IsWide};
+ghost use Rattle.journals.specs.Formed.{FitsAsk, FitsCard, FitsDid, FitsHead, FitsOutcome};
+ghost use Rattle.journals.specs.Formed.{FitsParams, FitsRequest, IsHalf, IsSmall, IsWide};
 ghost use Rattle.journals.specs.WellFormed.{Fit, FitsEntry, FitsEvent, FitsLog, FitsReply};
 
 use histories::{AskWords, Did, Dids, Entries, Entry, Event, Histories, Logs, PortLog, Reply};

@@ -1,7 +1,8 @@
 //! What no contract says: that a journal is written where there is memory, with each kind of line, as
 //! it was written out by hand.
 
-use crate::journal_text;
+use crate::writing::push_journal;
+use crate::{Version, journal_text};
 use histories::{AskWords, Did, Entry, Event, Histories, PortLog, Reply};
 use nfqa_msgs::{Head, Params, Request};
 use packet_entry::{Bytes, Card, NoMemory, Sequence};
@@ -9,8 +10,8 @@ use queue_core::Outcome;
 use std::alloc::Global;
 use std::test::Fail;
 
-/// The journal of one entry and no log.
-fn told_of(alloc: Global, queue: u16, event: Event, reply: Reply) -> Result<Vec<u8>, NoMemory> {
+/// The histories of one entry and no log.
+fn of_entry(alloc: Global, queue: u16, event: Event, reply: Reply) -> Result<Histories, NoMemory> {
     let mut entries = Sequence::new(alloc);
     entries
         .push(Entry {
@@ -19,12 +20,16 @@ fn told_of(alloc: Global, queue: u16, event: Event, reply: Reply) -> Result<Vec<
             reply,
         })
         .map_err(|_| NoMemory)?;
-    let histories = Histories {
+    Ok(Histories {
         entries,
         logs: Sequence::new(alloc),
         lost: Sequence::new(alloc),
-    };
-    written(alloc, &histories)
+    })
+}
+
+/// Their journal.
+fn told_of(alloc: Global, queue: u16, event: Event, reply: Reply) -> Result<Vec<u8>, NoMemory> {
+    written(alloc, &of_entry(alloc, queue, event, reply)?)
 }
 
 /// The journal of one port's log of one thing.
@@ -50,7 +55,7 @@ fn written(alloc: Global, histories: &Histories) -> Result<Vec<u8>, NoMemory> {
 }
 
 /// An arrival of packet 3 at its second visit, with this mark.
-fn arrives(alloc: Global, mark: u32, outcome: Outcome) -> Result<Vec<u8>, NoMemory> {
+fn arrival(alloc: Global, mark: u32) -> Result<Event, NoMemory> {
     let card = Card {
         number: 3,
         visit: 2,
@@ -63,17 +68,21 @@ fn arrives(alloc: Global, mark: u32, outcome: Outcome) -> Result<Vec<u8>, NoMemo
         link: Bytes::copy(alloc, &[0xab, 0x01])?,
         bytes: Bytes::new(alloc),
     };
-    let event = Event::Arrive {
+    Ok(Event::Arrive {
         card,
         bypass: true,
         room: false,
-    };
-    told_of(alloc, 9, event, Reply::Arrived { outcome })
+    })
+}
+
+fn arrives(alloc: Global, mark: u32, outcome: Outcome) -> Result<Vec<u8>, NoMemory> {
+    told_of(alloc, 9, arrival(alloc, mark)?, Reply::Arrived { outcome })
 }
 
 #[test]
 fn arrivals_that_are_taken(rt: HostRuntime) -> Result<(), Fail> {
-    const LINE: &[u8] = b">nfq-journal 2\nA 9 3 2 1 y n 4 7 5 6 2048 ab01 - taken:4294967295\nend\n";
+    const LINE: &[u8] =
+        b">nfq-journal 2\nA 9 3 2 1 y n 4 7 5 6 2048 ab01 - taken:4294967295\nend\n";
     let taken = arrives(rt.alloc(), 4, Outcome::Taken { id: 4_294_967_295 })?;
     assert!(rt; taken.as_slice() == LINE);
     Ok(())
@@ -87,14 +96,42 @@ fn arrivals_that_are_turned_away(rt: HostRuntime) -> Result<(), Fail> {
     Ok(())
 }
 
-/// A request of port 7 that was answered so.
-fn asks(alloc: Global, request: Request, errno: u16, taken: u32) -> Result<Vec<u8>, NoMemory> {
-    let event = Event::Ask {
+/// The journal of version 1.
+fn in_version_1(alloc: Global, histories: &Histories) -> Result<Vec<u8>, NoMemory> {
+    let mut out = Vec::new(alloc);
+    push_journal(Version::First, histories, &mut out)?;
+    Ok(out)
+}
+
+#[test]
+fn version_1_tells_no_priorities(rt: HostRuntime) -> Result<(), Fail> {
+    const ARRIVAL: &[u8] = b"nfq-journal 1\nA 9 3 2 1 y n 4 5 6 2048 ab01 - overflow\nend\n";
+    const BATCH: &[u8] = b"nfq-journal 1\nM 2 7 12 batch 2 - mark 9 = 22 0\nend\n";
+    let outcome = Outcome::Overflow;
+    let reply = Reply::Arrived { outcome };
+    let arrival = of_entry(rt.alloc(), 9, arrival(rt.alloc(), 4)?, reply)?;
+    assert!(rt; in_version_1(rt.alloc(), &arrival)?.as_slice() == ARRIVAL);
+    let request = batch(None, Some(9), Some(3));
+    let reply = Reply::Answer {
+        errno: 22,
+        taken: 0,
+    };
+    let batch = of_entry(rt.alloc(), 2, asking(request), reply)?;
+    assert!(rt; in_version_1(rt.alloc(), &batch)?.as_slice() == BATCH);
+    Ok(())
+}
+
+fn asking(request: Request) -> Event {
+    Event::Ask {
         port: 7,
         call: 12,
         request,
-    };
-    told_of(alloc, 2, event, Reply::Answer { errno, taken })
+    }
+}
+
+/// A request of port 7 that was answered so.
+fn asks(alloc: Global, request: Request, errno: u16, taken: u32) -> Result<Vec<u8>, NoMemory> {
+    told_of(alloc, 2, asking(request), Reply::Answer { errno, taken })
 }
 
 /// A config request with each part.

@@ -33,7 +33,7 @@ pub fn journal_text(alloc: Global, histories: &Histories, out: &mut Vec<u8>) -> 
     append_text(journal, out)
 }
 
-fn push_journal(
+pub(crate) fn push_journal(
     version: Version,
     histories: &Histories,
     out: &mut Vec<u8>,
@@ -85,11 +85,7 @@ fn push_histories(
     push_logs(version, &histories.logs, out)
 }
 
-fn push_entries(
-    version: Version,
-    entries: &Entries,
-    out: &mut Vec<u8>,
-) -> Result<(), AllocError>
+fn push_entries(version: Version, entries: &Entries, out: &mut Vec<u8>) -> Result<(), AllocError>
     ensures { OnOk result (out.new.items ≡ out.old.items
         ++ text.entries version entries.now) }
 {

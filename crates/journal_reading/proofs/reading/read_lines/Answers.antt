@@ -22,10 +22,12 @@ loop-line-preserved c =
       numerals = c.numbers_are_spelled.ensures;
       bytes = c.bytes_are_spelled.ensures;
     } in (
-      goes_on c.args.version laws c.args.bytes.now c.loop-line.rest.now c.in-Some.line.now c.in-Some.later.now
+      goes_on c.args.version laws c.args.bytes.now c.loop-line.rest.now c.in-Some.line.now
+          c.in-Some.later.now
           (place_of c.loop-line.reader) (place_of c.read.new.self) c.loop-line.line_number
           c.loop-line.invariant.0 (sym c.in-Some.ensures) c.in-Ok-false.ensures.sound
-          (subst (λ (b : Bool). HasRead c.args.version b (place_of c.loop-line.reader) (place_of c.read.new.self)
+          (subst (λ (b : Bool). HasRead c.args.version b (place_of c.loop-line.reader)
+          (place_of c.read.new.self)
           c.in-Some.line.now) c.in-Ok-false.field-0-test c.in-Ok-false.ensures.more)
           (subst (λ (b : Bool). FollowsText c.args.version (Ok b) (place_of c.loop-line.reader)
           (place_of c.read.new.self) c.in-Some.line.now) c.in-Ok-false.field-0-test
@@ -53,11 +55,14 @@ returns-in-Ok-true c =
     } in
     let on = c.loop-line.invariant.0 in
     let p = place_of c.loop-line.reader in
-    let read = subst (λ (b : Bool). HasRead c.args.version b p (place_of c.read.new.self) c.in-Some.line.now)
+    let read = subst
+    (λ (b : Bool). HasRead c.args.version b p (place_of c.read.new.self) c.in-Some.line.now)
     c.in-Ok-true.field-0-test c.in-Ok-true.ensures.more in
-    closed_by c.args.version laws c.finish.result p c.args.bytes.now c.in-Some.later.now c.loop-line.line_number
+    closed_by c.args.version laws c.finish.result p c.args.bytes.now c.in-Some.later.now
+    c.loop-line.line_number
     on.sound on.front
-    (at_end c.args.version c.args.bytes.now c.loop-line.rest.now c.in-Some.line.now c.in-Some.later.now p p
+    (at_end c.args.version c.args.bytes.now c.loop-line.rest.now c.in-Some.line.now
+    c.in-Some.later.now p p
     c.loop-line.line_number on (sym c.in-Some.ensures) read.0 refl) on.ends
     (subst (λ (q : Place). Closes c.finish.result q c.in-Some.later.now c.loop-line.line_number)
     read.1 c.finish.ensures)

@@ -5,12 +5,14 @@ use Rattle.journal_reading.proofs.reading.read_text.Goals as goal
 
 pub read_lines-requires-clause-heading : goal.read_lines-requires-clause-heading
 read_lines-requires-clause-heading c =
-    heading_is c.args.version c.args.bytes.now c.in-Some.line.now c.in-Some.rest.now (sym c.in-Some.ensures)
+    heading_is c.args.version c.args.bytes.now c.in-Some.line.now c.in-Some.rest.now
+    (sym c.in-Some.ensures)
     (sym c.if-is_title.ensures)
 
 pub returns-else-is_title : goal.returns-else-is_title
 returns-else-is_title c =
-    no_heading c.args.version c.args.bytes.now c.in-Some.line.now c.in-Some.rest.now (sym c.in-Some.ensures)
+    no_heading c.args.version c.args.bytes.now c.in-Some.line.now c.in-Some.rest.now
+    (sym c.in-Some.ensures)
     (sym c.if-is_title.ensures)
 
 pub returns-in-None : goal.returns-in-None

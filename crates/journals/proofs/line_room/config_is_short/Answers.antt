@@ -9,7 +9,9 @@ returns c =
       both_within _ _ _ _
           (both_within _ _ _ _
           (both_within _ _ _ _
-          (both_within _ _ _ _ (both_within _ _ _ _ c.number_is_short.ensures (c.command_is_short.ensures (codes " cmd ")))
+          (both_within _ _ _ _
+          (both_within _ _ _ _ c.number_is_short.ensures
+          (c.command_is_short.ensures (codes " cmd ")))
           c.params_are_short.ensures)
           (c.value_is_short.ensures (codes " maxlen ")))
           (c.value_is_short-2.ensures (codes " flags ")))

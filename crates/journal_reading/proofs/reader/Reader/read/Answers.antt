@@ -11,16 +11,19 @@ returns-in-Some c =
     let new = place_of c.go_on.new.self in
     let said : line_in c.args.version c.args.line.now ≡ Some c.in-Some.said =
     sym c.in_ok-said.ensures ∙ c.in-Some.is in
-    let is = (c.lines_say_what_is_written.ensures c.args.version c.args.line.now c.in-Some.said).0 said in
+    let is =
+    (c.lines_say_what_is_written.ensures c.args.version c.args.line.now c.in-Some.said).0 said in
     record {
       ports = c.go_on.ensures.ports;
       sound = sound_by c.args.version c.go_on.result old new c.in-Some.said c.requires.sound is.0
           c.go_on.ensures.follows;
-      more = more_by c.args.version c.go_on.result old new c.in-Some.said c.args.line.now c.requires.sound is.1
+      more = more_by c.args.version c.go_on.result old new c.in-Some.said c.args.line.now
+          c.requires.sound is.1
           c.go_on.ensures.follows;
       follows = text_by c.args.version c.go_on.result old new c.in-Some.said c.args.line.now
           (λ other there. same_Some other c.in-Some.said
-          (sym ((c.lines_say_what_is_written.ensures c.args.version c.args.line.now other).1 there) ∙ said))
+          (sym ((c.lines_say_what_is_written.ensures c.args.version c.args.line.now other).1 there)
+          ∙ said))
           c.go_on.ensures.follows;
     }
 
