@@ -88,8 +88,7 @@ pub record AtEntries (v : Version) (es : List Entry) (n : ℕ) (ls : List PortLo
 
 -- in a log: what is left of it, and the logs behind it
 pub record InLog (v : Version) (es : List Entry) (ls : List PortLog) (l : PortLog) (s : Bool)
-    (h : Histories)
-    (rest : List ℕ) : Type 0 where
+    (h : Histories) (rest : List ℕ) : Type 0 where
   pub dids : List Did
   pub more : List PortLog
   pub entries : h.entries ≡ es
@@ -166,8 +165,7 @@ ended v es n ls o s h rest line later wf e f t cut =
 
 -- a log begins
 begins : (v : Version) → Laws → (es : List Entry) (n : ℕ) (ls : List PortLog) (o : Option PortLog)
-    (s : Bool)
-    (h : Histories) (rest line later : List ℕ) (m : PortLog) (ms : List PortLog) →
+    (s : Bool) (h : Histories) (rest line later : List ℕ) (m : PortLog) (ms : List PortLog) →
     h.entries ≡ es → h.logs ≡ (ls ++ option_to_list o) ++ m ∷ ms →
     list_any (is_port m.port) (ls ++ option_to_list o) ≡ false → All (IsLog v) (m ∷ ms) →
     rest ≡ text.logs v (m ∷ ms) ++ codes "end\n" → cut_at 10 rest ≡ Some (line, later) →
@@ -202,8 +200,8 @@ begins v laws es n ls o s h rest line later m ms e f new fit t cut =
     }
 
 at_logs : (v : Version) → Laws → (es : List Entry) (n : ℕ) (ls : List PortLog) (s : Bool)
-    (h : Histories)
-    (rest line later : List ℕ) (logs : List PortLog) → IsWellFormedIn v h → h.logs ≡ logs →
+    (h : Histories) (rest line later : List ℕ) (logs : List PortLog) → IsWellFormedIn v h →
+    h.logs ≡ logs →
     h.entries ≡ es → ls ≡ [] → rest ≡ text.logs v logs ++ codes "end\n" → All (IsLog v) logs →
     cut_at 10 rest ≡ Some (line, later) → Next v (place_at es n ls None s) h line later
 at_logs v laws es n ls s h rest line later [] wf f e bare t fit cut =
@@ -215,8 +213,8 @@ at_logs v laws es n ls s h rest line later (m ∷ ms) wf f e bare t fit cut =
     (ap (λ (k : List PortLog). list_any (is_port m.port) (k ++ [])) bare) fit t cut)
 
 at_entries : (v : Version) → Laws → (es : List Entry) (n : ℕ) (ls : List PortLog) (s : Bool)
-    (h : Histories)
-    (rest line later : List ℕ) (left : List Entry) → IsWellFormedIn v h → h.entries ≡ es ++ left →
+    (h : Histories) (rest line later : List ℕ) (left : List Entry) → IsWellFormedIn v h →
+    h.entries ≡ es ++ left →
     ls ≡ [] → All (λ (e : Entry). n ≤ e.queue) left →
     AllPairs (λ (a b : Entry). a.queue ≤ b.queue) left → All (IsEntry v) left →
     rest ≡ text.entries v left ++ (text.logs v h.logs ++ codes "end\n") →
@@ -249,8 +247,8 @@ at_entries v laws es n ls s h rest line later (x ∷ xs) wf e bare above ascend 
     })
 
 behind_log : (v : Version) → Laws → (es : List Entry) (n : ℕ) (ls : List PortLog) (l : PortLog)
-    (s : Bool)
-    (h : Histories) (rest line later : List ℕ) (more : List PortLog) → IsWellFormedIn v h →
+    (s : Bool) (h : Histories) (rest line later : List ℕ) (more : List PortLog) →
+    IsWellFormedIn v h →
     h.entries ≡ es → h.logs ≡ ls ++ l ∷ more → All (IsLog v) more →
     rest ≡ text.logs v more ++ codes "end\n" → cut_at 10 rest ≡ Some (line, later) →
     Next v (place_at es n ls (Some l) s) h line later
@@ -263,8 +261,7 @@ behind_log v laws es n ls l s h rest line later (m ∷ ms) wf e f fit t cut =
     AllPairs (λ a b. a ≢ b) (map (λ (x : PortLog). x.port) k)) logs wf.ports_differ)) fit t cut)
 
 in_log : (v : Version) → Laws → (es : List Entry) (n : ℕ) (ls : List PortLog) (l : PortLog)
-    (s : Bool)
-    (h : Histories) (rest line later : List ℕ) (dids : List Did) (more : List PortLog) →
+    (s : Bool) (h : Histories) (rest line later : List ℕ) (dids : List Did) (more : List PortLog) →
     IsWellFormedIn v h → h.entries ≡ es → h.logs ≡ ls ++ whole l dids ∷ more →
     (s ≡ true → dids ≡ []) → AllPairs (λ (a b : Did). a ≢ Closed) dids → All (FitsDid v) dids →
     All (IsLog v) more → rest ≡ text.dids v dids ++ (text.logs v more ++ codes "end\n") →
@@ -303,8 +300,8 @@ in_log v laws es n ls l false h rest line later (d ∷ ds)
     })
 
 next_by : (v : Version) → Laws → (es : List Entry) (n : ℕ) (ls : List PortLog) (o : Option PortLog)
-    (s : Bool)
-    (h : Histories) (rest line later : List ℕ) → IsWellFormedIn v h → AheadOf v es n ls o s h rest →
+    (s : Bool) (h : Histories) (rest line later : List ℕ) → IsWellFormedIn v h →
+    AheadOf v es n ls o s h rest →
     cut_at 10 rest ≡ Some (line, later) → Next v (place_at es n ls o s) h line later
 next_by v laws es n ls None s h rest line later wf a cut =
     at_entries v laws es n ls s h rest line later a.left wf a.entries a.bare a.above a.ascend a.fit

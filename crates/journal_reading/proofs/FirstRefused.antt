@@ -140,8 +140,7 @@ pub tail_of : (v : Version) (p : Place) (h : Histories) (rest : List ℕ) → Ah
 tail_of v p h rest a = tail_by v p.entries p.queue p.logs p.last p.shut h rest a
   where
     tail_by : (v : Version) (es : List Entry) (n : ℕ) (ls : List PortLog) (o : Option PortLog)
-        (s : Bool)
-        (h : Histories) (rest : List ℕ) → AheadOf v es n ls o s h rest →
+        (s : Bool) (h : Histories) (rest : List ℕ) → AheadOf v es n ls o s h rest →
         (front : List ℕ) × (rest ≡ front ++ codes "end\n")
     tail_by v es n ls None s h rest a = (
       text.entries v a.left ++ text.logs v h.logs,

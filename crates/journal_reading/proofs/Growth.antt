@@ -85,8 +85,7 @@ log_more v l d =
     ∙ sym (append_assoc (text.port_line l.port ++ codes "\n") (text.dids v l.dids) (text.did v d))
 
 grows_by : (v : Version) (es : List Entry) (n : ℕ) (ls : List PortLog) (o : Option PortLog)
-    (s : Bool)
-    (q : Place) (l : Line) → IsBare ls o → after (place es n ls o s) l ≡ Some q →
+    (s : Bool) (q : Place) (l : Line) → IsBare ls o → after (place es n ls o s) l ≡ Some q →
     so_far v q ≡ so_far v (place es n ls o s) ++ (line_text v l ++ codes "\n")
 unfolding after place
 grows_by v es n ls o s q Heading bare e = absurd (none-some q e)

@@ -86,8 +86,7 @@ entry_sound v es n ls s x h fits le = record {
 }
 
 port_sound : (v : Version) (es : List Entry) (n : ℕ) (ls : List PortLog) (o : Option PortLog)
-    (s : Bool)
-    (port : ℕ) → IsSound v (place es n ls o s) → IsWide port →
+    (s : Bool) (port : ℕ) → IsSound v (place es n ls o s) → IsWide port →
     list_any (is_port port) (ls ++ option_to_list o) ≡ false →
     IsSound v (place es n (ls ++ option_to_list o) (Some (record { port = port; dids = [] })) false)
 unfolding place
@@ -128,8 +127,7 @@ did_sound v es n ls l d h fits = record {
 }
 
 sound_by : (v : Version) (es : List Entry) (n : ℕ) (ls : List PortLog) (o : Option PortLog)
-    (s : Bool)
-    (q : Place) (l : Line) → IsSound v (place es n ls o s) → FitsLine v l →
+    (s : Bool) (q : Place) (l : Line) → IsSound v (place es n ls o s) → FitsLine v l →
     after (place es n ls o s) l ≡ Some q → IsSound v q
 unfolding after place
 sound_by v es n ls o s q Heading h fits e = absurd (none-some q e)
