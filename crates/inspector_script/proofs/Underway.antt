@@ -4,9 +4,10 @@ use Rattle.std.proofs.Common.{arith}
 use Rattle.std.specs.Str.Lines.{lines}
 use Rattle.std.proofs.lemmas.List.Elements.{All-nil}
 use Rattle.inspector_script.specs.Scripts.{IsBlock}
-use Rattle.inspector_script.specs.declared.stop.Stop.{Stop}
-use Rattle.inspector_script.specs.declared.stop.Stop.TheVariants.{Refused, NoMemory}
-use Rattle.inspector_script.specs.ScriptFile.{Answers, IsSound, Moves, Place, fault_of}
+use Rattle.text_lines.specs.declared.stop.Stop.{Stop}
+use Rattle.text_lines.specs.declared.stop.Stop.TheVariants.{Refused, NoMemory}
+use Rattle.text_lines.specs.Refusals.{Moves, fault_of}
+use Rattle.inspector_script.specs.ScriptFile.{Answers, IsSound, Place}
 use Rattle.inspector_script.specs.ScriptFile.{line_leads_to, script_from, script_of, start}
 
 pub record IsRead (text : List ℕ) (line_number : ℕ) (p : Place) (rest : List ℕ) : Type 0 where

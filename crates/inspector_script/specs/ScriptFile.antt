@@ -19,8 +19,6 @@ use Rattle.script_lines.specs.declared.line.BlockLine.{BlockLine}
 use Rattle.script_lines.specs.declared.line.BlockLine.TheVariants.{Open, On, End, Close}
 use Rattle.inspector_script.specs.declared.reading.Reader.{Reader}
 use Rattle.script_lines.specs.declared.line.Down as down
-use Rattle.inspector_script.specs.declared.stop.Stop.{Stop}
-use Rattle.inspector_script.specs.declared.stop.Stop.TheVariants.{Refused, NoMemory}
 use Rattle.script_lines.specs.Line.{says}
 use Rattle.script_lines.specs.Numbers.{largest_mail}
 use Rattle.inspector_script.specs.Numbers.{default_key, default_mail, default_pace}
@@ -157,17 +155,6 @@ abbrev pub Answers : Result ScriptValue LineFault → Result ScriptValue ℕ →
 Answers (Ok script) read = read ≡ Ok script
 Answers (Err (Bad line)) read = read ≡ Err line
 Answers (Err fault.NoMemory) read = ⊤
-
--- A call that goes on to what comes next, or says that there is nothing, unless memory runs out.
-abbrev pub Moves : {A P : Type 0} → Result A Stop → Option P → P → Type 0
-Moves (Ok _) next new = next ≡ Some new
-Moves (Err Refused) next new = next ≡ None
-Moves (Err NoMemory) next new = ⊤
-
--- what a call's refusal means of the file
-abbrev pub fault_of : Stop → ℕ → LineFault
-fault_of Refused line_number = Bad line_number
-fault_of NoMemory line_number = fault.NoMemory
 
 -- how many last blocks there are
 abbrev pub last_count : Option Block → ℕ

@@ -4,14 +4,15 @@ ghost use Rattle.std.specs.Prelude.{◌≡◌, ◌≤◌, ◌++◌, ◌∷◌, [
 ghost use Rattle.script_lines.specs.Limits.{IsBlockLine};
 ghost use Rattle.inspector_script.specs.Numbers.{most_lines};
 ghost use Rattle.inspector_script.specs.Scripts.{IsBlock, line_count};
-ghost use Rattle.inspector_script.specs.ScriptFile.{Moves, block_after, has_room, may_end};
+ghost use Rattle.text_lines.specs.Refusals.{Moves};
+ghost use Rattle.inspector_script.specs.ScriptFile.{block_after, has_room, may_end};
 ghost use Rattle.inspector_script.specs.ScriptFile.{without_lines};
 
 use crate::block::Block;
-use crate::stop::Stop;
 use packet_entry::Sequence;
 use script_lines::BlockLine;
 use std::alloc::Global;
+use text_lines::Stop;
 
 /// The most lines of a block, without its `port` line, of this reader.
 const MOST_LINES: usize = 1_000;

@@ -12,7 +12,6 @@ mod laws;
 mod machine;
 mod reading;
 mod script;
-mod stop;
 
 pub use laws::{
     nobody_answers_where_no_line_holds, one_refused_line, one_value,

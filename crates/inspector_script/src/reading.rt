@@ -6,17 +6,17 @@ ghost use Rattle.script_lines.specs.declared.line.Line.TheVariants as line;
 ghost use Rattle.script_lines.specs.Limits.{IsBlockLine, IsLine};
 ghost use Rattle.inspector_script.specs.Grammar.{IsFirstRefused, IsScriptFile};
 ghost use Rattle.inspector_script.specs.Scripts.{ScriptValue};
-ghost use Rattle.inspector_script.specs.ScriptFile.{Answers, IsSound, Moves, after, inside};
+ghost use Rattle.text_lines.specs.Refusals.{Moves};
+ghost use Rattle.inspector_script.specs.ScriptFile.{Answers, IsSound, after, inside};
 ghost use Rattle.inspector_script.specs.ScriptFile.{is_port, line_leads_to, may_begin, place_of};
 ghost use Rattle.inspector_script.specs.ScriptFile.{script_from, script_of, shut, start};
 
 use crate::block::Block;
 use crate::script::{Downs, Script};
-use crate::stop::Stop;
 use packet_entry::Sequence;
 use script_lines::{BlockLine, Down, Line, lines_say_what_is_written, read_line};
 use std::alloc::Global;
-use text_lines::{LineFault, next_line};
+use text_lines::{LineFault, Stop, next_line};
 
 /// The most `down` lines, of this reader.
 const MOST_DOWNS: usize = 1_000;

@@ -8,7 +8,7 @@ use Rattle.text_lines.specs.Words.{cut_at}
 use Rattle.histories.specs.declared.histories.Histories.{Histories}
 use Rattle.journal_reading.specs.declared.fault.JournalFault.TheVariants.{Bad}
 use Rattle.journal_reading.specs.declared.line.Line.{Line}
-use Rattle.journal_reading.specs.declared.stop.Stop.TheVariants.{Refused}
+use Rattle.text_lines.specs.declared.stop.Stop.TheVariants.{Refused}
 use Rattle.journals.specs.declared.version.Version.{Version}
 use Rattle.journals.specs.Format.{heading, title}
 use Rattle.journal_reading.specs.Lines.{IsLine, line_text}

@@ -16,8 +16,8 @@ use Rattle.journal_reading.specs.declared.fault.JournalFault.TheVariants.{Bad}
 use Rattle.journal_reading.specs.declared.fault.JournalFault.TheVariants as fault
 use Rattle.journal_reading.specs.declared.line.Line.{Line}
 use Rattle.journal_reading.specs.declared.line.Line.TheVariants.{End}
-use Rattle.journal_reading.specs.declared.stop.Stop.{Stop}
-use Rattle.journal_reading.specs.declared.stop.Stop.TheVariants.{Refused, NoMemory}
+use Rattle.text_lines.specs.declared.stop.Stop.{Stop}
+use Rattle.text_lines.specs.declared.stop.Stop.TheVariants.{Refused, NoMemory}
 use Rattle.journals.specs.declared.version.Version.{Version}
 use Rattle.journals.specs.Format as text
 use Rattle.journal_reading.specs.Lines.{IsLine}

@@ -7,9 +7,10 @@ use Rattle.std.proofs.lemmas.Bool.{false≢true}
 use Rattle.journal_reading.specs.declared.line.Line.{Line}
 use Rattle.journal_reading.specs.declared.line.Line.TheVariants.{Heading, EntryLine, PortLine, DidLine}
 use Rattle.journal_reading.specs.declared.line.Line.TheVariants.{End}
-use Rattle.journal_reading.specs.declared.stop.Stop.{Stop}
-use Rattle.journal_reading.specs.declared.stop.Stop.TheVariants.{Refused, NoMemory}
-use Rattle.journal_reading.specs.JournalFile.{Follows, FollowsText, HasRead, IsSound, Moves, Place}
+use Rattle.text_lines.specs.declared.stop.Stop.{Stop}
+use Rattle.text_lines.specs.declared.stop.Stop.TheVariants.{Refused, NoMemory}
+use Rattle.text_lines.specs.Refusals.{Moves}
+use Rattle.journal_reading.specs.JournalFile.{Follows, FollowsText, HasRead, IsSound, Place}
 use Rattle.journal_reading.specs.JournalFile.{after, is_end, so_far}
 use Rattle.journals.specs.declared.version.Version.{Version}
 use Rattle.journal_reading.specs.Lines.{FitsLine, IsLine, line_text}

@@ -21,8 +21,8 @@ use Rattle.journal_reading.specs.declared.line.Line.{Line}
 use Rattle.journal_reading.specs.declared.line.Line.TheVariants.{Heading, EntryLine, PortLine, DidLine}
 use Rattle.journal_reading.specs.declared.line.Line.TheVariants.{End}
 use Rattle.journal_reading.specs.declared.reader.Reader.{Reader}
-use Rattle.journal_reading.specs.declared.stop.Stop.{Stop}
-use Rattle.journal_reading.specs.declared.stop.Stop.TheVariants.{Refused, NoMemory}
+use Rattle.text_lines.specs.declared.stop.Stop.{Stop}
+use Rattle.text_lines.specs.declared.stop.Stop.TheVariants.{Refused, NoMemory}
 use Rattle.journals.specs.declared.version.Version.{Version}
 use Rattle.journals.specs.Format as text
 use Rattle.journal_reading.specs.Lines.{IsLine}
@@ -160,12 +160,6 @@ after p (DidLine d) =
 after p End = None
 
 -- ---- what the calls of a reader answer
-
--- a call that goes on to what comes next, or says that there is nothing, unless memory runs out
-abbrev pub Moves : {A P : Type 0} → Result A Stop → Option P → P → Type 0
-Moves (Ok _) next new = next ≡ Some new
-Moves (Err Refused) next new = next ≡ None
-Moves (Err NoMemory) next new = ⊤
 
 -- what a call's refusal means of the text
 abbrev pub fault_of : Stop → ℕ → JournalFault

@@ -1,5 +1,9 @@
 //! Why no histories were read from a text.
 
+ghost use Rattle.std.specs.Prelude.{◌≡◌};
+ghost use Rattle.journal_reading.specs.JournalFile.{fault_of};
+
+use text_lines::Stop;
 use thiserror::Error;
 
 /// Why no histories were read from a text.
@@ -12,4 +16,16 @@ pub enum JournalFault {
     /// Out of memory.
     #[error("out of memory")]
     NoMemory,
+}
+
+impl JournalFault {
+    /// The fault of the journal whose line `line_number` stopped the reader.
+    pub(crate) fn at(stop: Stop, line_number: u32) -> JournalFault
+        ensures { result ≡ fault_of stop line_number }
+    {
+        match stop {
+            Stop::Refused => JournalFault::Bad { line: line_number },
+            Stop::NoMemory => JournalFault::NoMemory,
+        }
+    }
 }

@@ -10,7 +10,6 @@ mod line_reading;
 mod reader;
 mod reading;
 mod request_reading;
-mod stop;
 
 pub use fault::JournalFault;
 pub use laws::{

@@ -2,7 +2,8 @@
 
 ghost use Rattle.std.specs.Prelude.{◌≡◌, ◌∷◌, ◌++◌, [], IfOk, Some, OnOk, option_to_list};
 ghost use Rattle.journal_reading.specs.declared.line.Line.TheVariants as line;
-ghost use Rattle.journal_reading.specs.JournalFile.{FollowsText, HasRead, IsSound, KnowsPorts, Moves};
+ghost use Rattle.text_lines.specs.Refusals.{Moves};
+ghost use Rattle.journal_reading.specs.JournalFile.{FollowsText, HasRead, IsSound, KnowsPorts};
 ghost use Rattle.journal_reading.specs.JournalFile.{after};
 ghost use Rattle.journal_reading.specs.JournalFile.{Follows, closed, start};
 ghost use Rattle.journal_reading.specs.JournalFile.{histories_of, is_closing, is_end, place_of, put};
@@ -10,12 +11,12 @@ ghost use Rattle.journal_reading.specs.JournalFile.{histories_of, is_closing, is
 use crate::laws::lines_say_what_is_written;
 use crate::line::Line;
 use crate::line_reading::read_line;
-use crate::stop::Stop;
 use histories::{Did, Entries, Entry, Histories, Logs, PortLog};
 use journals::Version;
 use packet_entry::{NoMemory, Sequence};
 use std::alloc::Global;
 use std::collections::BTreeSet;
+use text_lines::Stop;
 
 /// How far the reading of a journal has come, behind its heading.
 #[derive(Drop)]

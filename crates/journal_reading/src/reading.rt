@@ -83,7 +83,7 @@ fn read_lines(
     let mut line_number: u32 = 2;
     while let Some((line, later)) = cut(rest, LINE_FEED) {
         match reader.read(alloc, version, line) {
-            Err(stop) => return Err(stop.at(line_number)),
+            Err(stop) => return Err(JournalFault::at(stop, line_number)),
             Ok(true) => return finish(alloc, reader, later, line_number),
             Ok(false) => {}
         }

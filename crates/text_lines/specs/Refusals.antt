@@ -1,6 +1,7 @@
 -- At which line a file of lines is refused. What such a file is, its format says: by a relation
 -- between the lines of a text and the value that they are a file of.
-use Rattle.std.specs.Prelude.{ℕ, ◌≡◌, ◌+◌, ◌⊎◌, List, [], ◌∷◌, ◌++◌, length}
+use Rattle.std.specs.Prelude.{ℕ, ◌≡◌, ◌+◌, ◌⊎◌, ⊤, List, [], ◌∷◌, ◌++◌, length, Option, Some, None}
+use Rattle.std.specs.Prelude.{Result, Ok, Err}
 use Rattle.std.specs.Str.Lines.{lines}
 use Rattle.text_lines.specs.declared.fault.LineFault.{LineFault}
 use Rattle.text_lines.specs.declared.fault.LineFault.TheVariants as fault
@@ -34,6 +35,13 @@ pub record EndsEarly {A : Type 0} (AreLines : List (List ℕ) → A → Type 0) 
 abbrev pub IsFirstRefused : {A : Type 0} → (List (List ℕ) → A → Type 0) → List ℕ → ℕ → Type 0
 IsFirstRefused AreLines text line_number =
     IsBadLine AreLines text line_number ⊎ EndsEarly AreLines text line_number
+
+-- A reader's call that goes on to what comes next, or says that there is nothing, unless memory runs
+-- out.
+abbrev pub Moves : {A P : Type 0} → Result A Stop → Option P → P → Type 0
+Moves (Ok _) next new = next ≡ Some new
+Moves (Err Refused) next new = next ≡ None
+Moves (Err NoMemory) next new = ⊤
 
 -- what it means of the file that its reader stopped at this line
 abbrev pub fault_of : Stop → ℕ → LineFault
