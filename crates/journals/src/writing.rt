@@ -225,13 +225,21 @@ fn push_journey(card: &Card, out: &mut Vec<u8>) -> Result<(), AllocError>
 fn push_facts(version: Version, card: &Card, out: &mut Vec<u8>) -> Result<(), AllocError>
     ensures { Appends result out.old out.new (text.facts version card.now) }
 {
-    append_number("", card.mark as u64, out)?;
-    append_word(" ", out)?;
-    push_priority(version, card.priority, out)?;
+    push_marks(version, card, out)?;
     append_number("", card.seconds as u64, out)?;
     append_number(" ", card.micros as u64, out)?;
     append_number(" ", card.protocol as u64, out)?;
     append_word(" ", out)
+}
+
+/// The packet's mark and its priority.
+fn push_marks(version: Version, card: &Card, out: &mut Vec<u8>) -> Result<(), AllocError>
+    ensures { Appends result out.old out.new
+        (decimal card.now.mark ++ codes " " ++ text.priority version card.now.priority) }
+{
+    append_number("", card.mark as u64, out)?;
+    append_word(" ", out)?;
+    push_priority(version, card.priority, out)
 }
 
 /// A packet's priority, and the blank after it.
