@@ -298,15 +298,15 @@ spelled-decodes walks port call (Config queue command params maxlen flags mask) 
 spelled-decodes walks port call (Verdict queue head mark payload priority) fits =
     let row = parts_of (Verdict queue head mark payload priority) in
     let reads = verdict-reads queue head mark payload priority fits in
-    decoded-asked (spelled port call (Verdict queue head mark payload priority)) verdict_number queue row
-    refl refl (body-long queue row) refl refl refl (queue-back queue row fits.queue_fits)
+    decoded-asked (spelled port call (Verdict queue head mark payload priority)) verdict_number
+    queue row refl refl (body-long queue row) refl refl refl (queue-back queue row fits.queue_fits)
     (walks row reads.fits) reads.long
     ∙ ap Asked (verdict-back queue head mark payload priority fits)
 spelled-decodes walks port call (Batch queue head mark priority) fits =
     let row = parts_of (Batch queue head mark priority) in
     let reads = batch-reads queue head mark priority in
-    decoded-asked (spelled port call (Batch queue head mark priority)) batch_number queue row refl refl
-    (body-long queue row) refl refl refl (queue-back queue row fits.queue_fits)
+    decoded-asked (spelled port call (Batch queue head mark priority)) batch_number queue row
+    refl refl (body-long queue row) refl refl refl (queue-back queue row fits.queue_fits)
     (walks row reads.fits) reads.long
     ∙ ap Asked (batch-back queue head mark priority fits)
 

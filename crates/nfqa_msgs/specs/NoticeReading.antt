@@ -1,6 +1,6 @@
--- A bridge for proofs: the reader of notices as a function. It reads what the attributes of a message
--- tell, each where a notice has it. A message that is no notice is read as well, and then isn't the
--- text of what is read. What a notice means stands in NoticeWriting and NoticeMeaning.
+-- A bridge for proofs: the reader of notices as a function. It reads what the attributes of a
+-- message tell, each where a notice has it. A message that is no notice is read as well, and then
+-- isn't the text of what is read. What a notice means stands in NoticeWriting and NoticeMeaning.
 use Rattle.std.specs.Prelude.{ℕ, nat_lt, if◌then◌else◌, List, [], length, Option, Some, None}
 use Rattle.std.specs.Prelude.{unwrap_or}
 use Rattle.std.specs.Option.{option_and_then}

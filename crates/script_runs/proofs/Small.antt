@@ -200,9 +200,10 @@ verdict_good (Allowed b head) q mark payload priority so held fits =
         IsGood (carried_out b head
         (record { mark = mark; payload = payload; priority = priority }) o)
     by None small = (so, tt)
-    by (Some card) small =
-        (rest_small (is_id head.id) b.waiting so,
-        (edited_small card mark payload priority small fits, tt))
+    by (Some card) small = (
+      rest_small (is_id head.id) b.waiting so,
+      (edited_small card mark payload priority small fits, tt),
+    )
 
 batch_good : (r : Ruling) (q : Option Bound) (mark priority : Option ℕ) → IsAllowed r →
     HoldsSmall q → IsGood (batch_under r q mark priority)
