@@ -508,7 +508,7 @@ fn sent_on(
     let tables = read_tables(alloc, rules)?;
     let mut packet = Packet::new(alloc, 1, 0, 0, IPV4, &[], &IPV4_BYTES)?;
     packet.queued(1);
-    packet.edit(mark, None);
+    packet.edit(mark, None, None);
     let next = onward(&tables, 0, &packet, decision);
     packet.destroy();
     Ok(next)
