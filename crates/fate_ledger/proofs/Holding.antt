@@ -182,11 +182,10 @@ module _ (F : Known) (stays : Stays F) where
       by : (o : Option Card) → IfSome o F →
           IsGood F (carried_out b head edit o)
       by None small = (so, tt)
-      by (Some card) small =
-          (
-            rest_all (is_id head.id) b.waiting so,
-            (stays card edit.mark edit.payload edit.priority small fits, tt),
-          )
+      by (Some card) small = (
+        rest_all (is_id head.id) b.waiting so,
+        (stays card edit.mark edit.payload edit.priority small fits, tt),
+      )
 
   batch_good : (r : Ruling) (q : Option Bound) (mark priority : Option ℕ) → IsAllowed r →
       HoldsAll F q → IsGood F (batch_under r q mark priority)

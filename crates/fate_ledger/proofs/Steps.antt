@@ -160,7 +160,7 @@ module _ (queue at : ℕ) where
   each_leaves head mark priority [] = refl
   each_leaves head mark priority (w ∷ ws) =
       ap (λ hs. happening (how_at queue at (fate_of head.verdict))
-          (edited w.1 mark None priority) ∷ hs) (each_leaves head mark priority ws)
+      (edited w.1 mark None priority) ∷ hs) (each_leaves head mark priority ws)
 
   module _ (port call named : ℕ) (mark priority : Option ℕ) where
     abbrev of_batch : Option Head → Option Bound → Stepped → Type 0

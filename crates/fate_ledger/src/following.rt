@@ -139,7 +139,14 @@ fn ask(
             ..
         } => {
             let fate = fate_of(*verdict);
-            first_leave(How { queue, at, fate }, *mark, *priority, taken, waiting, lasts);
+            first_leave(
+                How { queue, at, fate },
+                *mark,
+                *priority,
+                taken,
+                waiting,
+                lasts,
+            );
             Ok(())
         }
         _ => Ok(()),

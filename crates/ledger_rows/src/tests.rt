@@ -631,7 +631,8 @@ fn a_device_that_goes_down(rt: HostRuntime) -> Result<(), Fail> {
         GoesDown,
         Arrives(0, 3, 1),
     ];
-    const LINES: &[u8] = b"1 devicedown 0 5 0 0 20\n2 devicedown 0 5 0 0 20\n3 waiting 0 6 0 0 20\n";
+    const LINES: &[u8] =
+        b"1 devicedown 0 5 0 0 20\n2 devicedown 0 5 0 0 20\n3 waiting 0 6 0 0 20\n";
     assert!(rt; says(rt.alloc(), 3, &ALL, LINES)?);
     Ok(())
 }
