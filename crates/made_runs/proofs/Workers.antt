@@ -1,11 +1,12 @@
--- With one worker no answers wait.
+-- With one worker no answers wait; behind a pool they wait in the order of the notices.
 use Rattle.std.proofs.Common.{◌≡◌, ℕ, List, [], ◌∷◌, refl, true, false, ap}
 use Rattle.packet_entry.specs.declared.letter.Letter.{Letter}
 use Rattle.inspector_script.specs.Scripts.{ScriptValue}
 use Rattle.made_runs.specs.NoticeTexts.{told_exactly}
 use Rattle.made_runs.specs.Log.{Note, Got, Turned, Begun, Spoke, Shut, Standing, after, having}
 use Rattle.made_runs.specs.Log.{all_due, answer_to, IsNext, AreNextFrom, start, standing}
-use Rattle.made_runs.specs.Log.{standing_from, other_groups}
+use Rattle.made_runs.specs.Log.{standing_from, other_groups, is_pool}
+use Rattle.made_runs.specs.LoggedExamples.{heard, turned}
 
 pub owes_now : (script : ScriptValue) (place port : ℕ) (t : Standing) (l : Letter) →
     after 1 script place port t (Got l)
@@ -37,3 +38,17 @@ pub nothing_waits : (script : ScriptValue) (place port : ℕ) (notes : List Note
     (standing 1 script place port notes).pending ≡ []
 nothing_waits script place port notes next =
     none_waits_from script place port (start script place) notes refl
+
+module _ (workers : ℕ) (script : ScriptValue) (place port : ℕ) (t : Standing) (one two : Letter)
+    (pool : is_pool workers ≡ true) where
+  pub first_group_first :
+      (turned workers script place port (heard workers script place port t one two)).owed
+      ≡ all_due (answer_to script place (having port (Got one) t).dids (told_exactly one.bytes))
+  first_group_first = rw pool refl
+
+  pub second_group_second :
+      (turned workers script place port
+      (turned workers script place port (heard workers script place port t one two))).owed
+      ≡ all_due (answer_to script place (having port (Got two) (having port (Got one) t)).dids
+      (told_exactly two.bytes))
+  second_group_second = rw pool refl

@@ -6,6 +6,8 @@ use Rattle.histories.specs.declared.histories.Histories.{Histories}
 use Rattle.script_lines.specs.declared.condition.Condition.TheVariants.{Every}
 use Rattle.script_lines.specs.declared.template.Template.TheVariants as template
 use Rattle.inspector_script.specs.Scripts.{ScriptValue, held}
+use Rattle.packet_entry.specs.declared.letter.Letter.{Letter}
+use Rattle.made_runs.specs.Log.{Standing, Got, Turned, after}
 
 -- a netlink message without a body, of this kind, which asks nothing of a queue: its length, its
 -- kind, and no flags, number or port
@@ -55,3 +57,13 @@ every_second =
 -- histories without a log
 abbrev pub no_logs : Histories
 no_logs = record { entries = []; logs = []; lost = [] }
+
+-- where a port with so many workers stands, of which no answers waited, once it received two notices
+abbrev pub heard : ℕ → ScriptValue → ℕ → ℕ → Standing → Letter → Letter → Standing
+heard workers script place port t one two =
+    after workers script place port
+    (after workers script place port (record t { pending = [] }) (Got one)) (Got two)
+
+-- and once it turned to the next answers
+abbrev pub turned : ℕ → ScriptValue → ℕ → ℕ → Standing → Standing
+turned workers script place port t = after workers script place port t Turned

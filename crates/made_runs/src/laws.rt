@@ -1,12 +1,13 @@
 //! What is known of histories that a script made, of what enters, and of what is sent.
 
 ghost use Rattle.std.specs.Prelude.{◌≤◌, ℕ, List};
-ghost use Rattle.std.specs.Prelude.{◌≡◌, ◌≢◌, [], All, AllPairs, length};
+ghost use Rattle.std.specs.Prelude.{◌≡◌, ◌≢◌, [], All, AllPairs, length, true};
 ghost use Rattle.pcap_io.specs.declared.capture.Capture.{Capture};
 ghost use Rattle.histories.specs.declared.histories.Histories.{Histories};
 ghost use Rattle.inspector_script.specs.Scripts.{ScriptValue};
 ghost use Rattle.made_runs.specs.Log.{Note, Got, Turned, Standing, after, having, all_due, start};
-ghost use Rattle.made_runs.specs.Log.{answer_to, IsNext, AreNextFrom, standing};
+ghost use Rattle.made_runs.specs.Log.{answer_to, IsNext, AreNextFrom, is_pool, standing};
+ghost use Rattle.made_runs.specs.LoggedExamples.{heard, turned};
 ghost use Rattle.made_runs.specs.NoticeTexts.{told_exactly};
 ghost use Rattle.made_runs.specs.Feeder.{IsFed, IsFedBy};
 ghost use Rattle.script_lines.specs.declared.line.Down.{Down};
@@ -51,6 +52,21 @@ pub fn one_worker_is_no_pool()
     ensures nothing_waits { (script : ScriptValue) (place port : ℕ) (notes : List Note) →
         AreNextFrom 1 script place port (start script place) notes →
         (standing 1 script place port notes).pending ≡ [] }
+{}
+
+/// Behind a pool the answers to two notices that a port received, one after the other, are two groups
+/// that wait, and the port turns to that of the first notice before that of the second.
+pub fn groups_of_answers_stand_in_the_order_of_notices()
+    ensures first { (workers : ℕ) (script : ScriptValue) (place port : ℕ) (t : Standing)
+        (one two : Letter) → is_pool workers ≡ true →
+        (turned workers script place port (heard workers script place port t one two)).owed
+        ≡ all_due (answer_to script place (having port (Got one) t).dids (told_exactly one.bytes)) }
+    ensures second { (workers : ℕ) (script : ScriptValue) (place port : ℕ) (t : Standing)
+        (one two : Letter) → is_pool workers ≡ true →
+        (turned workers script place port
+        (turned workers script place port (heard workers script place port t one two))).owed
+        ≡ all_due (answer_to script place (having port (Got two) (having port (Got one) t)).dids
+        (told_exactly two.bytes)) }
 {}
 
 /// One feeder feeds all frames, in their order, and lets all lines take effect, in theirs.

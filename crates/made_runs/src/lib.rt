@@ -11,7 +11,8 @@ pub use by_hand::{
     feeding_and_order_by_hand, hearing_by_hand, logs_by_hand, parts_by_hand, runs_of_one_port,
 };
 pub use laws::{
-    datagrams_are_short, each_log_is_what_is_told, each_port_has_its_place, one_feeder_feeds_all,
-    one_worker_is_no_pool, packets_are_read_with_their_frames,
+    datagrams_are_short, each_log_is_what_is_told, each_port_has_its_place,
+    groups_of_answers_stand_in_the_order_of_notices, one_feeder_feeds_all, one_worker_is_no_pool,
+    packets_are_read_with_their_frames,
 };
 pub use underway::{closings_are_kept, fed_histories_go_on, logs_go_on, ordered_histories_go_on};
