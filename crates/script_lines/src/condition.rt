@@ -25,7 +25,7 @@ pub enum Condition {
     /// `longer N`: the notice's length is above this.
     Longer { than: u32 },
     /// `priority N`: the notice's priority, from its `NFQA_PRIORITY`, or 0 where it has none.
-    Priority(u32),
+    Priority { priority: u32 },
 }
 
 impl Condition {
@@ -44,7 +44,7 @@ impl Condition {
             ),
             Condition::Every { period } => period.divides(received),
             Condition::Longer { than } => notice.length > *than,
-            Condition::Priority(priority) => notice.priority == *priority,
+            Condition::Priority { priority } => notice.priority == *priority,
         }
     }
 }

@@ -50,7 +50,9 @@ fn test(name: &[u8], value: &[u8]) -> Option<Condition>
         let than = decimal(value)?;
         Some(Condition::Longer { than })
     } else if is_word(name, b"priority") {
-        Some(Condition::Priority(decimal(value)?))
+        Some(Condition::Priority {
+            priority: decimal(value)?,
+        })
     } else {
         None
     }

@@ -36,6 +36,10 @@ fn notice(alloc: Global, payload: &[u8]) -> Result<Notice, NoMemory> {
     })
 }
 
+fn priority(priority: u32) -> Condition {
+    Condition::Priority { priority }
+}
+
 fn mark(value: u32, mask: u32) -> Condition {
     Condition::Mark { value, mask }
 }
@@ -93,10 +97,10 @@ fn conditions_hold_of_what_a_notice_says(rt: HostRuntime) -> Result<(), Fail> {
         (longer(100), 1, TCP, false),
         (longer(101), 1, TCP, false),
         (longer(0), 1, &[], true),
-        (Condition::Priority(6), 1, TCP, true),
-        (Condition::Priority(5), 1, TCP, false),
-        (Condition::Priority(0), 1, TCP, false),
-        (Condition::Priority(u32::MAX), 1, TCP, false),
+        (priority(6), 1, TCP, true),
+        (priority(5), 1, TCP, false),
+        (priority(0), 1, TCP, false),
+        (priority(u32::MAX), 1, TCP, false),
     ];
     check(&rt, rt.alloc(), &rows)
 }
