@@ -3,7 +3,8 @@
 //!
 //! [`fates`] reads it off histories, [`ledger_text`] and [`counts_text`] append texts of it, and
 //! [`released_capture`] keeps the released frames. [`journal_text`] appends the histories
-//! themselves as text, which [`read_journal`] reads back or refuses with a [`JournalFault`].
+//! themselves as text, which [`read_journal`] reads back or refuses with a [`JournalFault`];
+//! [`read_old_journal`] reads a text of the format's version 1.
 #![tactic(auto)]
 
 mod counts;
@@ -20,7 +21,7 @@ pub use counts::counts_text;
 pub use fate::{Fate, FateLine, FateLines};
 pub use fate_lines::fates;
 pub use happening::Happening;
-pub use journal_reading::{JournalFault, read_journal};
+pub use journal_reading::{JournalFault, read_journal, read_old_journal};
 pub use journals::journal_text;
 pub use laws::{
     each_line_names_the_last_event, no_visit_arrives_twice, payloads_were_read_or_given,

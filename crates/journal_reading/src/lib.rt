@@ -16,7 +16,7 @@ pub use laws::{
     a_text_has_one_refused_line, a_text_has_one_value, each_text_is_read_or_refused,
     no_journal_begins_another, no_line_of_a_journal_is_refused, values_have_journals_of_their_own,
 };
-pub use reading::read_journal;
+pub use reading::{read_journal, read_old_journal};
 
 #[cfg(test)]
 mod tests;

@@ -2,7 +2,7 @@
 
 ghost use Rattle.std.specs.Prelude.{◌≡◌, ◌++◌, ◌<◌, ◌-◌, ◌^◌, ℕ, Err, IfOk, length};
 ghost use Rattle.histories.specs.declared.histories.Histories as value;
-ghost use Rattle.journals.specs.declared.version.Version.TheVariants.{Second};
+ghost use Rattle.journals.specs.declared.version.Version.TheVariants.{First, Second};
 ghost use Rattle.journals.specs.Format.{heading};
 ghost use Rattle.journal_reading.specs.declared.fault.JournalFault.TheVariants as fault;
 ghost use Rattle.journal_reading.specs.JournalFile.{Answers, Closes, IsAnswer, IsFirstRefused, IsJournal};
@@ -44,12 +44,21 @@ pub fn read_journal(alloc: Global, bytes: &[u8]) -> Result<Histories, JournalFau
     read_text(alloc, Version::Second, bytes)
 }
 
+/// The same of version 1, which tells no priorities: the cards of these histories have priority 0,
+/// and their requests set none. A text of version 2 is refused at line 1.
+pub fn read_old_journal(alloc: Global, bytes: &[u8]) -> Result<Histories, JournalFault>
+    requires { length bytes.now < 2 ^ 32 - 1 }
+    ensures found { IfOk result (IsJournal First bytes.now) }
+    ensures only { (h : value.Histories) → IsJournal First bytes.now h → Answers result h }
+    ensures refused { (line : ℕ) → result ≡ Err (fault.Bad line) →
+        IsFirstRefused First bytes.now line }
+    ensures stuck { (line : ℕ) → IsFirstRefused First bytes.now line → IsRefusedAt result line }
+{
+    read_text(alloc, Version::First, bytes)
+}
+
 /// Reads a journal of this version: its heading, and what stands behind it.
-pub(crate) fn read_text(
-    alloc: Global,
-    version: Version,
-    bytes: &[u8],
-) -> Result<Histories, JournalFault>
+fn read_text(alloc: Global, version: Version, bytes: &[u8]) -> Result<Histories, JournalFault>
     requires { length bytes.now < 2 ^ 32 - 1 }
     ensures { IsAnswer version result bytes.now }
 {

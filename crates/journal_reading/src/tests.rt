@@ -1,10 +1,9 @@
 //! What no contract says: that a journal is read where there is memory, with each kind of line, and
 //! where bad ones are refused.
 
-use crate::reading::read_text;
-use crate::{JournalFault, read_journal};
+use crate::{JournalFault, read_journal, read_old_journal};
 use histories::Histories;
-use journals::{Version, append_entry, append_heading, entry_room, journal_tail, journal_text};
+use journals::{append_entry, append_heading, entry_room, journal_tail, journal_text};
 use packet_entry::NoMemory;
 use std::alloc::Global;
 use std::test::Fail;
@@ -101,12 +100,12 @@ end
 #[test]
 fn the_same_is_read_in_version_1(rt: HostRuntime) -> Result<(), Fail> {
     let mut out = Vec::new(rt.alloc());
-    match read_text(rt.alloc(), Version::First, OLD.as_bytes()) {
+    match read_old_journal(rt.alloc(), OLD.as_bytes()) {
         Ok(histories) => journal_text(rt.alloc(), &histories, &mut out)?,
         Err(fault) => return Err(Fail::new(fault)),
     }
     assert_eq!(rt; &out[..], NEW.as_bytes());
-    let other = read_text(rt.alloc(), Version::First, NEW.as_bytes());
+    let other = read_old_journal(rt.alloc(), NEW.as_bytes());
     assert!(rt; matches!(other, Err(JournalFault::Bad { line: 1 })));
     Ok(())
 }

@@ -1,0 +1,12 @@
+use Rattle.journals.specs.declared.version.Version.TheVariants.{First}
+use Rattle.journal_reading.proofs.FirstRefused.{found_by, only_by, refused_by}
+use Rattle.journal_reading.proofs.OneLine.{stuck_by}
+use Rattle.journal_reading.proofs.reading.read_old_journal.Goals as goal
+
+pub returns : goal.returns
+returns c = record {
+  found = found_by First c.before.read_text.result c.args.bytes.now c.read_text.ensures;
+  only = only_by First c.before.read_text.result c.args.bytes.now c.read_text.ensures;
+  refused = refused_by First c.before.read_text.result c.args.bytes.now c.read_text.ensures;
+  stuck = stuck_by First c.before.read_text.result c.args.bytes.now c.read_text.ensures;
+}
