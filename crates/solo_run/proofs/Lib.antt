@@ -10,3 +10,4 @@ pub mod Receiving
 pub mod Words
 pub mod Looking
 pub mod Passing
+pub mod Notices

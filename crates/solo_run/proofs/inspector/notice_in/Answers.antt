@@ -1,0 +1,7 @@
+use Rattle.solo_run.proofs.Notices.{notice_is}
+use Rattle.solo_run.proofs.inspector.notice_in.Goals as goal
+
+pub returns : goal.returns
+returns c =
+    notice_is c.args.bytes.now c.decode_shared_notice.result c.notices_are_told_apart.ensures.back
+    c.decode_shared_notice.ensures.found c.decode_shared_notice.ensures.none
