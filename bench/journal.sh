@@ -67,6 +67,7 @@ fn accept(id: u32) -> Request
         head: Some(Head { verdict: 1, id }),
         mark: None,
         payload: None,
+        priority: None,
     }
 }
 

@@ -1,11 +1,11 @@
 -- A text that is written part by part: of its first `at` bytes a file has each, and the next part
 -- goes behind them.
 use Rattle.std.proofs.Common.{◌≡◌, ℕ, zero, suc, ◌+◌, ◌≤◌, List, [], ◌++◌, length, take, drop}
-use Rattle.std.proofs.Common.{arith, refl, sym, ap, ◌∙◌, Option, Some, inl, inr, length-append}
+use Rattle.std.proofs.Common.{arith, refl, sym, ap, ◌∙◌, Option, Some, length-append}
 use Rattle.std.proofs.Common.{length-drop}
 use Rattle.std.proofs.lemmas.List.{length-take-le, take_all, take-append-drop, drop-drop, append-nil}
 use Rattle.std.proofs.Math.Seq.{take-add, take-append_seam, drop-append_seam}
-use Rattle.host_io.specs.Host.{MayGoOn, bytes_of, written}
+use Rattle.host_io.specs.Host.{bytes_of, written}
 use Rattle.std.proofs.Common.{OnOk, Result, Ok, Err}
 use Rattle.std.specs.Prelude.{IfOk}
 use Rattle.run_files.specs.Parts.{Has, IsAhead}

@@ -5,7 +5,6 @@ use Rattle.packet_entry.specs.declared.packet.Card.{Card}
 use Rattle.packet_entry.specs.Numbers.{last_visit}
 use Rattle.hook_chain.specs.declared.chain.Next.{Next}
 use Rattle.packet_moves.specs.declared.fed.Fed.{Fed}
-use Rattle.packet_moves.specs.declared.fed.Fed.TheVariants as fed
 use Rattle.packet_moves.specs.declared.setting.Setting.{Setting}
 use Rattle.solo_plane.specs.declared.arrivals.Came.{Came}
 use Rattle.solo_plane.specs.declared.arrivals.Came.TheVariants.{Ended, GoesOn}
