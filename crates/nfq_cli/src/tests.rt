@@ -137,7 +137,8 @@ enum Fault {
 }
 
 /// A run of these words, in which this call of the host has a fault, ends with this status, and
-/// leaves no file of these names. The rules are refused where they are those of `x`.
+/// leaves no file of these names. The rules are refused where they are `x`, or have a fan-out
+/// without a balance.
 fn check(rt: &impl Abort, alloc: Global, row: &Row) -> Result<(), Fail> {
     let input = capture(alloc)?;
     let mut host = host(alloc, row.rules, SCRIPT, &input)?;
@@ -165,10 +166,13 @@ const PLAY: &[&str] = &["play", "r", "s", "c", "o", "l", "j"];
 
 const LIST: &[&str] = &["list", "r", "s", "c", "o"];
 
+const FANOUT_ALONE: &str =
+    "*filter\n-A FORWARD -j NFQUEUE --queue-num 0 --queue-cpu-fanout\nCOMMIT\n";
+
 /// Each input takes two reads: the first write is call 7. `gen` and `trial` read nothing.
 #[test]
 fn faults_of_the_host_end_a_command(rt: HostRuntime) -> Result<(), Fail> {
-    const ROWS: [Row; 7] = [
+    const ROWS: [Row; 8] = [
         Row {
             command: PLAY,
             rules: RULES,
@@ -190,6 +194,14 @@ fn faults_of_the_host_end_a_command(rt: HostRuntime) -> Result<(), Fail> {
             rules: "x",
             fault: Fault::Fails,
             call: 3,
+            status: 5,
+            missing: &["o", "l", "j"],
+        },
+        Row {
+            command: PLAY,
+            rules: FANOUT_ALONE,
+            fault: Fault::Fails,
+            call: 4,
             status: 5,
             missing: &["o", "l", "j"],
         },

@@ -308,6 +308,20 @@ port 7
 = 3 noqueue 18763 1 0 0 20
 >
 
+*filter
+-A FORWARD -j NFQUEUE --queue-balance 0:2 --queue-cpu-fanout
+COMMIT
+packets 1 2 3
+port 7
+open config 0 bind params packet 0
+open config 1 bind params packet 0
+open config 2 bind params packet 0
+on any do verdict this accept this
+= 1 accept 0 3 0 0 20
+= 2 accept 0 5 0 0 20
+= 3 accept 0 7 0 0 20
+> 1 2 3
+
 port 7
 opened
 >
