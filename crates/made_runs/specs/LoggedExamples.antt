@@ -1,5 +1,4 @@
--- Scripts of one port that sends something, written out, for what its log may be and may not; and
--- where a port behind a pool stands after two notices.
+-- Scripts of one port that sends something, written out, for what its log may be and may not.
 use Rattle.std.specs.Prelude.{ℕ, false, List, [], ◌∷◌}
 use Rattle.netlink_codec.specs.Messages.{NetlinkMessage}
 use Rattle.histories.specs.declared.log.AskWords.TheVariants.{Raw}
@@ -59,7 +58,7 @@ every_second =
 abbrev pub no_logs : Histories
 no_logs = record { entries = []; logs = []; lost = [] }
 
--- where a port with so many workers stands that received two notices while no answers waited
+-- where a port with so many workers stands, of which no answers waited, once it received two notices
 abbrev pub heard : ℕ → ScriptValue → ℕ → ℕ → Standing → Letter → Letter → Standing
 heard workers script place port t one two =
     after workers script place port
