@@ -1,0 +1,23 @@
+use Rattle.locked_place.proofs.Listing.{Laws}
+use Rattle.locked_place.proofs.Notifying.{turned_away, has_sender, offered}
+use Rattle.locked_place.proofs.Requesting.{asked}
+use Rattle.locked_place.proofs.Quiet.{closed, down}
+use Rattle.locked_place.proofs.laws.senders_keep_up.Goals as goal
+
+laws : goal.After-replies_tell_how_many_left → Laws
+laws c = record {
+  own = c.an_entry_is_of_its_queue_alone.ensures.own;
+  others = c.an_entry_is_of_its_queue_alone.ensures.others;
+  state = c.a_legal_history_goes_on.ensures.state;
+  tells = c.replies_tell_how_many_left.ensures;
+}
+
+pub returns : goal.returns
+returns c = record {
+  turned_away = turned_away (laws c);
+  has_sender = has_sender;
+  offered = offered (laws c);
+  asked = asked (laws c);
+  closed = closed (laws c);
+  down = down (laws c);
+}

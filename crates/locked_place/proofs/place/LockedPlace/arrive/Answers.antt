@@ -1,0 +1,12 @@
+use Rattle.locked_place.specs.Views.{locked_of}
+use Rattle.locked_place.proofs.Labels.{same_label}
+use Rattle.locked_place.proofs.place.LockedPlace.arrive.Goals as goal
+
+pub returns-clause-label : goal.returns-clause-label
+returns-clause-label g c =
+    rw (← c.self.view_is)
+    (same_label
+    (locked_of c.self.inside.place c.self.inside.senders c.self.inside.writer)
+    (locked_of c.arrive-settled.new.place c.arrive-settled.new.senders c.publish.new.writer)
+    c.arrive-settled.ensures.number.0 c.arrive-settled.ensures.number.1
+    c.arrive-settled.ensures.made c.publish.ensures.writer.0 c.publish.ensures.writer.1)

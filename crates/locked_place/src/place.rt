@@ -1,0 +1,258 @@
+//! A place with all that it posts: what one lock is round.
+
+ghost use Rattle.std.specs.Prelude.{◌≡◌, ◌≤◌, ◌<◌, ◌%◌, ◌++◌, ℕ, [], length};
+ghost use Rattle.std.specs.Prelude.{IfSome, IsSome, IfOk, OnOk, IfErr, OnErr};
+ghost use mathlib.Core.List.{IsPrefix};
+ghost use Rattle.nfqa_msgs.specs.RequestReading.{PayloadFits};
+ghost use Rattle.histories.specs.History.{AreLegal};
+ghost use Rattle.histories.specs.States.{told, taken_in};
+ghost use Rattle.histories.specs.Happenings.{queue_of, closings, downs};
+ghost use Rattle.packet_moves.specs.HandedOn.{AreInTime};
+ghost use Rattle.place_history.specs.Numbers.{most_places};
+ghost use Rattle.place_history.specs.PlaceState.{AreHere};
+
+use crate::outlets::Outlets;
+use crate::showing::{legal_at, publish};
+use crate::{arrivals, requests, senders_keep_up};
+use glance::Writer;
+use histories::{Entries, Entry, Lost};
+use mailbox::Sender;
+use nfqa_msgs::Request;
+use packet_entry::{NoMemory, Packet, Stock};
+use place_history::Place;
+use queue_core::{Handed, NoRoom, Settled};
+use std::alloc::Global;
+use std::collections::BTreeMap;
+use std::marker::Model;
+use std::sync::Wait;
+use turn_lock::Storied;
+
+/// A place, a sender for each port's mailbox, by port, and the Writer of what the board shows of
+/// the place. Whenever no call is at it, each queue is the replay of its legal history, each sender
+/// sent just the notices of the arrivals that were taken under its port, and the board shows the
+/// place's totals, where they fit its word.
+///
+/// It is no `Drop`: it ends by `end`.
+pub struct LockedPlace {
+    place: Place,
+    senders: BTreeMap<u32, Sender>,
+    writer: Writer,
+}
+
+impl Model for LockedPlace {
+    ghost use Rattle.locked_place.specs.Views.{LockedView};
+
+    ghost Value = { LockedView };
+
+    ghost use Rattle.locked_place.specs.Views.{locked_of, IsLockedPlace, senders_of};
+
+    ghost view = { λ p. locked_of p.place p.senders p.writer };
+
+    ghost invariant = { λ p. IsLockedPlace p.place (senders_of p.senders) p.writer };
+}
+
+impl Storied for LockedPlace {
+    ghost use Rattle.locked_place.specs.Views.{PlaceLabel, label_of};
+
+    type Entry = Entry;
+
+    ghost Label = { PlaceLabel };
+
+    ghost entries = { λ v. v.entries };
+
+    ghost label = { label_of };
+}
+
+/// What is left of a place that ended.
+#[derive(Drop)]
+pub struct Left {
+    /// All that happened, in its order.
+    pub entries: Entries,
+    /// Each port's sender, by port, to be joined into the port's receiver.
+    pub senders: BTreeMap<u32, Sender>,
+}
+
+impl LockedPlace {
+    ghost use Rattle.mailbox.specs.Views.{SenderView};
+    ghost use Rattle.locked_place.specs.Views.{label_of, sender_in, senders_of, AreOutletsOf};
+    ghost use Rattle.locked_place.specs.Views.{AreNotified};
+    ghost use Rattle.locked_place.specs.Shown.{IsShown};
+    ghost use Rattle.locked_place.specs.Turns.{Arrives, Asks, handed_by};
+
+    /// The place with this number among so many, to which nothing has happened. Takes no memory.
+    pub fn new(
+        alloc: Global,
+        number: u8,
+        places: u8,
+        senders: BTreeMap<u32, Sender>,
+        writer: Writer,
+    ) -> LockedPlace
+        requires number { (number < places) × (places ≤ most_places) }
+        requires senders { (port : ℕ) → IfSome (senders_of senders port)
+            (λ (s : SenderView). (s.sent ≡ []) × (s.full ≡ 0)) }
+        requires writer { (writer.place ≡ number) × (writer.published ≡ []) }
+        ensures { result ≡ record {
+          number = number;
+          places = places;
+          senders = senders.entries;
+          writer = writer;
+          entries = [];
+        } }
+    {
+        LockedPlace {
+            place: Place::new(alloc, number, places),
+            senders,
+            writer,
+        }
+    }
+
+    /// A packet arrives: it waits, and its notice is in the mailbox of its queue's port; or it
+    /// comes back. The board shows it. When memory runs out nothing has happened.
+    pub fn arrive<R: Wait>(
+        &mut self,
+        rt: &R,
+        alloc: Global,
+        outlets: &Outlets,
+        queue: u16,
+        bypass: bool,
+        packet: Packet,
+    ) -> Result<Settled, NoRoom>
+        requires outlets { AreOutletsOf outlets.now (label_of self.old) }
+        requires here { queue % self.old.places ≡ self.old.number }
+        requires visited { 1 ≤ packet.visit }
+        ensures label { label_of self.new ≡ label_of self.old }
+        ensures arrives { IfOk result
+            (Arrives (record { queue = queue; card = packet; bypass = bypass })
+            self.old.entries self.new.entries) }
+        ensures begins { IsPrefix self.old.entries self.new.entries }
+        ensures legal { AreLegal self.new.entries }
+        ensures returned { IfErr result (λ back. back.packet ≡ packet) }
+        ensures err { OnErr result (self.new.entries ≡ self.old.entries) }
+    {
+        let Outlets { mailboxes, board } = outlets;
+        let settled = arrivals::arrive(
+            rt,
+            alloc,
+            mailboxes,
+            &mut self.place,
+            &mut self.senders,
+            queue,
+            bypass,
+            packet,
+        );
+        publish(&self.place, &mut self.writer, board);
+        legal_at(&self.place);
+        settled
+    }
+
+    /// A port that has a sender asks something of a queue, by the message with the number `call`
+    /// among its messages, and the errno is answered. What the queue lets go on is handed out, and
+    /// there is room in `lost` for as many. The board shows it. When memory runs out nothing has
+    /// happened.
+    pub fn ask(
+        &mut self,
+        alloc: Global,
+        outlets: &Outlets,
+        lost: &mut Stock<Lost>,
+        port: u32,
+        call: u32,
+        request: Request,
+        handed: &mut Handed,
+    ) -> Result<u16, NoMemory>
+        requires outlets { AreOutletsOf outlets.now (label_of self.old) }
+        requires here { queue_of request % self.old.places ≡ self.old.number }
+        requires payload { PayloadFits request }
+        requires port { IsSome (sender_in self.old.senders port) }
+        ensures label { label_of self.new ≡ label_of self.old }
+        ensures asks { IfOk result (Asks port call request self.old.entries self.new.entries) }
+        ensures handed { OnOk result (handed.new.items
+            ≡ handed.old.items ++ handed_by port call request self.old.entries) }
+        ensures room { OnOk result
+            (length (handed_by port call request self.old.entries) ≤ lost.new.room) }
+        ensures in_time { OnOk result (AreInTime (handed_by port call request self.old.entries)) }
+        ensures lost { lost.new.items ≡ lost.old.items }
+        ensures begins { IsPrefix self.old.entries self.new.entries }
+        ensures legal { AreLegal self.new.entries }
+        ensures err { OnErr result ((self.new.entries ≡ self.old.entries)
+            × (handed.new.items ≡ handed.old.items)) }
+    {
+        let asked = requests::ask(alloc, &mut self.place, lost, port, call, request, handed);
+        publish(&self.place, &mut self.writer, &outlets.board);
+        legal_at(&self.place);
+        asked
+    }
+
+    /// A port closes: each queue that is bound to it ends, with all that waits in it destroyed.
+    /// Answers how many packets were destroyed; the number stops at 4,294,967,295. The board shows
+    /// it. Takes no memory.
+    pub fn close_port(&mut self, outlets: &Outlets, port: u32) -> u32
+        requires outlets { AreOutletsOf outlets.now (label_of self.old) }
+        ensures label { label_of self.new ≡ label_of self.old }
+        ensures count { result ≡ told (taken_in (closings port self.old.entries)) }
+        ensures entries { self.new.entries ≡ self.old.entries ++ closings port self.old.entries }
+        ensures legal { AreLegal self.new.entries }
+    {
+        senders_keep_up();
+        let destroyed = self.place.close_port(port);
+        publish(&self.place, &mut self.writer, &outlets.board);
+        legal_at(&self.place);
+        destroyed
+    }
+
+    /// A device goes down: where it is one of the two by which every packet comes in and goes out,
+    /// all that waits is destroyed. Answers how many packets were destroyed; the number stops at
+    /// 4,294,967,295. The board shows it. When memory runs out nothing has happened.
+    pub fn device_down(&mut self, outlets: &Outlets, device: u32) -> Result<u32, NoMemory>
+        requires outlets { AreOutletsOf outlets.now (label_of self.old) }
+        ensures label { label_of self.new ≡ label_of self.old }
+        ensures count { IfOk result
+            (λ count. count ≡ told (taken_in (downs device self.old.entries))) }
+        ensures entries { OnOk result (self.new.entries
+            ≡ self.old.entries ++ downs device self.old.entries) }
+        ensures legal { AreLegal self.new.entries }
+        ensures err { OnErr result (self.new.entries ≡ self.old.entries) }
+    {
+        senders_keep_up();
+        legal_at(&self.place);
+        let destroyed = self.place.device_down(device)?;
+        publish(&self.place, &mut self.writer, &outlets.board);
+        legal_at(&self.place);
+        Ok(destroyed)
+    }
+
+    /// All that happened, in its order, and what is kept of it: of each queue its history, which is
+    /// legal; each sender sent the notices of the arrivals that were taken under its port, and as
+    /// many letters came back to it as arrivals under the port found no room; and the totals that
+    /// were published are those of beginnings of the list, the last of the whole list where they
+    /// fit the board's word.
+    pub fn entries(&self) -> &[Entry]
+        ensures value { result.now ≡ self.now.entries }
+        ensures legal { AreLegal self.now.entries }
+        ensures here { AreHere self.now.places self.now.number self.now.entries }
+        ensures notified { AreNotified self.now.entries (sender_in self.now.senders) }
+        ensures shown { IsShown self.now.entries self.now.writer.published }
+        ensures writes_for { self.now.writer.place ≡ self.now.number }
+    {
+        self.place.entries()
+    }
+
+    /// Ends the place: its entries, and its senders. What waits is given up. Takes no memory.
+    pub fn end(self) -> Left
+        ensures entries { result.entries ≡ self.entries }
+        ensures legal { AreLegal result.entries }
+        ensures here { AreHere self.places self.number result.entries }
+        ensures senders { senders_of result.senders ≡ sender_in self.senders }
+        ensures notified { AreNotified result.entries (senders_of result.senders) }
+    {
+        let LockedPlace {
+            mut place,
+            senders,
+            writer: _,
+        } = self;
+        place.leave_waiting();
+        Left {
+            entries: place.into_entries(),
+            senders,
+        }
+    }
+}

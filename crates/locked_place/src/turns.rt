@@ -1,0 +1,147 @@
+//! Turns of a pass at a place behind a lock. What each promises holds once it returns; that it
+//! returns, no clause says.
+
+ghost use Rattle.std.specs.Prelude.{◌≡◌, ◌≤◌, ◌%◌, [], length, IsSome, IfOk, OnOk, IfErr, OnErr};
+ghost use Rattle.nfqa_msgs.specs.RequestReading.{PayloadFits};
+ghost use Rattle.histories.specs.Happenings.{queue_of};
+ghost use Rattle.packet_moves.specs.HandedOn.{AreInTime};
+ghost use Rattle.turn_lock.specs.Passes.{view_of};
+ghost use Rattle.locked_place.specs.Views.{PlaceLabel, label_of, AreOutletsOf};
+ghost use Rattle.locked_place.specs.Passes.{IsPassOf};
+ghost use Rattle.locked_place.specs.Turns.{ArrivesIn, AsksIn, LooksOn, ClosesIn, GoesDownIn};
+
+use crate::gate::Gate;
+use crate::outlets::Outlets;
+use crate::place::LockedPlace;
+use histories::Lost;
+use nfqa_msgs::Request;
+use packet_entry::{NoMemory, Packet, Stock};
+use queue_core::{Handed, NoRoom, Settled};
+use std::alloc::Global;
+use std::sync::Wait;
+use turn_lock::{Pass, TurnLock};
+
+/// A packet arrives, in a turn of this pass at the place with this number: it waits, or comes back.
+/// When memory runs out it comes back too, nothing has happened, and the pass may have seen more.
+pub fn arrive<R: Wait, G: Gate>(
+    rt: &R,
+    alloc: Global,
+    gate: &G,
+    lock: &TurnLock<LockedPlace>,
+    pass: &mut Pass<LockedPlace>,
+    outlets: &Outlets,
+    place: u8,
+    queue: u16,
+    bypass: bool,
+    packet: Packet,
+) -> Result<Settled, NoRoom>
+    requires visited { 1 ≤ packet.visit }
+    requires pass { (named : PlaceLabel) × IsPassOf label_of named lock.now pass.old
+        × (queue % named.places ≡ named.number) × AreOutletsOf outlets.now named }
+    ensures pass { (named : PlaceLabel) → IsPassOf label_of named lock.now pass.old →
+        IsPassOf label_of named lock.now pass.new }
+    ensures part { (view_of pass.new).part ≡ (view_of pass.old).part }
+    ensures turn { IfOk result
+        (ArrivesIn (record { queue = queue; card = packet; bypass = bypass })
+        (view_of pass.old) (view_of pass.new)) }
+    ensures returned { IfErr result (λ back. back.packet ≡ packet) }
+    ensures err { OnErr result (LooksOn (view_of pass.old) (view_of pass.new)) }
+{
+    let mut held = lock.enter(rt, pass);
+    gate.inside(rt, place);
+    let settled = held
+        .state()
+        .arrive(rt, alloc, outlets, queue, bypass, packet);
+    lock.leave(pass, held);
+    settled
+}
+
+/// A port asks something of a queue, in a turn of this pass at the place with this number, and the
+/// errno is answered. What the queue lets go on is handed out, and there is room in `lost` for as
+/// many. When memory runs out nothing has happened, and the pass may have seen more.
+pub fn ask<R: Wait, G: Gate>(
+    rt: &R,
+    alloc: Global,
+    gate: &G,
+    lock: &TurnLock<LockedPlace>,
+    pass: &mut Pass<LockedPlace>,
+    outlets: &Outlets,
+    place: u8,
+    lost: &mut Stock<Lost>,
+    port: u32,
+    call: u32,
+    request: Request,
+    handed: &mut Handed,
+) -> Result<u16, NoMemory>
+    requires payload { PayloadFits request }
+    requires none { handed.old.items ≡ [] }
+    requires pass { (named : PlaceLabel) × IsPassOf label_of named lock.now pass.old
+        × (queue_of request % named.places ≡ named.number) × IsSome (named.senders port)
+        × AreOutletsOf outlets.now named }
+    ensures pass { (named : PlaceLabel) → IsPassOf label_of named lock.now pass.old →
+        IsPassOf label_of named lock.now pass.new }
+    ensures part { (view_of pass.new).part ≡ (view_of pass.old).part }
+    ensures turn { IfOk result (λ errno. AsksIn port call request
+        (view_of pass.old) (view_of pass.new) errno handed.new.items) }
+    ensures room { OnOk result (length handed.new.items ≤ lost.new.room) }
+    ensures in_time { OnOk result (AreInTime handed.new.items) }
+    ensures lost { lost.new.items ≡ lost.old.items }
+    ensures err { OnErr result (LooksOn (view_of pass.old) (view_of pass.new)
+        × (handed.new.items ≡ [])) }
+{
+    let mut held = lock.enter(rt, pass);
+    gate.inside(rt, place);
+    let asked = held
+        .state()
+        .ask(alloc, outlets, lost, port, call, request, handed);
+    lock.leave(pass, held);
+    asked
+}
+
+/// A port closes, in a turn of this pass: each of the place's queues that is bound to it ends, with
+/// all that waits in it destroyed. Answers how many packets were destroyed; the number stops at
+/// 4,294,967,295. Takes no memory.
+pub fn close_port<R: Wait>(
+    rt: &R,
+    lock: &TurnLock<LockedPlace>,
+    pass: &mut Pass<LockedPlace>,
+    outlets: &Outlets,
+    port: u32,
+) -> u32
+    requires pass { (named : PlaceLabel) × IsPassOf label_of named lock.now pass.old
+        × AreOutletsOf outlets.now named }
+    ensures pass { (named : PlaceLabel) → IsPassOf label_of named lock.now pass.old →
+        IsPassOf label_of named lock.now pass.new }
+    ensures part { (view_of pass.new).part ≡ (view_of pass.old).part }
+    ensures turn { ClosesIn port (view_of pass.old) (view_of pass.new) result }
+{
+    let mut held = lock.enter(rt, pass);
+    let destroyed = held.state().close_port(outlets, port);
+    lock.leave(pass, held);
+    destroyed
+}
+
+/// A device goes down, in a turn of this pass: where it is one of the two by which every packet
+/// comes in and goes out, all that waits at the place is destroyed. Answers how many packets were
+/// destroyed; the number stops at 4,294,967,295. When memory runs out nothing has happened, and the
+/// pass may have seen more.
+pub fn device_down<R: Wait>(
+    rt: &R,
+    lock: &TurnLock<LockedPlace>,
+    pass: &mut Pass<LockedPlace>,
+    outlets: &Outlets,
+    device: u32,
+) -> Result<u32, NoMemory>
+    requires pass { (named : PlaceLabel) × IsPassOf label_of named lock.now pass.old
+        × AreOutletsOf outlets.now named }
+    ensures pass { (named : PlaceLabel) → IsPassOf label_of named lock.now pass.old →
+        IsPassOf label_of named lock.now pass.new }
+    ensures part { (view_of pass.new).part ≡ (view_of pass.old).part }
+    ensures turn { IfOk result (GoesDownIn device (view_of pass.old) (view_of pass.new)) }
+    ensures err { OnErr result (LooksOn (view_of pass.old) (view_of pass.new)) }
+{
+    let mut held = lock.enter(rt, pass);
+    let destroyed = held.state().device_down(outlets, device);
+    lock.leave(pass, held);
+    destroyed
+}
