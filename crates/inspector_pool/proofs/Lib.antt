@@ -1,0 +1,5 @@
+mod Passes
+mod Counting
+mod Steps
+mod Answering
+mod Trays
