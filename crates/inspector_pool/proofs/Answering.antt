@@ -1,14 +1,14 @@
 -- The answers to notices, by their numbers and one after the other.
-use Rattle.std.proofs.Common.{◌≡◌, ℕ, zero, suc, ◌+◌, ◌-◌, ◌<◌, ◌≤◌, List, [], ◌∷◌, ◌++◌, length}
-use Rattle.std.proofs.Common.{get_or, refl, sym, ap, ◌∙◌, arith, rules, Some, All}
+use Rattle.std.proofs.Common.{◌≡◌, ℕ, zero, suc, ◌+◌, ◌-◌, ◌≤◌, List, [], ◌∷◌, ◌++◌, length}
+use Rattle.std.proofs.Common.{get_or, refl, ap, ◌∙◌, arith, rules, Some, All}
 use Rattle.std.specs.List.{slice_get}
 use Rattle.nfqa_msgs.specs.declared.notice.Notice.{Notice}
 use Rattle.script_lines.specs.declared.ask.Ask.{Ask}
 use Rattle.script_lines.specs.Limits.{IsAsk}
-use Rattle.inspector_script.specs.Scripts.{ScriptValue, Machine, answer, count_after}
+use Rattle.inspector_script.specs.Scripts.{ScriptValue, answer, count_after}
 use Rattle.inspector_pool.specs.Answers.{answers, in_turn}
 use Rattle.inspector_pool.specs.declared.assignment.Assignment.{Assignment}
-use Rattle.inspector_pool.specs.Work.{IsAnswered, IsAnswerIn, all_answers, jobs_in}
+use Rattle.inspector_pool.specs.Work.{IsAnswered, jobs_in}
 
 -- ---- by their numbers
 pub answers_length : (s : ScriptValue) (place counted : ℕ) (ns : List Notice)

@@ -1,12 +1,12 @@
 -- Answers that are put in the order of the notices, and the passes of their workers joined.
-use Rattle.std.proofs.Common.{◌≡◌, ℕ, ◌+◌, ◌-◌, ◌<◌, ◌≤◌, List, [], ◌∷◌, ◌++◌, length, set}
-use Rattle.std.proofs.Common.{get_or, refl, sym, ap, ◌∙◌, subst, arith, All, map, OnOk, Ok}
+use Rattle.std.proofs.Common.{◌≡◌, ℕ, ◌+◌, ◌-◌, ◌<◌, List, [], ◌∷◌, ◌++◌, length, set}
+use Rattle.std.proofs.Common.{get_or, sym, ap, ◌∙◌, subst, arith, All, OnOk, Ok}
 use Rattle.std.proofs.Common.{append_assoc, append-nil}
 use Rattle.std.specs.List.{concat}
 use Rattle.std.specs.declared.alloc.Global.{Global}
 use Rattle.std.proofs.lemmas.List.{get_or-set_same, get_or-set_other, length-set, ext_get_or}
 use Rattle.std.proofs.lemmas.List.{map-append, length-append}
-use Rattle.std.proofs.lemmas.List.Elements.{All-head, All-tail, All-push, All-set, All-weaker}
+use Rattle.std.proofs.lemmas.List.Elements.{All-head, All-tail, All-push, All-set}
 use Rattle.std.proofs.lemmas.List.Folds.{concat-append}
 use mathlib.Core.Logic.{dite}
 use native.Mathlib.Decide.{ℕ_discrete}
@@ -121,13 +121,6 @@ more_goes a v u parts n job before old new s pushed is took same answered h =
     )
 
 -- ---- workers
--- the jobs that were answered are those of the assignment
-pub answered_jobs : (a : Assignment) (k : ℕ) (ss : List Answered) → k ≡ length (all_answers a)
-    → All (IsAnswered a) ss → All (λ (s : Answered). IsJob k s.job) ss
-answered_jobs a k ss is h =
-    All-weaker (IsAnswered a) (λ (s : Answered). IsJob k s.job)
-    (λ s h. let lo = h.low in let hi = h.high in record { low = lo; high = omega arith }) ss h
-
 -- while the workers' passes are joined: these workers are left
 abbrev pub Gathering : RowsId × Global → Assignment → ℕ → Tally → List (List ℕ)
     → List (List Ask) → List PoolWorker → Type 0

@@ -1,13 +1,11 @@
-use Rattle.std.proofs.Common.{rules, ap, arith, sym, ◌∙◌, refl, subst, ◌≡◌, ◌++◌, ◌∷◌, [], List, ℕ}
+use Rattle.std.proofs.Common.{rules, sym, ◌∙◌, refl, subst, ◌≡◌, ◌++◌, ◌∷◌, []}
 use Rattle.std.proofs.Common.{All}
-use Rattle.std.specs.List.{concat}
-use Rattle.script_lines.specs.declared.ask.Ask.{Ask}
 use Rattle.script_lines.specs.Limits.{IsAsk}
-use Rattle.inspector_pool.specs.Answers.{times, HasEachJobOnce, HasNoOther}
+use Rattle.inspector_pool.specs.Answers.{HasEachJobOnce, HasNoOther}
 use Rattle.inspector_pool.specs.Work.{jobs_in}
 use Rattle.inspector_pool.proofs.Steps.{merges}
 use Rattle.inspector_pool.proofs.Trays.{gather_starts, gather_goes, gathered, took_if}
-use Rattle.inspector_pool.proofs.Trays.{first_worked, answered_jobs, each_once, no_other}
+use Rattle.inspector_pool.proofs.Trays.{first_worked, each_once, no_other}
 use Rattle.inspector_pool.proofs.pool.gather.Goals as goal
 
 pub loop-worker-init : goal.loop-worker-init

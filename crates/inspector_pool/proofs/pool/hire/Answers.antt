@@ -1,4 +1,4 @@
-use Rattle.std.proofs.Common.{rules, ap, arith}
+use Rattle.std.proofs.Common.{ap, arith}
 use Rattle.inspector_pool.proofs.Steps.{forks}
 use Rattle.inspector_pool.proofs.pool.hire.Goals as goal
 
