@@ -7,7 +7,6 @@ use Rattle.std.proofs.lemmas.List.Sums.{sum_by_push}
 use Rattle.std.proofs.lemmas.Bool.{eqb-true}
 use Rattle.packet_entry.specs.declared.letter.Letter.{Letter}
 use Rattle.queue_core.specs.declared.event.Event.{Event}
-use Rattle.queue_core.specs.declared.event.Reply.{Reply}
 use Rattle.queue_core.specs.Step.{step}
 use Rattle.queue_core.specs.State.{Bound}
 use Rattle.queue_core.specs.Laws.{Tells}

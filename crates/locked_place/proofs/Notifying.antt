@@ -8,7 +8,7 @@ use Rattle.packet_entry.specs.declared.letter.Letter.{Letter}
 use Rattle.packet_entry.specs.Numbers.{last_visit}
 use Rattle.nfqa_msgs.specs.Numbers.{copy_none}
 use Rattle.queue_core.specs.State.{Bound, fails_open}
-use Rattle.queue_core.specs.Step.{Stepped, Way, step, next_id, is_decided_early, is_full}
+use Rattle.queue_core.specs.Step.{Stepped, step, next_id, is_decided_early, is_full}
 use Rattle.queue_core.specs.Step.{arrive_in_time}
 use Rattle.queue_core.specs.WithOffer.{letter_of}
 use Rattle.queue_core.specs.declared.event.Event.TheVariants.{Arrive}

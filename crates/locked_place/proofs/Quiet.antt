@@ -2,7 +2,7 @@
 -- their port or absent.
 use Rattle.std.proofs.Common.{◌≡◌, ℕ, List, [], ◌∷◌, ◌++◌, Option, Some, None, Bool, true, false}
 use Rattle.std.proofs.Common.{refl, sym, subst, append-nil, append_assoc, inl, inr}
-use Rattle.std.specs.Prelude.{flat_map, IfSome, IsSome, if◌then◌else◌, ◌==◌, ◌&&◌, ◌||◌}
+use Rattle.std.specs.Prelude.{flat_map, IfSome, IsSome, if◌then◌else◌, ◌==◌, ◌||◌}
 use Rattle.std.proofs.lemmas.Bool.{cases_Bool}
 use Rattle.nfqa_msgs.specs.Numbers.{input_device, output_device}
 use Rattle.queue_core.specs.State.{Bound}

@@ -1,5 +1,5 @@
 -- Entries of several queues in one order, each with its queue's state before it.
-use Rattle.std.specs.Prelude.{ℕ, List, [], ◌∷◌, ◌++◌, Option}
+use Rattle.std.specs.Prelude.{List, [], ◌∷◌, ◌++◌, Option}
 use Rattle.queue_core.specs.State.{Bound}
 use Rattle.histories.specs.declared.entry.Entry.{Entry}
 use Rattle.histories.specs.States.{state_of}

@@ -1,4 +1,4 @@
-use Rattle.std.proofs.Common.{arith, ap, ◌<◌, ◌≡◌, length}
+use Rattle.std.proofs.Common.{arith, ap, length}
 use Rattle.locked_place.proofs.Publishing.{no_later, shown_on, shown_still}
 use Rattle.locked_place.proofs.showing.publish.Goals as goal
 use Rattle.locked_place.proofs.showing.publish.Goals.{
