@@ -162,7 +162,7 @@ fn chances(text: &[u8]) -> Option<(bool, bool, &[u8])>
     Some((bypass, room, rest))
 }
 
-/// `MARK PRIORITY SECONDS MICROS PROTOCOL`
+/// `MARK PRIORITY SECONDS MICROS PROTOCOL`, where version 1 has no PRIORITY
 #[tactic(auto, unfolding(crate::specs::Reading::facts_in))]
 fn facts(version: Version, text: &[u8]) -> Option<(u32, u32, u32, u32, u16, &[u8])>
     ensures { option_map (λ x. ((((x.0, x.1), x.2), (x.3, x.4)), x.5.now)) result

@@ -95,7 +95,7 @@ fn config(text: &[u8]) -> Option<(Request, &[u8])>
     Some((request, rest))
 }
 
-/// `Q (VERDICT ID | -) [mark N] [payload BYTES] [priority N]`
+/// `Q (VERDICT ID | -) [mark N] [payload BYTES] [priority N]`, the last not in version 1
 #[tactic(auto, unfolding(crate::specs::Reading::verdict_in))]
 fn verdict(
     alloc: Global,
@@ -127,7 +127,7 @@ fn verdict(
     Ok(Some((request, rest)))
 }
 
-/// `Q (VERDICT MAX | -) [mark N] [priority N]`
+/// `Q (VERDICT MAX | -) [mark N] [priority N]`, the last not in version 1
 #[tactic(auto, unfolding(crate::specs::Reading::batch_in))]
 fn batch(version: Version, text: &[u8]) -> Option<(Request, &[u8])>
     ensures { option_map (λ x. (x.0, x.1.now)) result ≡ batch_in version text.now }

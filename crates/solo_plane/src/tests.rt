@@ -39,7 +39,7 @@ enum Ask {
     /// A verdict for this id, and the packet's new mark.
     Marking(u32, u32, u32),
     /// A verdict for this id, and the packet's new priority.
-    Prioritizing(u32, u32, u32),
+    SettingPriority(u32, u32, u32),
 }
 
 /// Its request.
@@ -59,7 +59,7 @@ fn request(queue: u16, ask: Ask) -> Request
         Ask::Marking(verdict, id, mark) => {
             verdict_on(queue, Head { verdict, id }, Some(mark), None)
         }
-        Ask::Prioritizing(verdict, id, priority) => {
+        Ask::SettingPriority(verdict, id, priority) => {
             verdict_on(queue, Head { verdict, id }, None, Some(priority))
         }
     }

@@ -1,5 +1,6 @@
 //! Worked examples of packets that go from queue to queue: what happens, one after the other, and
-//! what then stands in the entries: queue, packet, mark and reply.
+//! what then stands in the entries (queue, packet, mark and reply), or in the notice that the port
+//! receives.
 
 ghost use Rattle.std.specs.Prelude.{◌≡◌, ◌<◌, ◌≤◌, ◌+◌};
 ghost use Rattle.solo_plane.specs.Examples.{IsGoing};
@@ -416,7 +417,7 @@ fn a_priority_goes_with_its_packet(rt: HostRuntime) -> Result<(), Fail> {
             Step::Ask(1, Ask::Whole),
             Step::Feed(1),
             Step::Receive,
-            Step::Ask(0, Ask::Prioritizing(verdict, 1, 5)),
+            Step::Ask(0, Ask::SettingPriority(verdict, 1, 5)),
             Step::Told(notice),
         ];
         let (fed, lines) = played(rt.alloc(), rules, 1024, &steps)?;
