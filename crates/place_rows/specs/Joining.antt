@@ -1,0 +1,71 @@
+-- Rows that are joined into one row, and what they have together.
+use Rattle.std.specs.Prelude.{◌≡◌, ◌<◌, ◌≤◌, ◌+◌, ℕ, List, [], ◌∷◌, length, slice_get, Option, Some, None}
+use Rattle.std.specs.Prelude.{IfSome, option_map, sum_by}
+use mathlib.Core.List.{IsPrefix}
+use Rattle.turn_lock.specs.Parts.{Tree, Whole, Empty, union}
+use Rattle.turn_lock.specs.Views.{joined_view}
+use Rattle.histories.specs.declared.entry.Entry.{Entry}
+use Rattle.place_rows.specs.Lists.{Every}
+use Rattle.place_rows.specs.Rows.{Known, HasTurned}
+
+-- ---- at one place
+
+-- what a row has seen there
+abbrev pub seen_at : ℕ → List Known → Option (List Entry)
+seen_at k known = option_map (λ (v : Known). v.seen) (slice_get known k)
+
+-- what it has seen there begins this list
+abbrev pub Begins : ℕ → List Entry → List Known → Type 0
+Begins k list known = IfSome (seen_at k known) (λ seen. IsPrefix seen list)
+
+-- a sum over the places of its own entries there
+abbrev pub own_sum : (ℕ → ℕ) → Option Known → ℕ
+own_sum f None = 0
+own_sum f (Some v) = sum_by f v.own
+
+abbrev pub own_at : (ℕ → ℕ) → ℕ → List Known → ℕ
+own_at f k known = own_sum f (slice_get known k)
+
+-- its part of the lock there
+abbrev pub part_in : Option Known → Tree
+part_in None = Empty
+part_in (Some v) = v.part
+
+-- the parts of several rows there put together, from the first row on, beside this part
+abbrev pub together_at : ℕ → Tree → List (List Known) → Tree
+together_at k t [] = t
+together_at k t (known ∷ rows) = together_at k (union t (part_in (slice_get known k))) rows
+
+-- several rows have together the whole of the lock of each of so many places
+abbrev pub AreWhole : ℕ → List (List Known) → Type 0
+AreWhole places rows = (k : ℕ) → k < places → together_at k Empty rows ≡ Whole
+
+-- ---- joining
+
+-- one pass, joined into another
+pub record Joins (from into after : Known) : Type 0 where
+  pub is : after ≡ joined_view into from
+  pub first : IsPrefix into.seen after.seen
+  pub second : IsPrefix from.seen after.seen
+
+-- the passes of a row, from place n on, joined into those of another
+pub record RowJoined (n : ℕ) (intos froms afters : List Known) : Type 0 where
+  pub done : (k : ℕ) (v w : Known) → n ≤ k → slice_get intos k ≡ Some v →
+      slice_get froms k ≡ Some w → HasTurned v afters k (Joins w)
+  pub rest : (k : ℕ) → k < n → slice_get afters k ≡ slice_get intos k
+  pub both : length froms ≡ length intos
+  pub as_many : length afters ≡ length intos
+
+-- the passes of one place of several rows, joined into one
+pub record JoinedAt (k : ℕ) (rows : List (List Known)) (into after : Known) : Type 0 where
+  pub part : after.part ≡ together_at k into.part rows
+  pub own : (f : ℕ → ℕ) → sum_by f after.own ≡ sum_by f into.own + sum_by (own_at f k) rows
+  pub first : IsPrefix into.seen after.seen
+  pub begins : Every (Begins k after.seen) rows
+
+-- several rows, joined into one
+pub record AllJoined (rows : List (List Known)) (intos afters : List Known) : Type 0 where
+  pub rows_are : Every (λ known. length known ≡ length intos) rows
+  pub each : (k : ℕ) (v : Known) → slice_get intos k ≡ Some v →
+      HasTurned v afters k (JoinedAt k rows)
+  pub as_many : length afters ≡ length intos
