@@ -1,0 +1,4 @@
+pub mod Lists
+pub mod Sharing
+pub mod Balancing
+pub mod Flushing

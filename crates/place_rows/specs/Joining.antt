@@ -3,6 +3,7 @@ use Rattle.std.specs.Prelude.{◌≡◌, ◌<◌, ◌≤◌, ◌+◌, ℕ, List,
 use Rattle.std.specs.Prelude.{IfSome, option_map, sum_by}
 use mathlib.Core.List.{IsPrefix}
 use Rattle.turn_lock.specs.Parts.{Tree, Whole, Empty, union}
+use Rattle.turn_lock.specs.Places.{NoneInCommon}
 use Rattle.turn_lock.specs.Views.{joined_view}
 use Rattle.histories.specs.declared.entry.Entry.{Entry}
 use Rattle.place_rows.specs.Lists.{Every}
@@ -42,11 +43,12 @@ AreWhole places rows = (k : ℕ) → k < places → together_at k Empty rows ≡
 
 -- ---- joining
 
--- one pass, joined into another
+-- one pass, joined into another: one of their two lists begins the other, and no entry is of both
 pub record Joins (from into after : Known) : Type 0 where
   pub is : after ≡ joined_view into from
   pub first : IsPrefix into.seen after.seen
   pub second : IsPrefix from.seen after.seen
+  pub apart : NoneInCommon into.own from.own
 
 -- the passes of a row, from place n on, joined into those of another
 pub record RowJoined (n : ℕ) (intos froms afters : List Known) : Type 0 where

@@ -66,7 +66,8 @@ module _ {S E L : Type 0} where
   AreKnown label named known =
       (k : ℕ) (v : View E S) → slice_get known k ≡ Some v → IsKnown label (named k) v
 
-  -- the lock that a pass belongs to, and the lock itself
+module _ {S E : Type 0} where
+  -- the lock that a pass belongs to, and a lock itself
   abbrev pub lock_of : {g : Ghosts S E} → Pass S E g → TableId
   lock_of pass = pass.seat.table_id
 

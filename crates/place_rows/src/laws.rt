@@ -3,22 +3,22 @@
 ghost use Rattle.std.specs.Prelude.{◌≡◌, ◌≢◌, ◌+◌, ℕ, List, [], ◌∷◌, ◌++◌, sum_by, Some, slice_get};
 ghost use Rattle.std.specs.Prelude.{length};
 ghost use Rattle.packet_entry.specs.declared.packet.Card.{Card};
-ghost use Rattle.turn_lock.specs.Places.{merged};
 ghost use Rattle.turn_lock.specs.Views.{HasSeenOwn};
 ghost use Rattle.histories.specs.declared.entry.Entry.{Entry};
 ghost use Rattle.histories.specs.declared.histories.Lost.{Lost};
 ghost use Rattle.histories.specs.Happenings.{closings, downs};
-ghost use Rattle.histories.specs.Journeys.{Arrival, IsSoundBut, entering, asks, came, visit_of};
-ghost use Rattle.histories.specs.Moves.{Move, move_after, moves_after};
+ghost use Rattle.histories.specs.Journeys.{Arrival, entering, asks, came, visit_of};
+ghost use Rattle.histories.specs.Moves.{move_after, moves_after};
 ghost use Rattle.packet_moves.specs.declared.setting.Setting.{Setting};
 ghost use Rattle.locked_place.specs.Points.{points_after};
 ghost use Rattle.locked_place.specs.Turns.{IsTurn};
 ghost use Rattle.place_rows.specs.Rows.{Known, IsTurnAt};
-ghost use Rattle.place_rows.specs.Shares.{at_places, own_moves, all_moves, notices_at, sent_at};
-ghost use Rattle.place_rows.specs.Shares.{sent_in, IsBalancedBut};
+ghost use Rattle.place_rows.specs.Joining.{RowJoined};
+ghost use Rattle.place_rows.specs.Shares.{own_moves, notices_at, sent_in, IsBalancedBut};
 
 use histories::{an_entry_is_a_move, soundness_is_kept_move_by_move};
 use queue_core::what_is_flushed_is_destroyed;
+use turn_lock::merged_places_are_those_of_both;
 
 /// A row stays balanced, turn by turn. Rows that have appended nothing are balanced. As a packet is
 /// fed, its first arrival is owed; as an entry is appended that is an owed arrival, or none, what
@@ -70,14 +70,12 @@ pub fn own_entries_grow_by_each_turn()
         sent_in port news ≡ sent_in port olds + sum_by (notices_at port) (points_after found fs) }
 {}
 
-/// Two rows are balanced together where each is, and the places of two passes in one weigh as much
-/// as those of both.
-pub fn rows_are_balanced_together<T>()
-    ensures sound { (s : Setting) (entered more : List Card) (ms ns : List Move)
-        (lost gone : List Lost) → IsSoundBut s.tables s.key [] entered ms lost →
-        IsSoundBut s.tables s.key [] more ns gone →
-        IsSoundBut s.tables s.key [] (entered ++ more) (ms ++ ns) (lost ++ gone) }
-    ensures merged { (f : T → ℕ) (xs : List T) (ks js : List ℕ) →
-        sum_by f (at_places xs (merged ks js))
-        ≡ sum_by f (at_places xs ks) + sum_by f (at_places xs js) }
-{}
+/// Two balanced rows that are joined are balanced together, for all that both fed and lost.
+pub fn rows_are_balanced_together()
+    ensures { (s : Setting) (entered more : List Card) (intos froms afters : List Known)
+        (lost gone : List Lost) → IsBalancedBut s [] entered intos lost →
+        IsBalancedBut s [] more froms gone → RowJoined 0 intos froms afters →
+        IsBalancedBut s [] (entered ++ more) afters (lost ++ gone) }
+{
+    merged_places_are_those_of_both();
+}
