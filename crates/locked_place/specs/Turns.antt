@@ -1,31 +1,51 @@
 -- Turns at a place.
 use Rattle.std.specs.Prelude.{◌≡◌, ℕ, length, List, [], ◌∷◌, ◌++◌, Bool, true}
+use Rattle.std.specs.Prelude.{Option, Some, IsSome}
 use mathlib.Core.List.{IsPrefix}
 use Rattle.packet_entry.specs.declared.packet.Card.{Card}
 use Rattle.hook_chain.specs.declared.chain.Decision.{Decision}
 use Rattle.nfqa_msgs.specs.declared.request.Request.{Request}
 use Rattle.queue_core.specs.declared.event.Event.TheVariants.{Ask}
 use Rattle.queue_core.specs.declared.event.Reply.TheVariants.{Answer}
-use Rattle.queue_core.specs.declared.offers.Settled.{Settled}
 use Rattle.queue_core.specs.Step.{is_decided_early}
 use Rattle.histories.specs.declared.entry.Entry.{Entry}
 use Rattle.histories.specs.History.{AreLegal}
 use Rattle.histories.specs.Journeys.{Arrival}
 use Rattle.histories.specs.States.{state_of, step_of, entry_of, told, taken_in}
 use Rattle.histories.specs.Happenings.{arrive, queue_of, all_handed, closings, downs}
-use Rattle.place_history.specs.Calls.{SettlesAs}
+use Rattle.mailbox.specs.Views.{SenderView}
+use Rattle.place_history.specs.Calls.{IsTaken, IsTurnedAway}
 use Rattle.turn_lock.specs.declared.view.View.{View}
 use Rattle.turn_lock.specs.declared.view.Turn.TheVariants.{Outside}
 use Rattle.turn_lock.specs.Places.{places_after}
+use Rattle.locked_place.specs.declared.arrivals.Placed.{Placed}
+use Rattle.locked_place.specs.declared.arrivals.Placed.TheVariants.{Waiting, Back}
+use Rattle.locked_place.specs.Views.{port_at}
 
 -- ---- what happens in one
 
+-- an arrival's packet waits, and its notice went to the port that its queue is bound to
+pub record IsPosted (a : Arrival) (room : Bool) (port : ℕ) (es : List Entry) : Type 0 where
+  pub id : ℕ
+  pub taken : IsTaken a room id es
+  pub to_port : port_at es a.queue ≡ Some port
+
+-- where its packet is then
+abbrev pub PlacesAs : Placed → Arrival → Bool → List Entry → Type 0
+PlacesAs (Waiting port) a room es = IsPosted a room port es
+PlacesAs (Back outcome back) a room es = IsTurnedAway a room outcome back es
+
+-- where its notice went to a port, this has a sender
+abbrev pub HasSender : (ℕ → Option SenderView) → Placed → Type 0
+HasSender senders (Waiting port) = IsSome (senders port)
+HasSender senders (Back outcome back) = Unit {0}
+
 -- A packet arrives, with room or without, and waits or comes back. Where no notice is offered there
 -- is room.
-pub record Arrives (a : Arrival) (before after : List Entry) (settled : Settled) : Type 0 where
+pub record Arrives (a : Arrival) (before after : List Entry) (placed : Placed) : Type 0 where
   pub room : Bool
   pub early : is_decided_early (state_of before a.queue) a.card ≡ true → room ≡ true
-  pub settles : SettlesAs settled a room before
+  pub places : PlacesAs placed a room before
   pub entered : after ≡ before ++ entry_of before a.queue (arrive a room) ∷ []
 
 -- A port asks something of a queue, and this errno is answered.
@@ -69,11 +89,11 @@ module _ {S : Type 0} where
     pub legal : AreLegal found
 
   -- a packet arrived in the turn
-  pub record ArrivesIn (a : Arrival) (v w : View Entry S) (settled : Settled) : Type 0 where
+  pub record ArrivesIn (a : Arrival) (v w : View Entry S) (placed : Placed) : Type 0 where
     pub found : List Entry
     pub then_ : List Entry
     pub turn : IsTurn v found then_ w
-    pub arrives : Arrives a found then_ settled
+    pub arrives : Arrives a found then_ placed
     pub legal : AreLegal then_
 
   -- a port asked something in the turn, and these packets were handed out

@@ -9,16 +9,24 @@ ghost use Rattle.mailbox.specs.Views.{SenderView, sender_with, sender_back};
 ghost use Rattle.place_history.specs.PlaceState.{IsAt};
 ghost use Rattle.locked_place.specs.Views.{AreMailboxesOf, AreNotified, IsSettled, made_senders};
 ghost use Rattle.locked_place.specs.Views.{senders_of};
-ghost use Rattle.locked_place.specs.Turns.{Arrives};
+ghost use Rattle.locked_place.specs.Turns.{Arrives, HasSender};
 
 use crate::senders_keep_up;
 use mailbox::{Mailbox, Sender};
 use packet_entry::{Letter, Packet};
 use place_history::Place;
-use queue_core::{Begun, NoRoom, Settled};
+use queue_core::{Begun, NoRoom, Outcome, Settled};
 use std::alloc::Global;
 use std::collections::BTreeMap;
 use std::sync::Wait;
+
+/// Where a packet is after its arrival.
+pub enum Placed {
+    /// It waits, and its notice went into this port's mailbox.
+    Waiting { port: u32 },
+    /// It comes back, to be sent on or destroyed as the outcome says.
+    Back { outcome: Outcome, packet: Packet },
+}
 
 /// A packet arrives: it waits, and its notice is in the mailbox of its queue's port; or it comes
 /// back. When memory runs out nothing has happened.
@@ -31,7 +39,7 @@ pub(crate) fn arrive<R: Wait>(
     queue: u16,
     bypass: bool,
     packet: Packet,
-) -> Result<Settled, NoRoom>
+) -> Result<Placed, NoRoom>
     requires mailboxes { AreMailboxesOf mailboxes.now (made_senders (senders_of senders.old)) }
     requires here { IsAt place.old queue }
     requires visited { 1 ≤ packet.visit }
@@ -42,6 +50,7 @@ pub(crate) fn arrive<R: Wait>(
     ensures arrives { IfOk result
         (Arrives (record { queue = queue; card = packet; bypass = bypass })
         place.old.entries place.new.entries) }
+    ensures sender { IfOk result (HasSender (senders_of senders.old)) }
     ensures begins { IsPrefix place.old.entries place.new.entries }
     ensures number { (place.new.number ≡ place.old.number)
         × (place.new.places ≡ place.old.places) }
@@ -52,10 +61,13 @@ pub(crate) fn arrive<R: Wait>(
 {
     senders_keep_up();
     match place.begin(alloc, queue, bypass, packet)? {
-        Begun::Back { outcome, packet } => Ok(Settled::Back { outcome, packet }),
+        Begun::Back { outcome, packet } => Ok(Placed::Back { outcome, packet }),
         Begun::Offered { port, letter } => {
             let room = send(rt, mailboxes, senders, port, letter);
-            Ok(place.settle(room))
+            match place.settle(room) {
+                Settled::Waiting { id: _ } => Ok(Placed::Waiting { port }),
+                Settled::Back { outcome, packet } => Ok(Placed::Back { outcome, packet }),
+            }
         }
     }
 }

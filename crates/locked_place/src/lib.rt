@@ -11,6 +11,7 @@ mod requests;
 mod showing;
 mod turns;
 
+pub use arrivals::Placed;
 pub use gate::{Gate, OpenGate};
 pub use laws::{an_entry_is_a_point, senders_keep_up};
 pub use outlets::Outlets;

@@ -1,6 +1,6 @@
 //! A place with all that it posts: what one lock is round.
 
-ghost use Rattle.std.specs.Prelude.{◌≡◌, ◌≤◌, ◌<◌, ◌%◌, ◌++◌, ℕ, [], length};
+ghost use Rattle.std.specs.Prelude.{◌≡◌, ◌≤◌, ◌<◌, ◌%◌, ◌^◌, ◌++◌, ℕ, [], length};
 ghost use Rattle.std.specs.Prelude.{IfSome, IsSome, IfOk, OnOk, IfErr, OnErr};
 ghost use mathlib.Core.List.{IsPrefix};
 ghost use Rattle.nfqa_msgs.specs.RequestReading.{PayloadFits};
@@ -11,8 +11,9 @@ ghost use Rattle.packet_moves.specs.HandedOn.{AreInTime};
 ghost use Rattle.place_history.specs.Numbers.{most_places};
 ghost use Rattle.place_history.specs.PlaceState.{AreHere};
 
+use crate::arrivals::Placed;
 use crate::outlets::Outlets;
-use crate::showing::{legal_at, publish};
+use crate::showing::{legal_at, publish, short_at};
 use crate::{arrivals, requests, senders_keep_up};
 use glance::Writer;
 use histories::{Entries, Entry, Lost};
@@ -20,7 +21,7 @@ use mailbox::Sender;
 use nfqa_msgs::Request;
 use packet_entry::{NoMemory, Packet, Stock};
 use place_history::Place;
-use queue_core::{Handed, NoRoom, Settled};
+use queue_core::{Handed, NoRoom};
 use std::alloc::Global;
 use std::collections::BTreeMap;
 use std::marker::Model;
@@ -77,7 +78,7 @@ impl LockedPlace {
     ghost use Rattle.locked_place.specs.Views.{label_of, sender_in, senders_of, AreOutletsOf};
     ghost use Rattle.locked_place.specs.Views.{AreNotified};
     ghost use Rattle.locked_place.specs.Shown.{IsShown};
-    ghost use Rattle.locked_place.specs.Turns.{Arrives, Asks, handed_by};
+    ghost use Rattle.locked_place.specs.Turns.{Arrives, Asks, HasSender, handed_by};
 
     /// The place with this number among so many, to which nothing has happened. Takes no memory.
     pub fn new(
@@ -116,7 +117,7 @@ impl LockedPlace {
         queue: u16,
         bypass: bool,
         packet: Packet,
-    ) -> Result<Settled, NoRoom>
+    ) -> Result<Placed, NoRoom>
         requires outlets { AreOutletsOf outlets.now (label_of self.old) }
         requires here { queue % self.old.places ≡ self.old.number }
         requires visited { 1 ≤ packet.visit }
@@ -124,13 +125,15 @@ impl LockedPlace {
         ensures arrives { IfOk result
             (Arrives (record { queue = queue; card = packet; bypass = bypass })
             self.old.entries self.new.entries) }
+        ensures sender { IfOk result (HasSender (sender_in self.old.senders)) }
         ensures begins { IsPrefix self.old.entries self.new.entries }
         ensures legal { AreLegal self.new.entries }
+        ensures short { length self.new.entries < 2 ^ 64 }
         ensures returned { IfErr result (λ back. back.packet ≡ packet) }
         ensures err { OnErr result (self.new.entries ≡ self.old.entries) }
     {
         let Outlets { mailboxes, board } = outlets;
-        let settled = arrivals::arrive(
+        let placed = arrivals::arrive(
             rt,
             alloc,
             mailboxes,
@@ -142,7 +145,8 @@ impl LockedPlace {
         );
         publish(&self.place, &mut self.writer, board);
         legal_at(&self.place);
-        settled
+        short_at(&self.place);
+        placed
     }
 
     /// A port that has a sender asks something of a queue, by the message with the number `call`

@@ -1,6 +1,6 @@
 //! What a place shows of itself.
 
-ghost use Rattle.std.specs.Prelude.{◌≡◌, List};
+ghost use Rattle.std.specs.Prelude.{◌≡◌, ◌<◌, ◌^◌, List, length};
 ghost use mathlib.Core.List.{IsPrefix};
 ghost use Rattle.histories.specs.declared.entry.Entry.{Entry};
 ghost use Rattle.histories.specs.History.{AreLegal};
@@ -38,4 +38,11 @@ pub(crate) fn legal_at(place: &Place)
     ensures { AreLegal place.now.entries }
 {
     let _entries = place.entries();
+}
+
+/// How many entries there are fits 64 bits.
+pub(crate) fn short_at(place: &Place)
+    ensures { length place.now.entries < 2 ^ 64 }
+{
+    let _count = place.entries().len();
 }

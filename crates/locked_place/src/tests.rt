@@ -9,12 +9,14 @@ ghost use Rattle.turn_lock.specs.Parts.{Whole};
 ghost use Rattle.turn_lock.specs.Passes.{view_of};
 ghost use Rattle.locked_place.specs.Examples.{IsPassOfOnly, IsGoing};
 
-use crate::{Gate, Left, LockedPlace, OpenGate, Outlets, arrive, ask, close_port, device_down};
+use crate::{
+    Gate, Left, LockedPlace, OpenGate, Outlets, Placed, arrive, ask, close_port, device_down,
+};
 use glance::{Board, GlancePass};
 use mailbox::{Mailbox, Receiver};
 use nfqa_msgs::{BIND, Head, PACKET, Params, Request};
 use packet_entry::{IPV4, NoMemory, Packet, Stock};
-use queue_core::{ACCEPT, Handed, NoRoom, Outcome, Reply, Settled};
+use queue_core::{ACCEPT, Handed, NoRoom, Outcome, Reply};
 use std::alloc::Global;
 use std::collections::BTreeMap;
 use std::sync::Wait;
@@ -108,8 +110,8 @@ fn arrives<R: Wait, G: Gate>(
     packet.queued(1);
     let (lock, outlets) = (&only.lock, &only.outlets);
     match arrive(rt, alloc, gate, lock, pass, outlets, 0, 0, false, packet) {
-        Ok(Settled::Waiting { id: _ }) => Ok(()),
-        Ok(Settled::Back { outcome: _, packet }) => {
+        Ok(Placed::Waiting { port: _ }) => Ok(()),
+        Ok(Placed::Back { outcome: _, packet }) => {
             packet.destroy();
             Ok(())
         }

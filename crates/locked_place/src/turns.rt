@@ -1,7 +1,7 @@
 //! Turns of a pass at a place behind a lock. What each promises holds once it returns; that it
 //! returns, no clause says.
 
-ghost use Rattle.std.specs.Prelude.{◌≡◌, ◌≤◌, ◌%◌, [], length, IsSome, IfOk, OnOk, IfErr, OnErr};
+ghost use Rattle.std.specs.Prelude.{◌≡◌, ◌≤◌, ◌<◌, ◌%◌, ◌^◌, [], length, IsSome, IfOk, OnOk, IfErr, OnErr};
 ghost use Rattle.nfqa_msgs.specs.RequestReading.{PayloadFits};
 ghost use Rattle.histories.specs.Happenings.{queue_of};
 ghost use Rattle.packet_moves.specs.HandedOn.{AreInTime};
@@ -9,14 +9,16 @@ ghost use Rattle.turn_lock.specs.Passes.{view_of};
 ghost use Rattle.locked_place.specs.Views.{PlaceLabel, label_of, AreOutletsOf};
 ghost use Rattle.locked_place.specs.Passes.{IsPassOf};
 ghost use Rattle.locked_place.specs.Turns.{ArrivesIn, AsksIn, LooksOn, ClosesIn, GoesDownIn};
+ghost use Rattle.locked_place.specs.Turns.{HasSender};
 
+use crate::arrivals::Placed;
 use crate::gate::Gate;
 use crate::outlets::Outlets;
 use crate::place::LockedPlace;
 use histories::Lost;
 use nfqa_msgs::Request;
 use packet_entry::{NoMemory, Packet, Stock};
-use queue_core::{Handed, NoRoom, Settled};
+use queue_core::{Handed, NoRoom};
 use std::alloc::Global;
 use std::sync::Wait;
 use turn_lock::{Pass, TurnLock};
@@ -34,7 +36,7 @@ pub fn arrive<R: Wait, G: Gate>(
     queue: u16,
     bypass: bool,
     packet: Packet,
-) -> Result<Settled, NoRoom>
+) -> Result<Placed, NoRoom>
     requires visited { 1 ≤ packet.visit }
     requires pass { (named : PlaceLabel) × IsPassOf label_of named lock.now pass.old
         × (queue % named.places ≡ named.number) × AreOutletsOf outlets.now named }
@@ -44,16 +46,19 @@ pub fn arrive<R: Wait, G: Gate>(
     ensures turn { IfOk result
         (ArrivesIn (record { queue = queue; card = packet; bypass = bypass })
         (view_of pass.old) (view_of pass.new)) }
+    ensures sender { (named : PlaceLabel) → IsPassOf label_of named lock.now pass.old →
+        IfOk result (HasSender named.senders) }
+    ensures short { length (view_of pass.new).seen < 2 ^ 64 }
     ensures returned { IfErr result (λ back. back.packet ≡ packet) }
     ensures err { OnErr result (LooksOn (view_of pass.old) (view_of pass.new)) }
 {
     let mut held = lock.enter(rt, pass);
     gate.inside(rt, place);
-    let settled = held
+    let placed = held
         .state()
         .arrive(rt, alloc, outlets, queue, bypass, packet);
     lock.leave(pass, held);
-    settled
+    placed
 }
 
 /// A port asks something of a queue, in a turn of this pass at the place with this number, and the

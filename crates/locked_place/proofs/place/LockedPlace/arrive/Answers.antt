@@ -7,6 +7,6 @@ returns-clause-label g c =
     rw (← c.self.view_is)
     (same_label
     (locked_of c.self.inside.place c.self.inside.senders c.self.inside.writer)
-    (locked_of c.arrive-settled.new.place c.arrive-settled.new.senders c.publish.new.writer)
-    c.arrive-settled.ensures.number.0 c.arrive-settled.ensures.number.1
-    c.arrive-settled.ensures.made c.publish.ensures.writer.0 c.publish.ensures.writer.1)
+    (locked_of c.arrive-placed.new.place c.arrive-placed.new.senders c.publish.new.writer)
+    c.arrive-placed.ensures.number.0 c.arrive-placed.ensures.number.1
+    c.arrive-placed.ensures.made c.publish.ensures.writer.0 c.publish.ensures.writer.1)
