@@ -2,3 +2,14 @@ pub mod Lists
 pub mod Sharing
 pub mod Balancing
 pub mod Flushing
+pub mod Passing
+pub mod Rowing
+pub mod Telling
+pub mod Placing
+pub mod Senders
+pub mod Places
+pub mod Summing
+pub mod Owned
+pub mod Hearing
+pub mod Shut
+pub mod Results

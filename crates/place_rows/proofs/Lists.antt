@@ -53,6 +53,11 @@ module _ {X : Type 0} where
   get_seam [] y ys = refl
   get_seam (x ∷ xs) y ys = get_seam xs y ys
 
+  pub set_seam : (xs : List X) (y z : X) (ys : List X) →
+      slice_set (xs ++ y ∷ ys) (length xs) z ≡ xs ++ z ∷ ys
+  set_seam [] y z ys = refl
+  set_seam (x ∷ xs) y z ys = ap (λ (l : List X). x ∷ l) (set_seam xs y z ys)
+
   -- ---- beginnings
 
   pub prefix_self : (xs : List X) → IsPrefix xs xs

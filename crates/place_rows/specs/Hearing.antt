@@ -7,9 +7,11 @@ use Rattle.std.specs.Ordering.{nat_cmp}
 use Rattle.packet_entry.specs.declared.letter.Letter.{Letter}
 use Rattle.mailbox.specs.declared.view.Post.{Post}
 use Rattle.mailbox.specs.Views.{MailboxView, SenderView, ReceiverView, receiver_joined, letters_in}
+use Rattle.mailbox.specs.Views.{ArePrefixes, AreWhole, HasAllSenders, NoneBeyond}
 use Rattle.histories.specs.declared.entry.Entry.{Entry}
 use Rattle.histories.specs.History.{history}
 use Rattle.locked_place.specs.Notices.{letters_to, lacking}
+use Rattle.place_rows.specs.declared.ending.PortReceiver.{PortReceiver}
 use Rattle.place_rows.specs.Lists.{AllFrom}
 use Rattle.place_rows.specs.Rows.{Known}
 use Rattle.place_rows.specs.Shares.{sent_in_all}
@@ -40,6 +42,47 @@ abbrev pub HasHeardOf : List Entry → List (List Known) → ℕ → ReceiverVie
 HasHeardOf es rows port r =
     HasHeard es (sent_in_all port rows) r.mailbox.capacity port r.received
 
+-- ---- receivers of ports
+
+-- how often a port is among these
+abbrev pub times_in : ℕ → List PortReceiver → ℕ
+times_in port ps = sum_by (λ (p : PortReceiver). if nat_eq p.port port then 1 else 0) ps
+
+-- the receiver of a port's mailbox, into which no sender was joined yet
+pub record HasMailbox (mailboxes : BTreeMap ℕ MailboxView) (p : PortReceiver) : Type 0 where
+  pub mailbox : get nat_cmp mailboxes p.port ≡ Some p.receiver.mailbox
+  pub none_joined : p.receiver.joined ≡ []
+  pub none_back : p.receiver.full ≡ 0
+
+-- there is a sender to its mailbox among these
+pub record HasSender (mailboxes : BTreeMap ℕ MailboxView) (senders : BTreeMap ℕ SenderView)
+    (p : PortReceiver) : Type 0 where
+  pub sender : SenderView
+  pub there : get nat_cmp senders p.port ≡ Some sender
+  pub mailbox : get nat_cmp mailboxes p.port ≡ Some p.receiver.mailbox
+  pub same : sender.mailbox ≡ p.receiver.mailbox
+
+-- a sender, if there is one, was joined into its receiver
+abbrev pub with_sender : PortReceiver → Option SenderView → PortReceiver
+with_sender p None = p
+with_sender p (Some s) = record p { receiver = receiver_joined p.receiver s }
+
+abbrev pub with_its_sender : BTreeMap ℕ SenderView → PortReceiver → PortReceiver
+with_its_sender senders p = with_sender p (get nat_cmp senders p.port)
+
+-- What a mailbox tells as a sender is joined. Of each sender that was joined the letters received
+-- are a prefix of those that it sent, and all of them once all were joined and as many were
+-- received as were sent; no letter is of a sender that was never made; and where a letter came
+-- back, as many were sent as the mailbox holds.
+pub record IsHeardAll (r : ReceiverView) : Type 0 where
+  pub prefix : ArePrefixes r
+  pub whole : HasAllSenders r → letters_in r.joined ≡ length r.received → AreWhole r
+  pub full : HasAllSenders r → 0 < r.full → r.mailbox.capacity ≤ letters_in r.joined
+  pub beyond : NoneBeyond r
+
+abbrev pub IsHeard : PortReceiver → Type 0
+IsHeard p = IsHeardAll p.receiver
+
 -- ---- senders joined into a receiver
 
 -- this one is among those
@@ -55,3 +98,12 @@ pub record Hears (places n : ℕ) (lists : List (List Entry)) (port : ℕ) (r : 
     pub count : letters_in r.joined ≡ sum_by (λ l. length (letters_to port l)) lists
     pub full : r.full ≡ sum_by (λ l. lacking port l) lists
     pub made : n ≡ 0 → 0 < length lists → r.made ≡ places
+
+-- a port's receiver, of which only the senders joined into it have changed: it hears what the
+-- lists of the places from n on say
+pub record HearsAs (places n : ℕ) (lists : List (List Entry)) (old new : PortReceiver) : Type 0
+  where
+    pub port : new.port ≡ old.port
+    pub received : new.receiver.received ≡ old.receiver.received
+    pub mailbox : new.receiver.mailbox ≡ old.receiver.mailbox
+    pub hears : Hears places n lists old.port new.receiver

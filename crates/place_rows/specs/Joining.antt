@@ -4,7 +4,7 @@ use Rattle.std.specs.Prelude.{IfSome, option_map, sum_by}
 use mathlib.Core.List.{IsPrefix}
 use Rattle.turn_lock.specs.Parts.{Tree, Whole, Empty, union}
 use Rattle.turn_lock.specs.Places.{NoneInCommon}
-use Rattle.turn_lock.specs.Views.{joined_view}
+use Rattle.turn_lock.specs.Views.{joined_view, kept_view, split_view}
 use Rattle.histories.specs.declared.entry.Entry.{Entry}
 use Rattle.place_rows.specs.Lists.{Every}
 use Rattle.place_rows.specs.Rows.{Known, HasTurned}
@@ -49,6 +49,11 @@ pub record Joins (from into after : Known) : Type 0 where
   pub first : IsPrefix into.seen after.seen
   pub second : IsPrefix from.seen after.seen
   pub apart : NoneInCommon into.own from.own
+
+-- a pass, split off another
+pub record Splits (made before after : Known) : Type 0 where
+  pub kept : after ≡ kept_view before
+  pub split : made ≡ split_view before
 
 -- the passes of a row, from place n on, joined into those of another
 pub record RowJoined (n : ℕ) (intos froms afters : List Known) : Type 0 where

@@ -5,3 +5,4 @@ pub mod Joining
 pub mod Meeting
 pub mod Ending
 pub mod Hearing
+pub mod Ended

@@ -1,6 +1,10 @@
 //! Rows: what one holder has of the turn locks of all places, which is one pass for each.
 #![tactic(auto)]
 
+mod ending;
 mod laws;
+mod rows;
 
+pub use ending::{PortReceiver, close_all, end_places, end_rows};
 pub use laws::{own_entries_grow_by_each_turn, rows_are_balanced_together, rows_stay_balanced};
+pub use rows::{Locks, Row, join_row, split_row, tell_row};
