@@ -11,3 +11,4 @@ pub mod Examples
 pub mod Sweeps
 pub mod Grouping
 pub mod Lengths
+pub mod Letters

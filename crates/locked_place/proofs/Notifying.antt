@@ -25,8 +25,8 @@ use Rattle.histories.specs.States.{state_of, entry_of}
 use Rattle.histories.specs.Happenings.{arrive}
 use Rattle.place_history.specs.Calls.{IsOffered, IsTurnedAway}
 use Rattle.locked_place.specs.Points.{Point, point_after}
-use Rattle.locked_place.specs.Notices.{HasSent, letters_at, lacks_at, letters_under, lacks_under}
-use Rattle.locked_place.specs.Notices.{letters_of_outcome, letters_of_reply}
+use Rattle.histories.specs.Letters.{letters_under, lacks_under, letters_of_outcome, letters_of_reply}
+use Rattle.locked_place.specs.Notices.{HasSent, letters_at, lacks_at}
 use Rattle.locked_place.specs.Views.{AreNotified, port_of}
 use Rattle.locked_place.proofs.Listing.{Laws, once, letters_on, lacking_on, state_own, state_other}
 

@@ -25,7 +25,7 @@ use Rattle.histories.specs.declared.entry.Entry.{Entry}
 use Rattle.histories.specs.States.{state_of, entry_of}
 use Rattle.histories.specs.Happenings.{queue_of}
 use Rattle.locked_place.specs.Points.{point_after}
-use Rattle.locked_place.specs.Notices.{letters_under, lacks_under}
+use Rattle.histories.specs.Letters.{letters_under, lacks_under}
 use Rattle.locked_place.specs.Views.{AreNotified, port_of}
 use Rattle.locked_place.proofs.Listing.{Laws}
 use Rattle.locked_place.proofs.Notifying.{either, notified_on, follows_same}

@@ -30,7 +30,8 @@ use Rattle.packet_moves.specs.Messages.{asking, with_ask, words_of, answered}
 use Rattle.script_runs.specs.Sending.{carried_out, errno_of}
 use Rattle.made_runs.specs.Log.{Note, Got, Begun, Spoke, Shut}
 use Rattle.made_runs.specs.Notices.{heard, heard_by}
-use Rattle.made_runs.specs.Room.{lacks_room, lacks_under, some_lacks}
+use Rattle.histories.specs.Letters.{lacks_room, lacks_under}
+use Rattle.made_runs.specs.Room.{some_lacks}
 use Rattle.script_runs.proofs.Carrying.{all_moved_keeps}
 use Rattle.script_runs.proofs.Reaching.{noted}
 use Rattle.script_runs.proofs.Asking.{Keeps}
