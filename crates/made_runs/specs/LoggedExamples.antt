@@ -1,4 +1,5 @@
--- Scripts of one port that sends something, written out, for what its log may be and may not.
+-- Scripts of one port, written out, for what its log may be and may not; and where a port behind a
+-- pool stands after two notices.
 use Rattle.std.specs.Prelude.{ℕ, false, List, [], ◌∷◌}
 use Rattle.netlink_codec.specs.Messages.{NetlinkMessage}
 use Rattle.histories.specs.declared.log.AskWords.TheVariants.{Raw}
@@ -58,12 +59,12 @@ every_second =
 abbrev pub no_logs : Histories
 no_logs = record { entries = []; logs = []; lost = [] }
 
--- where a port with so many workers stands, of which no answers waited, once it received two notices
+-- where a port with so many workers stands after two notices, if no answers waited before them
 abbrev pub heard : ℕ → ScriptValue → ℕ → ℕ → Standing → Letter → Letter → Standing
 heard workers script place port t one two =
     after workers script place port
     (after workers script place port (record t { pending = [] }) (Got one)) (Got two)
 
--- and once it turned to the next answers
+-- where it stands after it turned to the next answers
 abbrev pub turned : ℕ → ScriptValue → ℕ → ℕ → Standing → Standing
 turned workers script place port t = after workers script place port t Turned
