@@ -6,3 +6,4 @@ pub mod Asking
 pub mod Swept
 pub mod Ascending
 pub mod Regrouping
+pub mod NoPriority

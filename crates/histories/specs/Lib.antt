@@ -12,3 +12,4 @@ pub mod Sweeps
 pub mod Grouping
 pub mod Lengths
 pub mod Letters
+pub mod Priorities

@@ -1,17 +1,19 @@
 //! Laws of the definitions, each the contract of a function that does nothing.
 
 ghost use Rattle.std.specs.Prelude.{◌≡◌, ◌≢◌, ◌<◌, ◌⊎◌, ℕ, ◌+◌, List, [], ◌∷◌, ◌++◌, Bool, Some};
-ghost use Rattle.std.specs.Prelude.{option_map, ◌==◌, false};
+ghost use Rattle.std.specs.Prelude.{option_map, ◌==◌, false, All};
+ghost use Rattle.packet_entry.specs.declared.packet.Card.{Card};
 ghost use Rattle.histories.specs.Sweeps.{AsksAtOne};
 ghost use Rattle.nfqa_msgs.specs.Numbers.{input_device, output_device};
 ghost use Rattle.queue_core.specs.State.{Bound};
-ghost use Rattle.queue_core.specs.Step.{step};
+ghost use Rattle.queue_core.specs.Step.{step, Way};
 ghost use Rattle.queue_core.specs.Laws.{times, waiting_in};
 ghost use Rattle.histories.specs.declared.entry.Entry.{Entry};
 ghost use Rattle.histories.specs.History.{replay, history, IsLegal, IsStep, AreLegal};
 ghost use Rattle.histories.specs.Stays.{arrivals, departures};
 ghost use Rattle.histories.specs.Numbers.{queue_count};
-ghost use Rattle.histories.specs.States.{state_of, waiting_at};
+ghost use Rattle.histories.specs.Priorities.{BringsNone};
+ghost use Rattle.histories.specs.States.{state_of, step_of, waiting_at};
 ghost use Rattle.histories.specs.Happenings.{closing_of, closings, down_of, downs};
 
 use queue_core::each_packet_stays_or_leaves;
@@ -75,4 +77,12 @@ pub fn an_entry_is_of_its_queue_alone()
 pub fn ports_and_devices_reach_bound_queues()
     ensures ports { (port : ℕ) → AsksAtOne (closing_of port) }
     ensures devices { (device : ℕ) → AsksAtOne (down_of device) }
+{}
+
+/// Where each packet arrives with priority 0 and no request gives one, each packet that leaves has
+/// priority 0.
+pub fn no_priority_comes_of_none()
+    ensures { (es : List Entry) (e : Entry) →
+        All (λ (x : Entry). BringsNone x.event) (es ++ e ∷ []) →
+        All (λ (l : Card × Way). l.0.priority ≡ 0) (step_of es e.queue e.event).left }
 {}
