@@ -1,5 +1,5 @@
--- What an entry says of the mailbox of its queue's port: the notice that it put in, or that it found
--- no room there.
+-- What an entry says of the mailbox of its queue's port: the notice that it put in, or that it
+-- found no room there.
 use Rattle.std.specs.Prelude.{ℕ, Bool, false, not, ◌&&◌, ◌==◌, if◌then◌else◌, List, [], ◌∷◌}
 use Rattle.std.specs.Prelude.{Option, Some, None}
 use Rattle.packet_entry.specs.declared.packet.Card.{Card}
