@@ -1,5 +1,8 @@
 pub mod FreeIds
 pub mod Places
+pub mod Links
+pub mod Relinking
+pub mod Offering
 pub mod Shares
 pub mod Handing
 pub mod Tables

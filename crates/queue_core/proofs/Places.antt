@@ -1,52 +1,24 @@
--- Where what waits stands, and what the list of it keeps.
-use Rattle.std.proofs.Common.{◌≡◌, ◌≤◌, ◌<◌, ℕ, zero, suc, List, [], ◌∷◌, ◌++◌, length, get_or}
-use Rattle.std.proofs.Common.{take, drop, length-drop, Some, None, true, false, cond, sym}
+-- What the list of what waits keeps.
+use Rattle.std.proofs.Common.{◌≡◌, ◌≤◌, ◌<◌, ℕ, zero, suc, List, [], ◌∷◌, length}
+use Rattle.std.proofs.Common.{drop, length-drop, Some, None, false, sym}
 use Rattle.std.proofs.Common.{subst, ap, ◌∙◌}
 use Rattle.std.proofs.Common.{arith, inl, inr}
-use Rattle.std.proofs.Math.Seq.{drop-cons}
-use Rattle.std.proofs.lemmas.Option.{slice_get-get_or}
-use Rattle.std.proofs.lemmas.Bool.{eq-eqb, cases_Bool}
+use Rattle.std.proofs.lemmas.Bool.{cases_Bool, leb-false, or_parts}
 use Rattle.std.proofs.lemmas.List.{length_push, map_push}
 use Rattle.std.proofs.lemmas.Map.Keys.{IsDistinct-push}
 use Rattle.std.proofs.lemmas.Map.Entries.{length-keys_of}
 use Rattle.std.specs.Cmp.{nat_eq_equiv}
-use Rattle.std.specs.Map.{lookup, remove_entry, keys_of}
+use Rattle.std.specs.Map.{remove_entry, keys_of}
 use Rattle.std.specs.List.{IsDistinct, AllByRecursion}
-use Rattle.std.specs.Prelude.{nat_eq, slice_get, option_map}
+use Rattle.std.specs.Prelude.{nat_eq, ◌==◌}
 use Rattle.packet_entry.specs.declared.packet.Card.{Card}
 use Rattle.queue_core.specs.Numbers.{id_count}
 use Rattle.queue_core.specs.Ids.{is_id, is_among}
-use Rattle.queue_core.specs.Place.{IsPlace}
 use Rattle.queue_core.specs.State.{Bound}
-use Rattle.queue_core.specs.Step.{taken, without, without_oldest}
+use Rattle.queue_core.specs.Step.{taken, without, without_oldest, turns_away, next_id, is_full}
 use Rattle.queue_core.specs.WithOffer.{WithOffer, IsQueue, IsMode}
-use Rattle.nfqa_msgs.specs.Numbers.{longest_range}
+use Rattle.nfqa_msgs.specs.Numbers.{longest_range, copy_none}
 use Rattle.queue_core.proofs.FreeIds.{fresh_is_free}
-
--- the first under the id, where what stands before it has other ids
-pub place_found : (xs : List (ℕ × Card)) (id place : ℕ) (w : ℕ × Card) → place < length xs →
-    w ≡ get_or xs place w → w.0 ≡ id
-    → lookup (is_id id) xs ≡ lookup (is_id id) (drop place xs)
-    → remove_entry (is_id id) xs ≡ take place xs ++ remove_entry (is_id id) (drop place xs)
-    → IsPlace xs id place
-place_found xs id place w within at_place same passed_lookup passed_remove = record {
-  within = within;
-  found = passed_lookup ∙ ap (lookup (is_id id)) front
-      ∙ ap (λ b. cond b (Some w.1) (lookup (is_id id) (drop (suc place) xs))) test
-      ∙ ap (option_map (λ (v : ℕ × Card). v.1)) (sym there);
-  others = passed_remove ∙ ap (λ ys. take place xs ++ remove_entry (is_id id) ys) front
-      ∙ ap (λ b. take place xs ++ cond b (drop (suc place) xs)
-      (w ∷ remove_entry (is_id id) (drop (suc place) xs))) test;
-}
-  where
-    front : drop place xs ≡ w ∷ drop (suc place) xs
-    front = drop-cons xs place w within ∙ ap (λ v. v ∷ drop (suc place) xs) (sym at_place)
-
-    test : is_id id w.0 ≡ true
-    test = eq-eqb id w.0 (sym same)
-
-    there : slice_get xs place ≡ Some w
-    there = slice_get-get_or xs place w within ∙ ap Some (sym at_place)
 
 -- keys that differ stay so when one leaves
 apart_from : (id k : ℕ) (es : List (ℕ × Card)) →
@@ -86,6 +58,23 @@ held_without h id is none = record {
   few = omega (arith, fewer id h.state.waiting, is.few);
 }
 
+-- and when one is offered under the next id
+pub held_offered : (q : Bound) (id : ℕ) (card : Card) → q.maximum < id_count →
+    IsQueue (record { state = q; offer = None }) → turns_away q ≡ false → id ≡ next_id q →
+    IsQueue (record { state = q; offer = Some (id, card) })
+held_offered q id card maximum is undecided next = record {
+  mode = is.mode;
+  range = is.range;
+  apart = is.apart;
+  next = next;
+  undecided = undecided;
+  few = omega (
+    arith,
+    leb-false q.maximum (length q.waiting)
+        (or_parts (q.mode == copy_none) (is_full q) undecided).1,
+  );
+}
+
 -- and when it is settled
 pub held_taken : (q : Bound) (id : ℕ) (card : Card) → q.last < id_count →
     IsQueue (record { state = q; offer = Some (id, card) }) →
@@ -117,13 +106,6 @@ held_empty q mode range none = record {
   undecided = tt;
   few = omega (arith, ap (λ (es : List (ℕ × Card)). length es) none);
 }
-
--- what is taken out of an id's place is what waits under the id
-pub leaves : (waiting : List (ℕ × Card)) (id place : ℕ) (w : ℕ × Card) → IsPlace waiting id place →
-    w ≡ get_or waiting place w → lookup (is_id id) waiting ≡ Some w.1
-leaves waiting id place w at_place taken_out =
-    at_place.found ∙ ap (option_map (λ (v : ℕ × Card). v.1))
-    (slice_get-get_or waiting place w at_place.within ∙ ap Some (sym taken_out))
 
 -- those that wait stay apart when the oldest leave
 pub apart_dropped : (n : ℕ) (es : List (ℕ × Card)) → IsDistinct nat_eq (keys_of es) →

@@ -5,8 +5,8 @@ pub mod Range
 pub mod State
 pub mod Share
 pub mod Step
+pub mod Linked
 pub mod WithOffer
 pub mod Calls
 pub mod Laws
 pub mod Lines
-pub mod Place

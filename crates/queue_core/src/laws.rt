@@ -1,7 +1,7 @@
 //! Laws of the definitions, each the contract of a function that does nothing.
 
 ghost use Rattle.std.specs.Prelude.{◌≡◌, ◌≢◌, ◌<◌, ℕ, List, ◌∷◌, length, filter, not, Option, Some};
-ghost use Rattle.std.specs.Prelude.{Bool, false, true, Contains};
+ghost use Rattle.std.specs.Prelude.{Bool, false, true, Contains, reverse};
 ghost use Rattle.packet_entry.specs.declared.packet.Card.{Card};
 ghost use Rattle.nfqa_msgs.specs.Numbers.{eperm, enoent, ebusy, enodev};
 ghost use Rattle.nfqa_msgs.specs.declared.request.Request.{Request};
@@ -12,6 +12,7 @@ ghost use Rattle.queue_core.specs.Numbers.{verdict_accept, verdict_stolen, verdi
 ghost use Rattle.queue_core.specs.Numbers.{verdict_repeat, verdict_stop, id_count};
 ghost use Rattle.queue_core.specs.Ids.{fresh, IsFirstFree, after};
 ghost use Rattle.queue_core.specs.State.{Bound};
+ghost use Rattle.queue_core.specs.Linked.{Entries, IsLinked, followed, followed_back};
 ghost use Rattle.queue_core.specs.Share.{share, IsLongestBefore, AscendFrom, AreIds};
 ghost use Rattle.queue_core.specs.Step.{step, config, port_closed, device_down, ConfigAsk};
 ghost use Rattle.queue_core.specs.Step.{is_decided_early};
@@ -89,6 +90,18 @@ pub fn another_port_changes_nothing()
 /// 2^32 and fewer than 2^32 packets wait.
 pub fn ids_stay_apart()
     ensures { (q : Option Bound) (e : Event) → HasIds q → AreApart q → AreApart (step q e).state }
+{}
+
+/// Where packets are linked by the ids of their neighbours, following the younger ones from the
+/// oldest gives each of them once, in order of arrival, and following the older ones from the
+/// youngest gives the same list turned round.
+pub fn neighbours_lead_both_ways()
+    ensures younger { (entries : Entries) (oldest youngest : Option ℕ) (waiting : List (ℕ × Card)) →
+        IsLinked entries oldest youngest waiting →
+        followed (length entries) entries oldest ≡ waiting }
+    ensures older { (entries : Entries) (oldest youngest : Option ℕ) (waiting : List (ℕ × Card)) →
+        IsLinked entries oldest youngest waiting →
+        followed_back (length entries) entries youngest ≡ reverse waiting }
 {}
 
 /// What leaves in an arrival's step is the packet that arrives, and it is let through or destroyed

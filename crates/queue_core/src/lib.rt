@@ -11,8 +11,10 @@ mod handed;
 mod ids;
 mod laws;
 mod lines;
+mod linked;
 mod offers;
 mod queue;
+mod waiting;
 
 pub use decision::{ACCEPT, DROP, QUEUE, QUEUE_BYPASS, REPEAT, STOLEN, STOP, VERDICT_MASK};
 pub use errno::{EBUSY, ENODEV, ENOENT, EPERM};
@@ -20,9 +22,9 @@ pub use event::{Event, Reply};
 pub use handed::Handed;
 pub use laws::{
     an_arrival_leaves_as_its_outcome_says, another_port_changes_nothing,
-    each_packet_stays_or_leaves, first_free_id, ids_stay_apart, public_numbers,
-    replies_tell_how_many_left, room_matters_where_a_notice_is_offered, share_is_the_longest,
-    share_of_ascending_ids, what_is_flushed_is_destroyed,
+    each_packet_stays_or_leaves, first_free_id, ids_stay_apart, neighbours_lead_both_ways,
+    public_numbers, replies_tell_how_many_left, room_matters_where_a_notice_is_offered,
+    share_is_the_longest, share_of_ascending_ids, what_is_flushed_is_destroyed,
 };
 pub use lines::{ConfigLine, config_line, ruling};
 pub use offers::{Begun, NoRoom, Outcome, Settled};

@@ -11,11 +11,9 @@ mod arrivals;
 mod flushes;
 mod verdicts;
 
-use crate::ids::Waiting;
+use crate::waiting::Waiting;
 use nfqa_msgs::{MAX_RANGE, META, NONE, PACKET, Params};
-use packet_entry::Packet;
 use std::alloc::Global;
-use std::collections::VecDeque;
 use std::marker::Model;
 
 /// How many packets may wait in a queue that was never told otherwise. (`NFQNL_QMAX_DEFAULT`)
@@ -31,14 +29,15 @@ pub struct Queue {
     last: u32,
     dropped: u32,
     user_dropped: u32,
+    /// What waits and, last of it, what was begun and isn't settled.
     waiting: Waiting,
-    /// What was begun and isn't settled, under its id. There is room for it in `waiting`.
-    offer: Option<(u32, Packet)>,
+    /// The id of what was begun and isn't settled.
+    offer: Option<u32>,
 }
 
 impl Model for Queue {
-    ghost use Rattle.std.specs.Prelude.{◌<◌, IfSome};
-    ghost use Rattle.std.specs.VecDeque.{deque_len, deque_capacity};
+    ghost use Rattle.std.specs.Prelude.{IfSome};
+    ghost use Rattle.queue_core.specs.Linked.{IsLast, without_offer, offer_in};
     ghost use Rattle.queue_core.specs.WithOffer.{WithOffer, IsQueue};
 
     ghost Value = { WithOffer };
@@ -53,9 +52,9 @@ impl Model for Queue {
         last = q.last;
         dropped = q.dropped;
         user_dropped = q.user_dropped;
-        waiting = q.waiting.items;
+        waiting = without_offer q.offer q.waiting;
       };
-      offer = q.offer;
+      offer = offer_in q.offer q.waiting;
     } };
 
     ghost invariant = { λ q.
@@ -69,11 +68,11 @@ impl Model for Queue {
             last = q.last;
             dropped = q.dropped;
             user_dropped = q.user_dropped;
-            waiting = q.waiting.items;
+            waiting = without_offer q.offer q.waiting;
           };
-          offer = q.offer;
+          offer = offer_in q.offer q.waiting;
         })
-        × IfSome q.offer (λ _. deque_len q.waiting < deque_capacity q.waiting) };
+        × IfSome q.offer (IsLast q.waiting) };
 }
 
 impl Queue {
@@ -99,7 +98,7 @@ impl Queue {
             last: 0,
             dropped: 0,
             user_dropped: 0,
-            waiting: VecDeque::new(alloc),
+            waiting: Waiting::new(alloc),
             offer: None,
         }
     }
@@ -169,13 +168,9 @@ impl Queue {
             dropped: _,
             user_dropped: _,
             waiting,
-            offer,
+            offer: _,
         } = self;
-        waiting.into_vec().destroy_empty();
-        match offer {
-            None => {}
-            Some(_) => unreachable!(),
-        }
+        waiting.finish();
     }
 
     /// The port that the queue is bound to.
@@ -240,7 +235,11 @@ impl Queue {
     pub fn waiting(&self) -> u32
         ensures { result ≡ length self.now.state.waiting }
     {
-        self.waiting.len() as u32
+        let kept = self.waiting.len() as u32;
+        match self.offer {
+            None => kept,
+            Some(_) => kept - 1,
+        }
     }
 }
 

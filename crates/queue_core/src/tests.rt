@@ -635,6 +635,69 @@ fn one_batch(
     Ok((answer?, left, used))
 }
 
+/// How many packets wait where verdicts come in descending order.
+const MANY: u32 = 20_000;
+
+#[test]
+fn a_batch_follows_verdicts_that_come_last_first(rt: HostRuntime) -> Result<(), Fail> {
+    let answer = evens_and_then_a_batch(rt.alloc(), MANY)?;
+    assert_eq!(rt; answer, ((MANY, MANY / 2, MANY / 2), (MANY / 2, true), 0));
+    Ok(())
+}
+
+/// So many packets come to wait, under a maximum of so many; then come verdicts on the even ids,
+/// the last of them first, and a batch for the others. Answers how many waited, how many the
+/// verdicts and the batch took, how many packets the batch handed out and whether their numbers
+/// ascend, and how many are left.
+fn evens_and_then_a_batch(
+    alloc: Global,
+    count: u32,
+) -> Result<((u32, u32, u32), (u32, bool), u32), NoMemory> {
+    let mut queue = copying(alloc);
+    queue.configure(None, Some(count), None, None);
+    let arrived = arrivals(alloc, &mut queue, count);
+    let singly = evens_decided(&mut queue, count);
+    let mut handed = Handed::new(alloc);
+    let head = Head {
+        verdict: 1,
+        id: count,
+    };
+    let together = queue.batch(head, None, None, &mut handed);
+    let order = ascending(handed);
+    let left = ended(queue);
+    Ok(((arrived?, singly, together?), order, left))
+}
+
+/// Verdicts on the even ids up to this one, the last of them first: how many packets they take.
+fn evens_decided(queue: &mut Queue, last: u32) -> u32
+    requires no_offer { queue.old.offer ≡ None }
+    ensures no_offer { queue.new.offer ≡ None }
+{
+    let mut taken = 0u32;
+    for passed in 0..last / 2 {
+        let id = (last / 2 - passed) * 2;
+        let head = Head { verdict: 1, id };
+        if let Some((packet, _)) = queue.verdict(head, None, None, None) {
+            packet.release();
+            taken = taken.saturating_add(1);
+        }
+    }
+    taken
+}
+
+/// How many packets are handed out, and whether their numbers ascend.
+fn ascending(mut handed: Handed) -> (u32, bool) {
+    let (mut count, mut last, mut ascends) = (0u32, 0u32, true);
+    while let Some((packet, _)) = handed.take() {
+        ascends = ascends && last < packet.number();
+        last = packet.number();
+        count = count.saturating_add(1);
+        packet.release();
+    }
+    handed.finish();
+    (count, ascends)
+}
+
 #[test]
 fn a_notice_tells_of_the_packet(rt: HostRuntime) -> Result<(), Fail> {
     // Mode and range; and then the length and the bytes that the notice tells.

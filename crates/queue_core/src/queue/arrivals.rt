@@ -13,7 +13,6 @@ use bitflags::Flags;
 use nfqa_msgs::{NONE, QueueFlags, encode_notice};
 use packet_entry::{Bytes, Letter, NoMemory, Packet};
 use std::alloc::Global;
-use std::mem;
 
 impl Queue {
     /// Begins the arrival of a packet. Where the queue copies nothing or is full, it comes back.
@@ -53,20 +52,18 @@ impl Queue {
         ensures returned { IfErr result (λ back. back.packet ≡ packet) }
         ensures err { OnErr result (self.new ≡ self.old) }
     {
-        if self.waiting.reserve(1).is_err() {
-            return Err(NoRoom { packet });
-        }
         let id = ids::fresh_id(self.last, &self.waiting);
         let Ok(letter) = self.letter(alloc, queue, id, &packet) else {
             return Err(NoRoom { packet });
         };
-        match mem::replace(&mut self.offer, Some((id, packet))) {
-            None => Ok(Begun::Offered {
-                port: self.port,
-                letter,
-            }),
-            Some(_) => unreachable!(),
+        if let Err(packet) = self.waiting.push(id, packet) {
+            return Err(NoRoom { packet });
         }
+        self.offer = Some(id);
+        Ok(Begun::Offered {
+            port: self.port,
+            letter,
+        })
     }
 
     /// The notice of a packet, on its way to the queue's port.
@@ -99,33 +96,33 @@ impl Queue {
         requires offered { self.old.offer ≢ None }
         ensures { IfSome self.old.offer (λ o. SettlesArrival result o.1 room self.old self.new) }
     {
-        match self.offer.take() {
-            Some((id, packet)) => {
-                self.last = id;
-                // No room, and the queue fails open: it goes on.
-                if !room && self.fails_open() {
-                    let outcome = Outcome::UserFullOpen { id };
-                    return Settled::Back { outcome, packet };
-                }
-                // No room: destroyed.
-                if !room {
-                    self.user_dropped = self.user_dropped.saturating_add(1);
-                    let outcome = Outcome::UserFull { id };
-                    return Settled::Back { outcome, packet };
-                }
-                // It waits, last in the list.
-                self.waiting.push_back_reserved((id, packet));
-                Settled::Waiting { id }
-            }
-            None => unreachable!(),
+        let Some(id) = self.offer.take() else {
+            unreachable!()
+        };
+        self.last = id;
+        // It waits, last in the list.
+        if room {
+            return Settled::Waiting { id };
         }
+        let Some(packet) = self.waiting.take(id) else {
+            unreachable!()
+        };
+        // No room, and the queue fails open: it goes on.
+        if self.fails_open() {
+            let outcome = Outcome::UserFullOpen { id };
+            return Settled::Back { outcome, packet };
+        }
+        // No room: destroyed.
+        self.user_dropped = self.user_dropped.saturating_add(1);
+        let outcome = Outcome::UserFull { id };
+        Settled::Back { outcome, packet }
     }
 
     /// Whether as many packets wait as may.
     fn is_full(&self) -> bool
         ensures { result ≡ queue_step.is_full self.now.state }
     {
-        self.maximum as usize <= self.waiting.len()
+        self.maximum <= self.waiting()
     }
 
     /// Whether a queue that is full, or whose port's mailbox is, lets packets go on.

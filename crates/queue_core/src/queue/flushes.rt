@@ -9,7 +9,7 @@ ghost use Rattle.queue_core.specs.State.{emptied};
 ghost use Rattle.queue_core.specs.Step.{all_gone, step};
 
 use super::Queue;
-use crate::ids::Waiting;
+use crate::waiting::Waiting;
 
 /// The indexes of the two devices by which every packet comes in and goes out.
 const INPUT_DEVICE: u32 = 1;
@@ -68,9 +68,9 @@ impl Queue {
 
 /// Destroys all that waits.
 fn destroy_all(waiting: &mut Waiting)
-    ensures { waiting.new.items ≡ [] }
+    ensures { waiting.new ≡ [] }
 {
-    while let Some((_, packet)) = waiting.pop_front() {
+    while let Some((_, packet)) = waiting.take_oldest() {
         packet.destroy();
     }
 }

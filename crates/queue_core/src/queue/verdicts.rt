@@ -15,9 +15,9 @@ ghost use Rattle.queue_core.specs.Share.{share};
 ghost use Rattle.queue_core.specs.Calls.{hands_out, batch_handed};
 
 use super::Queue;
+use crate::Handed;
 use crate::decision::decision_of;
-use crate::ids::Waiting;
-use crate::{Handed, ids};
+use crate::waiting::Waiting;
 use hook_chain::Decision;
 use nfqa_msgs::Head;
 use packet_entry::{Bytes, NoMemory, Packet};
@@ -52,10 +52,7 @@ impl Queue {
             (Ask self.old.state.port call (Verdict queue (Some head) mark payload priority))
             ≡ hands_out self.new.state (option_to_list result) }
     {
-        let place = ids::place_of(&self.waiting, head.id)?;
-        let Some((_, mut packet)) = self.waiting.remove(place) else {
-            unreachable!()
-        };
+        let mut packet = self.waiting.take(head.id)?;
         packet.edit(mark, payload, priority);
         Some((packet, decision_of(head.verdict)))
     }
@@ -88,7 +85,7 @@ impl Queue {
             (Ask self.old.state.port call (Batch queue (Some head) mark priority))
             ≡ hands_out self.new.state (batch_handed self.old.state head mark priority)) }
     {
-        let count = ids::share_length(&self.waiting, head.id);
+        let count = self.waiting.share_length(head.id);
         out.packets.reserve(count)?;
         let decision = decision_of(head.verdict);
         hand_out(
@@ -113,14 +110,14 @@ fn hand_out(
     decision: Decision,
     out: &mut VecDeque<(Packet, Decision)>,
 )
-    requires count { count ≤ length waiting.old.items }
+    requires count { count ≤ length waiting.old }
     requires room { deque_len out.old + count ≤ deque_capacity out.old }
-    ensures waiting { waiting.new.items ≡ drop count waiting.old.items }
+    ensures waiting { waiting.new ≡ drop count waiting.old }
     ensures out { out.new.items ≡ out.old.items
-        ++ map (λ w. (edited w.1 mark None priority, decision)) (take count waiting.old.items) }
+        ++ map (λ w. (edited w.1 mark None priority, decision)) (take count waiting.old) }
 {
     for _ in 0..count {
-        let Some((_, mut packet)) = waiting.pop_front() else {
+        let Some((_, mut packet)) = waiting.take_oldest() else {
             unreachable!()
         };
         packet.edit(mark, None, priority);

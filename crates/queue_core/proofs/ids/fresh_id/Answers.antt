@@ -5,7 +5,7 @@ use Rattle.queue_core.proofs.ids.fresh_id.Goals as goal
 
 pub loop-preserved : goal.loop-preserved
 loop-preserved c =
-    sym (look_on (length c.args.waiting.now.items) c.loop.counter c.loop.id
-    (keys_of c.args.waiting.now.items) (omega arith) (sym c.is_waiting.ensures
-    ∙ c.if-not-is_waiting.false))
+    sym (look_on (length c.args.waiting.now) c.loop.counter c.loop.id
+    (keys_of c.args.waiting.now) (omega arith) (sym c.contains.ensures
+    ∙ c.if-not-contains.false))
     ∙ c.loop.invariant

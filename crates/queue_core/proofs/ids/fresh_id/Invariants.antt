@@ -5,5 +5,5 @@ use Rattle.queue_core.proofs.ids.fresh_id.Given as goal
 
 -- so many looks are left from this id on
 abbrev pub invariant-loop : goal.invariant-loop
-invariant-loop l = free_from (length l.waiting.items - l.counter) l.id (keys_of l.waiting.items)
-    ≡ fresh l.last (keys_of l.waiting.items)
+invariant-loop l = free_from (length l.waiting - l.counter) l.id (keys_of l.waiting)
+    ≡ fresh l.last (keys_of l.waiting)

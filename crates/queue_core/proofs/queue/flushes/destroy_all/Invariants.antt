@@ -1,5 +1,5 @@
-use Rattle.std.specs.VecDeque.{deque_len}
+use Rattle.std.proofs.Common.{length}
 use Rattle.queue_core.proofs.queue.flushes.destroy_all.Given as goal
 
 abbrev pub decreases-loop-packet : goal.decreases-loop-packet
-decreases-loop-packet l = deque_len l.waiting
+decreases-loop-packet l = length l.waiting

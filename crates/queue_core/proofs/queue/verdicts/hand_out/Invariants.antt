@@ -6,8 +6,8 @@ use Rattle.queue_core.proofs.queue.verdicts.hand_out.Given as goal
 -- so many have been moved
 abbrev pub invariant-loop : goal.invariant-loop
 invariant-loop l =
-    (l.waiting.items ≡ drop l.counter l.fn.waiting.items)
+    (l.waiting ≡ drop l.counter l.fn.waiting)
     × (l.out.items ≡ l.fn.out.items
     ++ map (λ w. (edited w.1 l.mark None l.priority, l.decision))
-    (take l.counter l.fn.waiting.items))
+    (take l.counter l.fn.waiting))
     × (deque_len l.out + (l.count - l.counter) ≤ deque_capacity l.out)
