@@ -1,0 +1,12 @@
+pub mod Seen
+pub mod Calls
+pub mod Passes
+pub mod ClosedPlanes
+pub mod Owners
+pub mod Stands
+pub mod Ports
+pub mod Stages
+pub mod Meetings
+pub mod Doing
+pub mod Feeding
+pub mod Locks

@@ -1,0 +1,14 @@
+//! A run with threads: what is known of each pass of a plane while ports and the feeder work beside
+//! each other, and that the histories of the closed plane are made by the script. These are
+//! definitions and their laws: no code runs here, and no thread is started.
+#![tactic(auto)]
+
+mod doing;
+mod feeding;
+mod meeting;
+
+pub use doing::{
+    a_port_does_what_is_next, a_port_goes_through_a_stage, messages_are_sent_one_by_one,
+};
+pub use feeding::the_feeder_keeps_its_time;
+pub use meeting::{a_stage_ends_where_all_meet, ports_open_one_after_the_other};
