@@ -1,19 +1,45 @@
 -- A port opens, and all passes meet: what is new are its requests.
-use Rattle.std.proofs.Common.{◌++◌, ◌<◌, ◌≡◌, ◌≢◌, ◌⊎◌, Bool, List, false, inl, inr, subst, sym}
-use Rattle.std.proofs.Common.{true, ℕ}
+use Rattle.std.proofs.Common.{◌++◌, ◌<◌, ◌∙◌, ◌≡◌, ◌≢◌, ◌⊎◌, Bool, List, Some, ap, false, inl, inr}
+use Rattle.std.proofs.Common.{subst, sym, true, ℕ}
 use Rattle.std.proofs.lemmas.Bool.{cases_Bool, eq-eqb, eqb-true}
-use Rattle.std.specs.Prelude.{◌==◌}
+use Rattle.std.proofs.lemmas.Option.{slice_get-map}
+use Rattle.std.specs.Prelude.{◌==◌, option_map, slice_get}
 use Rattle.histories.specs.declared.entry.Entry.{Entry}
 use Rattle.live_runs.specs.ClosedPlanes.{AreOwned}
 use Rattle.live_runs.specs.Doing.{IsQuiet}
 use Rattle.live_runs.specs.Meetings.{IsAsk}
-use Rattle.live_runs.specs.Seen.{EachIs, IsNone, OursAre, Seen, Shares, TheirsAre, all_theirs}
+use Rattle.live_runs.specs.Seen.{EachIs, IsNone, Ours, OursAre, Seen, Shares, Theirs, TheirsAre}
+use Rattle.live_runs.specs.Seen.{all_theirs, entries, entry}
 use Rattle.live_runs.specs.Stages.{IsPlain, IsSegment}
+use Rattle.live_runs.proofs.Covering.{clash, ours_at, theirs_by_index}
 use Rattle.live_runs.proofs.Fenced.{front_owned, segment_is, segment_owned}
-use Rattle.live_runs.proofs.Following.{segments}
+use Rattle.live_runs.proofs.Following.{segment, segments}
 use Rattle.live_runs.proofs.Marks.{each_append, none_is, nothing_ours, ours_append, ours_as}
 use Rattle.live_runs.proofs.Marks.{theirs_front}
 use Rattle.live_runs.proofs.Plain.{asks_are_plain}
+
+-- where nobody else has anything of its own in a segment, all of it is this one's
+all_mine : (count : ℕ → Bool) (more : ℕ → List Seen) (segment : List Entry) (port : ℕ) →
+    ((p : ℕ) → count p ≡ true → entries (more p) ≡ segment) → count port ≡ true →
+    AreOwned count more segment →
+    ((p : ℕ) → count p ≡ true → p ≢ port → OursAre IsNone (more p)) → TheirsAre IsNone (more port)
+all_mine count more segment port same is_one owned others =
+    theirs_by_index IsNone (more port) (λ i e is. found i e is (owned.owned i e
+    (ap (λ es. slice_get es i) (sym (same port is_one)) ∙ slice_get-map entry (more port) i
+    ∙ ap (option_map entry) is)))
+  where
+    found : (i : ℕ) (e : Entry) → slice_get (more port) i ≡ Some (Theirs e) →
+        (k : ℕ) × (count k ≡ true) × (slice_get (more k) i ≡ Some (Ours e)) → IsNone e
+    found i e is o = by (cases_Bool (o.0 == port))
+      where
+        by : ((o.0 == port) ≡ true) ⊎ ((o.0 == port) ≡ false) → IsNone e
+        by (inl h) = clash e e (sym is ∙ ap (λ k. slice_get (more k) i) (sym (eqb-true o.0 port h))
+            ∙ o.2)
+        by (inr h) = ours_at IsNone (more o.0) (others o.0 o.1 (λ same. no_way (eq-eqb o.0 port
+            same))) i e o.2
+          where
+            no_way : (o.0 == port) ≡ true → ⊥
+            no_way wrong = absurd (cc)
 
 module _ (count : ℕ → Bool) (places : ℕ) (old new : ℕ → ℕ → List Seen)
     (whole seg : ℕ → List Entry) (port : ℕ) (is_one : count port ≡ true)

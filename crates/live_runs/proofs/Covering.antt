@@ -11,7 +11,6 @@ use Rattle.live_runs.specs.ClosedPlanes.{IsCovered}
 use Rattle.live_runs.specs.Owners.{IsEven, IsNotBy}
 use Rattle.live_runs.specs.Seen.{EachIs, Ours, OursAre, Seen, Theirs, TheirsAre, all_theirs}
 use Rattle.live_runs.specs.Seen.{entries, entry}
-use Rattle.live_runs.specs.Stands.{full}
 use Rattle.live_runs.proofs.Marks.{entries_append, entries_theirs, met_grows}
 use Rattle.live_runs.proofs.Pleas.{grown_even, no_pleas, pleas}
 
@@ -70,21 +69,21 @@ at_front (y ∷ xs) ys (suc i) x is = at_front xs ys i x is
 
 module _ (count : ℕ → Bool) (all : ℕ → List Seen) (whole : List Entry)
     (c : IsCovered count all whole) where
-  abbrev full : ℕ → List Seen
-  full p = all p ++ all_theirs (c.rest p)
+  abbrev filled : ℕ → List Seen
+  filled p = all p ++ all_theirs (c.rest p)
 
-  pub full_entries : (p : ℕ) → count p ≡ true → entries (full p) ≡ whole
+  pub full_entries : (p : ℕ) → count p ≡ true → entries (filled p) ≡ whole
   full_entries p below = entries_append (all p) (all_theirs (c.rest p))
       ∙ ap (λ es. entries (all p) ++ es) (entries_theirs (c.rest p)) ∙ sym (c.begins p below)
 
   -- the entries that aren't this pass's own are other passes'
   pub theirs_are : (Q : Entry → Type 0) (p : ℕ) → count p ≡ true →
-      ((k : ℕ) → count k ≡ true → k ≢ p → OursAre Q (all k)) → TheirsAre Q (full p)
-  theirs_are Q p below others = theirs_by_index Q (full p) (λ i e is. found i e is (c.owned.owned i e
-      (ap (λ es. slice_get es i) (sym (full_entries p below)) ∙ slice_get-map entry (full p) i
+      ((k : ℕ) → count k ≡ true → k ≢ p → OursAre Q (all k)) → TheirsAre Q (filled p)
+  theirs_are Q p below others = theirs_by_index Q (filled p) (λ i e is. found i e is (c.owned.owned i e
+      (ap (λ es. slice_get es i) (sym (full_entries p below)) ∙ slice_get-map entry (filled p) i
       ∙ ap (option_map entry) is)))
     where
-      found : (i : ℕ) (e : Entry) → slice_get (full p) i ≡ Some (Theirs e) →
+      found : (i : ℕ) (e : Entry) → slice_get (filled p) i ≡ Some (Theirs e) →
           (k : ℕ) × (count k ≡ true) × (slice_get (all k) i ≡ Some (Ours e)) → Q e
       found i e is o = by (cases_Bool (o.0 == p))
         where
@@ -109,8 +108,8 @@ module _ (count : ℕ → Bool) (all : ℕ → List Seen) (whole : List Entry)
       pleas port queue whole ≡ flat_map (pleas_told queue) notes
   whole_even port queue p notes below others even =
       ap (pleas port queue) (sym (full_entries p below))
-      ∙ (grown_even port queue (all p) (full p) notes
-      (met_grows (IsNotBy port) (all p) (full p) (c.rest p) refl) even).even
+      ∙ (grown_even port queue (all p) (filled p) notes
+      (met_grows (IsNotBy port) (all p) (filled p) (c.rest p) refl) even).even
       (theirs_are (IsNotBy port) p below others)
 
   pub nobody_asks : (port queue : ℕ) →

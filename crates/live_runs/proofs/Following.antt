@@ -36,7 +36,7 @@ meeting_later workers script places old new passes notes stands after_it m = rec
   };
 }
 
-cut_front : (front xs ys : List Entry) → front ++ xs ≡ front ++ ys → xs ≡ ys
+pub cut_front : (front xs ys : List Entry) → front ++ xs ≡ front ++ ys → xs ≡ ys
 cut_front [] xs ys same = same
 cut_front (e ∷ front) xs ys same = cut_front front xs ys (ap tail same)
   where
@@ -62,7 +62,7 @@ module _ (workers : ℕ) (script : ScriptValue) (places : ℕ) (early late : ℕ
   abbrev pub segment : ℕ → List Entry
   segment k = entries (more k feeder_number)
 
-  then_is : (k p : ℕ) → k < places → is_pass script.ports p ≡ true →
+  pub then_is : (k p : ℕ) → k < places → is_pass script.ports p ≡ true →
       then k ≡ whole k ++ entries (more k p)
   then_is k p below is = sym (met_then k p is) ∙ ap entries (longer k p is)
       ∙ entries_append (seen_at old k p) (more k p)

@@ -3,14 +3,12 @@ use Rattle.std.proofs.Common.{◌*◌, ◌++◌, ◌+◌, ◌<◌, ◌∷◌, �
 use Rattle.std.proofs.Common.{true, ℕ}
 use Rattle.std.specs.List.{list_any}
 use Rattle.std.specs.Prelude.{not}
-use Rattle.hook_chain.specs.Route.{next}
 use Rattle.queue_core.specs.Laws.{IsConserving}
 use Rattle.queue_core.specs.State.{Bound}
 use Rattle.queue_core.specs.Step.{step}
 use Rattle.queue_core.specs.declared.event.Event.{Event}
 use Rattle.histories.specs.Happenings.{closings, downs}
 use Rattle.histories.specs.History.{history}
-use Rattle.histories.specs.Listing.{line}
 use Rattle.histories.specs.Numbers.{queue_count}
 use Rattle.histories.specs.declared.entry.Entry.{Entry}
 use Rattle.script_lines.specs.declared.line.Down.{Down}
@@ -19,7 +17,6 @@ use Rattle.made_runs.specs.Closing.{IsClosing, is_bound_to, is_by, is_closed, is
 use Rattle.made_runs.specs.Feeder.{IsFed, IsNoDown, times_of_event}
 use Rattle.made_runs.specs.Log.{AreNextFrom, IsNext, Note, Standing, after, logged, standing_from}
 use Rattle.made_runs.specs.Underway.{AllFed, AreOthers, Fed, IsNow}
-use Rattle.live_runs.specs.Seen.{entry}
 
 -- of closings
 pub record ClosingLaws : Type 0 where

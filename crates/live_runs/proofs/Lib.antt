@@ -21,3 +21,7 @@ mod Asking
 mod Places
 mod Opens
 mod Middle
+mod Making
+mod Finish
+mod Sums
+mod Since

@@ -2,9 +2,7 @@
 use Rattle.std.proofs.Common.{◌++◌, ◌<◌, ◌∙◌, ◌≡◌, ◌⊎◌, Bool, List, [], ap, append_assoc, false}
 use Rattle.std.proofs.Common.{inl, inr, refl, subst, sym, true, ℕ}
 use Rattle.std.proofs.lemmas.Bool.{cases_Bool}
-use Rattle.histories.specs.States.{told}
 use Rattle.histories.specs.declared.entry.Entry.{Entry}
-use Rattle.histories.specs.declared.log.AskWords.TheVariants.{Plain}
 use Rattle.inspector_script.specs.Scripts.{ScriptValue}
 use Rattle.made_runs.specs.Log.{Note}
 use Rattle.made_runs.specs.Ports.{is_port}

@@ -104,6 +104,12 @@ module _ (logs : LogLaws) (laws : ClosingLaws) (workers : ℕ) (script : ScriptV
   abbrev pub then_stands : ℕ → Stand
   then_stands p = if p == port then opened script port else stands p
 
+  mid_port : (p : ℕ) → (p == port) ≡ true → mid p ≡ mine
+  mid_port p h = rw h refl
+
+  mid_other : (p : ℕ) → (p == port) ≡ false → mid p ≡ old p
+  mid_other p h = rw h refl
+
   zero_apart : (0 == port) ≡ false
   zero_apart = ne_eqb 0 port (λ same. wrong (sym i ∙ ap (is_port script) (sym same)
       ∙ no_port_zero script good))
@@ -142,16 +148,19 @@ module _ (logs : LogLaws) (laws : ClosingLaws) (workers : ℕ) (script : ScriptV
 
       ours_mid : (p k : ℕ) → is_port script p ≡ true →
           ((p == port) ≡ true) ⊎ ((p == port) ≡ false) → OursAre (IsOf p) (seen_at mid k p)
-      ours_mid p k is (inl h) = rw h (subst (λ q. OursAre (IsOf q) (mine.shares k))
+      ours_mid p k is (inl h) = subst (λ (x : Pass). OursAre (IsOf p) (x.shares k))
+          (sym (mid_port p h)) (subst (λ q. OursAre (IsOf q) (mine.shares k))
           (sym (eqb-true p port h))
           (grown_ours (IsOf port) (seen_at old k port) (mine.shares k)
           (was.meeting.are.ours port i k)
           (grows_as (IsAskingOf port) (IsOf port) (asking_of port) (seen_at old k port)
           (mine.shares k) (a.grows k))))
-      ours_mid p k is (inr h) = rw h (was.meeting.are.ours p is k)
+      ours_mid p k is (inr h) = subst (λ (x : Pass). OursAre (IsOf p) (x.shares k))
+          (sym (mid_other p h)) (was.meeting.are.ours p is k)
 
       fed : (k : ℕ) → OursAre IsFeeders (seen_at mid k feeder_number)
-      fed k = rw zero_apart (was.meeting.are.feeders k)
+      fed k = subst (λ (x : Pass). OursAre IsFeeders (x.shares k))
+          (sym (mid_other feeder_number zero_apart)) (was.meeting.are.feeders k)
 
   -- what is new of each pass
   own : ℕ → ℕ → List Seen
@@ -167,9 +176,12 @@ module _ (logs : LogLaws) (laws : ClosingLaws) (workers : ℕ) (script : ScriptV
   mid_is : (k p : ℕ) → ((p == port) ≡ true) ⊎ ((p == port) ≡ false) →
       seen_at mid k p ≡ seen_at old k p ++ own k p
   unfolding own
-  mid_is k p (inl h) = rw h (a.quiet.is k
-      ∙ ap (λ q. seen_at old k q ++ a.quiet.more k) (sym (eqb-true p port h)))
-  mid_is k p (inr h) = rw h (sym (append-nil (seen_at old k p)))
+  mid_is k p (inl h) = ap (λ (x : Pass). x.shares k) (mid_port p h) ∙ a.quiet.is k
+      ∙ ap (λ q. seen_at old k q ++ a.quiet.more k) (sym (eqb-true p port h))
+      ∙ ap (λ b. seen_at old k p ++ (if b then a.quiet.more k else [])) (sym h)
+  mid_is k p (inr h) = ap (λ (x : Pass). x.shares k) (mid_other p h)
+      ∙ sym (append-nil (seen_at old k p))
+      ∙ ap (λ b. seen_at old k p ++ (if b then a.quiet.more k else [])) (sym h)
 
   longer_so : (k p : ℕ) → is_pass script.ports p ≡ true →
       seen_at new k p ≡ seen_at old k p ++ more k p

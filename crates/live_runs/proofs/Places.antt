@@ -23,20 +23,22 @@ pub place_apart : (p q : ℕ) (ports : List ℕ) → list_any (nat_eq p) ports �
 place_apart p q [] i same = absurd (cc)
 place_apart p q (x ∷ ports) i same =
     by (cases_Bool (p == x)) (cases_Bool (q == x)) i same
+    (λ in_it at. place_apart p q ports in_it at)
   where
     by : ((p == x) ≡ true) ⊎ ((p == x) ≡ false) → ((q == x) ≡ true) ⊎ ((q == x) ≡ false) →
         list_any (nat_eq p) (x ∷ ports) ≡ true →
-        place_in p (x ∷ ports) ≡ place_in q (x ∷ ports) → p ≡ q
-    by (inl g) (inl h) i same = eqb-true p x g ∙ sym (eqb-true q x h)
-    by (inl g) (inr h) i same =
+        place_in p (x ∷ ports) ≡ place_in q (x ∷ ports) →
+        (list_any (nat_eq p) ports ≡ true → place_in p ports ≡ place_in q ports → p ≡ q) → p ≡ q
+    by (inl g) (inl h) i same so = eqb-true p x g ∙ sym (eqb-true q x h)
+    by (inl g) (inr h) i same so =
         let one : place_in p (x ∷ ports) ≡ 0 = rw g refl in
         let two : place_in q (x ∷ ports) ≡ suc (place_in q ports) = rw h refl in
         absurd (omega (arith, same, one, two))
-    by (inr g) (inl h) i same =
+    by (inr g) (inl h) i same so =
         let one : place_in p (x ∷ ports) ≡ suc (place_in p ports) = rw g refl in
         let two : place_in q (x ∷ ports) ≡ 0 = rw h refl in
         absurd (omega (arith, same, one, two))
-    by (inr g) (inr h) i same =
+    by (inr g) (inr h) i same so =
         let one : place_in p (x ∷ ports) ≡ suc (place_in p ports) = rw g refl in
         let two : place_in q (x ∷ ports) ≡ suc (place_in q ports) = rw h refl in
-        place_apart p q ports (rw g at i) (omega (arith, same, one, two))
+        so (rw g at i) (omega (arith, same, one, two))

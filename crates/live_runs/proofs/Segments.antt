@@ -12,12 +12,9 @@ use Rattle.made_runs.specs.NoticeTexts.{fits}
 use Rattle.made_runs.specs.Order.{Answers, Kind, early_by, late_by}
 use Rattle.made_runs.specs.Requests.{Plea, errno_in, pleas_by, pleas_in, pleas_of}
 use Rattle.made_runs.specs.Underway.{IsNow, Ordered}
-use Rattle.live_runs.specs.Calls.{asked}
-use Rattle.live_runs.specs.Locks.{marked}
 use Rattle.live_runs.specs.Seen.{EachIs}
 use Rattle.live_runs.specs.Stages.{AreRanked, IsPlain, IsPlainEvent, IsRanked}
 use Rattle.live_runs.proofs.Ordering.{ordered_later, ordered_push}
-use Rattle.solo_run.specs.RunState.{Goes}
 
 first_kind : (ks : List Kind) (n : ℕ) → length ks ≡ suc n →
     (k : Kind) × (rest : List Kind) × (ks ≡ k ∷ rest) × (length rest ≡ n)
@@ -83,19 +80,19 @@ module _ (ports : List ℕ) (early late : ℕ) where
           ∙ ap (λ xs. told p ++ xs) (sym (ap ks (eqb-true p by c) ∙ so)))
       joined p (inr c) k rest so = rw c (ap (λ xs. xs ++ ks p) (append-nil (told p)))
 
-      marked : (p : ℕ) (c : Bool) (k : Kind) →
+      marks_of : (p : ℕ) (c : Bool) (k : Kind) →
           told p ++ map (λ (y : Plea). k) (if c then x ∷ [] else [])
           ≡ told p ++ (if c then k ∷ [] else [])
-      marked p true k = refl
-      marked p false k = refl
+      marks_of p true k = refl
+      marks_of p false k = refl
 
       own : length (ks by) ≡ suc (length (pleas_in by hs))
       own = many by ∙ ap (λ ps. length (ps ++ pleas_in by hs)) (its by)
           ∙ ap (λ c. length ((if c then x ∷ [] else []) ++ pleas_in by hs)) (eq-eqb by by refl)
 
-      asked : (call : ℕ) (r : Request) → e.event ≡ Ask by call r →
+      request_goes : (call : ℕ) (r : Request) → e.event ≡ Ask by call r →
           Ordered ports early late (λ p. told p ++ ks p) (h ++ e ∷ hs)
-      asked call r is_ask =
+      request_goes call r is_ask =
           let one = first_kind (ks by) (length (pleas_in by hs)) own in
           let k = one.0 in
           let rest = one.1 in
@@ -111,7 +108,7 @@ module _ (ports : List ℕ) (early late : ℕ) where
           (ordered_push ports early late told mid h (record { entry = e; kind = k })
           (ap (early_by ports k) is_ask ∙ are.0.0 call r)
           (subst (λ ev. IsNow late (late_by ports k ev)) (sym is_ask) are.0.1)
-          (λ p. ap (λ ps. told p ++ map (λ (y : Plea). k) ps) (its p) ∙ marked p (p == by) k) is)))
+          (λ p. ap (λ ps. told p ++ map (λ (y : Plea). k) ps) (its p) ∙ marks_of p (p == by) k) is)))
 
     plain_one : (event : Event) → e.event ≡ event →
         (early_by ports Answers event ≡ early) × IsNow late (late_by ports Answers event) →
@@ -127,7 +124,7 @@ module _ (ports : List ℕ) (early late : ℕ) where
     any (Arrive card bypass room) is_so fits =
         plain_one (Arrive card bypass room) is_so fits (λ p. refl)
     any (Ask port call r) is_so fits =
-        asked port (record { call = call; request = r; errno = errno_in e.reply })
+        request_goes port (record { call = call; request = r; errno = errno_in e.reply })
         (λ p. ap (λ ev. pleas_by p ev e.reply) is_so) call r is_so
     any (PortClosed port) is_so fits = plain_one (PortClosed port) is_so fits (λ p. refl)
     any (DeviceDown device) is_so fits = plain_one (DeviceDown device) is_so fits (λ p. refl)

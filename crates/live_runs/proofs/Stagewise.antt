@@ -93,7 +93,7 @@ module _ (workers : ℕ) (script : ScriptValue) (places port : ℕ) where
       (all_closed (entries xs ++ s.others) every_number)
 
 module _ (logs : LogLaws) (laws : ClosingLaws) (workers : ℕ) (script : ScriptValue)
-    (places port : ℕ) (was : List Note) (start_at mid new : Pass) (some : 0 < places) where
+    (places port : ℕ) (was : List Note) (start_at mid new : Pass) where
   abbrev place : ℕ
   place = place_in port script.ports
 
@@ -121,7 +121,7 @@ module _ (logs : LogLaws) (laws : ClosingLaws) (workers : ℕ) (script : ScriptV
       shut_at k (inr h) = same_grows (IsOf port) (mid.shares k) (new.shares k)
           (none k (grind (arith, nat_tests, h)))
 
-  pub port_shut : (a : IsDoing workers script places (Ending place) port was start_at last mid) →
-      Shuts places port mid new →
+  pub port_shut : 0 < places →
+      (a : IsDoing workers script places (Ending place) port was start_at last mid) → Shuts places port mid new →
       IsPort workers script places port (a.notes ++ Shut ∷ []) shut_stand new
-  port_shut a s = shuts logs laws workers script places port a.notes mid new s some a.is
+  port_shut some a s = shuts logs laws workers script places port a.notes mid new s some a.is

@@ -44,6 +44,10 @@ EachIs Q (e ∷ es) = Q e × EachIs Q es
 abbrev pub IsNone : Entry → Type 0
 IsNone e = ⊥
 
+-- it holds of any entry
+abbrev pub IsAny : Entry → Type 0
+IsAny e = Unit {0}
+
 -- A pass goes on at a place: it has seen more, and it holds of what is new and its own.
 pub record Grows (Q : Entry → Type 0) (old new : List Seen) : Type 0 where
   pub more : List Seen

@@ -81,3 +81,9 @@ unopened script port =
 
 abbrev pub opened : ScriptValue → ℕ → Stand
 opened script port = idle (all_due (closing script (place_in port script.ports)))
+
+-- nothing is left to do
+pub record IsDone (t : Stand) : Type 0 where
+  pub owed : t.owed ≡ []
+  pub pending : t.pending ≡ []
+  pub ends : t.ends ≡ []

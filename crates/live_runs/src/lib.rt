@@ -4,11 +4,13 @@
 #![tactic(auto)]
 
 mod doing;
+mod ending;
 mod feeding;
 mod meeting;
 
 pub use doing::{
     a_port_does_what_is_next, a_port_goes_through_a_stage, messages_are_sent_one_by_one,
 };
+pub use ending::{a_run_with_threads_is_made_by_its_script, nothing_more_is_sent};
 pub use feeding::the_feeder_keeps_its_time;
 pub use meeting::{a_stage_ends_where_all_meet, ports_open_one_after_the_other};

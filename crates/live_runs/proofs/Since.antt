@@ -1,0 +1,134 @@
+-- What was sent to a closed port stays what it was, to the end of the run.
+use Rattle.std.proofs.Common.{◌++◌, ◌+◌, ◌<◌, ◌∙◌, ◌≡◌, ◌⊎◌, List, Some, ap, append_assoc, arith}
+use Rattle.std.proofs.Common.{false, inl, inr, length, refl, subst, sym, true, ℕ}
+use Rattle.std.proofs.lemmas.Bool.{cases_Bool, eq-eqb, eqb-true}
+use Rattle.std.specs.Prelude.{◌==◌, not, slice_get}
+use Rattle.histories.specs.History.{history}
+use Rattle.histories.specs.Numbers.{queue_count}
+use Rattle.histories.specs.States.{state_of}
+use Rattle.histories.specs.declared.entry.Entry.{Entry}
+use Rattle.histories.specs.declared.histories.Histories.{Histories}
+use Rattle.inspector_script.specs.Scripts.{ScriptValue}
+use Rattle.made_runs.specs.Closing.{IsClosing, is_bound_to}
+use Rattle.made_runs.specs.Log.{Note}
+use Rattle.made_runs.specs.Ports.{is_port}
+use Rattle.live_runs.specs.ClosedPlanes.{AreOwned, IsClosedPlane, sent_at, sent_by_all}
+use Rattle.live_runs.specs.Meetings.{ArePorts, IsMeeting}
+use Rattle.live_runs.specs.Owners.{IsNotBy}
+use Rattle.live_runs.specs.Passes.{Pass, feeder_number, is_pass, pass_numbers, seen_at}
+use Rattle.live_runs.specs.Seen.{EachIs, Grows, IsAny, IsNone, Ours, TheirsAre, all_theirs, entries}
+use Rattle.live_runs.specs.Stages.{Stage}
+use Rattle.live_runs.specs.Stands.{Stand}
+use Rattle.live_runs.proofs.Covering.{each_by_index, ours_at, theirs_are}
+use Rattle.live_runs.proofs.Fenced.{behind_front, entries_length, in_front, within}
+use Rattle.live_runs.proofs.Known.{ClosingLaws}
+use Rattle.live_runs.proofs.Marks.{each_both, each_front, each_rest, entries_append, theirs_front}
+use Rattle.live_runs.proofs.Owning.{cover, others_own, port_passes}
+use Rattle.live_runs.proofs.Sums.{AreFree, IsAway, sent_stays, sums_same}
+
+module _ (laws : ClosingLaws) (workers : ℕ) (script : ScriptValue) (places mail port : ℕ)
+    (stage : Stage) (old new : ℕ → Pass) (h : Histories) (notes later : ℕ → List Note)
+    (stands ends : ℕ → Stand) (i : is_port script port ≡ true)
+    (meeting : IsMeeting workers script places stage old notes stands)
+    (shut : (stands port).is_open ≡ false)
+    (are : ArePorts workers script places new later ends)
+    (grows : (k p : ℕ) → is_pass script.ports p ≡ true →
+    Grows IsAny (seen_at old k p) (seen_at new k p))
+    (idle_so : (k : ℕ) → Grows IsNone (seen_at old k port) (seen_at new k port))
+    (closed : IsClosedPlane script.ports mail places new h) where
+  whole_is : (k p : ℕ) (below : k < places) (is : is_pass script.ports p ≡ true) →
+      closed.whole k ≡ meeting.whole k
+      ++ (entries (grows k p is).more ++ (closed.covered k below).rest p)
+  whole_is k p below is = (closed.covered k below).begins p is
+      ∙ ap (λ xs. entries xs ++ (closed.covered k below).rest p) (grows k p is).is
+      ∙ ap (λ es. es ++ (closed.covered k below).rest p)
+      (entries_append (seen_at old k p) (grows k p is).more
+      ∙ ap (λ es. es ++ entries (grows k p is).more) (meeting.met k p below is))
+      ∙ append_assoc (meeting.whole k) (entries (grows k p is).more)
+      ((closed.covered k below).rest p)
+
+  long : (k p : ℕ) → k < places → is_pass script.ports p ≡ true →
+      length (seen_at old k p) ≡ length (meeting.whole k)
+  long k p below is =
+      sym (entries_length (seen_at old k p)) ∙ ap length (meeting.met k p below is)
+
+  owned : (k : ℕ) → k < places →
+      AreOwned (is_pass script.ports) (seen_at old k) (meeting.whole k)
+  owned k below = record {
+    owned = λ j e is.
+        let less = within (meeting.whole k) j e is in
+        let o = (closed.covered k below).owned.owned j e
+        (ap (λ es. slice_get es j) (whole_is k feeder_number below refl)
+        ∙ in_front (meeting.whole k) _ j less ∙ is) in
+        (o.0, o.1, there o.0 j e o.1 less o.2);
+  }
+    where
+      there : (p j : ℕ) (e : Entry) → is_pass script.ports p ≡ true →
+          j < length (meeting.whole k) → slice_get (seen_at new k p) j ≡ Some (Ours e) →
+          slice_get (seen_at old k p) j ≡ Some (Ours e)
+      there p j e is less at =
+          let n = long k p below is in
+          sym (in_front (seen_at old k p) (grows k p is).more j (omega (arith, less, n)))
+          ∙ ap (λ xs. slice_get xs j) (sym (grows k p is).is) ∙ at
+
+  -- its queues are gone
+  free : (k p : ℕ) → k < places → is_pass script.ports p ≡ true →
+      AreFree port (entries (seen_at old k p))
+  free k p below is queue under =
+      let c = cover workers script places old notes stands meeting.are k (meeting.whole k)
+      (λ q passes_so. meeting.met k q below passes_so) (owned k below) in
+      let guard = theirs_are (is_pass script.ports) (seen_at old k) (meeting.whole k) c
+      (IsNotBy port) port (port_passes script port i) (λ q passes_so other.
+      others_own workers script places old notes stands meeting.are port k q passes_so other) in
+      let none : TheirsAre (IsNotBy port) (seen_at old k port) =
+      theirs_front (IsNotBy port) (seen_at old k port) (all_theirs (c.rest port)) guard in
+      let closing : IsClosing port true (history queue (entries (seen_at old k port))) =
+      subst (λ b. IsClosing port (not b) (history queue (entries (seen_at old k port)))) shut
+      (((meeting.are.ports port i).shutting k below).closing none queue under) in
+      let same : entries (seen_at old k port) ≡ entries (seen_at old k p) =
+      meeting.met k port below (port_passes script port i) ∙ sym (meeting.met k p below is) in
+      ap (λ es. is_bound_to port (state_of es queue)) (sym same) ∙ closing.unbound
+
+  -- and nobody asks for it any more
+  away : (k p : ℕ) (below : k < places) (is : is_pass script.ports p ≡ true) →
+      EachIs (IsAway port) (entries (grows k p is).more)
+  away k p below is =
+      let c = closed.covered k below in
+      let rest = entries (grows k p is).more ++ c.rest p in
+      each_front (IsAway port) (entries (grows k p is).more) (c.rest p)
+      (each_both (IsNotBy port) (λ e. e.queue < queue_count) rest
+      (each_by_index (IsNotBy port) rest (λ j e at.
+      let o = c.owned.owned (length (meeting.whole k) + j) e
+      (ap (λ es. slice_get es (length (meeting.whole k) + j)) (whole_is k p below is)
+      ∙ behind_front (meeting.whole k) rest j ∙ at) in
+      by o.0 j e o.1 o.2 (cases_Bool (o.0 == port))))
+      (each_rest (λ e. e.queue < queue_count) (meeting.whole k) rest
+      (subst (EachIs (λ e. e.queue < queue_count)) (whole_is k p below is)
+      (closed.queues k below))))
+    where
+      by : (q j : ℕ) (e : Entry) → is_pass script.ports q ≡ true →
+          slice_get (seen_at new k q) (length (meeting.whole k) + j) ≡ Some (Ours e) →
+          ((q == port) ≡ true) ⊎ ((q == port) ≡ false) → IsNotBy port e
+      by q j e passes_so at (inl same) =
+          let g = idle_so k in
+          let n = long k port below (port_passes script port i) in
+          absurd (ours_at IsNone g.more g.ours j e
+          (sym (behind_front (seen_at old k port) g.more j)
+          ∙ ap (λ m. slice_get (seen_at old k port ++ g.more) (m + j)) n
+          ∙ ap (λ xs. slice_get xs (length (meeting.whole k) + j)) (sym g.is)
+          ∙ ap (λ r. slice_get (seen_at new k r) (length (meeting.whole k) + j))
+          (sym (eqb-true q port same)) ∙ at))
+      by q j e passes_so at (inr other) =
+          ours_at (IsNotBy port) (seen_at new k q)
+          (others_own workers script places new later ends are port k q passes_so
+          (λ same. no_way (eq-eqb q port same))) (length (meeting.whole k) + j) e at
+        where
+          no_way : (q == port) ≡ true → ⊥
+          no_way wrong = absurd (cc)
+
+  pub sent_since : sent_by_all script.ports places new port
+      ≡ sent_by_all script.ports places old port
+  sent_since = sums_same (λ p. sent_at port (new p).shares places)
+      (λ p. sent_at port (old p).shares places) (pass_numbers script.ports) (λ p is.
+      sent_stays laws port places (old p).shares (new p).shares (λ k. (grows k p is).more)
+      (λ k. (grows k p is).is) (λ k below. free k p below is) (λ k below. away k p below is))

@@ -1,0 +1,40 @@
+use Rattle.live_runs.specs.Stages.{early_of, late_of}
+use Rattle.live_runs.proofs.Known.{ClosingLaws, FeedingLaws, LogLaws}
+use Rattle.live_runs.proofs.Finish.{in_order, payloads_fit}
+use Rattle.live_runs.proofs.Making.{made_so}
+use Rattle.live_runs.proofs.ending.a_run_with_threads_is_made_by_its_script.Goals as goal
+
+pub returns : goal.returns
+returns c =
+    let logged = c.logs_go_on.ensures in
+    let logs : LogLaws = record {
+      next = logged.next;
+      stands = logged.stands;
+      logged_so = logged.logged;
+      closed = logged.closed;
+    } in
+    let shut = c.closings_are_kept.ensures in
+    let laws : ClosingLaws = record {
+      others = shut.others;
+      own = shut.own;
+      closed = shut.closed;
+      frees = shut.frees;
+    } in
+    let known = c.fed_histories_go_on.ensures in
+    let feedings : FeedingLaws = record {
+      none = known.none;
+      later = known.later;
+      first = known.first;
+      entry = known.entry;
+      line = known.line;
+      fed = known.fed;
+    } in
+    record {
+      made = λ workers script places frames time stage passes h notes stands some closed meeting done
+          feeding received. made_so logs laws feedings c.one_feeder_feeds_all.ensures.fed workers
+          script places frames time passes h notes stands some closed meeting.are done feeding
+          received (early_of script.ports stage) (late_of stage)
+          (in_order workers script places stage passes h notes stands some closed meeting);
+      short = λ workers script places mail passes h notes stands some closed are. payloads_fit
+          workers script places mail passes h notes stands some closed are;
+    }
