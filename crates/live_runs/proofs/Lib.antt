@@ -25,3 +25,4 @@ mod Making
 mod Finish
 mod Sums
 mod Since
+mod Turning

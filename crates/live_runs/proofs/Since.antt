@@ -24,7 +24,8 @@ use Rattle.live_runs.proofs.Fenced.{behind_front, entries_length, in_front, with
 use Rattle.live_runs.proofs.Known.{ClosingLaws}
 use Rattle.live_runs.proofs.Marks.{each_both, each_front, each_rest, entries_append, theirs_front}
 use Rattle.live_runs.proofs.Owning.{cover, others_own, port_passes}
-use Rattle.live_runs.proofs.Sums.{AreFree, IsAway, sent_stays, sums_same}
+use Rattle.live_runs.proofs.Sums.{AreFree, sent_stays, sums_same}
+use Rattle.turn_lock.specs.Rule.{IsAway}
 
 module _ (laws : ClosingLaws) (workers : ℕ) (script : ScriptValue) (places mail port : ℕ)
     (stage : Stage) (old new : ℕ → Pass) (h : Histories) (notes later : ℕ → List Note)

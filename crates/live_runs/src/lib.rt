@@ -6,6 +6,7 @@
 mod doing;
 mod ending;
 mod feeding;
+mod locks;
 mod meeting;
 
 pub use doing::{
@@ -13,4 +14,5 @@ pub use doing::{
 };
 pub use ending::{a_run_with_threads_is_made_by_its_script, nothing_more_is_sent};
 pub use feeding::the_feeder_keeps_its_time;
+pub use locks::a_turn_of_a_lock_is_one_of_its_pass;
 pub use meeting::{a_stage_ends_where_all_meet, ports_open_one_after_the_other};

@@ -1,0 +1,9 @@
+use Rattle.std.proofs.Common.{[]}
+use Rattle.live_runs.proofs.Turning.{seen_of_others, turn_of_lock}
+use Rattle.live_runs.proofs.locks.a_turn_of_a_lock_is_one_of_its_pass.Goals as goal
+
+pub returns : goal.returns
+returns c = record {
+  turn = λ own seen others mine placed. turn_of_lock own seen others mine placed;
+  met = λ own seen others placed. seen_of_others own seen others [] placed;
+}
