@@ -26,3 +26,4 @@ mod Finish
 mod Sums
 mod Since
 mod Turning
+mod WrittenOut

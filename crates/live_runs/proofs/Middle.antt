@@ -19,8 +19,8 @@ use Rattle.live_runs.proofs.Fenced.{segment_is}
 use Rattle.live_runs.proofs.Following.{following, segments}
 use Rattle.live_runs.proofs.Known.{ClosingLaws, LogLaws}
 use Rattle.live_runs.proofs.Marks.{grown_ours, grows_as, nothing_ours, ours_append}
+use Rattle.live_runs.proofs.Noting.{meets}
 use Rattle.live_runs.proofs.Owning.{pass_cases, port_passes}
-use Rattle.turn_lock.specs.Parts.{meets}
 
 module _ (logs : LogLaws) (laws : ClosingLaws) (workers : ℕ) (script : ScriptValue)
     (places : ℕ) (before_it stage : Stage) (old mid new : ℕ → Pass) (was now : ℕ → List Note)

@@ -22,11 +22,11 @@ use Rattle.live_runs.proofs.Asking.{asks_on, segment_asks}
 use Rattle.live_runs.proofs.Following.{following, meeting_later, segments}
 use Rattle.live_runs.proofs.Known.{ClosingLaws, LogLaws}
 use Rattle.live_runs.proofs.Marks.{grown_ours, grows_as, nothing_ours, ours_append}
+use Rattle.live_runs.proofs.Noting.{meets}
 use Rattle.live_runs.proofs.Owning.{no_port_zero, port_passes}
 use Rattle.live_runs.proofs.Places.{place_apart, place_below}
 use Rattle.live_runs.proofs.Plain.{asks_are_plain}
 use Rattle.live_runs.proofs.Stagewise.{asking_of}
-use Rattle.turn_lock.specs.Parts.{meets}
 
 -- ---- before the first
 

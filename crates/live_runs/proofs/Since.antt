@@ -12,20 +12,22 @@ use Rattle.inspector_script.specs.Scripts.{ScriptValue}
 use Rattle.made_runs.specs.Closing.{IsClosing, is_bound_to}
 use Rattle.made_runs.specs.Log.{Note}
 use Rattle.made_runs.specs.Ports.{is_port}
-use Rattle.live_runs.specs.ClosedPlanes.{AreOwned, IsClosedPlane, sent_at, sent_by_all}
+use Rattle.live_runs.specs.ClosedPlanes.{AreOwned, IsClosedPlane, sent_by_all}
 use Rattle.live_runs.specs.Meetings.{ArePorts, IsMeeting}
 use Rattle.live_runs.specs.Owners.{IsNotBy}
-use Rattle.live_runs.specs.Passes.{Pass, feeder_number, is_pass, pass_numbers, seen_at}
-use Rattle.live_runs.specs.Seen.{EachIs, Grows, IsAny, IsNone, Ours, TheirsAre, all_theirs, entries}
-use Rattle.live_runs.specs.Stages.{Stage}
+use Rattle.live_runs.specs.Passes.{AreMet, Pass, feeder_number, is_pass, seen_at}
+use Rattle.live_runs.specs.Seen.{EachIs, Grows, IsAny, IsNone, Ours, Seen, TheirsAre, all_theirs}
+use Rattle.live_runs.specs.Seen.{entries}
+use Rattle.live_runs.specs.Stages.{Stage, Went, WentFeeding}
 use Rattle.live_runs.specs.Stands.{Stand}
+use Rattle.live_runs.specs.Sums.{WasSent}
 use Rattle.live_runs.proofs.Covering.{each_by_index, ours_at, theirs_are}
 use Rattle.live_runs.proofs.Fenced.{behind_front, entries_length, in_front, within}
 use Rattle.live_runs.proofs.Known.{ClosingLaws}
-use Rattle.live_runs.proofs.Marks.{each_both, each_front, each_rest, entries_append, theirs_front}
-use Rattle.live_runs.proofs.Owning.{cover, others_own, port_passes}
-use Rattle.live_runs.proofs.Sums.{AreFree, sent_stays, sums_same}
-use Rattle.turn_lock.specs.Rule.{IsAway}
+use Rattle.live_runs.proofs.Marks.{each_both, each_front, each_rest, entries_append, grows_as}
+use Rattle.live_runs.proofs.Marks.{grows_on, met_grows, same_grows, theirs_front}
+use Rattle.live_runs.proofs.Owning.{cover, others_own, pass_cases, port_passes}
+use Rattle.live_runs.proofs.Sums.{AreFree, IsAway, all_same, sent_stays}
 
 module _ (laws : ClosingLaws) (workers : ℕ) (script : ScriptValue) (places mail port : ℕ)
     (stage : Stage) (old new : ℕ → Pass) (h : Histories) (notes later : ℕ → List Note)
@@ -127,9 +129,83 @@ module _ (laws : ClosingLaws) (workers : ℕ) (script : ScriptValue) (places mai
           no_way : (q == port) ≡ true → ⊥
           no_way wrong = absurd (cc)
 
-  pub sent_since : sent_by_all script.ports places new port
-      ≡ sent_by_all script.ports places old port
-  sent_since = sums_same (λ p. sent_at port (new p).shares places)
-      (λ p. sent_at port (old p).shares places) (pass_numbers script.ports) (λ p is.
+  sent_since : sent_by_all script.ports places new port ≡ sent_by_all script.ports places old port
+  sent_since = all_same script.ports port places old new (λ p is.
       sent_stays laws port places (old p).shares (new p).shares (λ k. (grows k p is).more)
       (λ k. (grows k p is).is) (λ k below. free k p below is) (λ k below. away k p below is))
+
+-- ---- kept from meeting to meeting
+
+pub sent_at_meeting : (workers : ℕ) (script : ScriptValue) (places port : ℕ) (stage : Stage)
+    (passes : ℕ → Pass) (notes : ℕ → List Note) (stands : ℕ → Stand) →
+    IsMeeting workers script places stage passes notes stands → (stands port).is_open ≡ false →
+    WasSent workers script places port (sent_by_all script.ports places passes port) passes
+sent_at_meeting workers script places port stage passes notes stands meeting shut = record {
+  stage = stage;
+  old = passes;
+  notes = notes;
+  stands = stands;
+  meeting = meeting;
+  shut = shut;
+  was_sent = refl;
+  grows = λ k p is. same_grows IsAny (seen_at passes k p) (seen_at passes k p) refl;
+  nothing = λ k. same_grows IsNone (seen_at passes k port) (seen_at passes k port) refl;
+}
+
+pub sent_on : (workers : ℕ) (script : ScriptValue) (places port sum : ℕ) (old new : ℕ → Pass) →
+    ((k p : ℕ) → is_pass script.ports p ≡ true →
+    Grows IsAny (seen_at old k p) (seen_at new k p)) →
+    ((k : ℕ) → Grows IsNone (seen_at old k port) (seen_at new k port)) →
+    WasSent workers script places port sum old → WasSent workers script places port sum new
+sent_on workers script places port sum old new grows nothing w = record {
+  stage = w.stage;
+  old = w.old;
+  notes = w.notes;
+  stands = w.stands;
+  meeting = w.meeting;
+  shut = w.shut;
+  was_sent = w.was_sent;
+  grows = λ k p is. grows_on IsAny (seen_at w.old k p) (seen_at old k p) (seen_at new k p)
+      (w.grows k p is) (grows k p is);
+  nothing = λ k. grows_on IsNone (seen_at w.old k port) (seen_at old k port) (seen_at new k port)
+      (w.nothing k) (nothing k);
+}
+
+any_grows : (Q : Entry → Type 0) (xs ys : List Seen) → Grows Q xs ys → Grows IsAny xs ys
+any_grows Q xs ys g = grows_as Q IsAny (λ e is. tt) xs ys g
+
+pub sent_through : (workers : ℕ) (script : ScriptValue) (places port sum : ℕ) (stage : Stage)
+    (old mid new : ℕ → Pass) (was now : ℕ → List Note) → is_port script port ≡ true →
+    ((p : ℕ) → is_port script p ≡ true →
+    Went workers script stage p (was p) (now p) (old p).shares (mid p).shares) →
+    WentFeeding script stage (old feeder_number).shares (mid feeder_number).shares →
+    ((k : ℕ) → seen_at mid k port ≡ seen_at old k port) → AreMet script.ports mid new →
+    WasSent workers script places port sum old → WasSent workers script places port sum new
+sent_through workers script places port sum stage old mid new was now i went fed same met w =
+    sent_on workers script places port sum old new
+    (λ k p is. grows_on IsAny (seen_at old k p) (seen_at mid k p) (seen_at new k p)
+    (first k p (pass_cases script p is))
+    (met_grows IsAny (seen_at mid k p) (seen_at new k p) (met.rest k p) (met.longer k p is)))
+    (λ k. grows_on IsNone (seen_at old k port) (seen_at mid k port) (seen_at new k port)
+    (same_grows IsNone (seen_at old k port) (seen_at mid k port) (same k))
+    (met_grows IsNone (seen_at mid k port) (seen_at new k port) (met.rest k port)
+    (met.longer k port (port_passes script port i)))) w
+  where
+    first : (k p : ℕ) → (p ≡ feeder_number) ⊎ (is_port script p ≡ true) →
+        Grows IsAny (seen_at old k p) (seen_at mid k p)
+    first k p (inl at) = subst (λ q. Grows IsAny (seen_at old k q) (seen_at mid k q)) (sym at)
+        (any_grows _ (seen_at old k feeder_number) (seen_at mid k feeder_number) (fed.grows k))
+    first k p (inr is) =
+        any_grows _ (seen_at old k p) (seen_at mid k p) ((went p is).grows k)
+
+pub sent_at_last : ClosingLaws → (workers : ℕ) (script : ScriptValue)
+    (places mail port sum : ℕ) (passes : ℕ → Pass) (h : Histories) (notes : ℕ → List Note)
+    (stands : ℕ → Stand) → is_port script port ≡ true →
+    ArePorts workers script places passes notes stands →
+    IsClosedPlane script.ports mail places passes h →
+    WasSent workers script places port sum passes →
+    sent_by_all script.ports places passes port ≡ sum
+sent_at_last laws workers script places mail port sum passes h notes stands i are closed w =
+    sent_since laws workers script places mail port w.stage w.old passes h w.notes notes w.stands
+    stands i w.meeting w.shut are w.grows w.nothing closed
+    ∙ w.was_sent

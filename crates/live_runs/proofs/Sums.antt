@@ -19,8 +19,9 @@ use Rattle.histories.specs.declared.entry.Entry.{Entry}
 use Rattle.made_runs.specs.Closing.{is_bound_to}
 use Rattle.made_runs.specs.Notices.{letters_of_event, letters_under}
 use Rattle.live_runs.specs.Calls.{ShutsAll}
-use Rattle.live_runs.specs.ClosedPlanes.{own_taken, sent_at}
+use Rattle.live_runs.specs.ClosedPlanes.{own_taken, sent_at, sent_by_all}
 use Rattle.live_runs.specs.Owners.{IsNotBy}
+use Rattle.live_runs.specs.Passes.{Pass, is_pass, pass_numbers}
 use Rattle.live_runs.specs.Seen.{EachIs, Ours, Seen, Shares, Theirs, all_ours, all_theirs, entries}
 use Rattle.live_runs.proofs.Known.{ClosingLaws}
 use Rattle.live_runs.proofs.Marks.{each_append}
@@ -204,3 +205,10 @@ sums_same f g (p ∷ ps) same =
     other : (c d : Bool) → d ≡ true → (c || d) ≡ true
     other true d is = refl
     other false d is = is
+
+pub all_same : (ports : List ℕ) (port places : ℕ) (old new : ℕ → Pass) →
+    ((p : ℕ) → is_pass ports p ≡ true →
+    sent_at port (new p).shares places ≡ sent_at port (old p).shares places) →
+    sent_by_all ports places new port ≡ sent_by_all ports places old port
+all_same ports port places old new same = sums_same (λ p. sent_at port (new p).shares places)
+    (λ p. sent_at port (old p).shares places) (pass_numbers ports) same

@@ -9,4 +9,6 @@ pub mod Stages
 pub mod Meetings
 pub mod Doing
 pub mod Feeding
+pub mod Sums
 pub mod Locks
+pub mod ByHand

@@ -12,33 +12,56 @@ ghost use Rattle.made_runs.specs.Run.{IsMadeBy};
 ghost use Rattle.live_runs.specs.Seen.{Grows, IsAny, IsNone, Shares, all_theirs};
 ghost use Rattle.live_runs.specs.Calls.{ShutsAll};
 ghost use Rattle.live_runs.specs.Owners.{IsFeeding};
-ghost use Rattle.live_runs.specs.Passes.{Pass, feeder_number, is_pass, seen_at};
+ghost use Rattle.live_runs.specs.Passes.{AreMet, Pass, feeder_number, is_pass, seen_at};
 ghost use Rattle.live_runs.specs.ClosedPlanes.{IsClosedPlane, sent_at, sent_by_all};
 ghost use Rattle.live_runs.specs.Stands.{IsDone, Stand};
-ghost use Rattle.live_runs.specs.Stages.{Stage};
+ghost use Rattle.live_runs.specs.Stages.{Stage, Went, WentFeeding};
+ghost use Rattle.live_runs.specs.Sums.{WasSent};
 ghost use Rattle.live_runs.specs.Meetings.{ArePorts, IsMeeting};
 
 use made_runs::{closings_are_kept, fed_histories_go_on, logs_go_on, one_feeder_feeds_all};
 
-/// How many notices a pass sent to a port stays what it was: where it meets other passes; where it
-/// closes another port; and, for a port that has closed, from a meeting behind its closing to the
-/// end of the run, for all passes together.
-pub fn nothing_more_is_sent()
+/// How many notices a pass sent to a port stays what it was where it meets other passes, and where
+/// it closes another port.
+pub fn meetings_and_closings_send_nothing()
     ensures meets { (port places : ℕ) (old new : Shares) (rest : ℕ → List Entry) →
         ((k : ℕ) → new k ≡ old k ++ all_theirs (rest k)) →
         sent_at port new places ≡ sent_at port old places }
     ensures closes { (port other places : ℕ) (old new : Shares) → ShutsAll places other old new →
         sent_at port new places ≡ sent_at port old places }
-    ensures closed { (workers : ℕ) (script : ScriptValue) (places mail port : ℕ) (stage : Stage)
-        (old new : ℕ → Pass) (h : Histories) (notes later : ℕ → List Note)
-        (stands ends : ℕ → Stand) → is_port script port ≡ true →
-        IsMeeting workers script places stage old notes stands →
-        (stands port).is_open ≡ false → ArePorts workers script places new later ends →
-        ((k p : ℕ) → is_pass script.ports p ≡ true →
+    ensures all { (ports : List ℕ) (port places : ℕ) (old new : ℕ → Pass) →
+        ((p : ℕ) → is_pass ports p ≡ true →
+        sent_at port (new p).shares places ≡ sent_at port (old p).shares places) →
+        sent_by_all ports places new port ≡ sent_by_all ports places old port }
+{}
+
+/// What all passes sent to a port that has closed is kept from a meeting on, whatever they go on
+/// to do, as long as the port's own pass does nothing; and once the plane is closed, it is what all
+/// sent to it in the end.
+pub fn nothing_is_sent_to_a_closed_port()
+    ensures closed { (workers : ℕ) (script : ScriptValue) (places port : ℕ) (stage : Stage)
+        (passes : ℕ → Pass) (notes : ℕ → List Note) (stands : ℕ → Stand) →
+        IsMeeting workers script places stage passes notes stands →
+        (stands port).is_open ≡ false →
+        WasSent workers script places port (sent_by_all script.ports places passes port) passes }
+    ensures since { (workers : ℕ) (script : ScriptValue) (places port sum : ℕ)
+        (old new : ℕ → Pass) → ((k p : ℕ) → is_pass script.ports p ≡ true →
         Grows IsAny (seen_at old k p) (seen_at new k p)) →
         ((k : ℕ) → Grows IsNone (seen_at old k port) (seen_at new k port)) →
-        IsClosedPlane script.ports mail places new h →
-        sent_by_all script.ports places new port ≡ sent_by_all script.ports places old port }
+        WasSent workers script places port sum old → WasSent workers script places port sum new }
+    ensures stage { (workers : ℕ) (script : ScriptValue) (places port sum : ℕ) (stage : Stage)
+        (old mid new : ℕ → Pass) (was now : ℕ → List Note) → is_port script port ≡ true →
+        ((p : ℕ) → is_port script p ≡ true →
+        Went workers script stage p (was p) (now p) (old p).shares (mid p).shares) →
+        WentFeeding script stage (old feeder_number).shares (mid feeder_number).shares →
+        ((k : ℕ) → seen_at mid k port ≡ seen_at old k port) → AreMet script.ports mid new →
+        WasSent workers script places port sum old → WasSent workers script places port sum new }
+    ensures at_last { (workers : ℕ) (script : ScriptValue) (places mail port sum : ℕ)
+        (passes : ℕ → Pass) (h : Histories) (notes : ℕ → List Note) (stands : ℕ → Stand) →
+        is_port script port ≡ true → ArePorts workers script places passes notes stands →
+        IsClosedPlane script.ports mail places passes h →
+        WasSent workers script places port sum passes →
+        sent_by_all script.ports places passes port ≡ sum }
 {
     closings_are_kept();
 }

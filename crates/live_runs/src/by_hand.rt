@@ -1,0 +1,37 @@
+//! A run, written out.
+
+ghost use Rattle.std.specs.Prelude.{◌≡◌, ◌<◌, ℕ, true, false, List, [], ◌∷◌, length};
+ghost use Rattle.nfqa_msgs.specs.declared.request.Decoded.TheVariants.{Asked};
+ghost use Rattle.nfqa_msgs.specs.RequestReading.{decoded};
+ghost use Rattle.made_runs.specs.Datagrams.{messages_in};
+ghost use Rattle.made_runs.specs.Feeder.{downs_in_effect};
+ghost use Rattle.made_runs.specs.Ports.{is_port};
+ghost use Rattle.made_runs.specs.Run.{IsMadeBy};
+ghost use Rattle.live_runs.specs.Owners.{IsFeeding};
+ghost use Rattle.live_runs.specs.Passes.{feeder_number, seen_at};
+ghost use Rattle.live_runs.specs.ClosedPlanes.{IsClosedPlane, sent_by_all};
+ghost use Rattle.live_runs.specs.Stands.{IsDone};
+ghost use Rattle.live_runs.specs.Stages.{Ending};
+ghost use Rattle.live_runs.specs.Meetings.{IsMeeting};
+ghost use Rattle.live_runs.specs.ByHand.{binding, bytes, histories, message, notes, passes, script};
+ghost use Rattle.live_runs.specs.ByHand.{stands};
+
+use crate::a_run_with_threads_is_made_by_its_script;
+
+/// A run of one port and a feeder at one place: the port binds a queue, frame 1 arrives there, a
+/// device goes down, and the port closes. What a run needs is known of it: a closed plane, whose
+/// passes met, with nothing left to do, fed, and with no notice left. So it is made by the script.
+pub fn a_run_by_hand()
+    ensures cut { messages_in bytes ≡ message ∷ [] }
+    ensures asked { decoded message ≡ Asked binding }
+    ensures closed { IsClosedPlane (7 ∷ []) 1 1 passes histories }
+    ensures meeting { IsMeeting 1 script 1 (Ending 0) passes notes stands }
+    ensures done { (port : ℕ) → is_port script port ≡ true → IsDone (stands port) }
+    ensures fed { (k : ℕ) → k < 1 → IsFeeding 3 (downs_in_effect script 1)
+        (seen_at passes k feeder_number) }
+    ensures received { (port : ℕ) → is_port script port ≡ true →
+        sent_by_all script.ports 1 passes port ≡ length (passes port).letters }
+    ensures made { IsMadeBy 1 1 script 1 histories notes (λ port. []) }
+{
+    a_run_with_threads_is_made_by_its_script();
+}
