@@ -10,6 +10,7 @@ mod Quiet
 mod Acting
 mod Cuts
 mod Stagewise
+mod Looks
 mod Ordering
 mod Segments
 mod Covering

@@ -3,10 +3,11 @@ use Rattle.std.proofs.Common.{◌%◌, ◌++◌, ◌<◌, ◌∙◌, ◌≡◌, 
 use Rattle.std.proofs.Common.{append_assoc, arith, false, inl, inr, length, refl, subst, suc, sym}
 use Rattle.std.proofs.Common.{true, ℕ}
 use Rattle.std.proofs.lemmas.Bool.{cases_Bool, eq-eqb, eqb-true, ne_eqb}
+use Rattle.std.specs.List.{list_any}
 use Rattle.std.specs.Prelude.{◌==◌, if◌then◌else◌}
 use Rattle.histories.specs.declared.entry.Entry.{Entry}
 use Rattle.inspector_script.specs.Scripts.{IsScript, ScriptValue}
-use Rattle.made_runs.specs.Log.{Note}
+use Rattle.made_runs.specs.Log.{Note, Standing, is_received, standing}
 use Rattle.made_runs.specs.Ports.{is_port, place_in}
 use Rattle.live_runs.specs.ClosedPlanes.{AreOwned}
 use Rattle.live_runs.specs.Doing.{IsDoing}
@@ -17,10 +18,12 @@ use Rattle.live_runs.specs.Ports.{IsPort}
 use Rattle.live_runs.specs.Seen.{EachIs, IsNone, OursAre, Seen, all_theirs, entries}
 use Rattle.live_runs.specs.Stages.{Adds, IsSegment, Opening, Working}
 use Rattle.live_runs.specs.Stands.{Stand, full, opened, unopened}
+use Rattle.live_runs.proofs.Acting.{begins_doing}
 use Rattle.live_runs.proofs.Adding.{adds_nothing}
-use Rattle.live_runs.proofs.Asking.{asks_on, segment_asks}
+use Rattle.live_runs.proofs.Asking.{segment_asks}
 use Rattle.live_runs.proofs.Following.{following, meeting_later, segments}
-use Rattle.live_runs.proofs.Known.{ClosingLaws, LogLaws}
+use Rattle.live_runs.proofs.Known.{ClosingLaws, Conserve, LogLaws}
+use Rattle.live_runs.proofs.Looks.{asks_on}
 use Rattle.live_runs.proofs.Marks.{grown_ours, grows_as, nothing_ours, ours_append}
 use Rattle.live_runs.proofs.Noting.{meets}
 use Rattle.live_runs.proofs.Owning.{no_port_zero, port_passes}
@@ -83,6 +86,22 @@ module _ (workers : ℕ) (script : ScriptValue) (places : ℕ) (passes : ℕ →
   }
 
 -- ---- the next one
+
+pub begins_open : LogLaws → ClosingLaws → Conserve → (workers : ℕ) (script : ScriptValue)
+    (places port : ℕ) (passes : ℕ → Pass) (notes : ℕ → List Note) (stands : ℕ → Stand) →
+    is_port script port ≡ true →
+    IsOpenTo workers script places (place_in port script.ports) passes notes stands →
+    IsDoing workers script places (Opening (place_in port script.ports)) port (notes port)
+    (passes port) (unopened script port) (passes port)
+begins_open logs laws conserve workers script places port passes notes stands i is =
+    let place = place_in port script.ports in
+    let new = is.behind port i (omega arith) in
+    let here = is.meeting.are.ports port i in
+    begins_doing logs laws conserve workers script places (Opening place) port (notes port)
+    (passes port) (unopened script port)
+    (ap (list_any is_received) (sym (ap (λ (t : Standing). t.dids)
+    (ap (standing workers script place port) (sym new.0) ∙ here.stands))))
+    (subst (λ t. IsPort workers script places port (notes port) t (passes port)) new.1 here)
 
 module _ (logs : LogLaws) (laws : ClosingLaws) (workers : ℕ) (script : ScriptValue)
     (places port : ℕ) (old new : ℕ → Pass) (notes : ℕ → List Note) (stands : ℕ → Stand)

@@ -2,18 +2,22 @@
 use Rattle.std.specs.Prelude.{◌≡◌, ◌<◌, ◌⊎◌, ℕ, Bool, true, false, List, [], ◌∷◌, ◌++◌, map, All}
 use Rattle.std.specs.List.{list_any}
 use Rattle.netlink_codec.specs.Messages.{NetlinkMessage}
+use Rattle.histories.specs.declared.log.AskWords.{AskWords}
 use Rattle.histories.specs.declared.log.Did.{Did}
 use Rattle.script_lines.specs.declared.ask.Ask.{Ask}
+use Rattle.script_lines.specs.declared.ask.Ask.TheVariants.{Words}
 use Rattle.inspector_script.specs.Scripts.{ScriptValue}
 use Rattle.made_runs.specs.Datagrams.{AsksWell}
-use Rattle.made_runs.specs.Log.{Note, Due, Message, all_due, is_received, is_some_due}
+use Rattle.made_runs.specs.Log.{Note, Due, Message, Still, all_due, is_received}
+use Rattle.made_runs.specs.Log.{is_some_due}
 use Rattle.live_runs.specs.Seen.{Seen, Shares, entries, IsNone, OursAre, TheirsAre, EachIs, Grows}
 use Rattle.live_runs.specs.Meetings.{IsAsk}
 use Rattle.live_runs.specs.Owners.{IsAskingOf}
 use Rattle.live_runs.specs.Passes.{Pass}
 use Rattle.live_runs.specs.Ports.{IsPort}
 use Rattle.live_runs.specs.Stages.{Stage, Opening, Working, Ending, Adds, early_of, late_of}
-use Rattle.live_runs.specs.Stands.{Side, Now, Stand, side, cut_side}
+use Rattle.live_runs.specs.Stages.{MaySpeak}
+use Rattle.live_runs.specs.Stands.{Side, Stand, side, cut_side, idle}
 
 -- Where nothing but requests stands, and no pass but this one appends anything, it appends requests
 -- alone: nothing waits, and so nothing is handed on.
@@ -60,21 +64,27 @@ IsAnswering (Opening place) = ⊥
 IsAnswering Working = Unit {0}
 IsAnswering (Ending place) = Unit {0}
 
--- Whatever the port had done before in a stage in which answers are sent: of these answers, which it
--- owed, it owes these now.
-pub record HasAnswered (workers : ℕ) (script : ScriptValue) (places port : ℕ) (asks left : List Ask)
+-- Whatever the port had done before, where it may speak: it has sent the messages of these words,
+-- which were due.
+pub record HasSent (workers : ℕ) (script : ScriptValue) (places port : ℕ) (words : AskWords)
     (old new : Pass) : Type 0 where
-  pub on : (stage : Stage) (was : List Note) (start : Pass) (groups : List (List Due))
-      (ends : List Due) → IsAnswering stage →
-      IsDoing workers script places stage port was start
-      (side (Now groups ends) (all_due asks)) old →
-      IsDoing workers script places stage port was start
-      (side (Now groups ends) (all_due left)) new
+  pub on : (stage : Stage) (was : List Note) (start : Pass) (x : Side) (ds : List Due) →
+      MaySpeak script.ports port stage x →
+      IsDoing workers script places stage port was start (side x (Still (Words words) ∷ ds)) old →
+      IsDoing workers script places stage port was start (side x ds) new
 
--- Whatever the port had done before in such a stage: it owed nothing and owes nothing now.
+-- Whatever it had done before, where it may speak: of these asks, which were due, these are left.
+pub record HasAsked (workers : ℕ) (script : ScriptValue) (places port : ℕ) (asks left : List Ask)
+    (old new : Pass) : Type 0 where
+  pub on : (stage : Stage) (was : List Note) (start : Pass) (x : Side) →
+      MaySpeak script.ports port stage x →
+      IsDoing workers script places stage port was start (side x (all_due asks)) old →
+      IsDoing workers script places stage port was start (side x (all_due left)) new
+
+-- Whatever it had done before, in a stage in which answers are sent: it owed nothing and owes
+-- nothing now.
 pub record GoesOn (workers : ℕ) (script : ScriptValue) (places port : ℕ) (old new : Pass)
     : Type 0 where
   pub on : (stage : Stage) (was : List Note) (start : Pass) (ends : List Due) →
-      IsAnswering stage →
-      IsDoing workers script places stage port was start (side (Now [] ends) []) old →
-      IsDoing workers script places stage port was start (side (Now [] ends) []) new
+      IsAnswering stage → IsDoing workers script places stage port was start (idle ends) old →
+      IsDoing workers script places stage port was start (idle ends) new

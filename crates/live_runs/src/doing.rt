@@ -1,12 +1,14 @@
 //! What is known of a port's pass, call by call.
 
 ghost use Rattle.std.specs.Prelude.{◌≡◌, ◌≤◌, ◌<◌, ◌-◌, ◌+◌, ◌++◌, ℕ, Bool, true, List, [], ◌∷◌};
+ghost use Rattle.std.specs.Prelude.{false};
 ghost use Rattle.std.specs.Prelude.{length, drop, All};
 ghost use Rattle.packet_entry.specs.declared.letter.Letter.{Letter};
 ghost use Rattle.netlink_codec.specs.Messages.{NetlinkMessage, first_message};
 ghost use Rattle.histories.specs.declared.log.AskWords.{AskWords};
 ghost use Rattle.packet_moves.specs.Calls.{next_call};
 ghost use Rattle.script_lines.specs.Limits.{IsWords};
+ghost use Rattle.script_lines.specs.declared.ask.Ask.{Ask};
 ghost use Rattle.script_lines.specs.declared.ask.Ask.TheVariants.{Close, Words};
 ghost use Rattle.inspector_script.specs.Scripts.{ScriptValue};
 ghost use Rattle.made_runs.specs.Datagrams.{AsksWell, bytes_of, cut_in, messages_in};
@@ -16,10 +18,11 @@ ghost use Rattle.made_runs.specs.Ports.{place_in};
 ghost use Rattle.live_runs.specs.Seen.{Shares};
 ghost use Rattle.live_runs.specs.Passes.{Pass, Receives, Shuts, Speaks, SpeaksFirst};
 ghost use Rattle.live_runs.specs.Stands.{Now, AtEnd, Side, Stand, answering, cut_side, cut_then};
-ghost use Rattle.live_runs.specs.Stands.{shut_stand, side};
+ghost use Rattle.live_runs.specs.Stands.{idle, shut_stand, side};
 ghost use Rattle.live_runs.specs.Ports.{IsPort};
 ghost use Rattle.live_runs.specs.Stages.{Ending, MaySpeak, Stage, Went};
-ghost use Rattle.live_runs.specs.Doing.{HasHeard, IsAnswering, IsCutting, IsDoing};
+ghost use Rattle.live_runs.specs.Doing.{GoesOn, HasAsked, HasHeard, HasSent, IsAnswering};
+ghost use Rattle.live_runs.specs.Doing.{IsCutting, IsDoing};
 
 use made_runs::{closings_are_kept, datagrams_are_short, logs_go_on};
 use queue_core::each_packet_stays_or_leaves;
@@ -132,4 +135,37 @@ pub fn a_port_goes_through_a_stage()
 {
     logs_go_on();
     closings_are_kept();
+}
+
+/// What a port does adds up: what it sends, to all asks of an answer; a notice and its answers, where
+/// no pool works them out, to a look after which nothing is owed; and looks, to a whole stage.
+pub fn what_a_port_does_adds_up()
+    ensures no_ask { (workers : ℕ) (script : ScriptValue) (places port : ℕ) (asks : List Ask)
+        (pass : Pass) → HasAsked workers script places port asks asks pass pass }
+    ensures next_ask { (workers : ℕ) (script : ScriptValue) (places port : ℕ)
+        (asks left : List Ask) (words : AskWords) (old mid new : Pass) →
+        HasAsked workers script places port asks (Words words ∷ left) old mid →
+        HasSent workers script places port words mid new →
+        HasAsked workers script places port asks left old new }
+    ensures no_look { (workers : ℕ) (script : ScriptValue) (places port : ℕ) (pass : Pass) →
+        GoesOn workers script places port pass pass }
+    ensures look { (workers : ℕ) (script : ScriptValue) (places port : ℕ) (l : Letter)
+        (old mid new : Pass) → is_pool workers ≡ false → Receives l old mid →
+        HasAsked workers script places port
+        (answer_to script (place_in port script.ports) mid.dids (told_exactly l.bytes)) [] mid
+        new →
+        GoesOn workers script places port old new }
+    ensures next_look { (workers : ℕ) (script : ScriptValue) (places port : ℕ)
+        (old mid new : Pass) → GoesOn workers script places port old mid →
+        GoesOn workers script places port mid new → GoesOn workers script places port old new }
+    ensures looks { (workers : ℕ) (script : ScriptValue) (places port : ℕ) (stage : Stage)
+        (was : List Note) (ends : List Due) (old new : Pass) → IsAnswering stage →
+        GoesOn workers script places port old new →
+        IsPort workers script places port was (idle ends) old →
+        (now : List Note) × IsPort workers script places port now (idle ends) new
+        × Went workers script stage port was now old.shares new.shares }
+{
+    logs_go_on();
+    closings_are_kept();
+    each_packet_stays_or_leaves();
 }

@@ -13,6 +13,7 @@ mod meeting;
 pub use by_hand::a_run_by_hand;
 pub use doing::{
     a_port_does_what_is_next, a_port_goes_through_a_stage, messages_are_sent_one_by_one,
+    what_a_port_does_adds_up,
 };
 pub use ending::{
     a_run_with_threads_is_made_by_its_script, meetings_and_closings_send_nothing,

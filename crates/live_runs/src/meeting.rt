@@ -15,6 +15,7 @@ ghost use Rattle.live_runs.specs.Meetings.{IsMeeting, IsNew, IsOpenTo};
 ghost use Rattle.live_runs.specs.Doing.{IsDoing};
 
 use made_runs::{closings_are_kept, logs_go_on};
+use queue_core::each_packet_stays_or_leaves;
 
 /// The ports open one after the other, in the script's order, and behind each all passes meet: so
 /// they have opened to the next place, and in the end all have.
@@ -22,6 +23,11 @@ pub fn ports_open_one_after_the_other()
     ensures none { (workers : ℕ) (script : ScriptValue) (places : ℕ) (passes : ℕ → Pass) →
         ((p : ℕ) → is_pass script.ports p ≡ true → IsNew (passes p)) →
         IsOpenTo workers script places 0 passes (λ p. []) (unopened script) }
+    ensures begins { (workers : ℕ) (script : ScriptValue) (places port : ℕ) (passes : ℕ → Pass)
+        (notes : ℕ → List Note) (stands : ℕ → Stand) → is_port script port ≡ true →
+        IsOpenTo workers script places (place_in port script.ports) passes notes stands →
+        IsDoing workers script places (Opening (place_in port script.ports)) port (notes port)
+        (passes port) (unopened script port) (passes port) }
     ensures next { (workers : ℕ) (script : ScriptValue) (places port : ℕ) (old new : ℕ → Pass)
         (notes : ℕ → List Note) (stands : ℕ → Stand) (mine : Pass) → 0 < places →
         IsScript script → is_port script port ≡ true →
@@ -43,6 +49,7 @@ pub fn ports_open_one_after_the_other()
 {
     logs_go_on();
     closings_are_kept();
+    each_packet_stays_or_leaves();
 }
 
 /// A stage ends where all passes meet, each port's having done what is of the stage and the

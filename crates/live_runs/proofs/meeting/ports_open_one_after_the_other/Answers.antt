@@ -1,5 +1,5 @@
 use Rattle.live_runs.proofs.Known.{ClosingLaws, LogLaws}
-use Rattle.live_runs.proofs.Opens.{all_open, each_open, none_open, open_next}
+use Rattle.live_runs.proofs.Opens.{all_open, begins_open, each_open, none_open, open_next}
 use Rattle.live_runs.proofs.meeting.ports_open_one_after_the_other.Goals as goal
 
 pub returns : goal.returns
@@ -20,6 +20,8 @@ returns c =
     } in
     record {
       none = λ workers script places passes are. none_open workers script places passes are;
+      begins = λ workers script places port passes notes stands i is. begins_open logs laws
+          c.each_packet_stays_or_leaves.ensures workers script places port passes notes stands i is;
       next = λ workers script places port old new notes stands mine some good i was a met. open_next
           logs laws workers script places port old new notes stands mine some good i was a met;
       all = λ workers script places passes notes stands is. all_open workers script places passes
