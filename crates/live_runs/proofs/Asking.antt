@@ -13,7 +13,7 @@ use Rattle.live_runs.specs.Seen.{all_theirs, entries, entry}
 use Rattle.live_runs.specs.Stages.{IsPlain, IsSegment}
 use Rattle.live_runs.proofs.Covering.{clash, ours_at, theirs_by_index}
 use Rattle.live_runs.proofs.Fenced.{front_owned, segment_is, segment_owned}
-use Rattle.live_runs.proofs.Following.{segment, segments}
+use Rattle.live_runs.proofs.Following.{segment}
 use Rattle.live_runs.proofs.Marks.{each_append, none_is, nothing_ours, ours_append, ours_as}
 use Rattle.live_runs.proofs.Marks.{theirs_front}
 use Rattle.live_runs.proofs.Plain.{asks_are_plain}

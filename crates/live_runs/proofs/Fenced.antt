@@ -97,4 +97,3 @@ module _ (count : ℕ → Bool) (old new : ℕ → List Seen) (before segment : 
           ∙ ap (λ n. slice_get (old p ++ s.more p) (n + i))
           (old_long p below)
           ∙ ap (λ xs. slice_get xs (length before + i)) (sym (s.is p below)) ∙ is
-

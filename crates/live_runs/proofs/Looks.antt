@@ -26,11 +26,11 @@ module _ (workers : ℕ) (script : ScriptValue) (places port : ℕ) where
   may_answer Working groups ends answers = tt
   may_answer (Ending place) groups ends answers = tt
 
-  pub asks_on : (asks left : List Ask) (words : AskWords) (old mid new : Pass) →
+  pub next_asked : (asks left : List Ask) (words : AskWords) (old mid new : Pass) →
       HasAsked workers script places port asks (Words words ∷ left) old mid →
       HasSent workers script places port words mid new →
       HasAsked workers script places port asks left old new
-  asks_on asks left words old mid new one two = record {
+  next_asked asks left words old mid new one two = record {
     on = λ stage was start_at x may is.
         two.on stage was start_at x (all_due left) may (one.on stage was start_at x may is);
   }

@@ -13,7 +13,7 @@ use Rattle.histories.specs.declared.histories.Histories.{Histories}
 use Rattle.histories.specs.declared.log.Did.{Did}
 use Rattle.histories.specs.declared.log.PortLog.{PortLog}
 use Rattle.script_lines.specs.declared.line.Down.{Down}
-use Rattle.inspector_script.specs.Scripts.{ScriptValue, held}
+use Rattle.inspector_script.specs.Scripts.{ScriptValue}
 use Rattle.made_runs.specs.Closing.{IsClosing, is_closed}
 use Rattle.made_runs.specs.Feeder.{IsFed, IsFedBy, downs_in_effect}
 use Rattle.made_runs.specs.Log.{IsLog, Note, Standing, logged, start, unanswered}

@@ -20,10 +20,9 @@ use Rattle.live_runs.specs.Stages.{Adds, IsSegment, Opening, Working}
 use Rattle.live_runs.specs.Stands.{Stand, full, opened, unopened}
 use Rattle.live_runs.proofs.Acting.{begins_doing}
 use Rattle.live_runs.proofs.Adding.{adds_nothing}
-use Rattle.live_runs.proofs.Asking.{segment_asks}
+use Rattle.live_runs.proofs.Asking.{asks_on, segment_asks}
 use Rattle.live_runs.proofs.Following.{following, meeting_later, segments}
 use Rattle.live_runs.proofs.Known.{ClosingLaws, Conserve, LogLaws}
-use Rattle.live_runs.proofs.Looks.{asks_on}
 use Rattle.live_runs.proofs.Marks.{grown_ours, grows_as, nothing_ours, ours_append}
 use Rattle.live_runs.proofs.Noting.{meets}
 use Rattle.live_runs.proofs.Owning.{no_port_zero, port_passes}

@@ -143,13 +143,13 @@ module _ (conserve : Conserve) (places port call errno : ℕ) (r : Request)
         ∙ append_assoc (old k) (o.more k) (new_at k);
     quiet = λ asks nobody k below.
         let before : (j : ℕ) → j < places → OursAre IsAsk (o.more j) = o.quiet asks
-            (λ j in_it. theirs_front IsNone (o.more j) (new_at j) (nobody j in_it)) in
+        (λ j in_it. theirs_front IsNone (o.more j) (new_at j) (nobody j in_it)) in
         let all_asks : (j : ℕ) → j < places → EachIs IsAsk (entries (mid j)) = λ j in_it.
-            subst (EachIs IsAsk) (sym (ap entries (o.is j) ∙ entries_append (old j) (o.more j)))
-            (each_append IsAsk (entries (old j)) (entries (o.more j)) (asks j in_it)
-            (each_of_both IsAsk (o.more j) (before j in_it)
-            (theirs_as IsNone IsAsk (none_is IsAsk) (o.more j)
-            (theirs_front IsNone (o.more j) (new_at j) (nobody j in_it))))) in
+        subst (EachIs IsAsk) (sym (ap entries (o.is j) ∙ entries_append (old j) (o.more j)))
+        (each_append IsAsk (entries (old j)) (entries (o.more j)) (asks j in_it)
+        (each_of_both IsAsk (o.more j) (before j in_it)
+        (theirs_as IsNone IsAsk (none_is IsAsk) (o.more j)
+        (theirs_front IsNone (o.more j) (new_at j) (nobody j in_it))))) in
         ours_append IsAsk (o.more k) (new_at k) (before k below)
         (at_k k all_asks
         (λ j in_it. theirs_rest IsNone (o.more j) (new_at j) (nobody j in_it))

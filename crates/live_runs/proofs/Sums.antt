@@ -13,11 +13,11 @@ use Rattle.queue_core.specs.Step.{step}
 use Rattle.queue_core.specs.declared.event.Event.TheVariants.{PortClosed}
 use Rattle.histories.specs.Happenings.{closing_of, closings}
 use Rattle.histories.specs.History.{history, is_of, replay, replay_from}
+use Rattle.histories.specs.Letters.{letters_of_event, letters_under}
 use Rattle.histories.specs.Numbers.{queue_count}
 use Rattle.histories.specs.States.{entry_in, every_number, state_of}
 use Rattle.histories.specs.declared.entry.Entry.{Entry}
 use Rattle.made_runs.specs.Closing.{is_bound_to}
-use Rattle.made_runs.specs.Notices.{letters_of_event, letters_under}
 use Rattle.live_runs.specs.Calls.{ShutsAll}
 use Rattle.live_runs.specs.ClosedPlanes.{own_taken, sent_at, sent_by_all}
 use Rattle.live_runs.specs.Owners.{IsNotBy}

@@ -7,7 +7,6 @@ use Rattle.std.proofs.lemmas.List.{length-append}
 use Rattle.std.proofs.lemmas.List.Folds.{list_any-append}
 use Rattle.std.specs.List.{range_with_len}
 use Rattle.std.specs.Prelude.{◌==◌, ◌||◌, if◌then◌else◌, nat_eq}
-use Rattle.hook_chain.specs.Route.{next}
 use Rattle.histories.specs.declared.entry.Entry.{Entry}
 use Rattle.live_runs.specs.Calls.{IsTurn}
 use Rattle.live_runs.specs.Locks.{is_in, marked, marked_from}

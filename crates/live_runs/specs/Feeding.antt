@@ -1,7 +1,7 @@
 -- What the feeder's pass does: a line takes effect place by place.
 use Rattle.std.specs.Prelude.{◌≡◌, ◌<◌, ◌≤◌, ◌+◌, ◌*◌, ℕ, List, [], ◌∷◌, ◌++◌}
 use Rattle.script_lines.specs.declared.line.Down.{Down}
-use Rattle.live_runs.specs.Seen.{Seen, Shares, Grows}
+use Rattle.live_runs.specs.Seen.{Shares, Grows}
 use Rattle.live_runs.specs.Owners.{IsFeeders, IsFeeding}
 
 -- at the places below this one a line has taken effect, and at the others not

@@ -6,7 +6,7 @@ use Rattle.histories.specs.declared.entry.Entry.{Entry}
 use Rattle.inspector_script.specs.Scripts.{ScriptValue}
 use Rattle.made_runs.specs.Log.{Note}
 use Rattle.made_runs.specs.Ports.{is_port, place_in}
-use Rattle.live_runs.specs.Seen.{Seen, entries, OursAre, EachIs}
+use Rattle.live_runs.specs.Seen.{entries, OursAre, EachIs}
 use Rattle.live_runs.specs.ClosedPlanes.{AreOwned}
 use Rattle.live_runs.specs.Owners.{IsOf, IsFeeders}
 use Rattle.live_runs.specs.Passes.{Pass, feeder_number, is_pass, seen_at}

@@ -1,8 +1,7 @@
 use Rattle.std.proofs.Common.{refl}
 use Rattle.netlink_codec.specs.Messages.{first_message}
-use Rattle.made_runs.specs.Datagrams.{bytes_of, messages_in}
 use Rattle.live_runs.proofs.Known.{ClosingLaws, LogLaws}
-use Rattle.live_runs.proofs.Cuts.{cutting_begins, looked_all, sent_all, sent_on, used_within}
+use Rattle.live_runs.proofs.Cuts.{looked_all, sent_all, sent_on, used_within}
 use Rattle.live_runs.proofs.doing.messages_are_sent_one_by_one.Goals as goal
 
 pub returns : goal.returns

@@ -1,5 +1,5 @@
 use Rattle.live_runs.proofs.Known.{ClosingLaws, LogLaws}
-use Rattle.live_runs.proofs.Looks.{asks_on, looked_through, looks_again, looks_once}
+use Rattle.live_runs.proofs.Looks.{next_asked, looked_through, looks_again, looks_once}
 use Rattle.live_runs.proofs.doing.what_a_port_does_adds_up.Goals as goal
 
 pub returns : goal.returns
@@ -23,7 +23,7 @@ returns c =
       no_ask = λ workers script places port asks pass. record {
         on = λ stage was start x may is. is;
       };
-      next_ask = λ workers script places port asks left words old mid new one two. asks_on workers
+      next_ask = λ workers script places port asks left words old mid new one two. next_asked workers
           script places port asks left words old mid new one two;
       no_look = λ workers script places port pass. record {
         on = λ stage was start ends answers is. is;
