@@ -54,7 +54,8 @@ turn_shutting laws port b c others mine xs ys turn goes is = record {
 
 -- a request of a port that is open
 pub asks_shutting : ClosingLaws → (port : ℕ) (others : List Entry) (e : Entry)
-    (xs ys : List Seen) → IsTurn others (e ∷ []) xs ys → is_closing_of port e ≡ false → IsShutting port false xs →
+    (xs ys : List Seen) → IsTurn others (e ∷ []) xs ys → is_closing_of port e ≡ false →
+    IsShutting port false xs →
     IsShutting port false ys
 asks_shutting laws port others e xs ys turn quiet is =
     turn_shutting laws port false false others (e ∷ []) xs ys turn
@@ -64,5 +65,6 @@ asks_shutting laws port others e xs ys turn quiet is =
 pub shuts_shutting : ClosingLaws → (port : ℕ) (xs ys : List Seen) → ShutsAt port xs ys →
     IsShutting port false xs → IsShutting port true ys
 shuts_shutting laws port xs ys s is =
-    turn_shutting laws port false true s.others (closings port (entries xs ++ s.others)) xs ys s.turn
+    turn_shutting laws port false true s.others (closings port (entries xs ++ s.others)) xs ys
+    s.turn
     (λ queue below closing. laws.closed port queue (entries xs ++ s.others) below closing) is

@@ -79,7 +79,8 @@ module _ (count : ℕ → Bool) (all : ℕ → List Seen) (whole : List Entry)
   -- the entries that aren't this pass's own are other passes'
   pub theirs_are : (Q : Entry → Type 0) (p : ℕ) → count p ≡ true →
       ((k : ℕ) → count k ≡ true → k ≢ p → OursAre Q (all k)) → TheirsAre Q (filled p)
-  theirs_are Q p below others = theirs_by_index Q (filled p) (λ i e is. found i e is (c.owned.owned i e
+  theirs_are Q p below others = theirs_by_index Q (filled p) (λ i e is. found i e is
+      (c.owned.owned i e
       (ap (λ es. slice_get es i) (sym (full_entries p below)) ∙ slice_get-map entry (filled p) i
       ∙ ap (option_map entry) is)))
     where
@@ -97,7 +98,8 @@ module _ (count : ℕ → Bool) (all : ℕ → List Seen) (whole : List Entry)
               no it_is = absurd (cc)
 
   -- what holds of each pass's own holds of all
-  pub each_is : (Q : Entry → Type 0) → ((k : ℕ) → count k ≡ true → OursAre Q (all k)) → EachIs Q whole
+  pub each_is : (Q : Entry → Type 0) → ((k : ℕ) → count k ≡ true → OursAre Q (all k)) →
+      EachIs Q whole
   each_is Q own = each_by_index Q whole (λ i e is.
       let o = c.owned.owned i e is in ours_at Q (all o.0) (own o.0 o.1) i e o.2)
 

@@ -89,7 +89,8 @@ module _ (logs : LogLaws) (laws : ClosingLaws) (conserve : Conserve) (workers : 
     is = subst (λ t. IsDoing workers script places stage port was start_at t new)
         (sym (unfresh x (map Message ms ++ ds)))
         (doing_speaks logs laws conserve workers script places stage port was start_at x m errno
-        (map Message ms ++ ds) c.fresh old new some_place (All-head AsksWell m ms c.short) may s c.is);
+        (map Message ms ++ ds) c.fresh old new some_place (All-head AsksWell m ms c.short) may s
+        c.is);
   }
 
   sends_on : (cut : List ℕ → List NetlinkMessage) (rest : List ℕ) (old new : Pass) (used : ℕ)

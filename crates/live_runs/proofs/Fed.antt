@@ -69,8 +69,9 @@ turn_feeding : FeedingLaws → (t u : ℕ) (fallen more : List Down) (others min
     IsFeeding t fallen xs → IsFeeding u more ys
 turn_feeding laws t u fallen more others mine xs ys turn goes is = record {
   fed = λ guard. subst (AllFed u more) (sym (turn_entries others mine xs ys turn))
-      (goes (others_fed laws t fallen (entries xs) others (turn_others IsNotFed others mine xs ys turn
-      guard) (is.fed (turn_guard IsNotFed others mine xs ys turn guard))));
+      (goes (others_fed laws t fallen (entries xs) others
+      (turn_others IsNotFed others mine xs ys turn guard)
+      (is.fed (turn_guard IsNotFed others mine xs ys turn guard))));
 }
 
 -- all places
@@ -78,7 +79,8 @@ abbrev pub AreFeeding : ℕ → List Down → Shares → Type 0
 AreFeeding time fallen shares = (k : ℕ) → IsFeeding time fallen (shares k)
 
 -- a packet enters
-pub enters_feeding : FeedingLaws → (places queue table time number : ℕ) (bypass : Bool) (fallen : List Down)
+pub enters_feeding : FeedingLaws → (places queue table time number : ℕ) (bypass : Bool)
+    (fallen : List Down)
     (card : Card) (old new : Shares) → card.number ≡ number → time ≤ 2 * number →
     Enters places queue table bypass card old new → AreFeeding time fallen old →
     AreFeeding (2 * number + 1) fallen new
@@ -101,7 +103,8 @@ enters_feeding laws places queue table time number bypass fallen card old new at
         (sym (eqb-true k here h))
         (grown_feeding laws (2 * number + 1) fallen is.between (new here)
         (later is.between (new here) is.here)
-        (turn_feeding laws time (2 * number + 1) fallen fallen is.others (e ∷ []) (old here) is.between
+        (turn_feeding laws time (2 * number + 1) fallen fallen is.others (e ∷ []) (old here)
+        is.between
         is.turn
         (λ fed. laws.first time number fallen (entries (old here) ++ is.others) e tt
         (ap (λ n. 2 * n ∷ (2 * n + 1) ∷ []) at) less fed) (are here)))
@@ -123,7 +126,8 @@ feeds_feeding laws places time number (To queue bypass table) fallen card old ne
     enters_feeding laws places queue table time number bypass fallen card old new at less is are k
 
 -- a device goes down at a place
-pub falls_feeding : FeedingLaws → (place time : ℕ) (fallen : List Down) (d : Down) (old new : Shares) →
+pub falls_feeding : FeedingLaws → (place time : ℕ) (fallen : List Down) (d : Down)
+    (old new : Shares) →
     time ≤ 2 * d.after + 1 → Falls d.device place old new → IsFeeding time fallen (old place) →
     IsFeeding (2 * d.after + 1) (fallen ++ d ∷ []) (new place)
 falls_feeding laws place time fallen d old new less is was =
@@ -140,7 +144,8 @@ event_downs device es = all_places every_number
     one k None = tt
     one k (Some b) = (tt, tt)
 
-    more : (xs ys : List Entry) → OursAre IsFeeders (all_ours xs) → OursAre IsFeeders (all_ours ys) →
+    more : (xs ys : List Entry) → OursAre IsFeeders (all_ours xs) →
+        OursAre IsFeeders (all_ours ys) →
         OursAre IsFeeders (all_ours (xs ++ ys))
     more [] ys one two = two
     more (x ∷ xs) ys one two = (one.0, more xs ys one.1 two)

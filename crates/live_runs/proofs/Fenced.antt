@@ -9,7 +9,8 @@ use Rattle.live_runs.specs.Stages.{IsSegment}
 use Rattle.live_runs.proofs.Covering.{each_by_index, ours_at}
 
 module _ {A : Type 0} where
-  pub behind_front : (xs ys : List A) (i : ℕ) → slice_get (xs ++ ys) (length xs + i) ≡ slice_get ys i
+  pub behind_front : (xs ys : List A) (i : ℕ) → slice_get (xs ++ ys) (length xs + i)
+      ≡ slice_get ys i
   behind_front [] ys i = let n : 0 + i ≡ i = omega arith in ap (slice_get ys) n
   behind_front (x ∷ xs) ys i =
       let n : suc (length xs) + i ≡ suc (length xs + i) = omega arith in

@@ -39,7 +39,8 @@ nothing_more count all whole seen some c met =
     at ∙ ap (λ es. seen ++ es) (none (c.rest feeder_number) at) ∙ append-nil seen
   where
     at : whole ≡ seen ++ c.rest feeder_number
-    at = c.begins feeder_number some ∙ ap (λ es. es ++ c.rest feeder_number) (met feeder_number some)
+    at = c.begins feeder_number some ∙ ap (λ es. es ++ c.rest feeder_number)
+        (met feeder_number some)
 
     none : (rest : List Entry) → whole ≡ seen ++ rest → rest ≡ []
     none [] is = refl

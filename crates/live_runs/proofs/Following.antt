@@ -82,7 +82,8 @@ module _ (workers : ℕ) (script : ScriptValue) (places : ℕ) (early late : ℕ
       entries (seen_at new k p) ≡ whole k ++ segment k
   met_now k p below is = met_then k p is ∙ then_is k feeder_number below refl
 
-  abbrev pub following : ((p : ℕ) → Adds workers script (early_of script.ports stage) (late_of stage) p
+  abbrev pub following : ((p : ℕ) → Adds workers script (early_of script.ports stage)
+      (late_of stage) p
       (was p) (now p)) →
       (((k : ℕ) → k < places →
       AreOwned (is_pass script.ports) (seen_at new k) (whole k ++ segment k)) →

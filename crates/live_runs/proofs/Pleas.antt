@@ -68,7 +68,8 @@ later_not_by p (Ask by call request) later = absurd later
 later_not_by p (PortClosed closed) later = absurd later
 later_not_by p (DeviceDown device) later = absurd later
 
-pub handed_not_by : (p : ℕ) (left : List (Card × Decision)) (e : Entry) → IsHandedOn left e → IsNotBy p e
+pub handed_not_by : (p : ℕ) (left : List (Card × Decision)) (e : Entry) → IsHandedOn left e →
+    IsNotBy p e
 handed_not_by p [] e on = absurd on
 handed_not_by p (l ∷ ls) e on = later_not_by p e.event on
 

@@ -108,7 +108,8 @@ module _ (ports : List ℕ) (early late : ℕ) where
           (ordered_push ports early late told mid h (record { entry = e; kind = k })
           (ap (early_by ports k) is_ask ∙ are.0.0 call r)
           (subst (λ ev. IsNow late (late_by ports k ev)) (sym is_ask) are.0.1)
-          (λ p. ap (λ ps. told p ++ map (λ (y : Plea). k) ps) (its p) ∙ marks_of p (p == by) k) is)))
+          (λ p. ap (λ ps. told p ++ map (λ (y : Plea). k) ps) (its p) ∙ marks_of p (p == by) k)
+          is)))
 
     plain_one : (event : Event) → e.event ≡ event →
         (early_by ports Answers event ≡ early) × IsNow late (late_by ports Answers event) →

@@ -122,6 +122,7 @@ module _ (logs : LogLaws) (laws : ClosingLaws) (workers : ℕ) (script : ScriptV
           (none k (grind (arith, nat_tests, h)))
 
   pub port_shut : 0 < places →
-      (a : IsDoing workers script places (Ending place) port was start_at last mid) → Shuts places port mid new →
+      (a : IsDoing workers script places (Ending place) port was start_at last mid) →
+      Shuts places port mid new →
       IsPort workers script places port (a.notes ++ Shut ∷ []) shut_stand new
   port_shut some a s = shuts logs laws workers script places port a.notes mid new s some a.is

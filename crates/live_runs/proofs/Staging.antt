@@ -22,7 +22,8 @@ use Rattle.live_runs.proofs.Ordering.{ordered_later}
 use Rattle.live_runs.proofs.Pleas.{pleas, pleas_append}
 use Rattle.live_runs.proofs.Segments.{segment_ordered}
 
-module _ (workers : ℕ) (script : ScriptValue) (places early late early2 late2 : ℕ) (was seg : ℕ → List Entry)
+module _ (workers : ℕ) (script : ScriptValue) (places early late early2 late2 : ℕ)
+    (was seg : ℕ → List Entry)
     (notes now : ℕ → List Note) (up : early ≤ early2) (on : late ≤ late2)
     (some : 0 < places)
     (plain : (k : ℕ) → k < places → EachIs (IsPlain script.ports early2 late2) (seg k))
@@ -76,6 +77,7 @@ module _ (workers : ℕ) (script : ScriptValue) (places early late early2 late2 
         (each_history (IsPlain script.ports early2 late2) queue (seg k)
         (plain k (mod-lt queue some)))
         (ordered_later script.ports early early2 late late2
-        (λ p. kinds_told workers script queue p (notes p)) (λ p. kinds_told workers script queue p (notes p))
+        (λ p. kinds_told workers script queue p (notes p))
+        (λ p. kinds_told workers script queue p (notes p))
         (history queue (was k)) up on (λ p. refl) (is.each queue below))));
   }

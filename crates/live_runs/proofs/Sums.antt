@@ -64,7 +64,8 @@ none_taken laws port before [] free are = refl
 none_taken laws port before (Ours e ∷ xs) free are =
     let one : length (letters_under port (state_of before e.queue) e) ≡ 0 =
     ap length (none_under port (state_of before e.queue) e (free e.queue are.0.1)) in
-    let more = none_taken laws port (before ++ e ∷ []) xs (free_on laws port before e are.0.0 free) are.1 in
+    let more = none_taken laws port (before ++ e ∷ []) xs (free_on laws port before e are.0.0 free)
+    are.1 in
     omega (arith, one, more)
 none_taken laws port before (Theirs e ∷ xs) free are =
     none_taken laws port (before ++ e ∷ []) xs (free_on laws port before e are.0.0 free) are.1

@@ -104,7 +104,8 @@ module _ (own : List ℕ) (seen others mine : List Entry)
       (inl (omega (arith, less, long))))
 
   between : (i : ℕ) → length seen ≤ i → i < length found → is_in later i ≡ false
-  between i least most = both i ∙ or_with (is_in own i) _ (beyond 0 (length seen) own i placed least)
+  between i least most = both i ∙ or_with (is_in own i) _ (beyond 0 (length seen) own i placed
+      least)
       ∙ out_of_row (length found) _ i (inl most)
 
   there : (i : ℕ) → length found ≤ i → i < length found + length mine → is_in later i ≡ true

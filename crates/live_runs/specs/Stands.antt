@@ -6,7 +6,8 @@ use Rattle.inspector_script.specs.Scripts.{ScriptValue, opening, closing}
 use Rattle.made_runs.specs.Log.{Due, Message, Standing, all_due, is_pool, is_some_due}
 use Rattle.made_runs.specs.Ports.{place_in}
 
--- what the port owes now, the answers that wait behind a pool, what its end has, whether it is open,
+-- what the port owes now, the answers that wait behind a pool, what its end has, whether it is
+-- open,
 -- and whether it has just taken up an ask and sent none of its messages
 pub record Stand : Type 0 where
   pub owed : List Due

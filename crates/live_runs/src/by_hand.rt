@@ -1,6 +1,6 @@
 //! A run, written out.
 
-ghost use Rattle.std.specs.Prelude.{◌≡◌, ◌<◌, ℕ, true, false, List, [], ◌∷◌, length};
+ghost use Rattle.std.specs.Prelude.{◌≡◌, ◌<◌, ℕ, true, [], ◌∷◌, length};
 ghost use Rattle.nfqa_msgs.specs.declared.request.Decoded.TheVariants.{Asked};
 ghost use Rattle.nfqa_msgs.specs.RequestReading.{decoded};
 ghost use Rattle.made_runs.specs.Datagrams.{messages_in};

@@ -2,7 +2,7 @@
 
 ghost use Rattle.std.specs.Prelude.{◌≡◌, ◌≤◌, ◌<◌, ◌-◌, ◌+◌, ◌++◌, ℕ, Bool, true, List, [], ◌∷◌};
 ghost use Rattle.std.specs.Prelude.{false};
-ghost use Rattle.std.specs.Prelude.{length, drop, All};
+ghost use Rattle.std.specs.Prelude.{drop, length};
 ghost use Rattle.packet_entry.specs.declared.letter.Letter.{Letter};
 ghost use Rattle.netlink_codec.specs.Messages.{NetlinkMessage, first_message};
 ghost use Rattle.histories.specs.declared.log.AskWords.{AskWords};
@@ -27,8 +27,8 @@ ghost use Rattle.live_runs.specs.Doing.{IsCutting, IsDoing};
 use made_runs::{closings_are_kept, datagrams_are_short, logs_go_on};
 use queue_core::each_packet_stays_or_leaves;
 
-/// A port does what is next, and what it appends is its own. It begins where the passes have met; it
-/// takes up an ask that is due and sends the messages that are cut from it, where it may; it
+/// A port does what is next, and what it appends is its own. It begins where the passes have met;
+/// it takes up an ask that is due and sends the messages that are cut from it, where it may; it
 /// receives a notice where it owes nothing, and then owes its answers; or these wait behind a pool,
 /// and it turns to those of the first notice that it hasn't answered.
 pub fn a_port_does_what_is_next()
@@ -137,8 +137,8 @@ pub fn a_port_goes_through_a_stage()
     closings_are_kept();
 }
 
-/// What a port does adds up: what it sends, to all asks of an answer; a notice and its answers, where
-/// no pool works them out, to a look after which nothing is owed; and looks, to a whole stage.
+/// What a port does adds up: what it sends, to all asks of an answer; a notice and its answers,
+/// where no pool works them out, to a look after which nothing is owed; and looks, to a stage.
 pub fn what_a_port_does_adds_up()
     ensures no_ask { (workers : ℕ) (script : ScriptValue) (places port : ℕ) (asks : List Ask)
         (pass : Pass) → HasAsked workers script places port asks asks pass pass }

@@ -1,6 +1,6 @@
 //! What is known of the feeder's pass.
 
-ghost use Rattle.std.specs.Prelude.{◌≡◌, ◌≤◌, ◌<◌, ◌+◌, ◌*◌, ◌++◌, ℕ, List, [], ◌∷◌};
+ghost use Rattle.std.specs.Prelude.{◌≤◌, ◌+◌, ◌*◌, ◌++◌, ℕ, List, []};
 ghost use Rattle.packet_entry.specs.declared.packet.Card.{Card};
 ghost use Rattle.hook_chain.specs.declared.chain.Next.{Next};
 ghost use Rattle.histories.specs.declared.entry.Entry.{Entry};

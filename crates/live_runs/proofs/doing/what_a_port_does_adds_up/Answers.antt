@@ -23,14 +23,16 @@ returns c =
       no_ask = λ workers script places port asks pass. record {
         on = λ stage was start x may is. is;
       };
-      next_ask = λ workers script places port asks left words old mid new one two. next_asked workers
+      next_ask = λ workers script places port asks left words old mid new one two. next_asked
+          workers
           script places port asks left words old mid new one two;
       no_look = λ workers script places port pass. record {
         on = λ stage was start ends answers is. is;
       };
       look = λ workers script places port l old mid new alone r a. looks_once logs laws conserve
           workers script places port l old mid new alone r a;
-      next_look = λ workers script places port old mid new one two. looks_again workers script places
+      next_look = λ workers script places port old mid new one two. looks_again workers script
+          places
           port old mid new one two;
       looks = λ workers script places port stage was ends old new answers on is. looked_through logs
           laws conserve workers script places port stage was ends old new answers on is;

@@ -30,7 +30,8 @@ returns c =
       fed = known.fed;
     } in
     record {
-      made = λ workers script places frames time stage passes h notes stands some closed meeting done
+      made = λ workers script places frames time stage passes h notes stands some closed meeting
+          done
           feeding received. made_so logs laws feedings c.one_feeder_feeds_all.ensures.fed workers
           script places frames time passes h notes stands some closed meeting.are done feeding
           received (early_of script.ports stage) (late_of stage)

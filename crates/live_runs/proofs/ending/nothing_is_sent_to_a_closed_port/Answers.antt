@@ -14,11 +14,13 @@ returns c =
     record {
       closed = λ workers script places port stage passes notes stands meeting shut. sent_at_meeting
           workers script places port stage passes notes stands meeting shut;
-      since = λ workers script places port sum old new grows nothing w. sent_on workers script places
+      since = λ workers script places port sum old new grows nothing w. sent_on workers script
+          places
           port sum old new grows nothing w;
       stage = λ workers script places port sum stage old mid new was now i went fed same met w.
           sent_through workers script places port sum stage old mid new was now i went fed same met
           w;
       at_last = λ workers script places mail port sum passes h notes stands i are closed w.
-          sent_at_last laws workers script places mail port sum passes h notes stands i are closed w;
+          sent_at_last laws workers script places mail port sum passes h notes stands i are closed
+          w;
     }
