@@ -3,6 +3,7 @@
 --     list RULES SCRIPT IN OUT
 --     gen NUMBER COUNT RULES SCRIPT IN
 --     trial NUMBER COUNT
+--     migrate OLD NEW
 use Rattle.std.specs.Prelude.{◌≡◌, ◌≤◌, ℕ, ⊤, List, [], ◌∷◌, length, map, Option, Some, None, Bool}
 use Rattle.std.specs.Prelude.{true, not, ◌&&◌, ◌==◌, codes, if◌then◌else◌, option_map}
 use Rattle.std.specs.Str.{bytes_eq}
@@ -20,6 +21,7 @@ use Rattle.command_line.specs.declared.arguments.Command.TheVariants as command
 use Rattle.command_line.specs.declared.arguments.Generation.{Generation}
 use Rattle.command_line.specs.declared.arguments.Inputs.{Inputs}
 use Rattle.command_line.specs.declared.arguments.Listing.{Listing}
+use Rattle.command_line.specs.declared.arguments.Migration.{Migration}
 use Rattle.command_line.specs.declared.arguments.Play.{Play}
 use Rattle.command_line.specs.declared.arguments.Sample.{Sample as ASample}
 
@@ -53,19 +55,31 @@ pub record GenFiles : Type 0 where
   pub sample : Sample
   pub files : InputFiles
 
+-- the names of the files that a `migrate` command reads and writes
+pub record MigrateFiles : Type 0 where
+  pub source : List ℕ
+  pub target : List ℕ
+
 -- a command, with the names of its files and its numbers
 pub data Call : Type 0 where
   Plays : PlayFiles → Call
   Lists : ListFiles → Call
   Generates : GenFiles → Call
   Tries : Sample → Call
+  Migrates : MigrateFiles → Call
+
+-- what a command reads: the inputs of a run, or a journal
+pub data ReadFiles : Type 0 where
+  RunInputs : InputFiles → ReadFiles
+  OneJournal : List ℕ → ReadFiles
 
 -- the files that a command reads, if it reads any
-abbrev pub inputs : Call → Option InputFiles
-inputs (Plays f) = Some f.inputs
-inputs (Lists f) = Some f.inputs
+abbrev pub inputs : Call → Option ReadFiles
+inputs (Plays f) = Some (RunInputs f.inputs)
+inputs (Lists f) = Some (RunInputs f.inputs)
 inputs (Generates g) = None
 inputs (Tries s) = None
+inputs (Migrates m) = Some (OneJournal m.source)
 
 -- the name of standard output
 abbrev pub standard_output : List ℕ
@@ -87,11 +101,15 @@ gen_outputs g = input_names g.files
 abbrev pub trial_outputs : List (List ℕ)
 trial_outputs = standard_output ∷ []
 
+abbrev pub migrate_outputs : MigrateFiles → List (List ℕ)
+migrate_outputs m = m.target ∷ []
+
 abbrev pub outputs : Call → List (List ℕ)
 outputs (Plays f) = play_outputs f
 outputs (Lists f) = list_outputs f
 outputs (Generates g) = gen_outputs g
 outputs (Tries s) = trial_outputs
+outputs (Migrates m) = migrate_outputs m
 
 -- ---- as the code holds them
 
@@ -117,11 +135,15 @@ sample_of s = record { number = s.number; count = s.count }
 abbrev pub gen_files_of : Generation → GenFiles
 gen_files_of g = record { sample = sample_of g.sample; files = inputs_of g.files }
 
+abbrev pub migrate_files_of : Migration → MigrateFiles
+migrate_files_of m = record { source = m.source.now; target = m.target.now }
+
 abbrev pub call_of : Command → Call
 call_of (command.Play files) = Plays (files_of files)
 call_of (command.List files) = Lists (list_files_of files)
 call_of (command.Gen files) = Generates (gen_files_of files)
 call_of (command.Trial sample) = Tries (sample_of sample)
+call_of (command.Migrate files) = Migrates (migrate_files_of files)
 
 -- ---- words
 
@@ -162,6 +184,7 @@ IsAllowed (Plays f) = are_outputs_apart f ≡ true
 IsAllowed (Lists f) = ⊤
 IsAllowed (Generates g) = IsGenAllowed g
 IsAllowed (Tries s) = IsSample s
+IsAllowed (Migrates m) = ⊤
 
 -- the files of a `play` command, where the arguments are one
 abbrev pub play_of : List (List ℕ) → Option PlayFiles
@@ -209,6 +232,13 @@ trial_of (verb ∷ number ∷ count ∷ []) =
     if bytes_eq verb (codes "trial") then sample_of_words number count else None
 trial_of words = None
 
+-- the files of a `migrate` command; the two may be one
+abbrev pub migrate_of : List (List ℕ) → Option MigrateFiles
+migrate_of (verb ∷ source ∷ target ∷ []) =
+    if bytes_eq verb (codes "migrate") && is_file source && is_file target
+    then Some (record { source = source; target = target }) else None
+migrate_of words = None
+
 -- the first that is there
 abbrev pub either : {A : Type 0} → Option A → Option A → Option A
 either (Some x) other = Some x
@@ -218,7 +248,8 @@ either None other = other
 abbrev pub call : List (List ℕ) → Option Call
 call words =
     either (option_map Plays (play_of words)) (either (option_map Lists (list_of words))
-    (either (option_map Generates (gen_of words)) (option_map Tries (trial_of words))))
+    (either (option_map Generates (gen_of words)) (either (option_map Tries (trial_of words))
+    (option_map Migrates (migrate_of words)))))
 
 -- the same, of arguments as the program is given them, without its name
 abbrev pub call_of_words : List (String Global) → Option Call

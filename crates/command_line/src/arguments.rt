@@ -46,6 +46,13 @@ pub struct Generation<'a> {
     pub files: Inputs<'a>,
 }
 
+/// The files that `migrate` reads and writes.
+#[derive(Clone, Copy, Debug, PartialEq, Eq)]
+pub struct Migration<'a> {
+    pub source: &'a str,
+    pub target: &'a str,
+}
+
 /// A command, with the names of its files and its numbers.
 #[derive(Clone, Copy, Debug, PartialEq, Eq)]
 pub enum Command<'a> {
@@ -53,6 +60,7 @@ pub enum Command<'a> {
     List { files: Listing<'a> },
     Gen { files: Generation<'a> },
     Trial { sample: Sample },
+    Migrate { files: Migration<'a> },
 }
 
 /// The command that the arguments are; `None` where they are none.
@@ -70,8 +78,11 @@ pub fn command_of(words: &[String]) -> Option<Command<'_>>
     if let Some(files) = gen_of(words) {
         return Some(Command::Gen { files });
     }
-    let sample = trial_of(words)?;
-    Some(Command::Trial { sample })
+    if let Some(sample) = trial_of(words) {
+        return Some(Command::Trial { sample });
+    }
+    let files = migrate_of(words)?;
+    Some(Command::Migrate { files })
 }
 
 /// The files of a `play` command; `None` where the arguments aren't one.
@@ -162,6 +173,25 @@ fn trial_of(words: &[String]) -> Option<Sample>
     };
     if verb.as_str() == "trial" {
         sample_of(number.as_str(), count.as_str())
+    } else {
+        None
+    }
+}
+
+/// The files of a `migrate` command. They may be one file.
+fn migrate_of(words: &[String]) -> Option<Migration<'_>>
+    ensures { MatchOption result (named.migrate_of (map string_bytes words.now) ≡ None)
+        (λ m. named.migrate_of (map string_bytes words.now) ≡ Some (named.migrate_files_of m)) }
+{
+    let [verb, source, target] = words else {
+        return None;
+    };
+    let files = Migration {
+        source: source.as_str(),
+        target: target.as_str(),
+    };
+    if verb.as_str() == "migrate" && is_file(files.source) && is_file(files.target) {
+        Some(files)
     } else {
         None
     }

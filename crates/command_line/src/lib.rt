@@ -7,7 +7,7 @@
 mod arguments;
 mod numerals;
 
-pub use arguments::{Command, Generation, Inputs, Listing, Play, Sample, command_of};
+pub use arguments::{Command, Generation, Inputs, Listing, Migration, Play, Sample, command_of};
 
 #[cfg(test)]
 mod tests;

@@ -1,6 +1,6 @@
 //! Arguments that are a command, and arguments that aren't.
 
-use crate::{Command, Generation, Inputs, Listing, Play, Sample, command_of};
+use crate::{Command, Generation, Inputs, Listing, Migration, Play, Sample, command_of};
 use std::alloc::{AllocError, Global};
 use std::process::Abort;
 use std::test::Fail;
@@ -35,7 +35,7 @@ fn check(
 
 #[test]
 fn commands_are_read(rt: HostRuntime) -> Result<(), Fail> {
-    const ROWS: [(&[&str], Command<'static>); 6] = [
+    const ROWS: [(&[&str], Command<'static>); 8] = [
         (
             &["play", "r", "s", "c", "o", "l", "j"],
             Command::Play {
@@ -95,6 +95,24 @@ fn commands_are_read(rt: HostRuntime) -> Result<(), Fail> {
                 },
             },
         ),
+        (
+            &["migrate", "o", "n"],
+            Command::Migrate {
+                files: Migration {
+                    source: "o",
+                    target: "n",
+                },
+            },
+        ),
+        (
+            &["migrate", "j", "j"],
+            Command::Migrate {
+                files: Migration {
+                    source: "j",
+                    target: "j",
+                },
+            },
+        ),
     ];
     let alloc = rt.alloc();
     for &(arguments, command) in &ROWS {
@@ -105,7 +123,7 @@ fn commands_are_read(rt: HostRuntime) -> Result<(), Fail> {
 
 #[test]
 fn other_arguments_are_no_command(rt: HostRuntime) -> Result<(), Fail> {
-    const ROWS: [&[&str]; 28] = [
+    const ROWS: [&[&str]; 33] = [
         &["play", "r", "s", "c", "o", "o", "j"],
         &["play", "r", "s", "c", "o", "l"],
         &["play", "r", "s", "c", "o", "l", "-"],
@@ -133,6 +151,11 @@ fn other_arguments_are_no_command(rt: HostRuntime) -> Result<(), Fail> {
         &["trial", "7", "1", "1"],
         &["trial", "7"],
         &["live", "7", "1"],
+        &["migrate", "o"],
+        &["migrate", "o", "-"],
+        &["migrate", "-", "n"],
+        &["migrate", "", "n"],
+        &["migrate", "o", "n", "m"],
         &[],
     ];
     let alloc = rt.alloc();
