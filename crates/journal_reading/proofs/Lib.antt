@@ -14,3 +14,4 @@ pub mod Sound
 pub mod Spelt
 pub mod Underway
 pub mod Wording
+pub mod Migrated

@@ -4,8 +4,9 @@ use Rattle.std.specs.Prelude.{◌≡◌, ◌≢◌, ℕ, ◌≤◌, ◌&&◌, na
 use Rattle.std.specs.Prelude.{[], ◌∷◌, ◌++◌, All, AllPairs, Option, Some, None, IfSome, map, ⊤}
 use Rattle.std.specs.Prelude.{codes}
 use Rattle.std.specs.Prelude.{option_map, option_to_list, Result, Ok, Err, if◌then◌else◌, ◌==◌}
-use Rattle.std.specs.Prelude.{◌+◌, ◌⊎◌, filter, length}
+use Rattle.std.specs.Prelude.{◌+◌, ◌⊎◌, ◌×◌, filter, length}
 use Rattle.std.specs.List.{list_any}
+use Rattle.std.specs.Str.{bytes_eq}
 use Rattle.std.specs.BTreeSet.{contains}
 use Rattle.std.specs.Ordering.{nat_cmp}
 use Rattle.text_lines.specs.Words.{byte, cut_at}
@@ -24,6 +25,7 @@ use Rattle.journal_reading.specs.declared.reader.Reader.{Reader}
 use Rattle.text_lines.specs.declared.stop.Stop.{Stop}
 use Rattle.text_lines.specs.declared.stop.Stop.TheVariants.{Refused, NoMemory}
 use Rattle.journals.specs.declared.version.Version.{Version}
+use Rattle.journals.specs.declared.version.Version.TheVariants as version
 use Rattle.journals.specs.Format as text
 use Rattle.journal_reading.specs.Lines.{IsLine}
 use Rattle.journals.specs.Formed.{IsEntry, IsLog, IsWellFormedIn}
@@ -32,6 +34,14 @@ use Rattle.journals.specs.Formed.{IsEntry, IsLog, IsWellFormedIn}
 pub record IsJournal (v : Version) (bytes : List ℕ) (h : Histories) : Type 0 where
   pub well_formed : IsWellFormedIn v h
   pub text_is : bytes ≡ text.journal_in v h
+
+-- the version that a text's first line names; version 1 where it names neither
+abbrev pub named_by : Option (List ℕ × List ℕ) → Version
+named_by None = version.First
+named_by (Some (line, later)) = if bytes_eq line (text.title Second) then version.Second else version.First
+
+abbrev pub version_of : List ℕ → Version
+version_of bytes = named_by (cut_at (byte "\n") bytes)
 
 -- ---- texts that are none
 

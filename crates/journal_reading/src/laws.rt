@@ -5,8 +5,9 @@ ghost use Rattle.std.specs.Prelude.{◌≡◌, ◌⊎◌, ◌↔◌, ◌++◌, �
 ghost use Rattle.histories.specs.declared.histories.Histories.{Histories};
 ghost use Rattle.journal_reading.specs.declared.line.Line.{Line};
 ghost use Rattle.journals.specs.declared.version.Version.{Version};
+ghost use Rattle.journals.specs.declared.version.Version.TheVariants.{Second};
 ghost use Rattle.journals.specs.Journal.{journal};
-ghost use Rattle.journal_reading.specs.JournalFile.{IsFirstRefused, IsJournal};
+ghost use Rattle.journal_reading.specs.JournalFile.{IsFirstRefused, IsJournal, version_of};
 ghost use Rattle.journal_reading.specs.Lines.{IsLine};
 ghost use Rattle.journal_reading.specs.Reading.{line_in};
 ghost use Rattle.journals.specs.WellFormed.{IsWellFormed};
@@ -39,6 +40,21 @@ pub fn values_have_journals_of_their_own()
 {
     a_text_has_one_value();
 }
+
+/// A journal's first line names its version.
+pub fn a_journal_names_its_version()
+    ensures { (v : Version) (text : List ℕ) (h : Histories) → IsJournal v text h →
+        version_of text ≡ v }
+{}
+
+/// What a journal of either version tells has a journal of today's version, and where the text is
+/// of that version it is the same text.
+pub fn each_journal_has_one_of_today()
+    ensures new { (v : Version) (text : List ℕ) (h : Histories) → IsJournal v text h →
+        IsJournal Second (journal h) h }
+    ensures stays { (text : List ℕ) (h : Histories) → IsJournal Second text h →
+        journal h ≡ text }
+{}
 
 /// No journal begins another one.
 pub fn no_journal_begins_another()

@@ -6,7 +6,7 @@ ghost use Rattle.journals.specs.declared.version.Version.TheVariants.{First, Sec
 ghost use Rattle.journals.specs.Format.{heading};
 ghost use Rattle.journal_reading.specs.declared.fault.JournalFault.TheVariants as fault;
 ghost use Rattle.journal_reading.specs.JournalFile.{Answers, Closes, IsAnswer, IsFirstRefused, IsJournal};
-ghost use Rattle.journal_reading.specs.JournalFile.{IsRefusedAt, place_of};
+ghost use Rattle.journal_reading.specs.JournalFile.{IsRefusedAt, place_of, version_of};
 
 use crate::fault::JournalFault;
 use crate::line_reading::is_title;
@@ -55,6 +55,30 @@ pub fn read_old_journal(alloc: Global, bytes: &[u8]) -> Result<Histories, Journa
     ensures stuck { (line : ℕ) → IsFirstRefused First bytes.now line → IsRefusedAt result line }
 {
     read_text(alloc, Version::First, bytes)
+}
+
+/// The same of the version that the text's first line names, of version 1 where it names neither.
+pub fn read_either_journal(alloc: Global, bytes: &[u8]) -> Result<Histories, JournalFault>
+    requires { length bytes.now < 2 ^ 32 - 1 }
+    ensures found { IfOk result (IsJournal (version_of bytes.now) bytes.now) }
+    ensures only { (h : value.Histories) → IsJournal (version_of bytes.now) bytes.now h →
+        Answers result h }
+    ensures refused { (line : ℕ) → result ≡ Err (fault.Bad line) →
+        IsFirstRefused (version_of bytes.now) bytes.now line }
+    ensures stuck { (line : ℕ) → IsFirstRefused (version_of bytes.now) bytes.now line →
+        IsRefusedAt result line }
+{
+    read_text(alloc, version_named(bytes), bytes)
+}
+
+/// The version that the first line names; version 1 where it names neither.
+fn version_named(bytes: &[u8]) -> Version
+    ensures { result ≡ version_of bytes.now }
+{
+    match cut(bytes, LINE_FEED) {
+        Some((line, _)) if is_title(Version::Second, line) => Version::Second,
+        Some(_) | None => Version::First,
+    }
 }
 
 /// Reads a journal of this version: its heading, and what stands behind it.

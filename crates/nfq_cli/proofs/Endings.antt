@@ -8,14 +8,14 @@ use Rattle.run_files.specs.declared.refusal.Refusal.{Refusal}
 use Rattle.run_files.specs.declared.refusal.Refusal.TheVariants as refusal
 use Rattle.run_files.specs.declared.stop.Stop.{Stop}
 use Rattle.run_files.specs.declared.stop.Stop.TheVariants as stop
-use Rattle.command_line.specs.Arguments.{Call, InputFiles, inputs, PlayFiles}
+use Rattle.command_line.specs.Arguments.{Call, ReadFiles, inputs, PlayFiles}
 use Rattle.run_files.specs.Causes.{AreTaken, IsAnswered, IsRefused, IsTurnedDown}
 use Rattle.run_files.specs.Files.{Contents, Counts, IsPrinted, IsStoppedAfter, Stay, Text}
 use Rattle.nfq_cli.specs.Ending.{IsEnded, Span}
 use Rattle.nfq_cli.specs.Headline.{texts_as}
 use Rattle.run_files.specs.Printed.{line_of}
 use Rattle.run_files.specs.Statuses.{IfRefused, IfStopRefuses, IsStopFor, status_of}
-use Rattle.run_files.specs.Statuses.{status_of_refusal}
+use Rattle.run_files.specs.Statuses.{status_of_refusal, IsOfRefusal}
 
 -- ---- one outcome
 
@@ -24,7 +24,7 @@ pub on_ok_both : {T E : Type 0} (A B : Type 0) (r : Result T E) → OnOk r A →
 on_ok_both A B (Ok x) a b = (a, b)
 on_ok_both A B (Err e) a b = tt
 
-pub same_inputs : (o : Option InputFiles) (i named : InputFiles) → o ≡ Some i →
+pub same_inputs : (o : Option ReadFiles) (i named : ReadFiles) → o ≡ Some i →
     o ≡ Some named → i ≡ named
 same_inputs o i named is_i is_named = cc
 
@@ -33,11 +33,11 @@ pub made_is_not_refused : {T E : Type 0} {x : T} {e : E} → ◌≡◌ {A = Resu
 made_is_not_refused same = IfErr-at_err (λ _. ⊥) (sym same) tt
 
 -- so the inputs that it was made from aren't refused
-pub none_is_refused : {T : Type 0} {x : T} (i named : InputFiles) (old : Contents)
+pub none_is_refused : {T : Type 0} {x : T} (i named : ReadFiles) (old : Contents)
     (why : Refusal) → Some i ≡ Some named → IsRefused named old why →
     (IsRefused i old why → ◌≡◌ {A = Result T Refusal} (Err why) (Ok x)) → ⊥
 none_is_refused i named old why is refused exact =
-    made_is_not_refused (exact (subst (λ (o : InputFiles). IsRefused o old why)
+    made_is_not_refused (exact (subst (λ (o : ReadFiles). IsRefused o old why)
     (same_inputs (Some i) named i is refl) refused))
 
 -- a call that fails in one way alone did nothing in any other
@@ -61,7 +61,7 @@ IsThere None = ⊥
 some_is_no_none : {A : Type 0} (x : A) → Some x ≡ None → ⊥
 some_is_no_none {A} x same = subst (λ (o : Option A). IsThere o) same tt
 
-pub none_read : (o : Option InputFiles) (i : InputFiles) → o ≡ Some i → o ≡ None → ⊥
+pub none_read : (o : Option ReadFiles) (i : ReadFiles) → o ≡ Some i → o ≡ None → ⊥
 none_read (Some j) i is_i is_none = some_is_no_none j is_none
 none_read None i is_i is_none = some_is_no_none i (sym is_i)
 
@@ -117,6 +117,7 @@ is_no_3 (refusal.Capture f) is = omega (arith, is)
 is_no_3 (refusal.Rules n) is = omega (arith, is)
 is_no_3 (refusal.Script n) is = omega (arith, is)
 is_no_3 (refusal.TooLarge l) is = omega (arith, is)
+is_no_3 (refusal.Journal n) is = omega (arith, is)
 
 pub is_write_fault : (s : Stop) → status_of s ≡ 3 → s ≡ stop.WriteFault
 is_write_fault stop.ReadFault is = absurd (omega (arith, is))
@@ -124,7 +125,7 @@ is_write_fault stop.WriteFault is = refl
 is_write_fault (stop.Refused w) is = absurd (is_no_3 w is)
 is_write_fault stop.NoMemory is = absurd (omega (arith, is))
 
-by_refusal : (o : Option InputFiles) (w : Refusal) (old_count new_count : Counts)
+by_refusal : (o : Option ReadFiles) (w : Refusal) (old_count new_count : Counts)
     (old new : Contents) → IsSomeAnd o (λ i. IsRefused i old w) →
     IsPrinted (line_of w) old_count new_count new →
     IsSomeAnd o (λ i. IsTurnedDown i (status_of_refusal w) old_count new_count old new)
@@ -136,19 +137,24 @@ by_refusal (Some i) w old_count new_count old new refused printed =
     }
 by_refusal None w old_count new_count old new refused printed = refused
 
-pub turned_down : (o : Option InputFiles) (s : Stop) (old_count new_count : Counts)
-    (old new : Contents) → 4 ≤ status_of s → status_of s ≤ 7 →
+no_refusal : (status : ℕ) → IsOfRefusal status → ((4 ≤ status) × (status ≤ 7) → ⊥) →
+    (status ≡ 10 → ⊥) → ⊥
+no_refusal status (inl both) not_early not_ten = not_early both
+no_refusal status (inr ten) not_early not_ten = not_ten ten
+
+pub turned_down : (o : Option ReadFiles) (s : Stop) (old_count new_count : Counts)
+    (old new : Contents) → IsOfRefusal (status_of s) →
     IfStopRefuses s (λ why. IsSomeAnd o (λ i. IsRefused i old why)) →
     IfStopRefuses s (λ why. IsPrinted (line_of why) old_count new_count new) →
     IsSomeAnd o (λ i. IsTurnedDown i (status_of s) old_count new_count old new)
-turned_down o stop.ReadFault old_count new_count old new least most refused printed =
-    absurd (omega (arith, least))
-turned_down o stop.WriteFault old_count new_count old new least most refused printed =
-    absurd (omega (arith, least))
-turned_down o (stop.Refused w) old_count new_count old new least most refused printed =
+turned_down o stop.ReadFault old_count new_count old new of refused printed =
+    absurd (no_refusal 2 of (λ both. omega (arith, both)) (λ is. omega (arith, is)))
+turned_down o stop.WriteFault old_count new_count old new of refused printed =
+    absurd (no_refusal 3 of (λ both. omega (arith, both)) (λ is. omega (arith, is)))
+turned_down o (stop.Refused w) old_count new_count old new of refused printed =
     by_refusal o w old_count new_count old new refused printed
-turned_down o stop.NoMemory old_count new_count old new least most refused printed =
-    absurd (omega (arith, most))
+turned_down o stop.NoMemory old_count new_count old new of refused printed =
+    absurd (no_refusal 8 of (λ both. omega (arith, both)) (λ is. omega (arith, is)))
 
 pub answered : (why : Refusal) (s : Stop) (old_count new_count : Counts) (new : Contents)
     (Unread : Type 0) → IsStopFor why s →

@@ -1,7 +1,7 @@
 -- How a command ends, whatever it is: done, or stopped for a cause.
 use Rattle.std.specs.Prelude.{◌≡◌, Bool, IsTrue, IfSome, IsSomeAnd, OnOk, IsErrOf, Result}
 use Rattle.std.specs.Prelude.{Some}
-use Rattle.command_line.specs.Arguments.{Call, InputFiles, inputs, outputs}
+use Rattle.command_line.specs.Arguments.{Call, ReadFiles, inputs, outputs}
 use Rattle.run_files.specs.declared.refusal.Refusal.{Refusal}
 use Rattle.run_files.specs.declared.stop.Stop.{Stop}
 use Rattle.run_files.specs.declared.stop.Stop.TheVariants as stop
@@ -42,7 +42,7 @@ pub record IsEnded {T : Type 0} (c : Call) (s : Span) (r : Result T Stop) : Type
   pub refused : IfRefused r (λ why. IsTrue s.tells →
       IsSomeAnd (inputs c) (λ i. IsRefused i s.old why))
   -- .. and there it does so, unless memory ran out or a read failed ..
-  pub exact : (i : InputFiles) (why : Refusal) → inputs c ≡ Some i → IsTrue s.tells →
+  pub exact : (i : ReadFiles) (why : Refusal) → inputs c ≡ Some i → IsTrue s.tells →
       IsRefused i s.old why → StopsFor why r
   -- .. and nowhere else
   pub only : IsTrue s.tells → IfSome (inputs c) (λ i. AreTaken i s.old) → IfRefused r (λ _. ⊥)

@@ -1,5 +1,5 @@
 -- The headline: what stands in the files after a command.
-use Rattle.std.specs.Prelude.{◌≡◌, ℕ, ⊤, List, [], ◌∷◌, Some, IsSomeAnd}
+use Rattle.std.specs.Prelude.{◌≡◌, ℕ, ⊤, List, [], ◌∷◌, Some, IsSomeAnd, Ok}
 use Rattle.hook_chain.specs.Rules.{RuleTables}
 use Rattle.hook_chain.specs.Grammar.{IsRulesFile}
 use Rattle.inspector_script.specs.Grammar.{IsScriptFile}
@@ -12,9 +12,12 @@ use Rattle.script_runs.specs.Schedule.{before_ends}
 use Rattle.generated.specs.Captures.{generated_capture}
 use Rattle.generated.specs.Texts.{rules_text, script_text}
 use Rattle.command_line.specs.Arguments.{Call, Generates, GenFiles, InputFiles, Lists, ListFiles}
-use Rattle.command_line.specs.Arguments.{PlayFiles, Plays, Sample, standard_output, Tries}
+use Rattle.command_line.specs.Arguments.{MigrateFiles, Migrates, PlayFiles, Plays, Sample, standard_output, Tries}
 use Rattle.nfq_cli.specs.Account.{IsAccounted}
+use Rattle.journals.specs.declared.version.Version.TheVariants.{Second}
+use Rattle.journal_reading.specs.JournalFile.{IsJournal}
 use Rattle.run_files.specs.Causes.{AreRead}
+use Rattle.run_files.specs.Inputs.{JournalSays, Said}
 use Rattle.run_files.specs.Files.{AreWritten, Contents, Counts, IsStoppedAfter, Text}
 use Rattle.run_files.specs.Outputs.{output_text, ledger_text, journal_text, counts_text}
 
@@ -100,6 +103,17 @@ pub record IsCounted (s : Sample) (text : List ℕ) : Type 0 where
 abbrev pub IsTried : Sample → Contents → Type 0
 IsTried s new = IsSomeAnd (new standard_output) (IsCounted s)
 
+-- ---- migrate
+
+-- The new text is the journal of what the old one tells, which is the journal of just one value.
+pub record IsMigrated (m : MigrateFiles) (old new : Contents) : Type 0 where
+  pub histories : Histories
+  pub source_says : Said JournalSays (old m.source) (Ok histories)
+  pub only : (h : Histories) → Said JournalSays (old m.source) (Ok h) → h ≡ histories
+  pub target_is : new m.target ≡ Some (journal_text histories)
+  -- it can be read again, and tells the same
+  pub tells_it : IsJournal Second (journal_text histories) histories
+
 -- ---- any command
 
 -- what stands after it
@@ -108,6 +122,7 @@ IsDone (Plays f) old new = IsPlayed f old new
 IsDone (Lists f) old new = IsListed f old new
 IsDone (Generates g) old new = IsGenerated g new
 IsDone (Tries s) old new = IsTried s new
+IsDone (Migrates m) old new = IsMigrated m old new
 
 -- what stands where its writing stopped, beside what `IsStopped` says
 abbrev pub IsCut : Call → Counts → Counts → Contents → Contents → Type 0
@@ -116,3 +131,4 @@ IsCut (Lists f) old_count new_count old new = ⊤
 IsCut (Generates g) old_count new_count old new =
     IsStoppedAfter (gen_texts g) old_count new_count old new
 IsCut (Tries s) old_count new_count old new = ⊤
+IsCut (Migrates m) old_count new_count old new = ⊤

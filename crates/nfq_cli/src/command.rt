@@ -5,18 +5,19 @@ ghost use Rattle.std.specs.Prelude.{IsTrue, IfSome, IsSomeAnd, OnOk, OnErr, IsEr
 ghost use Rattle.host_io.specs.Host.{IsLater, SameFiles, ChangesOnly};
 ghost use Rattle.run_files.specs.declared.refusal.Refusal.{Refusal as ARefusal};
 ghost use Rattle.command_line.specs.Arguments.{Call, call_of, call_of_words, Generates, GenFiles};
-ghost use Rattle.command_line.specs.Arguments.{InputFiles, inputs, IsAllowed, Lists, ListFiles, outputs};
-ghost use Rattle.command_line.specs.Arguments.{PlayFiles, Plays, Sample, standard_output, Tries};
+ghost use Rattle.command_line.specs.Arguments.{inputs, IsAllowed, Lists, ListFiles, MigrateFiles, Migrates, outputs};
+ghost use Rattle.command_line.specs.Arguments.{PlayFiles, Plays, ReadFiles, Sample, standard_output, Tries};
 ghost use Rattle.run_files.specs.Causes.{AreTaken, IsAnswered, IsRefused, IsTurnedDown, IsUnread};
 ghost use Rattle.run_files.specs.Files.{IsPrinted, IsStopped, OthersStay};
 ghost use Rattle.run_files.specs.Files.{ReadFaultRose, WriteFaultRose};
 ghost use Rattle.nfq_cli.specs.Ending.{IsEnded, span};
-ghost use Rattle.nfq_cli.specs.Headline.{IsCut, IsGenerated, IsListed, IsPlayed, IsTried};
+ghost use Rattle.nfq_cli.specs.Headline.{IsCut, IsGenerated, IsListed, IsMigrated, IsPlayed, IsTried};
 ghost use Rattle.run_files.specs.Printed.{line_of, usage_line};
-ghost use Rattle.run_files.specs.Statuses.{IfRefused};
+ghost use Rattle.run_files.specs.Statuses.{IfRefused, IsOfRefusal};
 
 use crate::generation::generate;
 use crate::list::list_files;
+use crate::migration::migrate;
 use crate::play::play_files;
 use crate::trial::try_out;
 use command_line::{Command, command_of};
@@ -27,7 +28,7 @@ use std::alloc::Global;
 
 /// Does the command that the arguments are, without the program's name, and answers its status.
 pub fn play<H: Host>(alloc: Global, words: &[String], host: &mut H) -> u8
-    ensures statuses { result ≤ 8 }
+    ensures statuses { (result ≤ 8) ⊎ (result ≡ 10) }
 
     // 1 comes exactly where the arguments aren't a command, and then the usage line is printed.
     ensures usage { (result ≡ 1) ↔ (call_of_words words.now ≡ None) }
@@ -55,15 +56,15 @@ pub fn play<H: Host>(alloc: Global, words: &[String], host: &mut H) -> u8
         IsCut c (H.write_faults host.old) (H.write_faults host.new) (H.content host.old)
         (H.content host.new) }
 
-    // 4, 5, 6 and 7 come only where the order reaches an input that is refused, and the line that
+    // 4, 5, 6, 7 and 10 come only where the order reaches an input that is refused, and the line that
     // says why is printed ..
-    ensures refused { 4 ≤ result → result ≤ 7 → (c : Call) → call_of_words words.now ≡ Some c →
+    ensures refused { IsOfRefusal result → (c : Call) → call_of_words words.now ≡ Some c →
         IsTrue (H.tells host.old) → IsSomeAnd (inputs c) (λ i.
         IsTurnedDown i result (H.write_faults host.old) (H.write_faults host.new)
         (H.content host.old) (H.content host.new)) }
     // .. and there they do come, unless memory ran out, or a read of that file or of one before it
     // failed.
-    ensures exact { (c : Call) (i : InputFiles) (why : ARefusal) →
+    ensures exact { (c : Call) (i : ReadFiles) (why : ARefusal) →
         call_of_words words.now ≡ Some c → inputs c ≡ Some i →
         IsTrue (H.tells host.old) → IsRefused i (H.content host.old) why →
         IsAnswered why result (H.write_faults host.old) (H.write_faults host.new)
@@ -85,6 +86,11 @@ pub fn play<H: Host>(alloc: Global, words: &[String], host: &mut H) -> u8
     // `trial` prints the counts of the run on these.
     ensures tried { result ≡ 0 → (s : Sample) → call_of_words words.now ≡ Some (Tries s) →
         IsTrue (H.tells host.old) → IsTried s (H.content host.new) }
+    // `migrate` writes, in today's version, what the old journal tells.
+    ensures migrated { result ≡ 0 → (m : MigrateFiles) →
+        call_of_words words.now ≡ Some (Migrates m) →
+        IsTrue (H.tells host.old) →
+        IsMigrated m (H.content host.old) (H.content host.new) }
     // A command, and inputs in their grammars and limits, give 0, unless memory ran out or the
     // host had a fault.
     ensures complete { (c : Call) → call_of_words words.now ≡ Some c →
@@ -162,5 +168,6 @@ fn dispatch<H: Host>(alloc: Global, command: &Command<'_>, host: &mut H) -> Resu
         Command::List { files } => list_files(alloc, files, host),
         Command::Gen { files } => generate(alloc, files, host),
         Command::Trial { sample } => try_out(alloc, *sample, host),
+        Command::Migrate { files } => migrate(alloc, files, host),
     }
 }

@@ -7,13 +7,14 @@ ghost use Rattle.std.specs.Vec.Iter.{into_iter_items};
 ghost use Rattle.host_io.specs.Host.{IsLater, SameFiles, ChangesOnly};
 ghost use Rattle.run_files.specs.declared.refusal.Refusal.{Refusal};
 ghost use Rattle.command_line.specs.Arguments.{Call, call_of_arguments, Generates, GenFiles};
-ghost use Rattle.command_line.specs.Arguments.{InputFiles, inputs, Lists, ListFiles, outputs};
-ghost use Rattle.command_line.specs.Arguments.{PlayFiles, Plays, Sample, standard_output, Tries};
+ghost use Rattle.command_line.specs.Arguments.{inputs, Lists, ListFiles, MigrateFiles, Migrates, outputs};
+ghost use Rattle.command_line.specs.Arguments.{PlayFiles, Plays, ReadFiles, Sample, standard_output, Tries};
 ghost use Rattle.run_files.specs.Causes.{AreTaken, IsAnswered, IsRefused, IsTurnedDown, IsUnread};
 ghost use Rattle.run_files.specs.Files.{IsPrinted, IsStopped, OthersStay};
 ghost use Rattle.run_files.specs.Files.{ReadFaultRose, WriteFaultRose};
-ghost use Rattle.nfq_cli.specs.Headline.{IsCut, IsGenerated, IsListed, IsPlayed, IsTried};
+ghost use Rattle.nfq_cli.specs.Headline.{IsCut, IsGenerated, IsListed, IsMigrated, IsPlayed, IsTried};
 ghost use Rattle.run_files.specs.Printed.{usage_line};
+ghost use Rattle.run_files.specs.Statuses.{IsOfRefusal};
 
 use crate::command::play;
 use host_io::Host;
@@ -26,7 +27,7 @@ use std::io::{Error, ErrorKind};
 /// Does the command that the arguments after the program's name are, and answers its status, with
 /// the clauses of [`play`]. Arguments that can't be had, since one is no text, are no command.
 pub fn program<H: Host>(alloc: Global, arguments: Result<Args, Error>, host: &mut H) -> u8
-    ensures statuses { result ≤ 8 }
+    ensures statuses { (result ≤ 8) ⊎ (result ≡ 10) }
 
     // 1 comes only where the arguments aren't a command, and there 1 or 8 comes.
     ensures usage { result ≡ 1 → call_of_arguments arguments ≡ None }
@@ -50,11 +51,11 @@ pub fn program<H: Host>(alloc: Global, arguments: Result<Args, Error>, host: &mu
         IsCut c (H.write_faults host.old) (H.write_faults host.new) (H.content host.old)
         (H.content host.new) }
 
-    ensures refused { 4 ≤ result → result ≤ 7 → (c : Call) → call_of_arguments arguments ≡ Some c →
+    ensures refused { IsOfRefusal result → (c : Call) → call_of_arguments arguments ≡ Some c →
         IsTrue (H.tells host.old) → IsSomeAnd (inputs c) (λ i.
         IsTurnedDown i result (H.write_faults host.old) (H.write_faults host.new)
         (H.content host.old) (H.content host.new)) }
-    ensures exact { (c : Call) (i : InputFiles) (why : Refusal) →
+    ensures exact { (c : Call) (i : ReadFiles) (why : Refusal) →
         call_of_arguments arguments ≡ Some c → inputs c ≡ Some i →
         IsTrue (H.tells host.old) → IsRefused i (H.content host.old) why →
         IsAnswered why result (H.write_faults host.old) (H.write_faults host.new)
@@ -75,6 +76,10 @@ pub fn program<H: Host>(alloc: Global, arguments: Result<Args, Error>, host: &mu
         IsTrue (H.tells host.old) → IsGenerated g (H.content host.new) }
     ensures tried { result ≡ 0 → (s : Sample) → call_of_arguments arguments ≡ Some (Tries s) →
         IsTrue (H.tells host.old) → IsTried s (H.content host.new) }
+    ensures migrated { result ≡ 0 → (m : MigrateFiles) →
+        call_of_arguments arguments ≡ Some (Migrates m) →
+        IsTrue (H.tells host.old) →
+        IsMigrated m (H.content host.old) (H.content host.new) }
     ensures complete { (c : Call) → call_of_arguments arguments ≡ Some c →
         IsTrue (H.tells host.old) →
         IfSome (inputs c) (λ i. AreTaken i (H.content host.old)) →

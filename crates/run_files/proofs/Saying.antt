@@ -16,15 +16,20 @@ use Rattle.pcap_io.specs.declared.fault.CaptureFault.TheVariants as fault
 use Rattle.pcap_io.specs.Text.{IsCapture}
 use Rattle.pcap_io.specs.Reading.{IsFault, Gives}
 use Rattle.packet_entry.specs.Numbers.{most_frames}
-use Rattle.run_files.specs.Numbers.{text_limit, capture_limit}
+use Rattle.histories.specs.declared.histories.Histories.{Histories}
+use Rattle.journal_reading.specs.declared.fault.JournalFault.{JournalFault}
+use Rattle.journal_reading.specs.declared.fault.JournalFault.TheVariants as journal
+use Rattle.journal_reading.specs.JournalFile.{Answers, IsFirstRefused, IsJournal, IsRefusedAt}
+use Rattle.journal_reading.specs.JournalFile.{version_of}
+use Rattle.run_files.specs.Numbers.{text_limit, capture_limit, journal_limit}
 use Rattle.run_files.specs.declared.refusal.Limit.{Limit}
 use Rattle.run_files.specs.declared.refusal.Limit.TheVariants as limit
 use Rattle.run_files.specs.declared.refusal.Refusal.{Refusal}
 use Rattle.run_files.specs.declared.refusal.Refusal.TheVariants as refusal
 use Rattle.run_files.specs.declared.stop.Stop.{Stop}
 use Rattle.run_files.specs.declared.stop.Stop.TheVariants as stop
-use Rattle.run_files.specs.Inputs.{Saying, RulesSay, ScriptSays, CaptureSays, Said}
-use Rattle.run_files.specs.Statuses.{IfStopRefuses, of_rules, of_script, of_capture}
+use Rattle.run_files.specs.Inputs.{Saying, RulesSay, ScriptSays, CaptureSays, JournalSays, Said}
+use Rattle.run_files.specs.Statuses.{IfStopRefuses, of_rules, of_script, of_capture, of_journal}
 
 -- ---- results that differ
 
@@ -78,6 +83,9 @@ rules_taken text taken small only stuck (Err (refusal.TooLarge limit.Script)) sa
 rules_taken text taken small only stuck (Err (refusal.TooLarge limit.Capture)) says = absurd says
 rules_taken text taken small only stuck (Err (refusal.TooLarge limit.Records)) says = absurd says
 rules_taken text taken small only stuck (Err (refusal.Script n)) says = absurd says
+rules_taken text taken small only stuck (Err (refusal.Journal n)) says = absurd says
+rules_taken text taken small only stuck (Err (refusal.TooLarge limit.Journal)) says =
+    absurd says
 rules_taken text taken small only stuck (Err (refusal.Capture f)) says = absurd says
 
 pub rules_refused : (text : List ℕ) (why : LineFault) → length text ≤ text_limit →
@@ -101,6 +109,9 @@ rules_refused text (line.Bad number) small only stuck (Err (refusal.TooLarge lim
 rules_refused text (line.Bad number) small only stuck (Err (refusal.TooLarge limit.Records)) says =
     absurd says
 rules_refused text (line.Bad number) small only stuck (Err (refusal.Script n)) says = absurd says
+rules_refused text (line.Bad number) small only stuck (Err (refusal.Journal n)) says = absurd says
+rules_refused text (line.Bad number) small only stuck (Err (refusal.TooLarge limit.Journal)) says =
+    absurd says
 rules_refused text (line.Bad number) small only stuck (Err (refusal.Capture f)) says = absurd says
 
 -- ---- scripts
@@ -119,6 +130,9 @@ script_taken text taken small only stuck (Err (refusal.TooLarge limit.Rules)) sa
 script_taken text taken small only stuck (Err (refusal.TooLarge limit.Capture)) says = absurd says
 script_taken text taken small only stuck (Err (refusal.TooLarge limit.Records)) says = absurd says
 script_taken text taken small only stuck (Err (refusal.Rules n)) says = absurd says
+script_taken text taken small only stuck (Err (refusal.Journal n)) says = absurd says
+script_taken text taken small only stuck (Err (refusal.TooLarge limit.Journal)) says =
+    absurd says
 script_taken text taken small only stuck (Err (refusal.Capture f)) says = absurd says
 
 pub script_refused : (text : List ℕ) (why : LineFault) → length text ≤ text_limit →
@@ -140,6 +154,9 @@ script_refused text (line.Bad number) small only stuck (Err (refusal.TooLarge li
 script_refused text (line.Bad number) small only stuck (Err (refusal.TooLarge limit.Records)) says =
     absurd says
 script_refused text (line.Bad number) small only stuck (Err (refusal.Rules n)) says = absurd says
+script_refused text (line.Bad number) small only stuck (Err (refusal.Journal n)) says = absurd says
+script_refused text (line.Bad number) small only stuck (Err (refusal.TooLarge limit.Journal)) says =
+    absurd says
 script_refused text (line.Bad number) small only stuck (Err (refusal.Capture f)) says = absurd says
 
 -- ---- captures
@@ -172,6 +189,9 @@ capture_taken text taken small few only exact (Err (refusal.TooLarge limit.Rules
 capture_taken text taken small few only exact (Err (refusal.TooLarge limit.Script)) says =
     absurd says
 capture_taken text taken small few only exact (Err (refusal.Rules n)) says = absurd says
+capture_taken text taken small few only exact (Err (refusal.Journal n)) says = absurd says
+capture_taken text taken small few only exact (Err (refusal.TooLarge limit.Journal)) says =
+    absurd says
 capture_taken text taken small few only exact (Err (refusal.Script n)) says = absurd says
 
 pub many_frames : (text : List ℕ) (taken : Capture) → length text ≤ capture_limit →
@@ -192,6 +212,9 @@ many_frames text taken small many only exact (Err (refusal.TooLarge limit.Rules)
 many_frames text taken small many only exact (Err (refusal.TooLarge limit.Script)) says =
     absurd says
 many_frames text taken small many only exact (Err (refusal.Rules n)) says = absurd says
+many_frames text taken small many only exact (Err (refusal.Journal n)) says = absurd says
+many_frames text taken small many only exact (Err (refusal.TooLarge limit.Journal)) says =
+    absurd says
 many_frames text taken small many only exact (Err (refusal.Script n)) says = absurd says
 
 -- a fault that was answered is the file's, and the file is no capture
@@ -212,6 +235,9 @@ fault_answered text why small only exact (Err (refusal.TooLarge limit.Records)) 
 fault_answered text why small only exact (Err (refusal.TooLarge limit.Rules)) says = absurd says
 fault_answered text why small only exact (Err (refusal.TooLarge limit.Script)) says = absurd says
 fault_answered text why small only exact (Err (refusal.Rules n)) says = absurd says
+fault_answered text why small only exact (Err (refusal.Journal n)) says = absurd says
+fault_answered text why small only exact (Err (refusal.TooLarge limit.Journal)) says =
+    absurd says
 fault_answered text why small only exact (Err (refusal.Script n)) says = absurd says
 
 pub capture_refused : (text : List ℕ) (why : CaptureFault) → length text ≤ capture_limit →
@@ -232,3 +258,50 @@ capture_refused text (fault.Cut frame at) small only exact said says =
     fault_answered text (fault.Cut frame at) small only exact said says
 capture_refused text (fault.TooLong frame length) small only exact said says =
     fault_answered text (fault.TooLong frame length) small only exact said says
+
+-- ---- journals
+
+pub journal_taken : (text : List ℕ) (taken : Histories) → length text ≤ journal_limit →
+    ((h : Histories) → IsJournal (version_of text) text h → Answers (Ok taken) h) →
+    ((line : ℕ) → IsFirstRefused (version_of text) text line → IsRefusedAt (Ok taken) line) →
+    (said : Result Histories Refusal) → JournalSays text said → said ≡ Ok taken
+journal_taken text taken small only stuck (Ok h) says = ap Ok (sym (only h says.1))
+journal_taken text taken small only stuck (Err (refusal.Journal n)) says =
+    absurd (stuck n says.1)
+journal_taken text taken small only stuck (Err (refusal.TooLarge limit.Journal)) says =
+    absurd (omega (arith, small, says))
+journal_taken text taken small only stuck (Err (refusal.TooLarge limit.Rules)) says = absurd says
+journal_taken text taken small only stuck (Err (refusal.TooLarge limit.Script)) says = absurd says
+journal_taken text taken small only stuck (Err (refusal.TooLarge limit.Capture)) says =
+    absurd says
+journal_taken text taken small only stuck (Err (refusal.TooLarge limit.Records)) says =
+    absurd says
+journal_taken text taken small only stuck (Err (refusal.Rules n)) says = absurd says
+journal_taken text taken small only stuck (Err (refusal.Script n)) says = absurd says
+journal_taken text taken small only stuck (Err (refusal.Capture f)) says = absurd says
+
+pub journal_refused : (text : List ℕ) (why : JournalFault) → length text ≤ journal_limit →
+    ((h : Histories) → IsJournal (version_of text) text h → Answers (Err why) h) →
+    ((line : ℕ) → IsFirstRefused (version_of text) text line → IsRefusedAt (Err why) line) →
+    (said : Result Histories Refusal) → JournalSays text said →
+    IfStopRefuses (of_journal why) (λ w. said ≡ Err w)
+journal_refused text journal.NoMemory small only stuck said says = tt
+journal_refused text (journal.Bad number) small only stuck (Ok h) says = absurd (only h says.1)
+journal_refused text (journal.Bad number) small only stuck (Err (refusal.Journal n)) says =
+    ap (λ (m : ℕ). Err (refusal.Journal m)) (sym (stuck n says.1))
+journal_refused text (journal.Bad number) small only stuck (Err (refusal.TooLarge limit.Journal))
+    says = absurd (omega (arith, small, says))
+journal_refused text (journal.Bad number) small only stuck (Err (refusal.TooLarge limit.Rules))
+    says = absurd says
+journal_refused text (journal.Bad number) small only stuck (Err (refusal.TooLarge limit.Script))
+    says = absurd says
+journal_refused text (journal.Bad number) small only stuck (Err (refusal.TooLarge limit.Capture))
+    says = absurd says
+journal_refused text (journal.Bad number) small only stuck (Err (refusal.TooLarge limit.Records))
+    says = absurd says
+journal_refused text (journal.Bad number) small only stuck (Err (refusal.Rules n)) says =
+    absurd says
+journal_refused text (journal.Bad number) small only stuck (Err (refusal.Script n)) says =
+    absurd says
+journal_refused text (journal.Bad number) small only stuck (Err (refusal.Capture f)) says =
+    absurd says

@@ -1,12 +1,13 @@
--- Why a command ends with its status, over the inputs in the order rules, script, capture.
+-- Why a command ends with its status: over the inputs in the order rules, script, capture, or over
+-- the one journal that is read.
 use Rattle.std.specs.Prelude.{◌≡◌, ◌⊎◌, ℕ, Ok, Err}
 use Rattle.hook_chain.specs.Rules.{RuleTables}
 use Rattle.inspector_script.specs.Scripts.{ScriptValue}
 use Rattle.pcap_io.specs.declared.capture.Capture.{Capture}
 use Rattle.host_io.specs.Host.{Rises}
 use Rattle.run_files.specs.declared.refusal.Refusal.{Refusal}
-use Rattle.command_line.specs.Arguments.{InputFiles}
-use Rattle.run_files.specs.Inputs.{RulesSay, ScriptSays, CaptureSays, Said, IsTaken}
+use Rattle.command_line.specs.Arguments.{InputFiles, ReadFiles, RunInputs, OneJournal}
+use Rattle.run_files.specs.Inputs.{RulesSay, ScriptSays, CaptureSays, JournalSays, Said, IsTaken}
 use Rattle.run_files.specs.Files.{Contents, Counts, IsPrinted}
 use Rattle.run_files.specs.Printed.{line_of}
 use Rattle.run_files.specs.Statuses.{status_of_refusal}
@@ -19,26 +20,32 @@ pub record AreRead (i : InputFiles) (old : Contents) (tables : RuleTables)
   pub capture_says : Said CaptureSays (old i.capture) (Ok capture)
 
 -- all three are there, within their limits and in their grammars
-pub record AreTaken (i : InputFiles) (old : Contents) : Type 0 where
+pub record AreAllTaken (i : InputFiles) (old : Contents) : Type 0 where
   pub rules : IsTaken RulesSay (old i.rules)
   pub script : IsTaken ScriptSays (old i.script)
   pub capture : IsTaken CaptureSays (old i.capture)
 
--- the first input that isn't, and why it is refused
-abbrev pub IsRefused : InputFiles → Contents → Refusal → Type 0
-IsRefused i old why =
+abbrev pub AreTaken : ReadFiles → Contents → Type 0
+AreTaken (RunInputs i) old = AreAllTaken i old
+AreTaken (OneJournal name) old = IsTaken JournalSays (old name)
+
+-- the first file that isn't, and why it is refused
+abbrev pub IsRefused : ReadFiles → Contents → Refusal → Type 0
+IsRefused (RunInputs i) old why =
     Said RulesSay (old i.rules) (Err why)
     ⊎ (IsTaken RulesSay (old i.rules) × Said ScriptSays (old i.script) (Err why))
     ⊎ (IsTaken RulesSay (old i.rules) × IsTaken ScriptSays (old i.script)
     × Said CaptureSays (old i.capture) (Err why))
+IsRefused (OneJournal name) old why = Said JournalSays (old name) (Err why)
 
 -- The reading stopped at a file whose count of read faults rose, and those before it are taken.
-abbrev pub IsUnread : InputFiles → Counts → Counts → Contents → Type 0
-IsUnread i old_count new_count old =
+abbrev pub IsUnread : ReadFiles → Counts → Counts → Contents → Type 0
+IsUnread (RunInputs i) old_count new_count old =
     Rises (old_count i.rules) (new_count i.rules)
     ⊎ (IsTaken RulesSay (old i.rules) × Rises (old_count i.script) (new_count i.script))
     ⊎ (IsTaken RulesSay (old i.rules) × IsTaken ScriptSays (old i.script)
     × Rises (old_count i.capture) (new_count i.capture))
+IsUnread (OneJournal name) old_count new_count old = Rises (old_count name) (new_count name)
 
 -- a refusal is answered: with its status, and its line is printed
 pub record IsAnswered (why : Refusal) (status : ℕ) (old_count new_count : Counts)
@@ -47,7 +54,7 @@ pub record IsAnswered (why : Refusal) (status : ℕ) (old_count new_count : Coun
   pub printed : IsPrinted (line_of why) old_count new_count new
 
 -- an input was refused, which was answered
-pub record IsTurnedDown (i : InputFiles) (status : ℕ) (old_count new_count : Counts)
+pub record IsTurnedDown (i : ReadFiles) (status : ℕ) (old_count new_count : Counts)
     (old new : Contents) : Type 0 where
   pub why : Refusal
   pub refused : IsRefused i old why

@@ -1,7 +1,7 @@
 -- What the files of a command hold, and how many faults each has had, as a host tells it.
 use Rattle.std.specs.Prelude.{◌≡◌, ◌≢◌, ◌⊎◌, ℕ, ⊤, List, [], ◌∷◌, map, Option, Some}
 use Rattle.host_io.specs.Host.{Rises}
-use Rattle.command_line.specs.Arguments.{InputFiles, standard_output}
+use Rattle.command_line.specs.Arguments.{ReadFiles, RunInputs, OneJournal, standard_output}
 
 -- what each name holds
 abbrev pub Contents : Type 0
@@ -11,11 +11,12 @@ Contents = List ℕ → Option (List ℕ)
 abbrev pub Counts : Type 0
 Counts = List ℕ → ℕ
 
--- the count of read faults of one of the inputs rose
-abbrev pub ReadFaultRose : InputFiles → Counts → Counts → Type 0
-ReadFaultRose i old new =
+-- the count of read faults of one of the files that are read rose
+abbrev pub ReadFaultRose : ReadFiles → Counts → Counts → Type 0
+ReadFaultRose (RunInputs i) old new =
     Rises (old i.rules) (new i.rules) ⊎ Rises (old i.script) (new i.script)
     ⊎ Rises (old i.capture) (new i.capture)
+ReadFaultRose (OneJournal name) old new = Rises (old name) (new name)
 
 -- the count of write faults of one of these names rose
 abbrev pub WriteFaultRose : List (List ℕ) → Counts → Counts → Type 0

@@ -8,7 +8,10 @@ use Rattle.pcap_io.specs.declared.capture.Capture.{Capture}
 use Rattle.pcap_io.specs.Text.{IsCapture}
 use Rattle.pcap_io.specs.Reading.{IsFault}
 use Rattle.packet_entry.specs.Numbers.{most_frames}
-use Rattle.run_files.specs.Numbers.{text_limit, capture_limit}
+use Rattle.histories.specs.declared.histories.Histories.{Histories}
+use Rattle.journal_reading.specs.JournalFile.{IsJournal, version_of}
+use Rattle.journal_reading.specs.JournalFile as journal
+use Rattle.run_files.specs.Numbers.{text_limit, capture_limit, journal_limit}
 use Rattle.run_files.specs.declared.refusal.Limit.TheVariants as limit
 use Rattle.run_files.specs.declared.refusal.Refusal.{Refusal}
 use Rattle.run_files.specs.declared.refusal.Refusal.TheVariants as refusal
@@ -50,6 +53,15 @@ CaptureSays text (Err (refusal.TooLarge limit.Capture)) = capture_limit < length
 CaptureSays text (Err (refusal.TooLarge limit.Records)) =
     (length text ≤ capture_limit) × HasManyFrames text
 CaptureSays text (Err other) = ⊥
+
+-- a journal, of at most 536,870,912 bytes, of the version that its first line names: its histories,
+-- or the first line that may not stand or that is missing at the end
+abbrev pub JournalSays : Saying Histories
+JournalSays text (Ok h) = (length text ≤ journal_limit) × IsJournal (version_of text) text h
+JournalSays text (Err (refusal.Journal line)) =
+    (length text ≤ journal_limit) × journal.IsFirstRefused (version_of text) text line
+JournalSays text (Err (refusal.TooLarge limit.Journal)) = journal_limit < length text
+JournalSays text (Err other) = ⊥
 
 -- the file is there, and says this
 abbrev pub Said : {V : Type 0} → Saying V → Option (List ℕ) → Result V Refusal → Type 0

@@ -8,3 +8,7 @@ text_limit = 1048576
 
 abbrev pub capture_limit : ℕ
 capture_limit = 67108864
+
+-- the most bytes of a journal that is read
+abbrev pub journal_limit : ℕ
+journal_limit = 536870912

@@ -15,7 +15,8 @@ usage_line =
     ++ codes " | live RULES SCRIPT IN OUT LEDGER JOURNAL PLACES"
     ++ codes " | list RULES SCRIPT IN OUT"
     ++ codes " | gen NUMBER COUNT RULES SCRIPT IN"
-    ++ codes " | trial NUMBER COUNT\n"
+    ++ codes " | trial NUMBER COUNT"
+    ++ codes " | migrate OLD NEW\n"
 
 -- what is wrong with a capture; no file's fault is that memory ran out
 abbrev pub fault_text : CaptureFault → List ℕ
@@ -35,9 +36,11 @@ limit_text limit.Rules = codes "rules"
 limit_text limit.Script = codes "script"
 limit_text limit.Capture = codes "capture"
 limit_text limit.Records = codes "records"
+limit_text limit.Journal = codes "journal"
 
 abbrev pub line_of : Refusal → List ℕ
 line_of (refusal.Capture fault) = codes "capture refused: " ++ fault_text fault ++ codes "\n"
 line_of (refusal.Rules number) = codes "rules refused: line " ++ decimal number ++ codes "\n"
 line_of (refusal.Script number) = codes "script refused: line " ++ decimal number ++ codes "\n"
+line_of (refusal.Journal number) = codes "journal refused: line " ++ decimal number ++ codes "\n"
 line_of (refusal.TooLarge limit) = codes "too large: " ++ limit_text limit ++ codes "\n"

@@ -1,11 +1,13 @@
 -- Why a command stops, its status, and what a call that stopped tells.
-use Rattle.std.specs.Prelude.{◌≡◌, ℕ, Result, Ok, Err}
+use Rattle.std.specs.Prelude.{◌≡◌, ◌≤◌, ◌⊎◌, ℕ, Result, Ok, Err}
 use Rattle.host_io.specs.declared.whole.ReadStop.{ReadStop}
 use Rattle.host_io.specs.declared.whole.ReadStop.TheVariants as read
 use Rattle.text_lines.specs.declared.fault.LineFault.{LineFault}
 use Rattle.text_lines.specs.declared.fault.LineFault.TheVariants as line
 use Rattle.pcap_io.specs.declared.fault.CaptureFault.{CaptureFault}
 use Rattle.pcap_io.specs.declared.fault.CaptureFault.TheVariants as capture
+use Rattle.journal_reading.specs.declared.fault.JournalFault.{JournalFault}
+use Rattle.journal_reading.specs.declared.fault.JournalFault.TheVariants as journal
 use Rattle.run_files.specs.declared.refusal.Limit.{Limit}
 use Rattle.run_files.specs.declared.refusal.Refusal.{Refusal}
 use Rattle.run_files.specs.declared.refusal.Refusal.TheVariants as refusal
@@ -28,6 +30,10 @@ abbrev pub of_script : LineFault → Stop
 of_script (line.Bad number) = stop.Refused (refusal.Script number)
 of_script line.NoMemory = stop.NoMemory
 
+abbrev pub of_journal : JournalFault → Stop
+of_journal (journal.Bad number) = stop.Refused (refusal.Journal number)
+of_journal journal.NoMemory = stop.NoMemory
+
 abbrev pub of_capture : CaptureFault → Stop
 of_capture capture.NoMemory = stop.NoMemory
 of_capture fault = stop.Refused (refusal.Capture fault)
@@ -39,6 +45,11 @@ status_of_refusal (refusal.Capture fault) = 4
 status_of_refusal (refusal.Rules number) = 5
 status_of_refusal (refusal.Script number) = 6
 status_of_refusal (refusal.TooLarge limit) = 7
+status_of_refusal (refusal.Journal number) = 10
+
+-- the statuses of refused inputs
+abbrev pub IsOfRefusal : ℕ → Type 0
+IsOfRefusal status = ((4 ≤ status) × (status ≤ 7)) ⊎ (status ≡ 10)
 
 abbrev pub status_of : Stop → ℕ
 status_of stop.ReadFault = 2

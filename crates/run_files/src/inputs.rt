@@ -12,7 +12,7 @@ ghost use Rattle.packet_entry.specs.Numbers.{most_frames};
 ghost use Rattle.run_files.specs.declared.refusal.Refusal.{Refusal as ARefusal};
 ghost use Rattle.run_files.specs.declared.refusal.Refusal.TheVariants as refusal;
 ghost use Rattle.run_files.specs.Numbers.{capture_limit};
-ghost use Rattle.command_line.specs.Arguments.{inputs_of};
+ghost use Rattle.command_line.specs.Arguments.{inputs_of, RunInputs};
 ghost use Rattle.run_files.specs.Causes.{AreRead, AreTaken, IsRefused, IsUnread};
 ghost use Rattle.run_files.specs.Files.{ReadFaultRose};
 ghost use Rattle.run_files.specs.Inputs.{RulesSay, ScriptSays, CaptureSays, Said};
@@ -53,15 +53,15 @@ pub fn read_inputs<H: Host>(alloc: Global, inputs: &Inputs<'_>, host: &mut H) ->
     ensures frames { IfOk result (λ m. length m.capture.frames ≤ most_frames) }
     ensures held { IfOk result (λ m. IsHeld m.capture) }
     ensures refused { IfRefused result (λ why. IsTrue (H.tells host.old) →
-        IsRefused (inputs_of inputs.now) (H.content host.old) why) }
+        IsRefused (RunInputs (inputs_of inputs.now)) (H.content host.old) why) }
     ensures exact { (why : ARefusal) → IsTrue (H.tells host.old) →
-        IsRefused (inputs_of inputs.now) (H.content host.old) why → Agrees result (Err why) }
+        IsRefused (RunInputs (inputs_of inputs.now)) (H.content host.old) why → Agrees result (Err why) }
     ensures only { IsTrue (H.tells host.old) →
-        AreTaken (inputs_of inputs.now) (H.content host.old) → IfRefused result (λ _. ⊥) }
-    ensures read_fault { IsErrOf result Stop.ReadFault → ReadFaultRose (inputs_of inputs.now)
+        AreTaken (RunInputs (inputs_of inputs.now)) (H.content host.old) → IfRefused result (λ _. ⊥) }
+    ensures read_fault { IsErrOf result Stop.ReadFault → ReadFaultRose (RunInputs (inputs_of inputs.now))
         (H.read_faults host.old) (H.read_faults host.new) }
     ensures unread { IsErrOf result Stop.ReadFault → IsTrue (H.tells host.old) →
-        IsUnread (inputs_of inputs.now)
+        IsUnread (RunInputs (inputs_of inputs.now))
         (H.read_faults host.old) (H.read_faults host.new) (H.content host.old) }
     ensures no_write { IsErrOf result Stop.WriteFault → ⊥ }
     ensures files { SameFiles (H.content host.old) (H.content host.new) }
@@ -78,7 +78,7 @@ pub fn read_inputs<H: Host>(alloc: Global, inputs: &Inputs<'_>, host: &mut H) ->
 }
 
 /// Reads a file whole, where it is within its limit.
-fn read_file<H: Host>(
+pub(crate) fn read_file<H: Host>(
     alloc: Global,
     name: &str,
     host: &mut H,

@@ -3,6 +3,7 @@
 //!
 //! [`read_inputs`] answers what a run is made from, or a [`Stop`]: why the command ends before its
 //! end, with its exit status ([`status`]). A [`Refusal`] has the line that is printed of it.
+//! [`read_journal_file`] answers the histories that a journal of either version tells.
 //! [`outputs_of`] takes all memory that the writing of the outputs wants, so that none is taken once
 //! a file has been opened.
 #![tactic(auto)]
@@ -10,6 +11,7 @@
 mod capture_file;
 mod inputs;
 mod journal_file;
+mod old_journal;
 mod outputs;
 mod part_writing;
 mod printing;
@@ -20,6 +22,7 @@ mod stop;
 pub use capture_file::CaptureFile;
 pub use inputs::{Made, read_inputs};
 pub use journal_file::JournalFile;
+pub use old_journal::read_journal_file;
 pub use outputs::{Outputs, outputs_of};
 pub use printing::{STANDARD_OUTPUT, print, print_usage};
 pub use refusal::{Limit, Refusal};

@@ -14,7 +14,7 @@ pub const STANDARD_OUTPUT: &str = "-";
 /// All commands with their arguments, and `live`, which is to come.
 const USAGE_LINE: &str = "usage: play RULES SCRIPT IN OUT LEDGER JOURNAL \
     | live RULES SCRIPT IN OUT LEDGER JOURNAL PLACES | list RULES SCRIPT IN OUT \
-    | gen NUMBER COUNT RULES SCRIPT IN | trial NUMBER COUNT\n";
+    | gen NUMBER COUNT RULES SCRIPT IN | trial NUMBER COUNT | migrate OLD NEW\n";
 
 /// Prints a line. That it can't be printed changes no status, and so nothing is answered.
 pub fn print<H: Host>(host: &mut H, line: &str)

@@ -20,6 +20,8 @@ pub enum Limit {
     Capture,
     /// The capture's 200,000 frames.
     Records,
+    /// The 536,870,912 bytes of a journal.
+    Journal,
 }
 
 /// Why an input is refused.
@@ -31,6 +33,8 @@ pub enum Refusal {
     Rules { number: u32 },
     /// The first line of the script that may not stand, or that is missing at its end, from 1.
     Script { number: u32 },
+    /// The first line of the journal that may not stand, or that is missing at its end, from 1.
+    Journal { number: u32 },
     /// What is above its limit.
     TooLarge { limit: Limit },
 }
@@ -44,6 +48,7 @@ impl Refusal {
             Refusal::Capture { fault: _ } => status::BAD_CAPTURE,
             Refusal::Rules { number: _ } => status::BAD_RULES,
             Refusal::Script { number: _ } => status::BAD_SCRIPT,
+            Refusal::Journal { number: _ } => status::BAD_JOURNAL,
             Refusal::TooLarge { limit: _ } => status::TOO_LARGE,
         }
     }
@@ -61,6 +66,7 @@ impl Refusal {
             }
             Refusal::Rules { number } => writeln!(line, "rules refused: line {number}")?,
             Refusal::Script { number } => writeln!(line, "script refused: line {number}")?,
+            Refusal::Journal { number } => writeln!(line, "journal refused: line {number}")?,
             Refusal::TooLarge { limit } => writeln!(line, "too large: {}", limit.name())?,
         }
         Ok(line)
@@ -77,6 +83,7 @@ impl Limit {
             Limit::Script => "script",
             Limit::Capture => "capture",
             Limit::Records => "records",
+            Limit::Journal => "journal",
         }
     }
 }

@@ -26,3 +26,6 @@ pub const TOO_LARGE: u8 = 7;
 
 /// Out of memory.
 pub const NO_MEMORY: u8 = 8;
+
+/// The journal that is read is refused.
+pub const BAD_JOURNAL: u8 = 10;

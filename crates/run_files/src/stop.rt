@@ -8,6 +8,7 @@ ghost use Rattle.run_files.specs.declared.stop.Stop.TheVariants as stop;
 use crate::refusal::{Limit, Refusal};
 use crate::status;
 use host_io::{ReadStop, WriteFault};
+use journal_reading::JournalFault;
 use packet_entry::NoMemory;
 use pcap_io::CaptureFault;
 use std::alloc::AllocError;
@@ -79,6 +80,18 @@ impl Stop {
                 why: Refusal::Script { number: line },
             },
             LineFault::NoMemory => Stop::NoMemory,
+        }
+    }
+
+    /// Of a journal that isn't taken.
+    pub fn of_journal(fault: JournalFault) -> Stop
+        ensures { result ≡ statuses.of_journal fault }
+    {
+        match fault {
+            JournalFault::Bad { line } => Stop::Refused {
+                why: Refusal::Journal { number: line },
+            },
+            JournalFault::NoMemory => Stop::NoMemory,
         }
     }
 

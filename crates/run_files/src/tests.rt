@@ -183,7 +183,7 @@ fn a_capture_of_two_parts_is_written(rt: HostRuntime) -> Result<(), Fail> {
 fn the_usage_is_printed(rt: HostRuntime) -> Result<(), Fail> {
     const USAGE: &str = "usage: play RULES SCRIPT IN OUT LEDGER JOURNAL | live RULES SCRIPT IN OUT \
         LEDGER JOURNAL PLACES | list RULES SCRIPT IN OUT | gen NUMBER COUNT RULES SCRIPT IN | \
-        trial NUMBER COUNT\n";
+        trial NUMBER COUNT | migrate OLD NEW\n";
     let alloc = rt.alloc();
     let mut host = MemoryHost::new(alloc);
     host.room(alloc, "-", 200)?;

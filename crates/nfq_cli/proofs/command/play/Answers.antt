@@ -1,7 +1,8 @@
-use Rattle.std.proofs.Common.{◌≤◌, ap, subst, sym, Err, ◌∙◌, Option}
+use Rattle.std.proofs.Common.{ap, subst, sym, Err, ◌∙◌, Option}
 use Rattle.std.specs.Prelude.{IsSomeAnd}
-use Rattle.command_line.specs.Arguments.{Call, call_of, InputFiles, inputs}
+use Rattle.command_line.specs.Arguments.{Call, call_of, ReadFiles, inputs}
 use Rattle.run_files.specs.Causes.{IsTurnedDown, IsUnread}
+use Rattle.run_files.specs.Statuses.{IsOfRefusal}
 use Rattle.nfq_cli.specs.Headline.{IsCut, IsDone}
 use Rattle.nfq_cli.proofs.Endings.{answered, is_write_fault, once_told, same_call, turned_down}
 use Rattle.nfq_cli.proofs.command.play.Goals as goal
@@ -35,6 +36,12 @@ returns-in-Ok-clause-tried g c = λ is_0 f is_f t.
     subst (λ (k : Call). IsDone k (g.H.Host.content c.args.host.now)
     (g.H.Host.content c.carry_out.new.host)) same (c.in-Ok.ensures.ended.done t)
 
+pub returns-in-Ok-clause-migrated : goal.returns-in-Ok-clause-migrated
+returns-in-Ok-clause-migrated g c = λ is_0 m is_m t.
+    let same = same_call _ _ _ is_m c.in-Some.ensures.call in
+    subst (λ (k : Call). IsDone k (g.H.Host.content c.args.host.now)
+    (g.H.Host.content c.carry_out.new.host)) same (c.in-Ok.ensures.ended.done t)
+
 pub returns-in-Err-clause-cut_short : goal.returns-in-Err-clause-cut_short
 returns-in-Err-clause-cut_short g c = λ is_3 k is_k t.
     let same = same_call _ k _ is_k c.in-Some.ensures.call in
@@ -44,12 +51,12 @@ returns-in-Err-clause-cut_short g c = λ is_3 k is_k t.
     (g.H.Host.content c.carry_out.new.host)) same (c.in-Err.ensures.ended.cut_short (ap Err is) t)
 
 pub returns-in-Err-clause-refused : goal.returns-in-Err-clause-refused
-returns-in-Err-clause-refused g c = λ least most k is_k t.
+returns-in-Err-clause-refused g c = λ of k is_k t.
     let same = same_call _ k _ is_k c.in-Some.ensures.call in
     let down = turned_down (inputs (call_of c.in-Some.command)) c.in-Err.stop
     (g.H.Host.write_faults c.args.host.now) (g.H.Host.write_faults c.carry_out.new.host)
     (g.H.Host.content c.args.host.now) (g.H.Host.content c.carry_out.new.host)
-    (subst (λ n. 4 ≤ n) c.status.ensures least) (subst (λ n. n ≤ 7) c.status.ensures most)
+    (subst IsOfRefusal c.status.ensures of)
     (once_told c.in-Err.stop _ _ c.in-Err.ensures.ended.refused t)
     (once_told c.in-Err.stop _ _ c.in-Err.ensures.printed t) in
     subst (λ (k : Call). IsSomeAnd (inputs k) (λ i. IsTurnedDown i c.status.result
@@ -68,7 +75,7 @@ returns-in-Err-clause-exact g c = λ k i why is_k is_i t refused.
     (g.H.Host.read_faults c.carry_out.new.host) (g.H.Host.content c.args.host.now))
     (c.in-Err.ensures.ended.exact i why there t refused)
     (once_told c.in-Err.stop _ _ c.in-Err.ensures.printed t)
-    (λ is. subst (λ (o : Option InputFiles). IsSomeAnd o (λ j. IsUnread j
+    (λ is. subst (λ (o : Option ReadFiles). IsSomeAnd o (λ j. IsUnread j
     (g.H.Host.read_faults c.args.host.now)
     (g.H.Host.read_faults c.carry_out.new.host) (g.H.Host.content c.args.host.now))) there
     (c.in-Err.ensures.ended.unread (ap Err is) t)))

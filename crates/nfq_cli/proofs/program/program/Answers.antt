@@ -4,7 +4,7 @@ use Rattle.std.specs.Prelude.{IsOkAnd}
 use Rattle.std.specs.Vec.Iter.{into_iter_items}
 use Rattle.std.specs.declared.vec.IntoIter.{IntoIter}
 use Rattle.command_line.specs.Arguments.{Call, call_of_arguments, call_of_words, Generates}
-use Rattle.command_line.specs.Arguments.{Lists, Plays, Tries}
+use Rattle.command_line.specs.Arguments.{Lists, Migrates, Plays, Tries}
 use Rattle.nfq_cli.proofs.program.program.Goals as goal
 
 -- words that are the arguments after the program's name are the command that the arguments are
@@ -52,8 +52,8 @@ returns-in-Ok-clause-cut_short g c = λ is_3 k is t.
     ∙ same_command c.args.arguments c.in-Ok.words.items (Some k) c.in-Ok.ensures.ok is) t
 
 pub returns-in-Ok-clause-refused : goal.returns-in-Ok-clause-refused
-returns-in-Ok-clause-refused g c = λ least most k is t.
-    c.play.ensures.refused least most k (ap call_of_words c.deref.ensures.value
+returns-in-Ok-clause-refused g c = λ of k is t.
+    c.play.ensures.refused of k (ap call_of_words c.deref.ensures.value
     ∙ same_command c.args.arguments c.in-Ok.words.items (Some k) c.in-Ok.ensures.ok is) t
 
 pub returns-in-Ok-clause-played : goal.returns-in-Ok-clause-played
@@ -76,6 +76,12 @@ pub returns-in-Ok-clause-tried : goal.returns-in-Ok-clause-tried
 returns-in-Ok-clause-tried g c = λ is_0 f is t.
     c.play.ensures.tried is_0 f (ap call_of_words c.deref.ensures.value
     ∙ same_command c.args.arguments c.in-Ok.words.items (Some (Tries f)) c.in-Ok.ensures.ok is) t
+
+pub returns-in-Ok-clause-migrated : goal.returns-in-Ok-clause-migrated
+returns-in-Ok-clause-migrated g c = λ is_0 m is t.
+    c.play.ensures.migrated is_0 m (ap call_of_words c.deref.ensures.value
+    ∙ same_command c.args.arguments c.in-Ok.words.items (Some (Migrates m))
+    c.in-Ok.ensures.ok is) t
 
 pub returns-in-Ok-clause-complete : goal.returns-in-Ok-clause-complete
 returns-in-Ok-clause-complete g c = λ k is t taken.
