@@ -4,7 +4,7 @@ use Rattle.std.specs.Prelude.{◌≡◌, ◌≢◌, ℕ, ◌≤◌, ◌&&◌, na
 use Rattle.std.specs.Prelude.{[], ◌∷◌, ◌++◌, All, AllPairs, Option, Some, None, IfSome, map, ⊤}
 use Rattle.std.specs.Prelude.{codes}
 use Rattle.std.specs.Prelude.{option_map, option_to_list, Result, Ok, Err, if◌then◌else◌, ◌==◌}
-use Rattle.std.specs.Prelude.{◌+◌, ◌⊎◌, ◌×◌, filter, length}
+use Rattle.std.specs.Prelude.{◌+◌, ◌⊎◌, filter, length}
 use Rattle.std.specs.List.{list_any}
 use Rattle.std.specs.Str.{bytes_eq}
 use Rattle.std.specs.BTreeSet.{contains}
@@ -38,7 +38,7 @@ pub record IsJournal (v : Version) (bytes : List ℕ) (h : Histories) : Type 0 w
 -- the version that a text's first line names; version 1 where it names neither
 abbrev pub named_by : Option (List ℕ × List ℕ) → Version
 named_by None = version.First
-named_by (Some (line, later)) = if bytes_eq line (text.title Second) then version.Second else version.First
+named_by (Some (line, later)) = if bytes_eq line (text.title version.Second) then version.Second else version.First
 
 abbrev pub version_of : List ℕ → Version
 version_of bytes = named_by (cut_at (byte "\n") bytes)
