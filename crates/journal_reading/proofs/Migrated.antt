@@ -1,7 +1,7 @@
 -- What version 1 tells in full, version 2 does too; and the first line of a journal.
-use Rattle.std.proofs.Common.{◌≡◌, ◌<◌, ◌^◌, ◌∙◌, ℕ, List, [], ◌∷◌, Option, Some, None, refl, sym, ap}
+use Rattle.std.proofs.Common.{◌≡◌, ◌∙◌, ℕ, List, Option, None, refl, sym, ap}
 use Rattle.std.proofs.Common.{subst, arith}
-use Rattle.std.specs.Prelude.{All, IfSome}
+use Rattle.std.specs.Prelude.{IfSome}
 use Rattle.packet_entry.specs.declared.packet.Card.{Card}
 use Rattle.nfqa_headers.specs.declared.verdict_header.Head.{Head}
 use Rattle.nfqa_msgs.specs.declared.request.Request.{Request}
@@ -18,7 +18,7 @@ use Rattle.histories.specs.declared.histories.Histories.{Histories}
 use Rattle.journals.specs.declared.version.Version.{Version}
 use Rattle.journals.specs.declared.version.Version.TheVariants.{First, Second}
 use Rattle.journals.specs.Format.{journal_in}
-use Rattle.journals.specs.Formed.{FitsAsk, FitsCard, FitsDid, FitsNewPriority, FitsPriority}
+use Rattle.journals.specs.Formed.{FitsAsk, FitsCard, FitsDid}
 use Rattle.journals.specs.Formed.{FitsRequest, FitsVerdict, IsEntry, IsEventAt, IsLog, IsWide}
 use Rattle.journals.specs.Formed.{IsWellFormedIn}
 use Rattle.journal_reading.specs.JournalFile.{IsJournal, version_of}
@@ -95,16 +95,16 @@ did_fits Closed fits = fits
 log_fits : (l : PortLog) → IsLog First l → IsLog Second l
 log_fits l is = record {
   port = is.port;
-  dids = λ k d at. did_fits d (is.dids k d at);
+  dids = λ k d within. did_fits _ (is.dids k d within);
   closed_last = is.closed_last;
 }
 
 well_formed : (h : Histories) → IsWellFormedIn First h → IsWellFormedIn Second h
 well_formed h is = record {
   nothing_lost = is.nothing_lost;
-  entries = λ k e at. entry_fits e (is.entries k e at);
+  entries = λ k d within. entry_fits _ (is.entries k d within);
   queues_ascend = is.queues_ascend;
-  logs = λ k l at. log_fits l (is.logs k l at);
+  logs = λ k d within. log_fits _ (is.logs k d within);
   ports_differ = is.ports_differ;
 }
 
