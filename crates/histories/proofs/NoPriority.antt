@@ -225,9 +225,10 @@ shares : (b : Bound) (head : Head) (mark priority : Option ℕ) (ws : List (ℕ 
     AllPlain b.waiting → priority ≡ None → AllPlain ws →
     StepsPlain (shared_out b head mark priority ws)
 shares b head mark priority [] all none taken = (all, tt)
-shares b head mark priority (w ∷ ws) all none taken =
-    (dropped (length (w ∷ ws)) b.waiting all,
-    all_edited head (batch_edit mark priority) none (w ∷ ws) taken)
+shares b head mark priority (w ∷ ws) all none taken = (
+  dropped (length (w ∷ ws)) b.waiting all,
+  all_edited head (batch_edit mark priority) none (w ∷ ws) taken,
+)
 
 batched : (r : Ruling) (o : Option Bound) (mark priority : Option ℕ) → StandsPlain o →
     priority ≡ None → RulesPlain r → StepsPlain (batch_under r o mark priority)

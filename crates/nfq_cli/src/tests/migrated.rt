@@ -65,7 +65,12 @@ fn journals_are_migrated_or_refused(rt: HostRuntime) -> Result<(), Fail> {
     let rows: [Row; 7] = [
         (OLD_JOURNAL, 0, Some(JOURNAL), None),
         (JOURNAL, 0, Some(JOURNAL), None),
-        ("nfq-journal 1\nend\n", 0, Some("nfq-journal 2\nend\n"), None),
+        (
+            "nfq-journal 1\nend\n",
+            0,
+            Some("nfq-journal 2\nend\n"),
+            None,
+        ),
         ("nfq-journal 3\n", 10, None, REFUSED),
         ("", 10, None, REFUSED),
         ("nfq-journal 2", 10, None, REFUSED),
