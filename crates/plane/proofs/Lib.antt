@@ -1,0 +1,9 @@
+mod Carrying
+mod CountedRows
+mod Counting
+mod Known
+mod Labels
+mod Passing
+mod Requested
+mod Results
+mod Stepping

@@ -23,7 +23,7 @@ use hook_chain::{Decision, Next, onward};
 use locked_place::{Gate, Placed};
 use packet_entry::{Packet, Stock};
 use packet_moves::{Fed, Setting};
-use queue_core::{NoRoom, Outcome};
+use queue_core::{NoRoom, Outcome, an_arrival_leaves_as_its_outcome_says};
 use std::alloc::Global;
 use std::sync::Wait;
 
@@ -104,6 +104,7 @@ pub(crate) fn attempt<R: Wait, G: Gate>(
             table,
         } => {
             packet.queued(table);
+            an_arrival_leaves_as_its_outcome_says();
             let placed = passes.arrive(plane, rt, alloc, gate, queue, bypass, packet)?;
             Ok(stands(&plane.setting, placed))
         }

@@ -11,9 +11,10 @@ ghost use Rattle.plane.specs.Trails.{Trail, MayLook};
 ghost use Rattle.plane.specs.Moving.{IsFed};
 ghost use Rattle.plane.specs.Messages.{Sends};
 
+use histories::each_front_of_a_legal_history_is_legal;
 use packet_moves::{histories_stay_sound, what_goes_on_is_in_time};
 use place_rows::rows_stay_balanced;
-use queue_core::{each_packet_stays_or_leaves, what_is_flushed_is_destroyed};
+use queue_core::what_is_flushed_is_destroyed;
 
 /// Passes stay balanced, call by call.
 pub fn passes_stay_balanced()
@@ -29,9 +30,9 @@ pub fn passes_stay_balanced()
     ensures looked { (s : Setting) (entered : List Card) (old new : Trail) → MayLook old new →
         IsBalanced s entered old.known old.lost → IsBalanced s entered new.known new.lost }
 {
-    each_packet_stays_or_leaves();
     what_is_flushed_is_destroyed();
     what_goes_on_is_in_time();
+    each_front_of_a_legal_history_is_legal();
     histories_stay_sound();
     rows_stay_balanced();
 }

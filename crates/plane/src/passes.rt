@@ -22,7 +22,7 @@ use locked_place::{Gate, LockedPlace, Outlets, Placed};
 use nfqa_msgs::Request;
 use packet_entry::{NoMemory, Packet, Stock};
 use place_rows::own_entries_grow_by_each_turn;
-use queue_core::{Handed, NoRoom};
+use queue_core::{Handed, NoRoom, replies_tell_how_many_left};
 use std::alloc::Global;
 use std::collections::BTreeMap;
 use std::marker::Model;
@@ -198,13 +198,16 @@ fn arrive_at<R: Wait, G: Gate>(
     ensures err { OnErr result (LooksOn (view_of pass.old) (view_of pass.new)) }
 {
     own_entries_grow_by_each_turn();
-    let placed = locked_place::arrive(
+    replies_tell_how_many_left();
+    match locked_place::arrive(
         rt, alloc, gate, lock, pass, outlets, place, queue, bypass, packet,
-    );
-    if let Ok(Placed::Waiting { port }) = &placed {
-        count(sent, *port);
+    )? {
+        Placed::Waiting { port } => {
+            count(sent, port);
+            Ok(Placed::Waiting { port })
+        }
+        Placed::Back { outcome, packet } => Ok(Placed::Back { outcome, packet }),
     }
-    placed
 }
 
 /// One notice more was put into a port's mailbox.
