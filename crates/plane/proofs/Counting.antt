@@ -35,7 +35,9 @@ use Rattle.locked_place.specs.declared.arrivals.Placed.TheVariants as spot
 use Rattle.locked_place.specs.Notices.{letters_under, letters_at, letters_of_event}
 use Rattle.locked_place.specs.Notices.{letters_of_reply, letters_of_outcome}
 use Rattle.locked_place.specs.Points.{Point, points, points_after, point_after}
-use Rattle.locked_place.specs.Turns.{IsTurn, ArrivesIn, LooksOn, PlacesAs, IsPosted}
+use Rattle.hook_chain.specs.declared.chain.Decision.{Decision}
+use Rattle.locked_place.specs.Turns.{IsTurn, ArrivesIn, AsksIn, ClosesIn, GoesDownIn, LooksOn}
+use Rattle.locked_place.specs.Turns.{PlacesAs, IsPosted}
 use Rattle.locked_place.specs.Views.{PlaceLabel, label_of, port_of}
 use Rattle.place_rows.specs.Rows.{Known, IsTurnAt}
 use Rattle.place_rows.specs.Shares.{at_places, notices_at, sent_at, sent_in}
@@ -434,3 +436,48 @@ counts_still known counts k v w are at keeps = record {
     kept : (o : Option (BTreeMap ℕ ℕ)) → IfSome o (IsCounted v) → IfSome o (IsCounted w)
     kept None is = tt
     kept (Some c) is = keeps c is
+
+-- ---- turns that send nothing
+
+pub counted_asked : Grows → (port call : ℕ) (request : Request) (v w : Known) (errno : ℕ)
+    (handed : List (Card × Decision)) (counts : BTreeMap ℕ ℕ) → HasSeenOwn v →
+    AsksIn port call request v w errno handed → IsCounted v counts → IsCounted w counts
+counted_asked grows port call request v w errno handed counts placed in_ is =
+    counted_still grows v w in_.found
+    (entry_of in_.found (queue_of request) (Ask port call request) ∷ []) counts placed
+    (subst (λ (es : List Entry). IsTurn v in_.found es w) in_.asks.entered in_.turn)
+    (subst AreLegal in_.asks.entered in_.legal)
+    (ask_silent in_.found (queue_of request) port call request, tt) is
+
+pub counted_closed : Grows → (port : ℕ) (v w : Known) (count : ℕ) (counts : BTreeMap ℕ ℕ) →
+    HasSeenOwn v → ClosesIn port v w count → IsCounted v counts → IsCounted w counts
+counted_closed grows port v w count counts placed in_ is =
+    counted_still grows v w in_.found (closings port in_.found) counts placed in_.turn in_.legal
+    (closings_silent port in_.found) is
+
+pub counted_down : Grows → (device : ℕ) (v w : Known) (count : ℕ) (counts : BTreeMap ℕ ℕ) →
+    HasSeenOwn v → GoesDownIn device v w count → IsCounted v counts → IsCounted w counts
+counted_down grows device v w count counts placed in_ is =
+    counted_still grows v w in_.found (downs device in_.found) counts placed in_.turn in_.legal
+    (downs_silent device in_.found) is
+
+-- ---- the counts of all places
+
+-- what the counts of a place say of a port
+abbrev pub count_at : ℕ → BTreeMap ℕ ℕ → ℕ
+count_at port counts = count_of (get nat_cmp counts port)
+
+pub total_is : (port : ℕ) (known : List Known) (counts : List (BTreeMap ℕ ℕ)) →
+    AreCounted known counts → sum_by (count_at port) counts ≡ sent_in port known
+total_is port [] [] are = refl
+total_is port [] (c ∷ cs) are = absurd (omega (arith, are.as_many))
+total_is port (v ∷ vs) [] are = absurd (omega (arith, are.as_many))
+total_is port (v ∷ vs) (c ∷ cs) are =
+    omega (
+      arith,
+      sum_by-cons (count_at port) c cs,
+      sum_by-cons (sent_at port) v vs,
+      (are.each 0 v refl).many port,
+      total_is port vs cs
+          (record { as_many = omega (arith, are.as_many); each = λ k x at. are.each (suc k) x at }),
+    )

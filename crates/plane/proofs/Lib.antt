@@ -1,6 +1,8 @@
+mod AtPlace
 mod Carrying
 mod CountedRows
 mod Counting
+mod Flushed
 mod Known
 mod Labels
 mod Passing

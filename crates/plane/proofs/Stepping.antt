@@ -138,3 +138,15 @@ pub looks_for : (places : ℕ) (olds news : List Known) (was now : List Lost) (r
 looks_for places olds news was now Released looked same = absurd looked
 looks_for places olds news was now (To queue bypass table) looked same =
     inr (same, (queue % places, looked))
+
+-- a step that lost nothing is one from where the packet stood
+pub moved_on : (places : ℕ) (s : Setting) (old new : Trail) (card : Card) (route : Next)
+    (came : Came) → new.lost ≡ old.lost → IsMoved places s old.known new.known card route came →
+    StepsTo places s old (GoesOn card (Some route)) new came
+moved_on places s old new card route came same moved memory u f h =
+    record {
+      memory = suc memory;
+      moved = moved memory old.lost u f
+          (subst (λ (lost : List Lost). CameTo (Carries memory places s) (trail new.known lost)
+          came u f) same h);
+    }

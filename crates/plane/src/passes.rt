@@ -161,7 +161,7 @@ impl Passes {
     {
         let mut sent = 0u128;
         for counts in &self.sent {
-            sent += u128::from(counts.get(&port).copied().unwrap_or(0));
+            sent += u128::from(count_in(counts, port));
         }
         sent
     }
@@ -207,6 +207,16 @@ fn arrive_at<R: Wait, G: Gate>(
             Ok(Placed::Waiting { port })
         }
         Placed::Back { outcome, packet } => Ok(Placed::Back { outcome, packet }),
+    }
+}
+
+/// How many notices these counts say of a port.
+fn count_in(counts: &Counts, port: u32) -> u64
+    ensures { result ≡ count_of (get nat_cmp counts.now port) }
+{
+    match counts.get(&port) {
+        Some(count) => *count,
+        None => 0,
     }
 }
 
