@@ -1,4 +1,6 @@
+mod Answering
 mod AtPlace
+mod Balanced
 mod Carrying
 mod CountedRows
 mod Counting
