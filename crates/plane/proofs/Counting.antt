@@ -32,8 +32,9 @@ use Rattle.histories.specs.Journeys.{Arrival}
 use Rattle.histories.specs.States.{state_of, entry_of, entry_in, every_number}
 use Rattle.locked_place.specs.declared.arrivals.Placed.{Placed}
 use Rattle.locked_place.specs.declared.arrivals.Placed.TheVariants as spot
-use Rattle.locked_place.specs.Notices.{letters_under, letters_at, letters_of_event}
-use Rattle.locked_place.specs.Notices.{letters_of_reply, letters_of_outcome}
+use Rattle.histories.specs.Letters.{letters_under, letters_of_event, letters_of_reply}
+use Rattle.histories.specs.Letters.{letters_of_outcome}
+use Rattle.locked_place.specs.Notices.{letters_at}
 use Rattle.locked_place.specs.Points.{Point, points, points_after, point_after}
 use Rattle.hook_chain.specs.declared.chain.Decision.{Decision}
 use Rattle.locked_place.specs.Turns.{IsTurn, ArrivesIn, AsksIn, ClosesIn, GoesDownIn, LooksOn}

@@ -28,7 +28,8 @@ use Rattle.place_rows.specs.Rows.{Known, TurnsOne, IsTurnAt}
 use Rattle.plane.specs.declared.arrivals.Came.{Came}
 use Rattle.plane.specs.declared.arrivals.Came.TheVariants.{Ended, GoesOn}
 use Rattle.plane.specs.Trails.{Trail, StepsAt, MayLook}
-use Rattle.plane.specs.Moving.{Carries, Settles}
+use Rattle.hook_chain.specs.Route.{next}
+use Rattle.plane.specs.Moving.{Carries, Settles, IsFed}
 use Rattle.plane.specs.OnTheWay.{CameTo, StandsAs, IsTurned, IsMoved, LooksFor, IsCarried, trail}
 use Rattle.plane.specs.OnTheWay.{WasToArrive, StepsTo}
 use Rattle.plane.proofs.Carrying.{look_at}
@@ -149,4 +150,19 @@ moved_on places s old new card route came same moved memory u f h =
       moved = moved memory old.lost u f
           (subst (λ (lost : List Lost). CameTo (Carries memory places s) (trail new.known lost)
           came u f) same h);
+    }
+
+-- a packet whose first arrival found memory was fed, wherever it went on to
+pub fed_so : (places : ℕ) (s : Setting) (old mid new : Trail) (card : Card) (route : Next)
+    (came : Came) (f : Fed) → mid.lost ≡ old.lost →
+    IsMoved places s old.known mid.known card route came → route ≡ next s.tables s.key card 1 →
+    IsCarried places s mid came new f → IsFed places s old card new f
+fed_so places s old mid new card route came f same moved is carried =
+    record {
+      memory = carried.memory;
+      moved = subst (λ (r : Next). Carries (suc carried.memory) places s old card (Some r) new f)
+          is
+          (moved carried.memory old.lost new f
+          (subst (λ (lost : List Lost). CameTo (Carries carried.memory places s)
+          (trail mid.known lost) came new f) same carried.moved));
     }
