@@ -6,3 +6,5 @@ pub mod Messages
 pub mod Passes
 pub mod Counts
 pub mod OnTheWay
+pub mod Opening
+pub mod Closings
