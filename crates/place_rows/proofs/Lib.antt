@@ -13,3 +13,5 @@ pub mod Owned
 pub mod Hearing
 pub mod Shut
 pub mod Results
+pub mod Meeting
+pub mod Untouched

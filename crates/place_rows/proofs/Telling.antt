@@ -35,11 +35,12 @@ tells_one froms tos k from to from' to' one_there two_there one_is two_is told =
 }
 
 module _ {E S : Type 0} where
-  pub none_told : (vs ws : List (View E S)) → ToldUpTo 0 vs ws vs ws
-  none_told vs ws = record {
+  pub none_told : (vs ws : List (View E S)) → length ws ≡ length vs → ToldUpTo 0 vs ws vs ws
+  none_told vs ws both = record {
     done = λ k v w few at also. absurd (omega (arith, few));
     rest = λ k most. refl;
     others = λ k most. refl;
+    both = both;
     as_many = refl;
     others_many = refl;
   }
@@ -82,6 +83,7 @@ module _ {E S : Type 0} where
     others = λ k most. ap (λ (l : List (View E S)). slice_get l k) one.into_has
         ∙ get_other ws' n k one.into_then (λ same. absurd (omega (arith, most, same)))
         ∙ so_far.others k (omega (arith, most));
+    both = so_far.both;
     as_many = ap length one.from_has ∙ length-set vs' n one.from_then ∙ so_far.as_many;
     others_many = ap length one.into_has ∙ length-set ws' n one.into_then ∙ so_far.others_many;
   }

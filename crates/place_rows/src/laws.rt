@@ -3,9 +3,11 @@
 ghost use Rattle.std.specs.Prelude.{◌≡◌, ◌≢◌, ◌+◌, ℕ, List, [], ◌∷◌, ◌++◌, sum_by, Some, slice_get};
 ghost use Rattle.std.specs.Prelude.{length};
 ghost use Rattle.packet_entry.specs.declared.packet.Card.{Card};
+ghost use Rattle.turn_lock.specs.Parts.{Whole};
 ghost use Rattle.turn_lock.specs.Views.{HasSeenOwn};
 ghost use Rattle.histories.specs.declared.entry.Entry.{Entry};
 ghost use Rattle.histories.specs.declared.histories.Lost.{Lost};
+ghost use Rattle.histories.specs.History.{AreLegal};
 ghost use Rattle.histories.specs.Happenings.{closings, downs};
 ghost use Rattle.histories.specs.Journeys.{Arrival, entering, asks, came, visit_of};
 ghost use Rattle.histories.specs.Moves.{move_after, moves_after};
@@ -13,12 +15,18 @@ ghost use Rattle.packet_moves.specs.declared.setting.Setting.{Setting};
 ghost use Rattle.locked_place.specs.Points.{points_after};
 ghost use Rattle.locked_place.specs.Turns.{IsTurn};
 ghost use Rattle.place_rows.specs.Rows.{Known, IsTurnAt};
-ghost use Rattle.place_rows.specs.Joining.{RowJoined};
-ghost use Rattle.place_rows.specs.Shares.{own_moves, notices_at, sent_in, IsBalancedBut};
+ghost use Rattle.place_rows.specs.Lists.{Every};
+ghost use Rattle.place_rows.specs.Joining.{RowJoined, AllJoined, AreWhole};
+ghost use Rattle.place_rows.specs.Meeting.{Told, ToldUpTo, AreNormal, TellsFirst, TellsRow};
+ghost use Rattle.place_rows.specs.Meeting.{HasGathered, HasSpread, HaveMet};
+ghost use Rattle.place_rows.specs.Shares.{own_moves, notices_at, sent_at, sent_in, IsBalancedBut};
 
 use histories::{an_entry_is_a_move, soundness_is_kept_move_by_move};
 use queue_core::what_is_flushed_is_destroyed;
-use turn_lock::merged_places_are_those_of_both;
+use turn_lock::{
+    a_part_is_known_by_its_ways, merged_places_are_those_of_both,
+    parts_are_put_together_in_any_order,
+};
 
 /// A row stays balanced, turn by turn. Rows that have appended nothing are balanced. As a packet is
 /// fed, its first arrival is owed; as an entry is appended that is an owed arrival, or none, what
@@ -78,4 +86,56 @@ pub fn rows_are_balanced_together()
         IsBalancedBut s [] (entered ++ more) afters (lost ++ gone) }
 {
     merged_places_are_those_of_both();
+}
+
+/// Rows are joined into one, row by row. Where they had together the whole of each lock, that one
+/// then has it.
+pub fn rows_are_joined_one_by_one()
+    ensures none { (into : List Known) → AllJoined [] into into }
+    ensures one { (rows : List (List Known)) (into before from after : List Known) →
+        AllJoined rows into before → RowJoined 0 before from after →
+        AllJoined (rows ++ from ∷ []) into after }
+    ensures whole { (places : ℕ) (into after : List Known) (rows : List (List Known)) →
+        AllJoined rows into after → length after ≡ places → AreWhole places (into ∷ rows) →
+        (k : ℕ) (v : Known) → slice_get after k ≡ Some v → v.part ≡ Whole }
+{}
+
+/// A row that told another and the one that it told stay balanced, and what their own entries sent
+/// is the same: a longer list that a pass has seen changes nothing.
+pub fn telling_changes_nothing_of_ones_own()
+    ensures tells { (s : Setting) (owed : List Arrival) (entered : List Card) (lost : List Lost)
+        (n : ℕ) (froms intos froms_then intos_then : List Known) →
+        ToldUpTo n froms intos froms_then intos_then →
+        IsBalancedBut s owed entered froms lost → IsBalancedBut s owed entered froms_then lost }
+    ensures hears { (s : Setting) (owed : List Arrival) (entered : List Card) (lost : List Lost)
+        (n : ℕ) (froms intos froms_then intos_then : List Known) →
+        ToldUpTo n froms intos froms_then intos_then →
+        ((k : ℕ) (v : Known) → slice_get froms k ≡ Some v → AreLegal v.seen) →
+        IsBalancedBut s owed entered intos lost → IsBalancedBut s owed entered intos_then lost }
+    ensures sent { (port : ℕ) (from into from_then into_then : Known) →
+        Told from into from_then into_then → HasSeenOwn from → HasSeenOwn into →
+        (sent_at port from_then ≡ sent_at port from) × (sent_at port into_then ≡ sent_at port into) }
+{}
+
+/// How rows meet: the first hears all others, one after the other, and then tells each of them.
+pub fn rows_meet_by_the_first()
+    ensures begins { (places : ℕ) (first : List Known) (rows : List (List Known)) →
+        Every (λ (known : List Known). length known ≡ places) (first ∷ rows) →
+        Every AreNormal (first ∷ rows) → HasGathered places 0 first first rows rows }
+    ensures gathers { (places n : ℕ) (first before after : List Known)
+        (rows olds news : List (List Known)) → HasGathered places n first before rows olds →
+        TellsFirst places n before after olds news →
+        HasGathered places (n + 1) first after rows news }
+    ensures turns { (places : ℕ) (first after : List Known) (rows news : List (List Known)) →
+        HasGathered places (length rows) first after rows news →
+        HasSpread places 0 first after rows news }
+    ensures spreads { (places n : ℕ) (first before after : List Known)
+        (rows olds news : List (List Known)) → HasSpread places n first before rows olds →
+        TellsRow places n before after olds news → HasSpread places (n + 1) first after rows news }
+    ensures met { (places : ℕ) (first after : List Known) (rows news : List (List Known)) →
+        HasSpread places (length rows) first after rows news →
+        HaveMet places (first ∷ rows) (after ∷ news) }
+{
+    parts_are_put_together_in_any_order();
+    a_part_is_known_by_its_ways();
 }

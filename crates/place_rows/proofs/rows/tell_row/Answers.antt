@@ -1,14 +1,23 @@
-use Rattle.std.proofs.Common.{map}
+use Rattle.std.proofs.Common.{map, sym, ◌∙◌}
+use Rattle.std.proofs.lemmas.List.{length-map}
+use Rattle.locked_place.specs.Views.{label_of}
+use Rattle.place_rows.proofs.Passing.{as_many}
 use Rattle.turn_lock.specs.Passes.{view_of}
 use Rattle.place_rows.proofs.Telling.{none_told, one_told}
 use Rattle.place_rows.proofs.rows.tell_row.Goals as goal
 
 pub loop-place-init : goal.loop-place-init
-loop-place-init c = record {
-  from = λ named row. row;
-  into = λ named row. row;
-  told = none_told (map view_of c.args.from.now.items) (map view_of c.args.into.now.items);
-}
+loop-place-init c =
+    let r = c.requires.passes in
+    record {
+      from = λ named row. row;
+      into = λ named row. row;
+      told = none_told (map view_of c.args.from.now.items) (map view_of c.args.into.now.items)
+          (length-map c.args.into.now.items view_of
+          ∙ as_many label_of r.0 c.args.locks.now.items c.args.into.now.items r.2
+          ∙ sym (as_many label_of r.0 c.args.locks.now.items c.args.from.now.items r.1)
+          ∙ sym (length-map c.args.from.now.items view_of));
+    }
 
 pub tell_at-requires-clause-passes : goal.tell_at-requires-clause-passes
 tell_at-requires-clause-passes c =
