@@ -29,8 +29,9 @@ use Rattle.histories.specs.History.{history, is_of, replay}
 use Rattle.histories.specs.States.{state_of}
 use Rattle.place_history.specs.PlaceState.{AreHere}
 use Rattle.locked_place.specs.Points.{Point, points, points_after, point_after}
-use Rattle.locked_place.specs.Notices.{letters_to, letters_at, letters_under, letters_of_event}
-use Rattle.locked_place.specs.Notices.{letters_of_reply, letters_of_outcome, lacking, lacks_at}
+use Rattle.histories.specs.Letters.{letters_under, letters_of_event, letters_of_reply}
+use Rattle.histories.specs.Letters.{letters_of_outcome}
+use Rattle.locked_place.specs.Notices.{letters_to, letters_at, lacking, lacks_at}
 use Rattle.place_rows.specs.declared.ending.PortReceiver.{PortReceiver}
 use Rattle.place_rows.specs.Lists.{Every, AllFrom, flat}
 use Rattle.place_rows.specs.Rows.{Known}

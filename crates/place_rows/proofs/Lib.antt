@@ -15,3 +15,5 @@ pub mod Shut
 pub mod Results
 pub mod Meeting
 pub mod Untouched
+pub mod Dealing
+pub mod Firsts

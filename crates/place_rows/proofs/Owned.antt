@@ -6,47 +6,44 @@ use Rattle.std.proofs.lemmas.List.Sums.{sum_by-cons}
 use Rattle.std.proofs.lemmas.Bool.{cases_Bool, eqb-true, eqb-false, eq-eqb}
 use Rattle.histories.specs.declared.entry.Entry.{Entry}
 use Rattle.place_rows.specs.Rows.{Known}
-use Rattle.place_rows.specs.Joining.{own_at}
+use Rattle.place_rows.specs.Joining.{own_at, is_place}
 use Rattle.place_rows.specs.Ending.{IsListOf}
 
-abbrev pub is_at : ℕ → ℕ → ℕ
-is_at i j = if nat_eq j i then 1 else 0
-
-at_other : (i j : ℕ) → (j ≡ i → ⊥) → is_at i j ≡ 0
+at_other : (i j : ℕ) → (j ≡ i → ⊥) → is_place i j ≡ 0
 at_other i j other =
     elim (cases_Bool (nat_eq j i)) [
       | inl h ↦ absurd (other (eqb-true j i h))
       | inr h ↦ rw h refl
     ]
 
-at_same : (i j : ℕ) → j ≡ i → is_at i j ≡ 1
+at_same : (i j : ℕ) → j ≡ i → is_place i j ≡ 1
 at_same i j same = rw (eq-eqb j i same) refl
 
-none_below : (i low n : ℕ) → i < low → sum_by (is_at i) (range_with_len low n) ≡ 0
+none_below : (i low n : ℕ) → i < low → sum_by (is_place i) (range_with_len low n) ≡ 0
 none_below i low zero less = refl
 none_below i low (suc n) less =
     omega (
       arith,
-      sum_by-cons (is_at i) low (range_with_len (low + 1) n),
+      sum_by-cons (is_place i) low (range_with_len (low + 1) n),
       at_other i low (λ e. absurd (omega (arith, less, e))),
       none_below i (low + 1) n (omega (arith, less)),
     )
 
-one_within : (i low n : ℕ) → low ≤ i → i < low + n → sum_by (is_at i) (range_with_len low n) ≡ 1
+one_within : (i low n : ℕ) → low ≤ i → i < low + n → sum_by (is_place i) (range_with_len low n) ≡ 1
 one_within i low zero most few = absurd (omega (arith, most, few))
 one_within i low (suc n) most few =
     elim (cases_Bool (nat_eq low i)) [
       | inl h ↦ (let same = eqb-true low i h in
           omega (
             arith,
-            sum_by-cons (is_at i) low (range_with_len (low + 1) n),
+            sum_by-cons (is_place i) low (range_with_len (low + 1) n),
             at_same i low same,
             none_below i (low + 1) n (omega (arith, same)),
           ))
       | inr h ↦ (let other = eqb-false low i h in
           omega (
             arith,
-            sum_by-cons (is_at i) low (range_with_len (low + 1) n),
+            sum_by-cons (is_place i) low (range_with_len (low + 1) n),
             at_other i low other,
             one_within i (low + 1) n (omega (arith, most, other)) (omega (arith, few)),
           ))
@@ -54,9 +51,9 @@ one_within i low (suc n) most few =
 
 -- over all rows, a place of the list is own once
 pub own_once : (places : ℕ) (rows : List (List Known)) (k : ℕ) (list : List Entry) (i : ℕ) →
-    IsListOf places rows k list → i < length list → sum_by (own_at (is_at i) k) rows ≡ 1
+    IsListOf places rows k list → i < length list → sum_by (own_at (is_place i) k) rows ≡ 1
 own_once places rows k list i is few =
-    is.once (is_at i) ∙ one_within i 0 (length list) (omega arith) (omega (arith, few))
+    is.once (is_place i) ∙ one_within i 0 (length list) (omega arith) (omega (arith, few))
 
 -- so there is a pass whose it is
 pub owner : {X : Type 0} (f : X → ℕ) (xs : List X) → 0 < sum_by f xs →

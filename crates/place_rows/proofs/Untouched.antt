@@ -19,7 +19,7 @@ use Rattle.locked_place.specs.Points.{Point, points, points_after}
 use Rattle.place_rows.specs.Rows.{Known}
 use Rattle.place_rows.specs.Shares.{at_places, own_moves, all_moves, IsBalancedBut}
 use Rattle.place_rows.specs.Shares.{notices_at, sent_at}
-use Rattle.place_rows.specs.Meeting.{Told, ToldUpTo}
+use Rattle.place_rows.specs.Meeting.{Told, ToldUpTo, KeepsOwn}
 use Rattle.place_rows.proofs.Lists.{one_item, item_at, placed_longer, prefix_self}
 use Rattle.place_rows.proofs.Sharing.{at_longer, moves_longer, moves_long, points_longer}
 use Rattle.place_rows.proofs.Sharing.{points_long}
@@ -28,6 +28,7 @@ use Rattle.place_rows.proofs.Sharing.{points_long}
 pub record SeesMore (v w : Known) : Type 0 where
   pub begins : IsPrefix v.seen w.seen
   pub own : w.own ≡ v.own
+  pub origin : w.origin ≡ v.origin
 
 module _ {X : Type 0} (tell : List Entry → List Entry → List X)
     (more : (before es fs : List Entry) →
@@ -45,7 +46,7 @@ module _ {X : Type 0} (tell : List Entry → List Entry → List X)
 moves_same : (v w : Known) → HasSeenOwn v → SeesMore v w → own_moves w ≡ own_moves v
 moves_same = told_same moves_after moves_longer moves_long
 
-pub sent_same : (port : ℕ) (v w : Known) → HasSeenOwn v → SeesMore v w →
+sent_same : (port : ℕ) (v w : Known) → HasSeenOwn v → SeesMore v w →
     sent_at port w ≡ sent_at port v
 sent_same port v w placed is =
     ap (sum_by (notices_at port)) (told_same points_after points_longer points_long v w placed is)
@@ -89,17 +90,19 @@ still_balanced s owed entered lost olds news more is = record {
 
 -- ---- telling
 
-pub from_sees : (v w v' w' : Known) → Told v w v' w' → SeesMore v v'
+from_sees : (v w v' w' : Known) → Told v w v' w' → SeesMore v v'
 from_sees v w v' w' told = record {
   begins = subst (λ (x : Known). IsPrefix v.seen x.seen) (sym told.first)
       (prefix_self v.seen);
   own = ap (λ (x : Known). x.own) told.first;
+  origin = ap (λ (x : Known). x.origin) told.first;
 }
 
-pub into_sees : (v w v' w' : Known) → Told v w v' w' → SeesMore w w'
+into_sees : (v w v' w' : Known) → Told v w v' w' → SeesMore w w'
 into_sees v w v' w' told = record {
   begins = told.behind;
   own = ap (λ (x : Known). x.own) told.second;
+  origin = ap (λ (x : Known). x.origin) told.second;
 }
 
 -- the longer of two lists is one of them
@@ -133,15 +136,36 @@ sees_itself : (v w : Known) → w ≡ v → SeesMore v w
 sees_itself v w same = record {
   begins = subst (λ (x : Known). IsPrefix v.seen x.seen) (sym same) (prefix_self v.seen);
   own = ap (λ (x : Known). x.own) same;
+  origin = ap (λ (x : Known). x.origin) same;
 }
 
 module _ (n : ℕ) (froms intos froms' intos' : List Known)
     (told : ToldUpTo n froms intos froms' intos') where
+  pub from_each : (k : ℕ) (v v' : Known) → slice_get froms k ≡ Some v → slice_get froms' k ≡ Some v' →
+      SeesMore v v'
+  from_each k v v' at then_ =
+      let few = slice_get_within froms k v at in
+      let w = item_at intos k (omega (arith, few, told.both)) in
+      let w' = item_at intos' k (omega (arith, few, told.both, told.others_many)) in
+      ⊎_elim (λ (t : Told v w.0 v' w'.0). from_sees v w.0 v' w'.0 t)
+      (λ (same : (v' ≡ v) × (w'.0 ≡ w.0)). sees_itself v v' same.0)
+      (told_here n k froms intos froms' intos' v w.0 v' w'.0 told at w.1 then_ w'.1)
+
+  pub into_each : (k : ℕ) (w w' : Known) → slice_get intos k ≡ Some w → slice_get intos' k ≡ Some w' →
+      SeesMore w w'
+  into_each k w w' at then_ =
+      let few = slice_get_within intos k w at in
+      let v = item_at froms k (omega (arith, few, told.both)) in
+      let v' = item_at froms' k (omega (arith, few, told.both, told.as_many)) in
+      ⊎_elim (λ (t : Told v.0 w v'.0 w'). into_sees v.0 w v'.0 w' t)
+      (λ (same : (v'.0 ≡ v.0) × (w' ≡ w)). sees_itself w w' same.1)
+      (told_here n k froms intos froms' intos' v.0 w v'.0 w' told v.1 at v'.1 then_)
+
   pub from_row : ((k : ℕ) (v : Known) → slice_get froms k ≡ Some v → AreLegal v.seen) →
       RowSeesMore froms froms'
   from_row legal = record {
     as_many = told.as_many;
-    each = one;
+    each = from_each;
     legal = λ k v' at.
         let few = slice_get_within froms' k v' at in
         let v = item_at froms k (omega (arith, few, told.as_many)) in
@@ -153,23 +177,13 @@ module _ (n : ℕ) (froms intos froms' intos' : List Known)
         (legal k v.0 v.1))
         (told_here n k froms intos froms' intos' v.0 w.0 v' w'.0 told v.1 w.1 at w'.1);
   }
-    where
-      one : (k : ℕ) (v v' : Known) → slice_get froms k ≡ Some v → slice_get froms' k ≡ Some v' →
-          SeesMore v v'
-      one k v v' at then_ =
-          let few = slice_get_within froms k v at in
-          let w = item_at intos k (omega (arith, few, told.both)) in
-          let w' = item_at intos' k (omega (arith, few, told.both, told.others_many)) in
-          ⊎_elim (λ (t : Told v w.0 v' w'.0). from_sees v w.0 v' w'.0 t)
-          (λ (same : (v' ≡ v) × (w'.0 ≡ w.0)). sees_itself v v' same.0)
-          (told_here n k froms intos froms' intos' v w.0 v' w'.0 told at w.1 then_ w'.1)
 
   pub into_row : ((k : ℕ) (v : Known) → slice_get froms k ≡ Some v → AreLegal v.seen) →
       ((k : ℕ) (w : Known) → slice_get intos k ≡ Some w → AreLegal w.seen) →
       RowSeesMore intos intos'
   into_row legal also_legal = record {
     as_many = told.others_many;
-    each = one;
+    each = into_each;
     legal = λ k w' at.
         let few = slice_get_within intos' k w' at in
         let w = item_at intos k (omega (arith, few, told.others_many)) in
@@ -181,13 +195,10 @@ module _ (n : ℕ) (froms intos froms' intos' : List Known)
         (also_legal k w.0 w.1))
         (told_here n k froms intos froms' intos' v.0 w.0 v'.0 w' told v.1 w.1 v'.1 at);
   }
-    where
-      one : (k : ℕ) (w w' : Known) → slice_get intos k ≡ Some w → slice_get intos' k ≡ Some w' →
-          SeesMore w w'
-      one k w w' at then_ =
-          let few = slice_get_within intos k w at in
-          let v = item_at froms k (omega (arith, few, told.both)) in
-          let v' = item_at froms' k (omega (arith, few, told.both, told.as_many)) in
-          ⊎_elim (λ (t : Told v.0 w v'.0 w'). into_sees v.0 w v'.0 w' t)
-          (λ (same : (v'.0 ≡ v.0) × (w' ≡ w)). sees_itself w w' same.1)
-          (told_here n k froms intos froms' intos' v.0 w v'.0 w' told v.1 at v'.1 then_)
+
+pub keeps_own : (v w : Known) → HasSeenOwn v → SeesMore v w → KeepsOwn v w
+keeps_own v w placed is = record {
+  own = is.own;
+  origin = is.origin;
+  sent = λ port. sent_same port v w placed is;
+}

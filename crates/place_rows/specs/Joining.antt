@@ -1,6 +1,6 @@
 -- Rows that are joined into one row, and what they have together.
 use Rattle.std.specs.Prelude.{◌≡◌, ◌<◌, ◌≤◌, ◌+◌, ℕ, List, [], ◌∷◌, length, slice_get, Option, Some, None}
-use Rattle.std.specs.Prelude.{IfSome, option_map, sum_by}
+use Rattle.std.specs.Prelude.{IfSome, option_map, sum_by, nat_eq, if◌then◌else◌}
 use mathlib.Core.List.{IsPrefix}
 use Rattle.turn_lock.specs.Parts.{Tree, Whole, Empty, union}
 use Rattle.turn_lock.specs.Places.{NoneInCommon}
@@ -26,6 +26,10 @@ own_sum f (Some v) = sum_by f v.own
 
 abbrev pub own_at : (ℕ → ℕ) → ℕ → List Known → ℕ
 own_at f k known = own_sum f (slice_get known k)
+
+-- 1 for this place, and 0 for others: the sum of it is how often the place is among them
+abbrev pub is_place : ℕ → ℕ → ℕ
+is_place i k = if nat_eq k i then 1 else 0
 
 -- its part of the lock there
 abbrev pub part_in : Option Known → Tree

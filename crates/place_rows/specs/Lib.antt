@@ -6,3 +6,4 @@ pub mod Meeting
 pub mod Ending
 pub mod Hearing
 pub mod Ended
+pub mod Opening

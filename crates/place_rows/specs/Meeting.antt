@@ -9,6 +9,7 @@ use Rattle.turn_lock.specs.Views.{kept_view}
 use Rattle.histories.specs.declared.entry.Entry.{Entry}
 use Rattle.place_rows.specs.Lists.{Every, OneIs, EveryBelow}
 use Rattle.place_rows.specs.Rows.{Known}
+use Rattle.place_rows.specs.Shares.{sent_at}
 use Rattle.place_rows.specs.Joining.{seen_at, Begins, together_at}
 
 module _ {E S : Type 0} where
@@ -63,6 +64,12 @@ pub record SharesAlone (old new : List Known) : Type 0 where
   pub as_many : length new ≡ length old
   pub each : (k : ℕ) (v w : Known) → slice_get old k ≡ Some v → slice_get new k ≡ Some w →
       w ≡ record v { seen = w.seen; part = w.part }
+
+-- a pass that has the same own entries, which sent the same, at the same place
+pub record KeepsOwn (old new : Known) : Type 0 where
+  pub own : new.own ≡ old.own
+  pub origin : new.origin ≡ old.origin
+  pub sent : (port : ℕ) → sent_at port new ≡ sent_at port old
 
 -- it has seen this list there
 abbrev pub Sees : ℕ → List Entry → List Known → Type 0

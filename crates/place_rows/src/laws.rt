@@ -1,13 +1,14 @@
 //! Laws of the definitions, each the contract of a function that does nothing.
 
-ghost use Rattle.std.specs.Prelude.{◌≡◌, ◌≢◌, ◌+◌, ℕ, List, [], ◌∷◌, ◌++◌, sum_by, Some, slice_get};
+ghost use Rattle.std.specs.Prelude.{◌≡◌, ◌≢◌, ◌<◌, ◌%◌, ◌+◌, ℕ, List, [], ◌∷◌, ◌++◌, sum_by, Some, slice_get};
 ghost use Rattle.std.specs.Prelude.{length};
 ghost use Rattle.packet_entry.specs.declared.packet.Card.{Card};
 ghost use Rattle.turn_lock.specs.Parts.{Whole};
 ghost use Rattle.turn_lock.specs.Views.{HasSeenOwn};
 ghost use Rattle.histories.specs.declared.entry.Entry.{Entry};
 ghost use Rattle.histories.specs.declared.histories.Lost.{Lost};
-ghost use Rattle.histories.specs.History.{AreLegal};
+ghost use Rattle.histories.specs.Grouping.{IsGrouped};
+ghost use Rattle.histories.specs.History.{AreLegal, history};
 ghost use Rattle.histories.specs.Happenings.{closings, downs};
 ghost use Rattle.histories.specs.Journeys.{Arrival, entering, asks, came, visit_of};
 ghost use Rattle.histories.specs.Moves.{move_after, moves_after};
@@ -15,11 +16,12 @@ ghost use Rattle.packet_moves.specs.declared.setting.Setting.{Setting};
 ghost use Rattle.locked_place.specs.Points.{points_after};
 ghost use Rattle.locked_place.specs.Turns.{IsTurn};
 ghost use Rattle.place_rows.specs.Rows.{Known, IsTurnAt};
-ghost use Rattle.place_rows.specs.Lists.{Every};
-ghost use Rattle.place_rows.specs.Joining.{RowJoined, AllJoined, AreWhole};
-ghost use Rattle.place_rows.specs.Meeting.{Told, ToldUpTo, AreNormal, TellsFirst, TellsRow};
-ghost use Rattle.place_rows.specs.Meeting.{HasGathered, HasSpread, HaveMet};
-ghost use Rattle.place_rows.specs.Shares.{own_moves, notices_at, sent_at, sent_in, IsBalancedBut};
+ghost use Rattle.place_rows.specs.Lists.{Every, AllFrom, flat};
+ghost use Rattle.place_rows.specs.Ending.{IsListOf};
+ghost use Rattle.place_rows.specs.Joining.{RowJoined, AllJoined, AreWhole, own_at, is_place};
+ghost use Rattle.place_rows.specs.Meeting.{ToldUpTo, AreNormal, TellsFirst, TellsRow};
+ghost use Rattle.place_rows.specs.Meeting.{HasGathered, HasSpread, HaveMet, KeepsOwn};
+ghost use Rattle.place_rows.specs.Shares.{own_moves, notices_at, sent_in, IsBalancedBut};
 
 use histories::{an_entry_is_a_move, soundness_is_kept_move_by_move};
 use queue_core::what_is_flushed_is_destroyed;
@@ -112,9 +114,14 @@ pub fn telling_changes_nothing_of_ones_own()
         ToldUpTo n froms intos froms_then intos_then →
         ((k : ℕ) (v : Known) → slice_get froms k ≡ Some v → AreLegal v.seen) →
         IsBalancedBut s owed entered intos lost → IsBalancedBut s owed entered intos_then lost }
-    ensures sent { (port : ℕ) (from into from_then into_then : Known) →
-        Told from into from_then into_then → HasSeenOwn from → HasSeenOwn into →
-        (sent_at port from_then ≡ sent_at port from) × (sent_at port into_then ≡ sent_at port into) }
+    ensures teller { (n : ℕ) (froms intos froms_then intos_then : List Known) →
+        ToldUpTo n froms intos froms_then intos_then →
+        ((k : ℕ) (v : Known) → slice_get froms k ≡ Some v → HasSeenOwn v) → (k : ℕ) (v w : Known) →
+        slice_get froms k ≡ Some v → slice_get froms_then k ≡ Some w → KeepsOwn v w }
+    ensures hearer { (n : ℕ) (froms intos froms_then intos_then : List Known) →
+        ToldUpTo n froms intos froms_then intos_then →
+        ((k : ℕ) (v : Known) → slice_get intos k ≡ Some v → HasSeenOwn v) → (k : ℕ) (v w : Known) →
+        slice_get intos k ≡ Some v → slice_get intos_then k ≡ Some w → KeepsOwn v w }
 {}
 
 /// How rows meet: the first hears all others, one after the other, and then tells each of them.
@@ -139,3 +146,17 @@ pub fn rows_meet_by_the_first()
     parts_are_put_together_in_any_order();
     a_part_is_known_by_its_ways();
 }
+
+/// Each entry of a place's list is one row's own, and no other's; and among the entries of all
+/// places a queue has those of the list of its own place.
+pub fn each_entry_is_one_rows_own()
+    ensures once { (places k i : ℕ) (rows : List (List Known)) (list : List Entry) →
+        IsListOf places rows k list → i < length list → sum_by (own_at (is_place i) k) rows ≡ 1 }
+    ensures owner { (places k i : ℕ) (rows : List (List Known)) (list : List Entry) →
+        IsListOf places rows k list → i < length list → (n : ℕ) × ((known : List Known)
+        × ((slice_get rows n ≡ Some known) × (0 < own_at (is_place i) k known))) }
+    ensures of_place { (places queue k : ℕ) (rows : List (List Known)) (lists : List (List Entry))
+        (list es : List Entry) → AllFrom (IsListOf places rows) 0 lists →
+        IsGrouped (flat lists) es → queue % places ≡ k → slice_get lists k ≡ Some list →
+        history queue es ≡ history queue list }
+{}

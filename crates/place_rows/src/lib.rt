@@ -3,11 +3,14 @@
 
 mod ending;
 mod laws;
+mod opening;
 mod rows;
 
 pub use ending::{PortReceiver, close_all, end_places, end_rows};
 pub use laws::{
-    own_entries_grow_by_each_turn, rows_are_balanced_together, rows_are_joined_one_by_one,
-    rows_meet_by_the_first, rows_stay_balanced, telling_changes_nothing_of_ones_own,
+    each_entry_is_one_rows_own, own_entries_grow_by_each_turn, rows_are_balanced_together,
+    rows_are_joined_one_by_one, rows_meet_by_the_first, rows_stay_balanced,
+    telling_changes_nothing_of_ones_own,
 };
+pub use opening::{Dealt, Senders, deal_ports, open_places};
 pub use rows::{Locks, Row, join_row, split_row, tell_row};

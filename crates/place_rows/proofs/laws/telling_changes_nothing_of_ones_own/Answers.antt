@@ -1,5 +1,5 @@
-use Rattle.place_rows.proofs.Untouched.{still_balanced, from_row, into_row, sent_same, from_sees}
-use Rattle.place_rows.proofs.Untouched.{into_sees}
+use Rattle.place_rows.proofs.Untouched.{still_balanced, from_row, into_row, from_each, into_each}
+use Rattle.place_rows.proofs.Untouched.{keeps_own}
 use Rattle.place_rows.proofs.laws.telling_changes_nothing_of_ones_own.Goals as goal
 
 pub returns : goal.returns
@@ -10,8 +10,10 @@ returns c = record {
   hears = λ s owed entered lost n froms intos froms_then intos_then told legal is.
       still_balanced s owed entered lost intos intos_then
       (into_row n froms intos froms_then intos_then told legal is.legal) is;
-  sent = λ port from into from_then into_then told one two. (
-    sent_same port from from_then one (from_sees from into from_then into_then told),
-    sent_same port into into_then two (into_sees from into from_then into_then told),
-  );
+  teller = λ n froms intos froms_then intos_then told placed k v w at also.
+      keeps_own v w (placed k v at)
+      (from_each n froms intos froms_then intos_then told k v w at also);
+  hearer = λ n froms intos froms_then intos_then told placed k v w at also.
+      keeps_own v w (placed k v at)
+      (into_each n froms intos froms_then intos_then told k v w at also);
 }
