@@ -33,8 +33,11 @@ module _ {g : Ghosts LockedView Entry} (plane : Plane) (row : List (Pass LockedV
       pass_there label_of (label_at plane.outlets) plane.locks.items row k lock pass all there at
       has in
       record {
-        inside = omega (arith, as_many label_of (label_at plane.outlets) plane.locks.items row all,
-          there);
+        inside = omega (
+          arith,
+          as_many label_of (label_at plane.outlets) plane.locks.items row all,
+          there,
+        );
         of = of;
         after = λ new part keeps.
             let then_all =

@@ -1,9 +1,9 @@
 -- How many notices a pass's own entries put into mailboxes, turn by turn.
 use Rattle.std.proofs.Common.{◌≡◌, ◌≢◌, ◌<◌, ◌≤◌, ◌+◌, ◌-◌, ◌^◌, ℕ, zero, suc, List, [], ◌∷◌, ◌++◌}
-use Rattle.std.proofs.Common.{length, refl, sym, ap, ◌∙◌, subst, arith, inl, inr, Option, Some, None}
-use Rattle.std.proofs.Common.{Bool, true, false, append-nil}
-use Rattle.std.specs.Prelude.{slice_get, slice_set, sum_by, flat_map, option_to_list, IsSome, IfSome}
-use Rattle.std.specs.Prelude.{◌==◌, if◌then◌else◌, nat_eq}
+use Rattle.std.proofs.Common.{length, refl, sym, ap, ◌∙◌, subst, arith, inl, inr, Option, Some}
+use Rattle.std.proofs.Common.{None, Bool, true, false, append-nil}
+use Rattle.std.specs.Prelude.{slice_get, slice_set, sum_by, flat_map, option_to_list, IsSome}
+use Rattle.std.specs.Prelude.{IfSome, ◌==◌, if◌then◌else◌, nat_eq}
 use Rattle.std.specs.BTreeMap.{BTreeMap, get}
 use Rattle.std.specs.Ordering.{nat_cmp}
 use Rattle.std.proofs.lemmas.Bool.{cases_Bool, eqb-true, eqb-false, eq-eqb}
@@ -153,7 +153,8 @@ downs_silent device es = all_downs device es every_number
 
 -- a packet that is turned away has no notice
 turned_silent : (card : Card) (outcome : Outcome) (n : ℕ) (queue : ℕ) (b : Bound) → 1 ≤ n →
-    Tells (Arrive card false false) (Arrived outcome) n → letters_of_outcome queue b card outcome ≡ []
+    Tells (Arrive card false false) (Arrived outcome) n →
+    letters_of_outcome queue b card outcome ≡ []
 turned_silent card (outcome.Taken id) n queue b some tells = absurd (omega (arith, some, tells))
 turned_silent card outcome.Overflow n queue b some tells = refl
 turned_silent card outcome.OverflowOpen n queue b some tells = refl

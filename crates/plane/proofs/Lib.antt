@@ -7,6 +7,7 @@ mod Counting
 mod Flushed
 mod Known
 mod Labels
+mod Parts
 mod Passing
 mod Requested
 mod Results

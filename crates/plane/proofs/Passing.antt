@@ -1,6 +1,6 @@
 -- Of the passes of all places, the one at one place takes a turn.
-use Rattle.std.proofs.Common.{◌≡◌, ◌≢◌, ◌<◌, ◌≤◌, ◌+◌, ℕ, zero, suc, List, [], ◌∷◌, length, refl, sym}
-use Rattle.std.proofs.Common.{ap, ◌∙◌, subst, arith, inl, inr}
+use Rattle.std.proofs.Common.{◌≡◌, ◌≢◌, ◌<◌, ◌≤◌, ◌+◌, ℕ, zero, suc, List, [], ◌∷◌, length, refl}
+use Rattle.std.proofs.Common.{sym, ap, ◌∙◌, subst, arith, inl, inr}
 use Rattle.std.specs.Prelude.{map, slice_get, slice_set, Option, Some, None, option_map, get_or}
 use Rattle.std.specs.Prelude.{nat_eq}
 use Rattle.std.proofs.lemmas.List.{length-set, map-set, length-map}
@@ -15,7 +15,8 @@ use Rattle.turn_lock.specs.Parts.{Tree, void, is_normal}
 use Rattle.turn_lock.specs.Passes.{view_of}
 use Rattle.std.proofs.Common.{true, false}
 use Rattle.locked_place.specs.Passes.{IsPassOf}
-use Rattle.place_rows.specs.Rows.{ArePasses, IsKnown, TurnsOne, TurnedUpTo, HasTurned, lock_of, id_of}
+use Rattle.place_rows.specs.Rows.{ArePasses, IsKnown, TurnsOne, TurnedUpTo, HasTurned}
+use Rattle.place_rows.specs.Rows.{lock_of, id_of}
 
 -- ---- lists in which one item is set
 
@@ -37,7 +38,7 @@ module _ {X : Type 0} where
   pub some_same : (x y : X) → Some x ≡ Some y → x ≡ y
   some_same x y e = cc
 
-  same_again : (xs : List X) (i : ℕ) (x : X) → slice_get xs i ≡ Some x → slice_set xs i x ≡ xs
+  pub same_again : (xs : List X) (i : ℕ) (x : X) → slice_get xs i ≡ Some x → slice_set xs i x ≡ xs
   same_again [] i x is = refl
   same_again (y ∷ xs) zero x is = ap (λ z. z ∷ xs) (sym (some_same y x is))
   same_again (y ∷ xs) (suc i) x is = ap (λ (l : List X). y ∷ l) (same_again xs i x is)

@@ -1,5 +1,6 @@
 -- What a pass of a plane has done at its places.
-use Rattle.std.specs.Prelude.{◌≡◌, ◌⊎◌, ℕ, List, slice_get}
+use Rattle.std.specs.Prelude.{◌≡◌, ◌⊎◌, ℕ, List, map}
+use Rattle.turn_lock.specs.Parts.{Tree}
 use Rattle.histories.specs.declared.entry.Entry.{Entry}
 use Rattle.histories.specs.declared.histories.Lost.{Lost}
 use Rattle.locked_place.specs.Turns.{LooksOn}
@@ -9,6 +10,10 @@ use Rattle.place_rows.specs.Rows.{Known, TurnsOne, IsTurnAt}
 pub record Trail : Type 0 where
   pub known : List Known
   pub lost : List Lost
+
+-- its part of each place's lock
+abbrev pub parts_of : List Known → List Tree
+parts_of known = map (λ (v : Known). v.part) known
 
 -- a turn of the pass at one place: it found this list, and left that one
 pub record StepsAt (place : ℕ) (old new : Trail) (found then_ : List Entry) : Type 0 where

@@ -1,6 +1,7 @@
 //! Packets that move on, from queue to queue, each to its rest or its end.
 
-ghost use Rattle.std.specs.Prelude.{◌≡◌, ◌≤◌, ◌<◌, ◌-◌, ◌+◌, ℕ, suc, IfOk, OnErr, IfErr, ◌++◌, ◌∷◌, []};
+ghost use Rattle.std.specs.Prelude.{◌≡◌, ◌≤◌, ◌<◌, ◌-◌, ◌+◌, ◌++◌, ◌∷◌, [], ℕ, suc};
+ghost use Rattle.std.specs.Prelude.{IfOk, IfErr, OnErr};
 ghost use Rattle.packet_entry.specs.Numbers.{last_visit};
 ghost use Rattle.queue_core.specs.Laws.{way_by};
 ghost use Rattle.queue_core.specs.Step.{Open};

@@ -17,7 +17,7 @@ use std::sync::Wait;
 
 impl Passes {
     ghost use Rattle.plane.specs.Passes.{AreOf, Shuts};
-    ghost use Rattle.plane.specs.Trails.{Trail};
+    ghost use Rattle.plane.specs.Trails.{Trail, parts_of};
 
     /// A port closes at one place. Takes no memory.
     fn close_port_at<R: Wait>(&mut self, plane: &Plane, rt: &R, port: u32, place: usize)
@@ -45,6 +45,7 @@ impl Passes {
         ensures closed { TurnedUpTo (places_of plane.now) self.old.trail.known
             self.new.trail.known (Shuts port) }
         ensures lost { self.new.trail.lost ≡ self.old.trail.lost }
+        ensures parts { parts_of self.new.trail.known ≡ parts_of self.old.trail.known }
         ensures kept { (s : Setting) (entered : List Card) (lost : List Lost) →
             IsBalanced s entered self.old.trail.known lost →
             IsBalanced s entered self.new.trail.known lost }

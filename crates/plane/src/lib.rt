@@ -20,3 +20,6 @@ pub use opened::{ClosedPorts, Opened, PortPasses};
 pub use packet_moves::{Fed, Refused};
 pub use plane::Plane;
 pub use port::{ClosedPort, FeederPass, PortPass};
+
+#[cfg(test)]
+mod tests;

@@ -38,7 +38,7 @@ impl Plane {
     ghost use Rattle.place_rows.specs.Rows.{TurnsOne};
     ghost use Rattle.plane.specs.Numbers.{most_fed};
     ghost use Rattle.plane.specs.Planes.{places_of, setting_of};
-    ghost use Rattle.plane.specs.Trails.{MayLook};
+    ghost use Rattle.plane.specs.Trails.{MayLook, parts_of};
     ghost use Rattle.plane.specs.Moving.{IsFed};
     ghost use Rattle.plane.specs.Messages.{Sends};
     ghost use Rattle.plane.specs.OnTheWay.{HandsBack};
@@ -67,6 +67,7 @@ impl Plane {
             (next (setting_of self.now).tables (setting_of self.now).key packet 1) r.packet) }
         ensures looked { OnErr result (MayLook pass.old.trail pass.new.trail) }
         ensures none_fed { OnErr result (pass.new.fed ≡ pass.old.fed) }
+        ensures parts { parts_of pass.new.trail.known ≡ parts_of pass.old.trail.known }
     {
         passes_stay_balanced();
         feeding::feed(
@@ -106,6 +107,7 @@ impl Plane {
         ensures looked { OnErr result (MayLook pass.old.trail pass.new.trail) }
         ensures none_logged { OnErr result (pass.new.dids ≡ pass.old.dids) }
         ensures none_answered { OnErr result (replies.new.items ≡ replies.old.items) }
+        ensures parts { parts_of pass.new.trail.known ≡ parts_of pass.old.trail.known }
     {
         passes_stay_balanced();
         messages::message(
@@ -148,6 +150,7 @@ impl Plane {
         requires pass { IsPortOf self.now pass }
         ensures pass { IsPortOf self.now result }
         ensures closed { Closes (places_of self.now) pass result }
+        ensures parts { parts_of result.trail.known ≡ parts_of pass.trail.known }
     {
         let PortPass {
             mut passes,
@@ -184,6 +187,7 @@ impl Plane {
         ensures looked { OnErr result (TurnsOne place pass.old.trail.known pass.new.trail.known
             LooksOn) }
         ensures same { (pass.new.fed ≡ pass.old.fed) × (pass.new.trail.lost ≡ pass.old.trail.lost) }
+        ensures parts { parts_of pass.new.trail.known ≡ parts_of pass.old.trail.known }
     {
         rows_stay_balanced();
         pass.passes

@@ -13,10 +13,12 @@ arrive_at-requires-clause-pass g c κs within =
     let at =
     at_place c.args.plane.now c.self.inside.row.items c.place_of-place.result c.index.result.now
     c.index_mut.result.now (rw (← c.self.view_is) at c.requires.of) c.place_of-place.ensures.there
-    c.index.ensures c.index_mut.ensures.value in
-    (label_at c.args.plane.now.outlets c.place_of-place.result, at.of,
+    c.index.ensures c.index_mut.ensures.value in (
+      label_at c.args.plane.now.outlets c.place_of-place.result,
+      at.of,
       sym c.place_of-place.ensures.value,
-      outlets_are c.args.plane.now.outlets c.place_of-place.result)
+      outlets_are c.args.plane.now.outlets c.place_of-place.result,
+    )
 
 pub arrive_at-requires-clause-counted : goal.arrive_at-requires-clause-counted
 arrive_at-requires-clause-counted g c κs within =

@@ -16,11 +16,13 @@ ask-requires-clause-pass g c κs within =
     let at =
     at_place c.args.plane.now c.self.inside.row.items c.place_of-place.result c.index.result.now
     c.index_mut.result.now (rw (← c.self.view_is) at c.requires.of) c.place_of-place.ensures.there
-    c.index.ensures c.index_mut.ensures.value in
-    (label_at c.args.plane.now.outlets c.place_of-place.result, at.of,
+    c.index.ensures c.index_mut.ensures.value in (
+      label_at c.args.plane.now.outlets c.place_of-place.result,
+      at.of,
       sym (rw c.queue_of.ensures at c.place_of-place.ensures.value),
       sender_there (places_of c.args.plane.now) c.place_of-place.result _ c.requires.port,
-      outlets_are c.args.plane.now.outlets c.place_of-place.result)
+      outlets_are c.args.plane.now.outlets c.place_of-place.result,
+    )
 
 pub invariant_of-self : goal.invariant_of-self
 invariant_of-self g c =

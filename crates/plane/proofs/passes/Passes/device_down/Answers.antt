@@ -18,8 +18,11 @@ device_down-requires g c =
     (omega (arith, c.requires.there, c.args.plane.now.sized)) c.index.ensures
     c.index_mut.ensures.value in
     record {
-      pass = (label_at c.args.plane.now.outlets c.args.place, at.of,
-        outlets_are c.args.plane.now.outlets c.args.place);
+      pass = (
+        label_at c.args.plane.now.outlets c.args.place,
+        at.of,
+        outlets_are c.args.plane.now.outlets c.args.place,
+      );
     }
 
 pub invariant_of-self : goal.invariant_of-self

@@ -1,5 +1,6 @@
 use Rattle.plane.specs.Planes.{places_of, setting_of}
 use Rattle.plane.proofs.Balanced.{feed_balanced, feed_few}
+use Rattle.plane.proofs.Parts.{feed_parts}
 use Rattle.plane.proofs.plane.Plane.feed.Goals as goal
 
 pub feed-requires-clause-of : goal.feed-requires-clause-of
@@ -16,3 +17,9 @@ returns-clause-pass g c =
           c.feed.ensures.moved c.feed.ensures.fed c.feed.ensures.looked c.feed.ensures.none_fed
           is.balanced;
     }
+
+pub returns-clause-parts : goal.returns-clause-parts
+returns-clause-parts g c =
+    rw (← c.pass.view_is)
+    (feed_parts (places_of c.args.self.now) (setting_of c.args.self.now) _ _ c.args.packet
+    c.feed.result c.feed.ensures.moved c.feed.ensures.looked)

@@ -1,6 +1,7 @@
 use Rattle.netlink_codec.specs.Messages.{first_message}
 use Rattle.plane.specs.Planes.{places_of, setting_of}
 use Rattle.plane.proofs.Balanced.{message_balanced, message_logged}
+use Rattle.plane.proofs.Parts.{message_parts}
 use Rattle.plane.proofs.plane.Plane.message.Goals as goal
 
 pub message-requires-clause-of : goal.message-requires-clause-of
@@ -28,3 +29,10 @@ returns-clause-pass g c =
       mailbox = is.mailbox;
       alone = is.alone;
     }
+
+pub returns-clause-parts : goal.returns-clause-parts
+returns-clause-parts g c =
+    rw (← c.pass.view_is)
+    (message_parts (places_of c.args.self.now) (setting_of c.args.self.now) c.pass.inside.port
+    (first_message c.args.datagram.now) _ _ _ _ _ _ c.message.result c.message.ensures.sent
+    c.message.ensures.looked)

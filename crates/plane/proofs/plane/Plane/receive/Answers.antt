@@ -10,8 +10,10 @@ returns-in-Some-receive-clause-pass g c =
       balanced = is.balanced;
       mailbox = is.mailbox
           ∙ ap (λ (r : ReceiverView). Some r.mailbox) (sym c.in-Some-receive.ensures.received.1);
-      alone = (ap (λ (r : ReceiverView). r.joined) c.in-Some-receive.ensures.received.1 ∙ is.alone.0,
-        ap (λ (r : ReceiverView). r.full) c.in-Some-receive.ensures.received.1 ∙ is.alone.1);
+      alone = (
+        ap (λ (r : ReceiverView). r.joined) c.in-Some-receive.ensures.received.1 ∙ is.alone.0,
+        ap (λ (r : ReceiverView). r.full) c.in-Some-receive.ensures.received.1 ∙ is.alone.1,
+      );
     }
 
 pub returns-in-None-clause-pass : goal.returns-in-None-clause-pass
@@ -22,6 +24,8 @@ returns-in-None-clause-pass g c =
       balanced = is.balanced;
       mailbox = is.mailbox
           ∙ ap (λ (r : ReceiverView). Some r.mailbox) (sym c.in-None.ensures.received);
-      alone = (ap (λ (r : ReceiverView). r.joined) c.in-None.ensures.received ∙ is.alone.0,
-        ap (λ (r : ReceiverView). r.full) c.in-None.ensures.received ∙ is.alone.1);
+      alone = (
+        ap (λ (r : ReceiverView). r.joined) c.in-None.ensures.received ∙ is.alone.0,
+        ap (λ (r : ReceiverView). r.full) c.in-None.ensures.received ∙ is.alone.1,
+      );
     }
