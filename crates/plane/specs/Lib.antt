@@ -7,4 +7,5 @@ pub mod Passes
 pub mod Counts
 pub mod OnTheWay
 pub mod Opening
+pub mod Meetings
 pub mod Closings
