@@ -1,5 +1,6 @@
 -- Rows stay balanced.
-use Rattle.std.proofs.Common.{◌≡◌, ◌≢◌, ◌<◌, ◌+◌, ℕ, suc, List, [], ◌∷◌, ◌++◌, length, refl, sym, ap}
+use Rattle.std.proofs.Common.{◌≡◌, ◌≢◌, ◌<◌, ◌+◌, ℕ, suc, List, [], ◌∷◌, ◌++◌, length, refl, sym}
+use Rattle.std.proofs.Common.{ap}
 use Rattle.std.proofs.Common.{◌∙◌, subst, arith, inl, inr, append-nil, cond}
 use Rattle.std.specs.Prelude.{slice_get, slice_set, Some, sum_by, count_by, nat_eq, nat_lt, ◌==◌}
 use mathlib.Core.List.{IsPrefix}
@@ -219,8 +220,10 @@ joined_weighs f v w u one two joins =
       arith,
       ap (λ (x : Known). sum_by f (own_moves x)) is,
       merged_weighs f (moves (longer v.seen w.seen)) v.own w.own,
-      weighs_longer f v (longer v.seen w.seen) one (subst (λ (x : Known). IsPrefix v.seen x.seen) is joins.first),
-      weighs_longer f w (longer v.seen w.seen) two (subst (λ (x : Known). IsPrefix w.seen x.seen) is joins.second),
+      weighs_longer f v (longer v.seen w.seen) one (subst (λ (x : Known). IsPrefix v.seen x.seen)
+          is joins.first),
+      weighs_longer f w (longer v.seen w.seen) two (subst (λ (x : Known). IsPrefix w.seen x.seen)
+          is joins.second),
     )
 
 -- the sums of two rows, place by place

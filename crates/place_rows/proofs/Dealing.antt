@@ -1,5 +1,6 @@
 -- Places that open, and senders that are dealt to them.
-use Rattle.std.proofs.Common.{◌≡◌, ◌≢◌, ◌<◌, ◌≤◌, ◌+◌, ◌⊎◌, ⊎_elim, ℕ, zero, suc, List, [], ◌∷◌, ◌++◌}
+use Rattle.std.proofs.Common.{◌≡◌, ◌≢◌, ◌<◌, ◌≤◌, ◌+◌, ◌⊎◌, ⊎_elim, ℕ, zero, suc, List, [], ◌∷◌}
+use Rattle.std.proofs.Common.{◌++◌}
 use Rattle.std.proofs.Common.{length, refl, sym, ap, ◌∙◌, subst, arith, inl, inr, map, take, get_or}
 use Rattle.std.specs.Prelude.{slice_get, slice_set, Option, Some, None, option_map, nat_eq}
 use Rattle.std.specs.BTreeMap.{BTreeMap, get}
@@ -68,8 +69,10 @@ module _ (places port : ℕ) (mailbox : MailboxView) (olds news : List (BTreeMap
           let new_is : row' ≡ new =
           one_item row' new (sym (get_same news n row' there)
           ∙ ap (slice_get (slice_set news n row')) (sym e) ∙ also) in
-          subst (λ (x : BTreeMap ℕ SenderView). IsGiven port (sender_made places k mailbox) old x) new_is
-          (subst (λ (x : BTreeMap ℕ SenderView). IsGiven port (sender_made places k mailbox) x row') old_is
+          subst (λ (x : BTreeMap ℕ SenderView). IsGiven port (sender_made places k mailbox) old x)
+          new_is
+          (subst (λ (x : BTreeMap ℕ SenderView). IsGiven port (sender_made places k mailbox) x
+          row') old_is
           (subst (λ j. IsGiven port (sender_made places j mailbox) row row') (sym e) given)))
       | inr other ↦ (let differ = eqb-false k n other in
           s.done k old new one (omega (arith, less, differ)) at
@@ -96,11 +99,18 @@ all_dealt places port n mailbox olds news row row' s most there is given = recor
         let new_is : row' ≡ new =
         one_item row' new (sym (get_same news 0 row' there)
         ∙ ap (slice_get (slice_set news 0 row')) (sym e) ∙ also) in
-        subst (λ (x : BTreeMap ℕ SenderView). IsGiven port (sender_made places k mailbox) old x) new_is
-        (subst (λ (x : BTreeMap ℕ SenderView). IsGiven port (sender_made places k mailbox) x row') old_is
+        subst (λ (x : BTreeMap ℕ SenderView). IsGiven port (sender_made places k mailbox) old x)
+        new_is
+        (subst (λ (x : BTreeMap ℕ SenderView). IsGiven port (sender_made places k mailbox) x row')
+        old_is
         (subst (λ j. IsGiven port (sender_made places j mailbox) row row') (sym e) given)))
     | inr other ↦ (let differ = eqb-false k 0 other in
-        s.done k old new (omega (arith, differ)) (omega (arith, most, slice_get_within olds k old at)) at
+        s.done k old new (omega (arith, differ)) (omega (
+          arith,
+          most,
+          slice_get_within olds k old
+              at,
+        )) at
         (sym (get_other news 0 k row' differ) ∙ also))
   ];
 }
@@ -135,7 +145,8 @@ one_port_more places mail port done old new mailbox receiver was fresh dealt own
             ];
       };
       ports_are = ap (map port_of) pushed
-          ∙ map-append port_of old.receivers.items (record { port = port; receiver = receiver } ∷ [])
+          ∙ map-append port_of old.receivers.items (record { port = port; receiver = receiver } ∷
+          [])
           ∙ ap (λ (l : List ℕ). l ++ port ∷ []) was.ports_are;
       opened = subst (Every (IsOpened mail new.mailboxes)) (sym pushed)
           (every_both (IsOpened mail new.mailboxes) old.receivers.items
@@ -145,7 +156,8 @@ one_port_more places mail port done old new mailbox receiver was fresh dealt own
             record {
               mailbox = own ∙ sym (ap (λ (r : ReceiverView). Some r.mailbox) opens);
               capacity = ap (λ (r : ReceiverView). r.mailbox.capacity) opens ∙ holds;
-              nothing_yet = opens ∙ sym (ap (λ (r : ReceiverView). opening_receiver r.mailbox) opens);
+              nothing_yet = opens ∙ sym (ap (λ (r : ReceiverView). opening_receiver r.mailbox)
+                  opens);
             },
             tt,
           ));

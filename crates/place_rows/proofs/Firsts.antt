@@ -45,7 +45,10 @@ pub label_made : (outlets : Outlets) (number places : ℕ) (senders : BTreeMap �
     label_of (place_made number places senders writer) ≡ label_at outlets number
 label_made outlets number places senders writer many are is =
     ap (λ (w : WriterView). label_of (place_made number places senders w)) is
-    ∙ ap (λ (f : ℕ → Option SenderView). record (label_at outlets number) { places = places; senders = f })
+    ∙ ap (λ (f : ℕ → Option SenderView). record (label_at outlets number) {
+      places = places;
+      senders = f;
+    })
     (fun_ext (λ port. ap (option_map as_made) (are port)
     ∙ twice port (get nat_cmp outlets.mailboxes port)))
     ∙ sym (ap (λ n. record (label_at outlets number) {
@@ -102,7 +105,8 @@ module _ {g : Ghosts LockedView Entry} (named : ℕ → PlaceLabel)
     known = λ k v at.
         let there : slice_get (map view_of row ++ view_of pass ∷ []) k ≡ Some v =
         ap (λ (l : List Known). slice_get l k) (sym (map-append view_of row (pass ∷ []))) ∙ at in
-        let long : length (map view_of row) ≡ length locks = length-map row view_of ∙ row_long are in
+        let long : length (map view_of row) ≡ length locks = length-map row view_of
+        ∙ row_long are in
         elim (cases_Bool (nat_eq k (length locks))) [
           | inl same ↦ (let e : k ≡ length locks = eqb-true k (length locks) same in
               let v_is : view_of pass ≡ v =

@@ -2,7 +2,8 @@
 use Rattle.std.proofs.Common.{◌≡◌, ◌≢◌, ◌<◌, ◌≤◌, ◌+◌, ◌%◌, ℕ, zero, suc, List, [], ◌∷◌, ◌++◌}
 use Rattle.std.proofs.Common.{length, refl, sym, ap, ◌∙◌, subst, arith, inl, inr}
 use Rattle.std.proofs.Common.{append-nil, map, Bool, true, false, cond}
-use Rattle.std.specs.Prelude.{slice_get, Option, Some, None, sum_by, IfSome, flat_map, nat_eq, nat_lt, filter, count_by, if◌then◌else◌, ◌==◌}
+use Rattle.std.specs.Prelude.{slice_get, Option, Some, None, sum_by, IfSome, flat_map, nat_eq}
+use Rattle.std.specs.Prelude.{nat_lt, filter, count_by, if◌then◌else◌, ◌==◌}
 use Rattle.std.specs.List.{AllZip}
 use mathlib.Core.List.{IsPrefix}
 use Rattle.std.proofs.lemmas.List.Elements.{filter-append}
@@ -18,7 +19,9 @@ use Rattle.queue_core.specs.declared.event.Event.TheVariants.{Arrive, Ask, PortC
 use Rattle.queue_core.specs.declared.event.Reply.{Reply}
 use Rattle.queue_core.specs.declared.event.Reply.TheVariants.{Arrived, Answer, Flushed}
 use Rattle.queue_core.specs.declared.offers.Outcome.{Outcome}
-use Rattle.queue_core.specs.declared.offers.Outcome.TheVariants.{Taken, Overflow, OverflowOpen, UserFull, UserFullOpen, NoQueue, Bypassed, CopyNone, Loop}
+use Rattle.queue_core.specs.declared.offers.Outcome.TheVariants.{Taken, Overflow, OverflowOpen}
+use Rattle.queue_core.specs.declared.offers.Outcome.TheVariants.{UserFull, UserFullOpen, NoQueue}
+use Rattle.queue_core.specs.declared.offers.Outcome.TheVariants.{Bypassed, CopyNone, Loop}
 use Rattle.mailbox.specs.declared.view.Post.{Post}
 use Rattle.mailbox.specs.Roles.{In, HasAll}
 use Rattle.mailbox.specs.Views.{ReceiverView, letters_of, letters_in, numbers, HasAllSenders}
@@ -46,13 +49,15 @@ use Rattle.place_rows.proofs.Summing.{all_told}
 
 -- ---- senders by number
 
-in_numbers : (k : ℕ) (x : List Letter) (known : List (ℕ × List Letter)) → Among (k, x) known → In k (numbers known)
+in_numbers : (k : ℕ) (x : List Letter) (known : List (ℕ × List Letter)) → Among (k, x) known → In k
+    (numbers known)
 in_numbers k x [] h = absurd h
 in_numbers k x (y ∷ known) (inl e) = inl (ap (λ (z : ℕ × List Letter). z.0) e)
 in_numbers k x (y ∷ known) (inr h) = inr (in_numbers k x known h)
 
 whole_at : (received : List Post) (k : ℕ) (x : List Letter) (known : List (ℕ × List Letter)) →
-    views.All (λ s. letters_of s.0 received ≡ s.1) known → Among (k, x) known → letters_of k received ≡ x
+    views.All (λ s. letters_of s.0 received ≡ s.1) known → Among (k, x) known → letters_of k
+    received ≡ x
 whole_at received k x [] all h = absurd h
 whole_at received k x (y ∷ known) all (inl e) =
     subst (λ (z : ℕ × List Letter). letters_of z.0 received ≡ z.1) (sym e) all.0
@@ -69,8 +74,10 @@ has_all : (places : ℕ) (lists : List (List Entry)) (port : ℕ) (r : ReceiverV
 has_all places lists port r some long hears =
     let made : r.made ≡ places = hears.made refl (omega (arith, some, long)) in
     let one : (k : ℕ) → k < places → In k (numbers r.joined) =
-    λ k few. (let at = at_from (λ j l. Among (j, letters_to port l) r.joined) 0 k lists hears.joined (omega (arith, few, long)) in
-    subst (λ j. In j (numbers r.joined)) (omega arith) (in_numbers (0 + k) (letters_to port at.0) r.joined at.1.1)) in
+    λ k few. (let at = at_from (λ j l. Among (j, letters_to port l) r.joined) 0 k lists
+    hears.joined (omega (arith, few, long)) in
+    subst (λ j. In j (numbers r.joined)) (omega arith) (in_numbers (0 + k) (letters_to port at.0)
+    r.joined at.1.1)) in
     (one 0 some, λ k few. one k (omega (arith, few, made)))
 
 both_from : {X : Type 0} (P Q : ℕ → X → Type 0) (n : ℕ) (xs : List X) → AllFrom P n xs →
@@ -130,7 +137,8 @@ of_queue places queue [] all = refl
 of_queue places queue (p ∷ ps) all =
     elim (cases_Bool (nat_eq p.from (queue % places))) [
       | inl h ↦ elim (cases_Bool (is_from queue p.letter)) [
-        | inl own ↦ rw (h, own) (ap (λ (l : List Letter). p.letter ∷ l) (of_queue places queue ps all.1))
+        | inl own ↦ rw (h, own) (ap (λ (l : List Letter). p.letter ∷ l) (of_queue places queue ps
+            all.1))
         | inr other ↦ rw (h, other) (of_queue places queue ps all.1)
       ]
       | inr h ↦ elim (cases_Bool (is_from queue p.letter)) [
@@ -179,7 +187,8 @@ under_from P port (Some q) e f =
 
 letters_here : (places k port : ℕ) (before es : List Entry) →
     Every (λ (e : Entry). e.queue % places ≡ k) es →
-    Every (λ (l : Letter). l.queue % places ≡ k) (flat_map (letters_at port) (points_after before es))
+    Every (λ (l : Letter). l.queue % places ≡ k) (flat_map (letters_at port) (points_after before
+    es))
 letters_here places k port before [] all = tt
 letters_here places k port before (e ∷ es) all =
     every_both (λ (l : Letter). l.queue % places ≡ k) (letters_at port (point_after before e))
@@ -247,13 +256,15 @@ module _ (queue port : ℕ) where
             ∙ ap (letters_at port) (same_point queue before e own))
             ∙ ap (λ (l : List Letter). letters_at port (point_after (history queue before) e) ++ l)
             (letters_part (before ++ e ∷ []) es
-            ∙ ap (λ (h : List Entry). flat_map (letters_at port) (points_after h (history queue es)))
+            ∙ ap (λ (h : List Entry). flat_map (letters_at port) (points_after h (history queue
+            es)))
             (pushed queue before e own)))
         | inr other ↦ rw other
             (ap (λ (l : List Letter). l ++ filter (is_from queue) rest)
             (keep_none queue e.queue here (letters_point before e) other)
             ∙ letters_part (before ++ e ∷ []) es
-            ∙ ap (λ (h : List Entry). flat_map (letters_at port) (points_after h (history queue es)))
+            ∙ ap (λ (h : List Entry). flat_map (letters_at port) (points_after h (history queue
+            es)))
             (passed queue before e other))
       ]
 
@@ -271,7 +282,8 @@ module _ (queue port : ℕ) where
             omega (
               arith,
               rest,
-              ap (λ (h : List Entry). count_by (lacks_at port) (points_after h (history queue es))) (pushed queue before e own),
+              ap (λ (h : List Entry). count_by (lacks_at port) (points_after h (history queue es)))
+                  (pushed queue before e own),
               ap one_lack (same_point queue before e own),
               sum_by-cons one_lack (point_after before e) (points_after (before ++ e ∷ []) es),
               sum_by-cons one_lack (point_after (history queue before) e)
@@ -282,14 +294,21 @@ module _ (queue port : ℕ) where
             omega (
               arith,
               rest,
-              ap (λ (h : List Entry). count_by (lacks_at port) (points_after h (history queue es))) (passed queue before e other),
+              ap (λ (h : List Entry). count_by (lacks_at port) (points_after h (history queue es)))
+                  (passed queue before e other),
               sum_by-cons one_lack (point_after before e) (points_after (before ++ e ∷ []) es),
             ))
       ]
 
-item_sum : {X : Type 0} (f : X → ℕ) (k : ℕ) (xs : List X) (x : X) → slice_get xs k ≡ Some x → f x ≤ sum_by f xs
+item_sum : {X : Type 0} (f : X → ℕ) (k : ℕ) (xs : List X) (x : X) → slice_get xs k ≡ Some x → f x ≤
+    sum_by f xs
 item_sum f k [] x at = absurd (cc at)
-item_sum f zero (y ∷ xs) x at = let same : y ≡ x = cc at in omega (arith, ap f same, sum_by-cons f y xs)
+item_sum f zero (y ∷ xs) x at = let same : y ≡ x = cc at in omega (
+  arith,
+  ap f same,
+  sum_by-cons f
+      y xs,
+)
 item_sum f (suc k) (y ∷ xs) x at = omega (arith, item_sum f k xs x at, sum_by-cons f y xs)
 
 -- ---- one port
@@ -312,21 +331,32 @@ module _ (places : ℕ) (lists : List (List Entry)) (es : List Entry) (port sent
   each =
       all_from_mapped (λ k l. Among (k, letters_to port l) r.joined)
       (λ k l. IsPrefix (letters_of k r.received) (letters_to port l)) 0 lists
-      (λ k l h. of_all (λ s. IsPrefix (letters_of s.0 r.received) s.1) k (letters_to port l) r.joined
+      (λ k l h. of_all (λ s. IsPrefix (letters_of s.0 r.received) s.1) k (letters_to port l)
+      r.joined
       told.prefix h) hears.joined
 
   inside : Every (λ (p : Post). p.from < places) r.received
   inside =
       all_within places r.received
-      (λ k most. told.beyond everyone.0 k (omega (arith, most, hears.made refl (omega (arith, some, long)))))
+      (λ k most. told.beyond everyone.0 k (omega (
+        arith,
+        most,
+        hears.made refl (omega (
+          arith,
+          some,
+          long,
+        )),
+      )))
 
   placed : Every (λ (p : Post). p.letter.queue % places ≡ p.from) r.received
   placed =
       placed_posts places r.received inside
       (λ k few.
       let at = at_from (λ j l. IsPrefix (letters_of j r.received) (letters_to port l)
-      × AreHere places j l) 0 k lists (both_from _ _ 0 lists each here) (omega (arith, few, long)) in
-      subst (λ n. Every (λ (l : Letter). l.queue % places ≡ n) (letters_of n r.received)) (omega arith)
+      × AreHere places j l) 0 k lists (both_from _ _ 0 lists each here) (omega (arith, few, long))
+      in
+      subst (λ n. Every (λ (l : Letter). l.queue % places ≡ n) (letters_of n r.received)) (omega
+      arith)
       (every_in_front (λ (l : Letter). l.queue % places ≡ 0 + k) (letters_of (0 + k) r.received)
       at.1.1.0.0
       (subst (Every (λ (l : Letter). l.queue % places ≡ 0 + k)) (sym at.1.1.0.1)
@@ -334,27 +364,32 @@ module _ (places : ℕ) (lists : List (List Entry)) (es : List Entry) (port sent
       (every_of (λ (e : Entry). e.queue % places ≡ 0 + k) at.0 at.1.1.1)))))
 
   -- the list of a queue's place, and the queue's history in it
-  of_history : (queue k : ℕ) (l : List Entry) → queue % places ≡ 0 + k → slice_get lists k ≡ Some l →
+  of_history : (queue k : ℕ) (l : List Entry) → queue % places ≡ 0 + k → slice_get lists k ≡ Some l
+      →
       filter (is_from queue) (letters_to port l) ≡ letters_to port (history queue es)
   of_history queue k l is at =
       letters_part queue port [] l
       ∙ ap (letters_to port) (sym (same queue ∙ flat_at places 0 k queue lists l here is at))
 
   heard_of : (queue : ℕ) →
-      letters_heard_of queue r.received ≡ filter (is_from queue) (letters_of (queue % places) r.received)
+      letters_heard_of queue r.received ≡ filter (is_from queue) (letters_of (queue % places)
+      r.received)
   heard_of queue = of_queue places queue r.received placed
 
   prefix_heard : (queue : ℕ) →
       IsPrefix (letters_heard_of queue r.received) (letters_to port (history queue es))
   prefix_heard queue =
       let k = queue % places in
-      let at = at_from (λ j l. IsPrefix (letters_of j r.received) (letters_to port l)) 0 k lists each
+      let at = at_from (λ j l. IsPrefix (letters_of j r.received) (letters_to port l)) 0 k lists
+      each
       (omega (arith, rest queue, long)) in
-      subst (λ (l : List Letter). IsPrefix l (letters_to port (history queue es))) (sym (heard_of queue))
+      subst (λ (l : List Letter). IsPrefix l (letters_to port (history queue es))) (sym (heard_of
+      queue))
       (subst (IsPrefix (filter (is_from queue) (letters_of k r.received)))
       (of_history queue k at.0 (omega arith) at.1.0)
       (filter_front (is_from queue) (letters_of k r.received) (letters_to port at.0)
-      (subst (λ n. IsPrefix (letters_of n r.received) (letters_to port at.0)) (omega arith) at.1.1)))
+      (subst (λ n. IsPrefix (letters_of n r.received) (letters_to port at.0)) (omega arith)
+      at.1.1)))
 
   all_heard : sent ≡ length r.received → (queue : ℕ) →
       letters_heard_of queue r.received ≡ letters_to port (history queue es)
@@ -364,7 +399,8 @@ module _ (places : ℕ) (lists : List (List Entry)) (es : List Entry) (port sent
       let wholes : AllFrom (λ j l. letters_of j r.received ≡ letters_to port l) 0 lists =
       all_from_mapped (λ j l. Among (j, letters_to port l) r.joined)
       (λ j l. letters_of j r.received ≡ letters_to port l) 0 lists
-      (λ j l h. of_all (λ s. letters_of s.0 r.received ≡ s.1) j (letters_to port l) r.joined whole h)
+      (λ j l h. of_all (λ s. letters_of s.0 r.received ≡ s.1) j (letters_to port l) r.joined whole
+      h)
       hears.joined in
       let at = at_from (λ j l. letters_of j r.received ≡ letters_to port l) 0 k lists wholes
       (omega (arith, rest queue, long)) in
@@ -398,11 +434,24 @@ length_flat : {X Y : Type 0} (g : X → List Y) (xs : List X) →
     length (flat_map g xs) ≡ sum_by (λ x. length (g x)) xs
 length_flat g [] = refl
 length_flat g (x ∷ xs) =
-    omega (arith, length-append (g x) (flat_map g xs), length_flat g xs, sum_by-cons (λ y. length (g y)) x xs)
+    omega (
+      arith,
+      length-append (g x) (flat_map g xs),
+      length_flat g xs,
+      sum_by-cons (λ y. length
+          (g y)) x xs,
+    )
 
-sums_same : {X : Type 0} (f g : X → ℕ) (xs : List X) → ((x : X) → f x ≡ g x) → sum_by f xs ≡ sum_by g xs
+sums_same : {X : Type 0} (f g : X → ℕ) (xs : List X) → ((x : X) → f x ≡ g x) → sum_by f xs ≡ sum_by
+    g xs
 sums_same f g [] each = refl
-sums_same f g (x ∷ xs) each = omega (arith, each x, sums_same f g xs each, sum_by-cons f x xs, sum_by-cons g x xs)
+sums_same f g (x ∷ xs) each = omega (
+  arith,
+  each x,
+  sums_same f g xs each,
+  sum_by-cons f x xs,
+  sum_by-cons g x xs,
+)
 
 points_grow : (es fs : List Entry) → (more : List Point) × (points (es ++ fs) ≡ points es ++ more)
 points_grow es fs = (points_after es fs, points_longer [] es fs)
@@ -435,7 +484,8 @@ all_hear places lists es rows (p ∷ ps) (q ∷ qs) rest some long here same sen
       zip.0.received
       (subst (λ n. HasHeard es (sent_in_all p.port rows) n p.port q.receiver.received)
       (ap (λ m. m.capacity) zip.0.mailbox)
-      (heard_one places lists es p.port (sent_in_all p.port rows) q.receiver rest some long here same
+      (heard_one places lists es p.port (sent_in_all p.port rows) q.receiver rest some long here
+      same
       (sent p.port) zip.0.hears told.0)),
   all_hear places lists es rows ps qs rest some long here same sent zip.1 told.1,
 )

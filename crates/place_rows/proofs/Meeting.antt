@@ -188,7 +188,8 @@ module _ (n : ℕ) (froms intos froms' intos' : List Known) (long : length froms
         (one_item t.v' v' (sym t.then_ ∙ then_))
         (subst (λ (x : Known). t.v' ≡ record x { seen = t.v'.seen; part = t.v'.part })
         (one_item t.v v (sym t.at ∙ at))
-        (t.told.first ∙ sym (ap (λ (x : Known). record t.v { seen = x.seen; part = x.part }) t.told.first))))
+        (t.told.first ∙ sym (ap (λ (x : Known). record t.v { seen = x.seen; part = x.part })
+        t.told.first))))
         (λ (none : NothingAt k froms intos froms' intos'). absurd (cc (sym none.at ∙ at)))
         (told_at n k froms intos froms' intos' long told);
   }
@@ -202,7 +203,8 @@ module _ (n : ℕ) (froms intos froms' intos' : List Known) (long : length froms
         (one_item t.w' w' (sym t.too ∙ then_))
         (subst (λ (x : Known). t.w' ≡ record x { seen = t.w'.seen; part = t.w'.part })
         (one_item t.w w (sym t.also ∙ at))
-        (t.told.second ∙ sym (ap (λ (x : Known). record t.w { seen = x.seen; part = x.part }) t.told.second))))
+        (t.told.second ∙ sym (ap (λ (x : Known). record t.w { seen = x.seen; part = x.part })
+        t.told.second))))
         (λ (none : NothingAt k froms intos froms' intos'). absurd (cc (sym none.also ∙ at)))
         (told_at n k froms intos froms' intos' long told);
   }
@@ -211,7 +213,8 @@ module _ (n : ℕ) (froms intos froms' intos' : List Known) (long : length froms
   into_seen : (k : ℕ) (list : List Entry) → Sees k list intos' → TellsAt k froms intos froms' intos'
   into_seen k list sees =
       ⊎_elim (λ (t : TellsAt k froms intos froms' intos'). t)
-      (λ (none : NothingAt k froms intos froms' intos'). absurd (cc (sym (ap seen_in none.too) ∙ sees)))
+      (λ (none : NothingAt k froms intos froms' intos'). absurd (cc (sym (ap seen_in none.too)
+      ∙ sees)))
       (told_at n k froms intos froms' intos' long told)
 
 -- ---- lists that were seen
@@ -296,7 +299,8 @@ module _ (laws : Laws) where
   together_same k t t' [] i r r' a b all normal at same = absurd (cc at)
   together_same k t t' (x ∷ rows) zero r r' a b all normal at same =
       ap (λ p. together_at k p rows)
-      (sym same ∙ ap (λ (y : List Known). union t (part_in (slice_get y k))) (sym (one_item x r at)))
+      (sym same ∙ ap (λ (y : List Known). union t (part_in (slice_get y k))) (sym (one_item x r
+      at)))
   together_same k t t' (x ∷ rows) (suc i) r r' a b all normal at same =
       let p = part_in (slice_get x k) in
       let p_normal = part_normal k x all.0 in
@@ -342,7 +346,8 @@ pub gather_none : (places : ℕ) (first : List Known) (rows : List (List Known))
     Every AreNormal (first ∷ rows) → HasGathered places 0 first first rows rows
 gather_none places first rows long normal = record {
   shared = nothing_told places (first ∷ rows) long normal;
-  same = zip_same (λ (known known_then : List Known). (k : ℕ) → seen_at k known_then ≡ seen_at k known) rows
+  same = zip_same (λ (known known_then : List Known). (k : ℕ) → seen_at k known_then ≡ seen_at k
+      known) rows
       (λ r k. refl);
   among = λ k list sees. inl sees;
   behind = λ k list sees. (
@@ -357,14 +362,16 @@ module _ (laws : Laws) (places n : ℕ) (first before after : List Known)
   first_told : HaveShared places (first ∷ rows) (before ∷ olds) →
       TellsFirst places n before after olds news → HaveShared places (first ∷ rows) (after ∷ news)
   first_told was t =
-      let row_long = every_get (λ (known : List Known). length known ≡ places) olds n t.row was.long.1 t.had in
+      let row_long = every_get (λ (known : List Known). length known ≡ places) olds n t.row
+      was.long.1 t.had in
       let row_normal = from_normal places t.row before t.row_then after row_long t.told in
       let first_normal = into_normal places t.row before t.row_then after row_long t.told in
       record {
         long = (
           t.told.others_many ∙ was.long.0,
           subst (Every (λ (known : List Known). length known ≡ places)) (sym t.has)
-              (every_set (λ (known : List Known). length known ≡ places) olds n t.row_then was.long.1
+              (every_set (λ (known : List Known). length known ≡ places) olds n t.row_then
+              was.long.1
               (t.told.as_many ∙ row_long)),
         );
         normal = (
@@ -388,11 +395,13 @@ module _ (laws : Laws) (places n : ℕ) (first before after : List Known)
             let p_is = part_normal k before was.normal.0 in
             let q_is = part_normal k t.row (every_get AreNormal olds n t.row was.normal.1 t.had) in
             ap (λ (l : List (List Known)). together_at k p' l) t.has
-            ∙ together_same laws k p p' olds n t.row t.row_then p_is (part_normal k after first_normal)
+            ∙ together_same laws k p p' olds n t.row t.row_then p_is (part_normal k after
+            first_normal)
             was.normal.1 row_normal t.had
             (laws.sides p q p_is q_is
             ∙ sym (parts_kept places t.row before t.row_then after row_long t.told k)
-            ∙ laws.sides q' p' (part_normal k t.row_then row_normal) (part_normal k after first_normal))
+            ∙ laws.sides q' p' (part_normal k t.row_then row_normal) (part_normal k after
+            first_normal))
             ∙ was.parts k;
       }
 
@@ -400,14 +409,16 @@ module _ (laws : Laws) (places n : ℕ) (first before after : List Known)
   row_told : HaveShared places (first ∷ rows) (before ∷ olds) →
       TellsRow places n before after olds news → HaveShared places (first ∷ rows) (after ∷ news)
   row_told was t =
-      let row_long = every_get (λ (known : List Known). length known ≡ places) olds n t.row was.long.1 t.had in
+      let row_long = every_get (λ (known : List Known). length known ≡ places) olds n t.row
+      was.long.1 t.had in
       let first_normal = from_normal places before t.row after t.row_then was.long.0 t.told in
       let row_normal = into_normal places before t.row after t.row_then was.long.0 t.told in
       record {
         long = (
           t.told.as_many ∙ was.long.0,
           subst (Every (λ (known : List Known). length known ≡ places)) (sym t.has)
-              (every_set (λ (known : List Known). length known ≡ places) olds n t.row_then was.long.1
+              (every_set (λ (known : List Known). length known ≡ places) olds n t.row_then
+              was.long.1
               (t.told.others_many ∙ row_long)),
         );
         normal = (
@@ -450,7 +461,8 @@ module _ (laws : Laws) (places n : ℕ) (first before after : List Known)
         subst (λ l. OneIs (Sees k l) (first ∷ rows)) list_is
         (longer_cases (λ l. OneIs (Sees k l) (first ∷ rows)) at.w.seen at.v.seen
         (was.among k at.w.seen (ap seen_in at.also))
-        (inr (one_at (Sees k at.v.seen) rows n own.0 own.1.0 (sym (own.1.1 k) ∙ ap seen_in at.at))));
+        (inr (one_at (Sees k at.v.seen) rows n own.0 own.1.0 (sym (own.1.1 k)
+        ∙ ap seen_in at.at))));
     behind = λ k list sees.
         let at = into_seen places t.row before t.row_then after row_long t.told k list sees in
         let w'_is : at.w'.seen ≡ list = seen_is k list sees in
@@ -460,7 +472,8 @@ module _ (laws : Laws) (places n : ℕ) (first before after : List Known)
           begins_longer k at.w.seen list first w_front old.0,
           λ j r less there. elim (cases_Bool (nat_eq j n)) [
             | inl same ↦ (let e : j ≡ n = eqb-true j n same in
-                let is : own.0 ≡ r = one_item own.0 r (sym own.1.0 ∙ ap (slice_get rows) (sym e) ∙ there) in
+                let is : own.0 ≡ r = one_item own.0 r (sym own.1.0 ∙ ap (slice_get rows) (sym e)
+                ∙ there) in
                 subst (Begins k list) is
                 (sees_begins k at.v.seen list own.0 (sym (own.1.1 k) ∙ ap seen_in at.at) v_front))
             | inr other ↦ begins_longer k at.w.seen list r w_front
@@ -470,13 +483,15 @@ module _ (laws : Laws) (places n : ℕ) (first before after : List Known)
   }
     where
       row_long : length t.row ≡ places
-      row_long = every_get (λ (known : List Known). length known ≡ places) olds n t.row was.shared.long.1 t.had
+      row_long = every_get (λ (known : List Known). length known ≡ places) olds n t.row
+          was.shared.long.1 t.had
 
       own : (r : List Known) × ((slice_get rows n ≡ Some r) × SameSeen r t.row)
       own = zip_get SameSeen rows olds n t.row was.same t.had
 
       seen_is : (k : ℕ) (list : List Entry) (sees : Sees k list after) →
-          (into_seen places t.row before t.row_then after row_long t.told k list sees).w'.seen ≡ list
+          (into_seen places t.row before t.row_then after row_long t.told k list sees).w'.seen ≡
+          list
       seen_is k list sees =
           let at = into_seen places t.row before t.row_then after row_long t.told k list sees in
           one_item at.w'.seen list (sym (ap seen_in at.too) ∙ sees)

@@ -1,5 +1,6 @@
 -- Each entry of a place's list is one row's own, and no other's.
-use Rattle.std.proofs.Common.{◌≡◌, ◌<◌, ◌≤◌, ◌+◌, ℕ, zero, suc, List, [], ◌∷◌, length, refl, ◌∙◌, arith, inl, inr}
+use Rattle.std.proofs.Common.{◌≡◌, ◌<◌, ◌≤◌, ◌+◌, ℕ, zero, suc, List, [], ◌∷◌, length, refl, ◌∙◌}
+use Rattle.std.proofs.Common.{arith, inl, inr}
 use Rattle.std.specs.Prelude.{slice_get, Some, sum_by, nat_eq, if◌then◌else◌}
 use Rattle.std.specs.List.{range_with_len}
 use Rattle.std.proofs.lemmas.List.Sums.{sum_by-cons}
@@ -61,7 +62,13 @@ pub owner : {X : Type 0} (f : X → ℕ) (xs : List X) → 0 < sum_by f xs →
 owner f [] some = absurd (omega (arith, some))
 owner f (x ∷ xs) some =
     elim (cases_Bool (nat_eq (f x) 0)) [
-      | inl h ↦ (let rest = owner f xs (omega (arith, some, eqb-true (f x) 0 h, sum_by-cons f x xs)) in
+      | inl h ↦ (let rest = owner f xs (omega (
+        arith,
+        some,
+        eqb-true (f x) 0 h,
+        sum_by-cons f x
+            xs,
+      )) in
           (suc rest.0, rest.1))
       | inr h ↦ (0, (x, (refl, omega (arith, eqb-false (f x) 0 h))))
     ]

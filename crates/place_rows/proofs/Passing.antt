@@ -1,6 +1,8 @@
 -- Passes of a row: the one of a place, and one that changes.
-use Rattle.std.proofs.Common.{◌≡◌, ◌≢◌, ◌<◌, ◌≤◌, ◌+◌, ℕ, suc, List, [], ◌∷◌, ◌++◌, length, refl, sym, ap, ◌∙◌, subst, arith, inl, inr}
-use Rattle.std.specs.Prelude.{map, slice_get, slice_set, Option, Some, None, option_map, get_or, nat_eq}
+use Rattle.std.proofs.Common.{◌≡◌, ◌≢◌, ◌<◌, ◌≤◌, ◌+◌, ℕ, suc, List, [], ◌∷◌, ◌++◌, length, refl}
+use Rattle.std.proofs.Common.{sym, ap, ◌∙◌, subst, arith, inl, inr}
+use Rattle.std.specs.Prelude.{map, slice_get, slice_set, Option, Some, None, option_map, get_or}
+use Rattle.std.specs.Prelude.{nat_eq}
 use Rattle.std.proofs.lemmas.List.{length-set, map-set, length-map, length-append}
 use Rattle.std.proofs.lemmas.Option.{slice_get_read, slice_get-map, slice_get_within}
 use Rattle.std.proofs.lemmas.Bool.{cases_Bool, eqb-true, eqb-false}
@@ -12,7 +14,8 @@ use Rattle.turn_lock.specs.declared.lock.TurnLock.{TurnLock}
 use Rattle.turn_lock.specs.Passes.{view_of}
 use Rattle.locked_place.specs.Passes.{IsPassOf}
 use Rattle.place_rows.specs.Rows.{ArePasses, IsKnown, IsPassAt, TurnsOne, lock_of, id_of}
-use Rattle.place_rows.proofs.Lists.{one_item, get_same, get_other, same_again, item_at, get_longer, get_seam}
+use Rattle.place_rows.proofs.Lists.{one_item, get_same, get_other, same_again, item_at, get_longer}
+use Rattle.place_rows.proofs.Lists.{get_seam}
 
 -- what a pass of a lock knows
 pub known_of : {S E : Type 0} {g : Ghosts S E} {L : Type 0} (label : S → L) (named : L)
@@ -37,7 +40,12 @@ module _ {S E : Type 0} {g : Ghosts S E} {L : Type 0} (label : S → L) (named :
       pass ≡ get_or passes k pass → IsPassOf label (named k) lock pass
   pass_there passes k lock pass all there is has =
       let at_lock = slice_get_read locks (length locks) k lock refl there is in
-      let at_pass = slice_get_read passes (length passes) k pass refl (omega (arith, as_many passes all, there)) has in
+      let at_pass = slice_get_read passes (length passes) k pass refl (omega (
+        arith,
+        as_many passes
+            all,
+        there,
+      )) has in
       let known = all.known k (view_of pass)
       (slice_get-map view_of passes k ∙ ap (option_map view_of) at_pass) in
       record {
@@ -68,13 +76,15 @@ module _ {S E : Type 0} {g : Ghosts S E} {L : Type 0} (label : S → L) (named :
               let is_v : view_of new ≡ v =
               one_item (view_of new) v (sym (get_same (map view_of passes) k (view_of new) inside)
               ∙ ap (slice_get (slice_set (map view_of passes) k (view_of new))) (sym e)
-              ∙ ap (λ (l : List (View E S)). slice_get l j) (sym (map-set view_of passes k new)) ∙ at) in
+              ∙ ap (λ (l : List (View E S)). slice_get l j) (sym (map-set view_of passes k new))
+              ∙ at) in
               subst (IsKnown label (named j)) is_v
               (subst (λ n. IsKnown label (named n) (view_of new)) (sym e)
               (known_of label (named k) lock new new_is)))
           | inr other ↦ all.known j v
               (sym (get_other (map view_of passes) k j (view_of new) (eqb-false j k other))
-              ∙ ap (λ (l : List (View E S)). slice_get l j) (sym (map-set view_of passes k new)) ∙ at)
+              ∙ ap (λ (l : List (View E S)). slice_get l j) (sym (map-set view_of passes k new))
+              ∙ at)
         ];
       }
 
@@ -105,7 +115,8 @@ module _ {S E : Type 0} {g : Ghosts S E} {L : Type 0} (label : S → L) (named :
       IsPassOf label (named k) lock pass
   at_lock k lock pass at there is =
       subst (λ (l : TurnLock S E). IsPassOf label (named k) l pass)
-      (one_item at.lock lock (sym at.there ∙ slice_get_read locks (length locks) k lock refl there is))
+      (one_item at.lock lock (sym at.there
+      ∙ slice_get_read locks (length locks) k lock refl there is))
       at.of
 
 pub turns_one : {S E : Type 0} {g : Ghosts S E} (passes : List (Pass S E g)) (k : ℕ)

@@ -1,6 +1,8 @@
 -- Places that end, one after the other.
-use Rattle.std.proofs.Common.{◌≡◌, ◌<◌, ◌≤◌, ◌+◌, ◌⊎◌, ℕ, List, [], ◌∷◌, ◌++◌, length, refl, sym, ap, ◌∙◌, subst, arith, inl, inr, Bool, true, false}
-use Rattle.std.specs.Prelude.{map, slice_get, Option, Some, None, option_map, nat_eq, IfSome, if◌then◌else◌, ◌&&◌}
+use Rattle.std.proofs.Common.{◌≡◌, ◌<◌, ◌≤◌, ◌+◌, ◌⊎◌, ℕ, List, [], ◌∷◌, ◌++◌, length, refl, sym}
+use Rattle.std.proofs.Common.{ap, ◌∙◌, subst, arith, inl, inr, Bool, true, false}
+use Rattle.std.specs.Prelude.{map, slice_get, Option, Some, None, option_map, nat_eq, IfSome}
+use Rattle.std.specs.Prelude.{if◌then◌else◌, ◌&&◌}
 use Rattle.std.specs.List.{AllZip}
 use mathlib.Core.List.{IsPrefix}
 use Rattle.std.proofs.lemmas.List.{length-append}
@@ -19,13 +21,15 @@ use Rattle.histories.specs.declared.entry.Entry.{Entry}
 use Rattle.histories.specs.History.{history, is_of}
 use Rattle.place_history.specs.PlaceState.{AreHere}
 use Rattle.locked_place.specs.Notices.{letters_to, lacking, HasSent}
-use Rattle.locked_place.specs.Views.{LockedView, AreNotified, PlaceLabel, senders_of, made_senders, as_made, label_of}
+use Rattle.locked_place.specs.Views.{LockedView, AreNotified, PlaceLabel, senders_of, made_senders}
+use Rattle.locked_place.specs.Views.{as_made, label_of}
 use Rattle.locked_place.specs.Passes.{IsPassOf}
 use Rattle.place_rows.specs.declared.ending.PortReceiver.{PortReceiver}
 use Rattle.place_rows.specs.Lists.{Every, AllFrom, flat}
 use Rattle.place_rows.specs.Rows.{Known, ArePasses, sender_made}
 use Rattle.place_rows.specs.Ending.{IsListAt}
-use Rattle.place_rows.specs.Hearing.{Hears, HearsAs, Among, times_in, with_sender, with_its_sender, HasSender, HasMailbox, IsHeard}
+use Rattle.place_rows.specs.Hearing.{Hears, HearsAs, Among, times_in, with_sender, with_its_sender}
+use Rattle.place_rows.specs.Hearing.{HasSender, HasMailbox, IsHeard}
 use Rattle.place_rows.proofs.Lists.{one_item, all_from_mapped, last_of}
 use Rattle.place_rows.proofs.Placing.{either_end}
 use Rattle.place_rows.proofs.Passing.{pass_at}
@@ -42,7 +46,8 @@ made_one places n m None e = absurd (cc e)
 made_one places n m (Some s) e = record { sender = s; is = refl; made = one_item _ _ e }
 
 -- ---- what a receiver hears
-among_front : (x : ℕ × List Letter) (xs ys : List (ℕ × List Letter)) → Among x xs → Among x (xs ++ ys)
+among_front : (x : ℕ × List Letter) (xs ys : List (ℕ × List Letter)) → Among x xs → Among x (xs ++
+    ys)
 among_front x [] ys h = absurd h
 among_front x (y ∷ xs) ys (inl e) = inl e
 among_front x (y ∷ xs) ys (inr h) = inr (among_front x xs ys h)
@@ -69,7 +74,8 @@ hears_more places n lists list port r s m hears made sent_so =
         subst (λ (x : ℕ × List Letter). Among (n, letters_to port list) (r.joined ++ x ∷ []))
             (sym pair) (among_last (n, letters_to port list) r.joined),
         all_from_mapped (λ k l. Among (k, letters_to port l) r.joined)
-            (λ k l. Among (k, letters_to port l) (r.joined ++ (s.number, s.sent) ∷ [])) (n + 1) lists
+            (λ k l. Among (k, letters_to port l) (r.joined ++ (s.number, s.sent) ∷ [])) (n + 1)
+            lists
             (λ k l h. among_front (k, letters_to port l) r.joined ((s.number, s.sent) ∷ []) h)
             hears.joined,
       );
@@ -80,7 +86,13 @@ hears_more places n lists list port r s m hears made sent_so =
         ap (λ (l : List Letter). length l) sent_so.sent,
         sum_by-cons (λ (l : List Entry). length (letters_to port l)) list lists,
       );
-      full = omega (arith, hears.full, sent_so.full, sum_by-cons (λ (l : List Entry). lacking port l) list lists);
+      full = omega (
+        arith,
+        hears.full,
+        sent_so.full,
+        sum_by-cons (λ (l : List Entry). lacking port
+            l) list lists,
+      );
       made = λ is_zero some.
           ap (λ k. if nat_eq k 0 then s.made else r.made) (number ∙ is_zero)
           ∙ ap (λ (x : SenderView). x.made) made

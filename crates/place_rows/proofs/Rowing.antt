@@ -1,6 +1,8 @@
 -- Rows that are joined.
-use Rattle.std.proofs.Common.{◌≡◌, ◌≢◌, ◌<◌, ◌≤◌, ◌+◌, ℕ, List, [], ◌∷◌, ◌++◌, length, refl, sym, ap, ◌∙◌, subst, arith, inl, inr}
-use Rattle.std.specs.Prelude.{slice_get, slice_set, Option, Some, None, option_map, nat_eq, nat_lt, sum_by, IfSome}
+use Rattle.std.proofs.Common.{◌≡◌, ◌≢◌, ◌<◌, ◌≤◌, ◌+◌, ℕ, List, [], ◌∷◌, ◌++◌, length, refl, sym}
+use Rattle.std.proofs.Common.{ap, ◌∙◌, subst, arith, inl, inr}
+use Rattle.std.specs.Prelude.{slice_get, slice_set, Option, Some, None, option_map, nat_eq, nat_lt}
+use Rattle.std.specs.Prelude.{sum_by, IfSome}
 use mathlib.Core.List.{IsPrefix}
 use Rattle.std.proofs.lemmas.List.{length-set}
 use Rattle.std.proofs.lemmas.List.Sums.{sum_by-cons, sum_by_push, sum_by-append}
@@ -11,8 +13,10 @@ use Rattle.turn_lock.specs.Places.{insert, merged}
 use Rattle.histories.specs.declared.entry.Entry.{Entry}
 use Rattle.place_rows.specs.Lists.{Every}
 use Rattle.place_rows.specs.Rows.{Known, TurnsOne, HasTurned}
-use Rattle.place_rows.specs.Joining.{Joins, RowJoined, AllJoined, JoinedAt, AreWhole, together_at, part_in, own_at, own_sum, Begins}
-use Rattle.place_rows.proofs.Lists.{one_item, item_at, get_same, get_other, prefix_self, prefix_trans, every_both, every_mapped}
+use Rattle.place_rows.specs.Joining.{Joins, RowJoined, AllJoined, JoinedAt, AreWhole, together_at}
+use Rattle.place_rows.specs.Joining.{part_in, own_at, own_sum, Begins}
+use Rattle.place_rows.proofs.Lists.{one_item, item_at, get_same, get_other, prefix_self}
+use Rattle.place_rows.proofs.Lists.{prefix_trans, every_both, every_mapped}
 
 -- ---- one row
 pub row_none : (vs ws : List Known) → length ws ≡ length vs → RowJoined (length ws) vs ws vs
@@ -29,16 +33,19 @@ row_step n vs ws us xs w so_far has one = record {
   done = λ k v y most at also. elim (cases_Bool (nat_eq k n)) [
     | inl same ↦ (let e : k ≡ n = eqb-true k n same in
         let was : one.before ≡ v =
-        one_item one.before v (sym one.had ∙ so_far.rest n (omega arith) ∙ sym (ap (slice_get vs) e) ∙ at) in
+        one_item one.before v (sym one.had ∙ so_far.rest n (omega arith)
+        ∙ sym (ap (slice_get vs) e) ∙ at) in
         let it : w ≡ y = one_item w y (sym has ∙ sym (ap (slice_get ws) e) ∙ also) in
         record {
           after = one.after;
-          at = ap (λ (l : List Known). slice_get l k) one.has ∙ ap (slice_get (slice_set us n one.after)) e
+          at = ap (λ (l : List Known). slice_get l k) one.has
+              ∙ ap (slice_get (slice_set us n one.after)) e
               ∙ get_same us n one.after (slice_get_within us n one.before one.had);
           turns = subst (λ (z : Known). Joins z v one.after) it
               (subst (λ (z : Known). Joins w z one.after) was one.turns);
         })
-    | inr other ↦ (let done = so_far.done k v y (omega (arith, most, eqb-false k n other)) at also in
+    | inr other ↦ (let done = so_far.done k v y (omega (arith, most, eqb-false k n other)) at also
+        in
         record {
           after = done.after;
           at = ap (λ (l : List Known). slice_get l k) one.has
@@ -64,7 +71,13 @@ insert_sum f k [] = omega (arith, sum_by-cons f k [])
 insert_sum f k (j ∷ ks) =
     elim (cases_Bool (nat_lt k j)) [
       | inl h ↦ rw h (sum_by-cons f k (j ∷ ks))
-      | inr h ↦ rw h (omega (arith, sum_by-cons f j (insert k ks), insert_sum f k ks, sum_by-cons f j ks))
+      | inr h ↦ rw h (omega (
+        arith,
+        sum_by-cons f j (insert k ks),
+        insert_sum f k ks,
+        sum_by-cons f
+            j ks,
+      ))
     ]
 
 pub merged_sum : (f : ℕ → ℕ) (ks js : List ℕ) → sum_by f (merged ks js) ≡ sum_by f ks + sum_by f js
@@ -76,7 +89,8 @@ pub begins_longer : (k : ℕ) (xs ys : List Entry) (known : List Known) → IsPr
     Begins k xs known → Begins k ys known
 begins_longer k xs ys known longer begins = inner (slice_get known k) begins
   where
-    inner : (o : Option Known) → IfSome (option_map (λ (v : Known). v.seen) o) (λ seen. IsPrefix seen xs) →
+    inner : (o : Option Known) → IfSome (option_map (λ (v : Known). v.seen) o) (λ seen. IsPrefix
+        seen xs) →
         IfSome (option_map (λ (v : Known). v.seen) o) (λ seen. IsPrefix seen ys)
     inner None h = tt
     inner (Some v) h = prefix_trans v.seen xs ys h longer
@@ -100,7 +114,11 @@ none_joined vs = record {
 pub all_step : (rows : List (List Known)) (vs us ws xs : List Known) → AllJoined rows vs us →
     RowJoined 0 us ws xs → AllJoined (rows ++ ws ∷ []) vs xs
 all_step rows vs us ws xs so_far row = record {
-  rows_are = every_both (λ w. length w ≡ length vs) rows (ws ∷ []) so_far.rows_are (row.both ∙ so_far.as_many, tt);
+  rows_are = every_both (λ w. length w ≡ length vs) rows (ws ∷ []) so_far.rows_are (
+    row.both
+        ∙ so_far.as_many,
+    tt,
+  );
   each = λ k v at. by_one k v (so_far.each k v at);
   as_many = row.as_many ∙ so_far.as_many;
 }
@@ -119,7 +137,8 @@ all_step rows vs us ws xs so_far row = record {
           turns = record {
             part = ap (λ (y : Known). y.part) done.turns.is
                 ∙ ap (λ t. union t w.part) before.turns.part
-                ∙ ap (λ (o : Option Known). union (together_at k v.part rows) (part_in o)) (sym here.1)
+                ∙ ap (λ (o : Option Known). union (together_at k v.part rows) (part_in o)) (sym
+                here.1)
                 ∙ sym (together_push k v.part rows ws);
             own = λ f. omega (
               arith,
@@ -132,8 +151,10 @@ all_step rows vs us ws xs so_far row = record {
             first = prefix_trans v.seen u.seen x.seen before.turns.first done.turns.first;
             begins = every_both (Begins k x.seen) rows (ws ∷ [])
                 (every_mapped (Begins k u.seen) (Begins k x.seen) rows
-                (λ known. begins_longer k u.seen x.seen known done.turns.first) before.turns.begins) (
-                  subst (λ (o : Option Known). IfSome (option_map (λ (v : Known). v.seen) o) (λ seen. IsPrefix seen x.seen))
+                (λ known. begins_longer k u.seen x.seen known done.turns.first)
+                before.turns.begins) (
+                  subst (λ (o : Option Known). IfSome (option_map (λ (v : Known). v.seen) o) (λ
+                      seen. IsPrefix seen x.seen))
                       (sym here.1) done.turns.second,
                   tt,
                 );
@@ -141,12 +162,19 @@ all_step rows vs us ws xs so_far row = record {
         }
 
 -- the first row, to which each item joined belongs
-pub under : (k : ℕ) (vs us : List Known) (rows : List (List Known)) (u : Known) → AllJoined rows vs us →
+pub under : (k : ℕ) (vs us : List Known) (rows : List (List Known)) (u : Known) → AllJoined rows vs
+    us →
     slice_get us k ≡ Some u → (v : Known) × ((slice_get vs k ≡ Some v) × JoinedAt k rows v u)
 under k vs us rows u joined at =
     let here = item_at vs k (omega (arith, joined.as_many, slice_get_within us k u at)) in
-    let done = joined.each k here.0 here.1 in
-    (here.0, (here.1, subst (JoinedAt k rows here.0) (one_item done.after u (sym done.at ∙ at)) done.turns))
+    let done = joined.each k here.0 here.1 in (
+      here.0,
+      (
+        here.1,
+        subst (JoinedAt k rows here.0) (one_item done.after u (sym done.at
+            ∙ at)) done.turns,
+      ),
+    )
 
 pub whole_parts : (places : ℕ) (vs us : List Known) (rows : List (List Known)) →
     AllJoined rows vs us → length us ≡ places → AreWhole places (vs ∷ rows) →

@@ -1,5 +1,6 @@
 -- Senders joined into receivers, port by port.
-use Rattle.std.proofs.Common.{◌≡◌, ◌≢◌, ◌<◌, ◌≤◌, ◌+◌, ℕ, List, [], ◌∷◌, ◌++◌, length, refl, sym, ap, ◌∙◌, subst, arith, append_assoc, append-nil}
+use Rattle.std.proofs.Common.{◌≡◌, ◌≢◌, ◌<◌, ◌≤◌, ◌+◌, ℕ, List, [], ◌∷◌, ◌++◌, length, refl, sym}
+use Rattle.std.proofs.Common.{ap, ◌∙◌, subst, arith, append_assoc, append-nil}
 use Rattle.std.specs.Prelude.{map, slice_get, slice_set, Some, get_or, nat_eq, if◌then◌else◌}
 use Rattle.std.proofs.lemmas.List.{map-append, length-map, length-append}
 use Rattle.std.proofs.lemmas.List.Sums.{sum_by-cons, sum_by_push, sum_by-append}
@@ -14,7 +15,8 @@ use Rattle.place_rows.specs.Hearing.{times_in, with_sender, with_its_sender, Has
 use Rattle.place_rows.proofs.Lists.{one_item, get_seam, set_seam, every_both, every_behind}
 
 -- the senders of the first of them were joined
-pub record SendersJoined (i : ℕ) (senders now : BTreeMap ℕ SenderView) (initial ports : List PortReceiver)
+pub record SendersJoined (i : ℕ) (senders now : BTreeMap ℕ SenderView) (initial ports : List
+    PortReceiver)
     : Type 0 where
   pub done : List PortReceiver
   pub rest : List PortReceiver
@@ -48,19 +50,33 @@ once_other p port zero_is same = cc (sym zero_is ∙ ap (once p) same ∙ once_o
 module _ (mailboxes : BTreeMap ℕ MailboxView) (i : ℕ) (senders now : BTreeMap ℕ SenderView)
     (initial ports : List PortReceiver) (p : PortReceiver) where
   at_hand : SendersJoined i senders now initial ports → i < length ports → p ≡ get_or ports i p →
-      (qs : List PortReceiver) × ((steps : SendersJoined i senders now initial ports) × (steps.rest ≡ p ∷ qs))
+      (qs : List PortReceiver) × ((steps : SendersJoined i senders now initial ports) × (steps.rest
+      ≡ p ∷ qs))
   at_hand s there is = inner s.rest refl
     where
       inner : (r : List PortReceiver) → s.rest ≡ r →
-          (qs : List PortReceiver) × ((steps : SendersJoined i senders now initial ports) × (steps.rest ≡ p ∷ qs))
+          (qs : List PortReceiver) × ((steps : SendersJoined i senders now initial ports) ×
+          (steps.rest ≡ p ∷ qs))
       inner [] none =
-          absurd (omega (arith, there, ap length (s.is ∙ ap (λ (l : List PortReceiver). map (with_its_sender senders) s.done ++ l) none ∙ append-nil (map (with_its_sender senders) s.done)), length-map s.done (with_its_sender senders), s.count))
+          absurd (omega (
+            arith,
+            there,
+            ap length (s.is
+                ∙ ap (λ (l : List PortReceiver). map (with_its_sender senders) s.done ++ l) none
+                ∙ append-nil (map (with_its_sender senders) s.done)),
+            length-map s.done
+                (with_its_sender senders),
+            s.count,
+          ))
       inner (q ∷ qs) some =
           let at : slice_get ports i ≡ Some q =
-          ap (λ (l : List PortReceiver). slice_get l i) (s.is ∙ ap (λ (l : List PortReceiver). map (with_its_sender senders) s.done ++ l) some)
-          ∙ ap (slice_get (map (with_its_sender senders) s.done ++ q ∷ qs)) (sym s.count ∙ sym (length-map s.done (with_its_sender senders)))
+          ap (λ (l : List PortReceiver). slice_get l i) (s.is
+          ∙ ap (λ (l : List PortReceiver). map (with_its_sender senders) s.done ++ l) some)
+          ∙ ap (slice_get (map (with_its_sender senders) s.done ++ q ∷ qs)) (sym s.count
+          ∙ sym (length-map s.done (with_its_sender senders)))
           ∙ get_seam (map (with_its_sender senders) s.done) q qs in
-          let same : q ≡ p = one_item q p (sym at ∙ slice_get_read ports (length ports) i p refl there is) in
+          let same : q ≡ p = one_item q p (sym at
+          ∙ slice_get_read ports (length ports) i p refl there is) in
           (qs, (s, some ∙ ap (λ x. x ∷ qs) same))
 
   pub sender_there : SendersJoined i senders now initial ports → i < length ports →
@@ -117,32 +133,56 @@ module _ (mailboxes : BTreeMap ℕ MailboxView) (i : ℕ) (senders now : BTreeMa
         split = split ∙ sym (append_assoc t.done (p ∷ []) qs);
         is = ap (λ (l : List PortReceiver). slice_set l i q)
             (t.is ∙ ap (λ (l : List PortReceiver). map f t.done ++ l) hand.1.1)
-            ∙ ap (λ n. slice_set (map f t.done ++ p ∷ qs) n q) (sym t.count ∙ sym (length-map t.done f))
+            ∙ ap (λ n. slice_set (map f t.done ++ p ∷ qs) n q) (sym t.count
+            ∙ sym (length-map t.done f))
             ∙ set_seam (map f t.done) p q qs
             ∙ ap (λ (x : PortReceiver). map f t.done ++ x ∷ qs) as_first
             ∙ sym (append_assoc (map f t.done) (f p ∷ []) qs)
             ∙ ap (λ (l : List PortReceiver). l ++ qs) (sym (map-append f t.done (p ∷ [])));
         count = omega (arith, length-append t.done (p ∷ []), t.count);
         heard = subst (Every IsHeard) (sym (map-append f t.done (p ∷ [])))
-            (every_both IsHeard (map f t.done) (f p ∷ []) t.heard (subst IsHeard as_first heard, tt));
+            (every_both IsHeard (map f t.done) (f p ∷ []) t.heard (
+              subst IsHeard as_first heard,
+              tt,
+            ));
         others = λ port none.
-            others port (once_other p port (omega (arith, none, sum_by_push (λ (x : PortReceiver). once x port) t.done p)))
-            ∙ t.others port (omega (arith, none, sum_by_push (λ (x : PortReceiver). once x port) t.done p));
+            others port (once_other p port (omega (
+              arith,
+              none,
+              sum_by_push (λ (x : PortReceiver).
+                  once x port) t.done p,
+            )))
+            ∙ t.others port (omega (
+              arith,
+              none,
+              sum_by_push (λ (x : PortReceiver). once x port)
+                  t.done p,
+            ));
       }
 
-pub record SendersDone (senders now : BTreeMap ℕ SenderView) (initial ports : List PortReceiver) : Type 0
+pub record SendersDone (senders now : BTreeMap ℕ SenderView) (initial ports : List PortReceiver) :
+    Type 0
   where
     pub is : ports ≡ map (with_its_sender senders) initial
     pub heard : Every IsHeard ports
-    pub others : (port : ℕ) → times_in port initial ≡ 0 → get nat_cmp now port ≡ get nat_cmp senders port
+    pub others : (port : ℕ) → times_in port initial ≡ 0 → get nat_cmp now port ≡ get nat_cmp
+        senders port
 
-pub senders_end : (i : ℕ) (senders now : BTreeMap ℕ SenderView) (initial ports : List PortReceiver) →
+pub senders_end : (i : ℕ) (senders now : BTreeMap ℕ SenderView) (initial ports : List PortReceiver)
+    →
     SendersJoined i senders now initial ports → length ports ≤ i →
     SendersDone senders now initial ports
 senders_end i senders now initial ports s most =
     let f = with_its_sender senders in
     let none : s.rest ≡ [] = empty s.rest
-    (omega (arith, most, ap length s.is, length-append (map f s.done) s.rest, length-map s.done f, s.count)) in
+    (omega (
+      arith,
+      most,
+      ap length s.is,
+      length-append (map f s.done) s.rest,
+      length-map s.done f,
+      s.count,
+    )) in
     let all : s.done ≡ initial =
     sym (s.split ∙ ap (λ (l : List PortReceiver). s.done ++ l) none ∙ append-nil s.done) in
     let ports_are : ports ≡ map f s.done =

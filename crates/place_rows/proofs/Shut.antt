@@ -1,5 +1,6 @@
 -- All places that ended: their lists are all rows' own, legal and sound.
-use Rattle.std.proofs.Common.{◌≡◌, ◌<◌, ◌≤◌, ◌+◌, ◌%◌, ℕ, List, [], ◌∷◌, ◌++◌, length, refl, sym, ap, ◌∙◌, subst, arith, append_assoc, append-nil, map}
+use Rattle.std.proofs.Common.{◌≡◌, ◌<◌, ◌≤◌, ◌+◌, ◌%◌, ℕ, List, [], ◌∷◌, ◌++◌, length, refl, sym}
+use Rattle.std.proofs.Common.{ap, ◌∙◌, subst, arith, append_assoc, append-nil, map}
 use Rattle.std.specs.Prelude.{slice_get, Option, Some, None, option_map, sum_by, IfSome, flat_map}
 use Rattle.std.specs.List.{range_with_len, AllZip}
 use mathlib.Core.List.{IsPrefix}
@@ -22,7 +23,8 @@ use Rattle.place_rows.specs.Lists.{Every, AllFrom, flat}
 use Rattle.place_rows.specs.Rows.{Known}
 use Rattle.place_rows.specs.Shares.{own_moves, all_moves, IsBalanced}
 use Rattle.place_rows.specs.Joining.{AllJoined, Begins, own_at, own_sum}
-use Rattle.place_rows.specs.Ending.{IsListAt, IsListOf, Holder, rows_of, all_fed, all_lost, AreBalanced}
+use Rattle.place_rows.specs.Ending.{IsListAt, IsListOf, Holder, rows_of, all_fed, all_lost}
+use Rattle.place_rows.specs.Ending.{AreBalanced}
 use Rattle.place_rows.specs.Hearing.{HearsAs, IsHeard}
 use Rattle.place_rows.specs.Ended.{AreAllEntries}
 use Rattle.place_rows.proofs.Lists.{every_mapped, all_from_mapped, prefix_trans}
@@ -43,7 +45,8 @@ list_of places k vs us rows list joined is =
     let v = under k vs us rows u joined is.at in
     record {
       begins = (
-        subst (λ (o : Option Known). IfSome (option_map (λ (x : Known). x.seen) o) (λ seen. IsPrefix seen list))
+        subst (λ (o : Option Known). IfSome (option_map (λ (x : Known). x.seen) o) (λ seen.
+            IsPrefix seen list))
             (sym v.1.0) (prefix_trans v.0.seen u.seen list v.1.1.first is.begins),
         every_mapped (Begins k u.seen) (Begins k list) rows
             (λ ws. begins_longer k u.seen list ws is.begins) v.1.1.begins,
@@ -58,7 +61,8 @@ list_of places k vs us rows list joined is =
       here = is.here;
     }
 
-pub lists_of : (places n : ℕ) (vs us : List Known) (rows : List (List Known)) (lists : List (List Entry)) →
+pub lists_of : (places n : ℕ) (vs us : List Known) (rows : List (List Known)) (lists : List (List
+    Entry)) →
     AllJoined rows vs us → AllFrom (IsListAt places us) n lists →
     AllFrom (IsListOf places (vs ∷ rows)) n lists
 lists_of places n vs us rows [] joined all = tt
@@ -78,7 +82,8 @@ all_sound : (s : Setting) (hs : List Holder) →
 all_sound s [] nothing all = nothing
 all_sound s (h ∷ hs) nothing all =
     both_sound s.tables s.key h.fed (all_fed hs) (all_moves h.known)
-    (flat_map all_moves (rows_of hs)) h.lost (all_lost hs) all.0.sound (all_sound s hs nothing all.1)
+    (flat_map all_moves (rows_of hs)) h.lost (all_lost hs) all.0.sound (all_sound s hs nothing
+    all.1)
 
 placed_one : (s : Setting) (fed : List Card) (known : List Known) (lost : List Lost) (k : ℕ) →
     IsBalanced s fed known lost → IfSome (slice_get known k) HasSeenOwn
@@ -160,7 +165,8 @@ module _ (laws : Laws) (s : Setting) (places : ℕ) (first : Holder) (others : L
       laws.of_each_queue s.tables s.key (all_fed (first ∷ others)) (flat lists) es
       (all_lost (first ∷ others)) all_grouped.same
       (same_sound s.tables s.key [] (all_fed (first ∷ others))
-      (flat_map all_moves (rows_of (first ∷ others))) (moves (flat lists)) (all_lost (first ∷ others))
+      (flat_map all_moves (rows_of (first ∷ others))) (moves (flat lists)) (all_lost (first ∷
+      others))
       same_moves
       (all_sound s (first ∷ others) (laws.nothing s.tables s.key) balanced))
 

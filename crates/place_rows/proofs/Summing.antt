@@ -1,6 +1,8 @@
 -- Sums over all rows, place by place.
-use Rattle.std.proofs.Common.{◌≡◌, ◌≤◌, ◌+◌, ℕ, zero, suc, List, [], ◌∷◌, ◌++◌, length, refl, sym, ap, ◌∙◌, subst, arith, drop}
-use Rattle.std.specs.Prelude.{slice_get, Option, Some, None, option_map, option_to_list, sum_by, IfSome}
+use Rattle.std.proofs.Common.{◌≡◌, ◌≤◌, ◌+◌, ℕ, zero, suc, List, [], ◌∷◌, ◌++◌, length, refl, sym}
+use Rattle.std.proofs.Common.{ap, ◌∙◌, subst, arith, drop}
+use Rattle.std.specs.Prelude.{slice_get, Option, Some, None, option_map, option_to_list, sum_by}
+use Rattle.std.specs.Prelude.{IfSome}
 use Rattle.std.specs.List.{range_with_len}
 use mathlib.Core.List.{IsPrefix}
 use Rattle.std.proofs.lemmas.List.Sums.{sum_by-cons, sum_by-append}
@@ -36,13 +38,21 @@ drop_sum : {X : Type 0} (h : X → ℕ) (xs : List X) (n : ℕ) →
     sum_by h (drop n xs) ≡ at_or h (slice_get xs n) + sum_by h (drop (n + 1) xs)
 drop_sum h xs n =
     let next : suc n ≡ n + 1 = omega arith in
-    subst (λ m. sum_by h (drop n xs) ≡ at_or h (slice_get xs n) + sum_by h (drop m xs)) next (drop_suc h xs n)
+    subst (λ m. sum_by h (drop n xs) ≡ at_or h (slice_get xs n) + sum_by h (drop m xs)) next
+    (drop_suc h xs n)
 
 sums_add : {X : Type 0} (f g h : X → ℕ) (xs : List X) → ((x : X) → f x ≡ g x + h x) →
     sum_by f xs ≡ sum_by g xs + sum_by h xs
 sums_add f g h [] each = refl
 sums_add f g h (x ∷ xs) each =
-    omega (arith, each x, sums_add f g h xs each, sum_by-cons f x xs, sum_by-cons g x xs, sum_by-cons h x xs)
+    omega (
+      arith,
+      each x,
+      sums_add f g h xs each,
+      sum_by-cons f x xs,
+      sum_by-cons g x xs,
+      sum_by-cons h x xs,
+    )
 
 sums_none : {X : Type 0} (f : X → ℕ) (xs : List X) → Every (λ x. f x ≡ 0) xs → sum_by f xs ≡ 0
 sums_none f [] all = refl
@@ -54,7 +64,8 @@ pub swapped : (h : Known → ℕ) (count : List Entry → ℕ) (n : ℕ) (lists 
     sum_by (λ (ws : List Known). sum_by h (drop n ws)) rows ≡ sum_by count lists
 swapped h count n [] rows long all =
     sums_none (λ (ws : List Known). sum_by h (drop n ws)) rows
-    (every_mapped (λ ws. length ws ≡ n + length {A = List Entry} []) (λ ws. sum_by h (drop n ws) ≡ 0) rows
+    (every_mapped (λ ws. length ws ≡ n + length {A = List Entry} []) (λ ws. sum_by h (drop n ws) ≡
+    0) rows
     (λ ws is. ap (sum_by h) (drop_none ws n (omega (arith, is)))) long)
 swapped h count n (l ∷ ls) rows long all =
     let rest = swapped h count (n + 1) ls rows
@@ -62,7 +73,8 @@ swapped h count n (l ∷ ls) rows long all =
     (λ ws is. omega (arith, is)) long) all.1 in
     omega (
       arith,
-      sums_add (λ (ws : List Known). sum_by h (drop n ws)) (λ (ws : List Known). at_or h (slice_get ws n))
+      sums_add (λ (ws : List Known). sum_by h (drop n ws)) (λ (ws : List Known). at_or h (slice_get
+          ws n))
           (λ (ws : List Known). sum_by h (drop (n + 1) ws)) rows (λ ws. drop_sum h ws n),
       all.0,
       rest,
@@ -94,12 +106,17 @@ module _ {X : Type 0} (tell : List Entry → List X)
   in_list v list placed begins =
       let more = grows v.seen begins.0 in
       ap (sum_by f)
-      (sym (at_longer (tell v.seen) more.0 0 (length v.seen) v.own placed (omega (arith, long v.seen)))
+      (sym (at_longer (tell v.seen) more.0 0 (length v.seen) v.own placed (omega (
+        arith,
+        long
+            v.seen,
+      )))
       ∙ ap (λ (xs : List X). at_places xs v.own) (sym more.1 ∙ ap tell begins.1))
       ∙ index_sum (tell list) v.own
 
   one_of : (k : ℕ) (list : List Entry) (o : Option Known) →
-      IfSome o HasSeenOwn → IfSome (option_map (λ (v : Known). v.seen) o) (λ seen. IsPrefix seen list) →
+      IfSome o HasSeenOwn → IfSome (option_map (λ (v : Known). v.seen) o) (λ seen. IsPrefix seen
+      list) →
       at_or weigh o ≡ own_sum (one_item_sum (tell list)) o
   one_of k list None placed begins = refl
   one_of k list (Some v) placed begins = in_list v list placed begins
@@ -131,7 +148,8 @@ module _ {X : Type 0} (tell : List Entry → List X)
   of_lists : (places n : ℕ) (lists : List (List Entry)) (rows : List (List Known)) →
       ((k : ℕ) → Every (λ ws. IfSome (slice_get ws k) HasSeenOwn) rows) →
       AllFrom (IsListOf places rows) n lists →
-      AllFrom (λ k l. sum_by (λ (ws : List Known). at_or weigh (slice_get ws k)) rows ≡ sum_by f (tell l)) n lists
+      AllFrom (λ k l. sum_by (λ (ws : List Known). at_or weigh (slice_get ws k)) rows ≡ sum_by f
+      (tell l)) n lists
   of_lists places n [] rows placed all = tt
   of_lists places n (l ∷ ls) rows placed all =
       (of_list places n l rows (placed n) all.0, of_lists places (n + 1) ls rows placed all.1)
@@ -140,7 +158,8 @@ module _ {X : Type 0} (tell : List Entry → List X)
   pub all_told : (places : ℕ) (lists : List (List Entry)) (rows : List (List Known)) →
       ((k : ℕ) → Every (λ ws. IfSome (slice_get ws k) HasSeenOwn) rows) →
       Every (λ ws. length ws ≡ length lists) rows → AllFrom (IsListOf places rows) 0 lists →
-      sum_by (λ (ws : List Known). sum_by (λ (v : Known). sum_by f (at_places (tell v.seen) v.own)) ws) rows
+      sum_by (λ (ws : List Known). sum_by (λ (v : Known). sum_by f (at_places (tell v.seen) v.own))
+      ws) rows
       ≡ sum_by (λ (l : List Entry). sum_by f (tell l)) lists
   all_told places lists rows placed many all =
       swapped weigh (λ (l : List Entry). sum_by f (tell l)) 0 lists rows

@@ -1,6 +1,8 @@
 -- Rows that tell one another, and rows that are split off another.
-use Rattle.std.proofs.Common.{◌≡◌, ◌≢◌, ◌<◌, ◌≤◌, ◌+◌, ℕ, List, [], ◌∷◌, ◌++◌, length, refl, sym, ap, ◌∙◌, subst, arith, inl, inr, append-nil, append_assoc}
-use Rattle.std.specs.Prelude.{map, slice_get, slice_set, Option, Some, None, option_map, get_or, nat_eq}
+use Rattle.std.proofs.Common.{◌≡◌, ◌≢◌, ◌<◌, ◌≤◌, ◌+◌, ℕ, List, [], ◌∷◌, ◌++◌, length, refl, sym}
+use Rattle.std.proofs.Common.{ap, ◌∙◌, subst, arith, inl, inr, append-nil, append_assoc}
+use Rattle.std.specs.Prelude.{map, slice_get, slice_set, Option, Some, None, option_map, get_or}
+use Rattle.std.specs.Prelude.{nat_eq}
 use Rattle.std.proofs.lemmas.List.{map-set, length-set, length-map, length-append, map-append}
 use Rattle.std.proofs.lemmas.Option.{slice_get_read, slice_get-map, slice_get_within}
 use Rattle.std.proofs.lemmas.Bool.{cases_Bool, eqb-true, eqb-false}
@@ -51,9 +53,11 @@ module _ {E S : Type 0} where
     done = λ k v w few at also. elim (cases_Bool (nat_eq k n)) [
       | inl same ↦ (let e : k ≡ n = eqb-true k n same in
           let was : v ≡ one.from =
-          one_item v one.from (sym at ∙ ap (slice_get vs) e ∙ sym (so_far.rest n (omega arith)) ∙ one.from_had) in
+          one_item v one.from (sym at ∙ ap (slice_get vs) e ∙ sym (so_far.rest n (omega arith))
+          ∙ one.from_had) in
           let too : w ≡ one.into =
-          one_item w one.into (sym also ∙ ap (slice_get ws) e ∙ sym (so_far.others n (omega arith)) ∙ one.into_had) in
+          one_item w one.into (sym also ∙ ap (slice_get ws) e
+          ∙ sym (so_far.others n (omega arith)) ∙ one.into_had) in
           record {
             from_then = one.from_then;
             into_then = one.into_then;
@@ -64,9 +68,11 @@ module _ {E S : Type 0} where
                 ∙ ap (slice_get (slice_set ws' n one.into_then)) e
                 ∙ get_same ws' n one.into_then (slice_get_within ws' n one.into one.into_had);
             told = subst (λ (x : View E S). Told x w one.from_then one.into_then) (sym was)
-                (subst (λ (x : View E S). Told one.from x one.from_then one.into_then) (sym too) one.told);
+                (subst (λ (x : View E S). Told one.from x one.from_then one.into_then) (sym too)
+                one.told);
           })
-      | inr other ↦ (let done = so_far.done k v w (omega (arith, few, eqb-false k n other)) at also in
+      | inr other ↦ (let done = so_far.done k v w (omega (arith, few, eqb-false k n other)) at also
+          in
           record {
             from_then = done.from_then;
             into_then = done.into_then;

@@ -122,7 +122,8 @@ told_here n k froms intos froms' intos' v w v' w' told at also then_ too =
     elim (cases_Bool (nat_lt k n)) [
       | inl h ↦ (let few : k < n = grind (arith, nat_tests) in
           let done = told.done k v w few at also in
-          inl (subst (λ (x : Known). Told v w x w') (one_item done.from_then v' (sym done.from_at ∙ then_))
+          inl (subst (λ (x : Known). Told v w x w') (one_item done.from_then v' (sym done.from_at
+          ∙ then_))
           (subst (λ (x : Known). Told v w done.from_then x)
           (one_item done.into_then w' (sym done.into_at ∙ too)) done.told)))
       | inr h ↦ (let most : n ≤ k = grind (arith, nat_tests) in
@@ -141,7 +142,8 @@ sees_itself v w same = record {
 
 module _ (n : ℕ) (froms intos froms' intos' : List Known)
     (told : ToldUpTo n froms intos froms' intos') where
-  pub from_each : (k : ℕ) (v v' : Known) → slice_get froms k ≡ Some v → slice_get froms' k ≡ Some v' →
+  pub from_each : (k : ℕ) (v v' : Known) → slice_get froms k ≡ Some v → slice_get froms' k ≡ Some
+      v' →
       SeesMore v v'
   from_each k v v' at then_ =
       let few = slice_get_within froms k v at in
@@ -151,7 +153,8 @@ module _ (n : ℕ) (froms intos froms' intos' : List Known)
       (λ (same : (v' ≡ v) × (w'.0 ≡ w.0)). sees_itself v v' same.0)
       (told_here n k froms intos froms' intos' v w.0 v' w'.0 told at w.1 then_ w'.1)
 
-  pub into_each : (k : ℕ) (w w' : Known) → slice_get intos k ≡ Some w → slice_get intos' k ≡ Some w' →
+  pub into_each : (k : ℕ) (w w' : Known) → slice_get intos k ≡ Some w → slice_get intos' k ≡ Some
+      w' →
       SeesMore w w'
   into_each k w w' at then_ =
       let few = slice_get_within intos k w at in

@@ -1,5 +1,6 @@
 -- What ports received, against what the places' lists say.
-use Rattle.std.specs.Prelude.{◌≡◌, ◌<◌, ◌≤◌, ◌+◌, ◌⊎◌, ℕ, List, [], ◌∷◌, length, map, Option, Some, None}
+use Rattle.std.specs.Prelude.{◌≡◌, ◌<◌, ◌≤◌, ◌+◌, ◌⊎◌, ℕ, List, [], ◌∷◌, length, map, Option, Some}
+use Rattle.std.specs.Prelude.{None}
 use Rattle.std.specs.Prelude.{sum_by, filter, nat_eq, if◌then◌else◌, ◌==◌, Bool}
 use mathlib.Core.List.{IsPrefix}
 use Rattle.std.specs.BTreeMap.{BTreeMap, get}

@@ -97,8 +97,8 @@ AreNormal known =
     (k : ℕ) (v : Known) → slice_get known k ≡ Some v → is_normal v.part ≡ true
 
 -- the row with this number told the first one, at so many places
-pub record TellsFirst (places i : ℕ) (first first_then : List Known) (rows rows_then : List (List Known))
-    : Type 0 where
+pub record TellsFirst (places i : ℕ) (first first_then : List Known)
+    (rows rows_then : List (List Known)) : Type 0 where
   pub row : List Known
   pub row_then : List Known
   pub had : slice_get rows i ≡ Some row
@@ -106,8 +106,8 @@ pub record TellsFirst (places i : ℕ) (first first_then : List Known) (rows row
   pub told : ToldUpTo places row first row_then first_then
 
 -- the first one told the row with this number
-pub record TellsRow (places i : ℕ) (first first_then : List Known) (rows rows_then : List (List Known))
-    : Type 0 where
+pub record TellsRow (places i : ℕ) (first first_then : List Known)
+    (rows rows_then : List (List Known)) : Type 0 where
   pub row : List Known
   pub row_then : List Known
   pub had : slice_get rows i ≡ Some row

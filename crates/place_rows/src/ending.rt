@@ -13,14 +13,16 @@ ghost use Rattle.histories.specs.declared.entry.Entry.{Entry};
 ghost use Rattle.packet_moves.specs.declared.setting.Setting.{Setting};
 ghost use Rattle.histories.specs.History.{AreLegal, history};
 ghost use Rattle.place_history.specs.PlaceState.{AreHere};
-ghost use Rattle.locked_place.specs.Views.{PlaceLabel, label_of, senders_of, made_senders, AreNotified};
+ghost use Rattle.locked_place.specs.Views.{PlaceLabel, label_of, senders_of, made_senders};
+ghost use Rattle.locked_place.specs.Views.{AreNotified};
 ghost use Rattle.locked_place.specs.Passes.{IsPassOf};
 ghost use Rattle.place_rows.specs.Lists.{Every, AllFrom, flat};
 ghost use Rattle.place_rows.specs.Rows.{Known, ArePasses, label_at};
 ghost use Rattle.place_rows.specs.Joining.{AllJoined};
 ghost use Rattle.place_rows.specs.Ending.{IsListAt, Holder, rows_of, AreBalanced};
 ghost use Rattle.place_rows.specs.Ended.{AreAllEntries};
-ghost use Rattle.place_rows.specs.Hearing.{times_in, with_its_sender, HasSender, HasMailbox, IsHeard};
+ghost use Rattle.place_rows.specs.Hearing.{times_in, with_its_sender, HasSender, HasMailbox};
+ghost use Rattle.place_rows.specs.Hearing.{IsHeard};
 ghost use Rattle.place_rows.specs.Hearing.{HearsAs};
 
 use crate::rows::{Locks, Row};
@@ -147,10 +149,10 @@ pub fn end_places(
     kept
 }
 
-/// Ends all places, each by the pass that has the whole of its lock: all entries, by ascending queue
-/// number. Where holders had joined their rows into that one, the entries are all theirs: legal,
-/// and sound for all that they fed and lost; and the ports heard of them. When memory runs out the
-/// locks are taken apart just the same.
+/// Ends all places, each by the pass that has the whole of its lock: all entries, by ascending
+/// queue number. Where holders had joined their rows into that one, the entries are all theirs:
+/// legal, and sound for all that they fed and lost; and the ports heard of them. When memory runs
+/// out the locks are taken apart just the same.
 pub fn end_rows(
     alloc: Global,
     outlets: &Outlets,

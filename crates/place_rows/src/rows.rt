@@ -25,9 +25,11 @@ pub type Locks = Vec<TurnLock<LockedPlace>>;
 /// Joins a pass into the one of its place.
 fn join_at(locks: &Locks, into: &mut Row, place: usize, pass: Pass<LockedPlace>)
     requires there { place < length locks.now.items }
-    requires passes { (named : ℕ → PlaceLabel) × ArePasses label_of named locks.now.items into.old.items
+    requires passes { (named : ℕ → PlaceLabel)
+        × ArePasses label_of named locks.now.items into.old.items
         × IsPassAt label_of named locks.now.items place pass }
-    ensures passes { (named : ℕ → PlaceLabel) → ArePasses label_of named locks.now.items into.old.items →
+    ensures passes { (named : ℕ → PlaceLabel) →
+        ArePasses label_of named locks.now.items into.old.items →
         ArePasses label_of named locks.now.items into.new.items }
     ensures joins { TurnsOne place (map view_of into.old.items) (map view_of into.new.items)
         (Joins (view_of pass)) }
@@ -37,9 +39,11 @@ fn join_at(locks: &Locks, into: &mut Row, place: usize, pass: Pass<LockedPlace>)
 
 /// Joins a row into another, place by place.
 pub fn join_row(locks: &Locks, into: &mut Row, mut from: Row)
-    requires passes { (named : ℕ → PlaceLabel) × ArePasses label_of named locks.now.items into.old.items
+    requires passes { (named : ℕ → PlaceLabel)
+        × ArePasses label_of named locks.now.items into.old.items
         × ArePasses label_of named locks.now.items from.items }
-    ensures passes { (named : ℕ → PlaceLabel) → ArePasses label_of named locks.now.items into.old.items →
+    ensures passes { (named : ℕ → PlaceLabel) →
+        ArePasses label_of named locks.now.items into.old.items →
         ArePasses label_of named locks.now.items into.new.items }
     ensures joined { RowJoined 0 (map view_of into.old.items) (map view_of from.items)
         (map view_of into.new.items) }
@@ -58,7 +62,8 @@ fn tell(lock: &TurnLock<LockedPlace>, from: &mut Pass<LockedPlace>, into: &mut P
         IsPassOf label_of named lock.now from.new }
     ensures into { (named : PlaceLabel) → IsPassOf label_of named lock.now into.old →
         IsPassOf label_of named lock.now into.new }
-    ensures told { Told (view_of from.old) (view_of into.old) (view_of from.new) (view_of into.new) }
+    ensures told { Told (view_of from.old) (view_of into.old)
+        (view_of from.new) (view_of into.new) }
 {
     merged_places_are_those_of_both();
     parts_are_put_together_in_any_order();

@@ -21,7 +21,8 @@ returns-clause-begins c = λ s known none. record {
       subst AreLegal (sym (none k v at).0) (λ queue. tt);
   placed = λ k v at.
       subst (λ (own : List ℕ). IsPlaced v.seen own) (sym (none k v at).1) tt;
-  sound = subst (λ (ms : List Move). IsSoundBut s.tables s.key [] [] ms []) (sym (none_moved known none))
+  sound = subst (λ (ms : List Move). IsSoundBut s.tables s.key [] [] ms []) (sym (none_moved known
+      none))
       (c.soundness_is_kept_move_by_move.ensures.nothing s.tables s.key);
 }
 

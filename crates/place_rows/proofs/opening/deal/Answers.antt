@@ -29,7 +29,8 @@ loop-place-preserved c =
       dealt = one_dealt c.args.places c.args.port c.args.mailbox.now c.args.senders.now.items
           c.loop-place.senders.items n c.index_mut.result.now c.give.new.senders inv.dealt
           inv.least (search rules) c.index_mut.ensures.value
-          (subst (λ (s : SenderView). IsGiven c.args.port s c.index_mut.result.now c.give.new.senders)
+          (subst (λ (s : SenderView). IsGiven c.args.port s c.index_mut.result.now
+          c.give.new.senders)
           (c.in-Ok.ensures.made ∙ ap (λ (s : SenderView). child_sender s) was
           ∙ made_other c.args.places n c.args.mailbox.now inv.least)
           c.in_ok-give.ensures.given);
@@ -50,6 +51,7 @@ returns c =
           c.give-2.new.senders inv.dealt (omega (arith, n, c.requires.senders))
           (omega (arith, inv.dealt.as_many, c.requires.senders, c.requires.places.0))
           c.index_mut-2.ensures.value
-          (subst (λ (s : SenderView). IsGiven c.args.port s c.index_mut-2.result.now c.give-2.new.senders)
+          (subst (λ (s : SenderView). IsGiven c.args.port s c.index_mut-2.result.now
+          c.give-2.new.senders)
           (inv.first ∙ ap (λ m. record (opening_sender c.args.mailbox.now) { made = m }) n) given));
     }

@@ -16,7 +16,8 @@ invariant-loop-own l = record {
   are : ArePasses label_of (label_at l.outlets) l.locks.items l.row.items;
   first : AreFirst (map view_of l.row.items);
   number : length l.locks.items ≡ l.number;
-  rest : (done : List (BTreeMap ℕ SenderView)) × (l.fn.senders.items ≡ done ++ into_iter_items l.own-iterator)
+  rest : (done : List (BTreeMap ℕ SenderView)) × (l.fn.senders.items ≡ done ++ into_iter_items
+      l.own-iterator)
       × (length done ≡ l.number);
   writers : (k : ℕ) → l.number ≤ k → k < l.places →
       slice_get l.writers k ≡ Some (Some (opening_writer l.outlets.board k));

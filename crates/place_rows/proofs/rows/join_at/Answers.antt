@@ -10,12 +10,17 @@ use Rattle.place_rows.proofs.rows.join_at.Goals as goal
 pub index_mut-requires : goal.index_mut-requires
 index_mut-requires c =
     let r = c.requires.passes in
-    omega (arith, as_many place.label_of r.0 c.args.locks.now.items c.args.into.now.items r.1, c.requires.there)
+    omega (
+      arith,
+      as_many place.label_of r.0 c.args.locks.now.items c.args.into.now.items r.1,
+      c.requires.there,
+    )
 
 pub join-requires-clause-lock : goal.join-requires-clause-lock
 join-requires-clause-lock c =
     let r = c.requires.passes in
-    let there = pass_there place.label_of r.0 c.args.locks.now.items c.args.into.now.items c.args.place
+    let there = pass_there place.label_of r.0 c.args.locks.now.items c.args.into.now.items
+    c.args.place
     c.index.result.now c.index_mut.result.now r.1 c.requires.there c.index.ensures
     c.index_mut.ensures.value in
     let one = at_lock place.label_of r.0 c.args.locks.now.items c.args.place c.index.result.now
@@ -25,14 +30,16 @@ join-requires-clause-lock c =
 pub join-requires-clause-outside : goal.join-requires-clause-outside
 join-requires-clause-outside c =
     let r = c.requires.passes in
-    let there = pass_there place.label_of r.0 c.args.locks.now.items c.args.into.now.items c.args.place
+    let there = pass_there place.label_of r.0 c.args.locks.now.items c.args.into.now.items
+    c.args.place
     c.index.result.now c.index_mut.result.now r.1 c.requires.there c.index.ensures
     c.index_mut.ensures.value in
     (there.outside, r.2.of.outside)
 
 pub returns-clause-passes : goal.returns-clause-passes
 returns-clause-passes c = λ named row.
-    let there = pass_there place.label_of named c.args.locks.now.items c.args.into.now.items c.args.place
+    let there = pass_there place.label_of named c.args.locks.now.items c.args.into.now.items
+    c.args.place
     c.index.result.now c.index_mut.result.now row c.requires.there c.index.ensures
     c.index_mut.ensures.value in
     passes_set place.label_of named c.args.locks.now.items c.args.into.now.items c.args.place

@@ -42,10 +42,12 @@ join_at-requires-clause-there c =
 pub join_at-requires-clause-passes : goal.join_at-requires-clause-passes
 join_at-requires-clause-passes c =
     let r = c.requires.passes in
-    let is : c.len-place.result ≡ length c.pop.new.self.items = omega (arith, c.len-place.ensures) in (
+    let is : c.len-place.result ≡ length c.pop.new.self.items = omega (arith, c.len-place.ensures)
+    in (
       r.0,
       c.loop-pass.invariant.into r.0 r.1,
-      pass_at label_of r.0 c.args.locks.now.items c.args.from.items c.len-place.result c.in-Some.pass r.2
+      pass_at label_of r.0 c.args.locks.now.items c.args.from.items c.len-place.result
+          c.in-Some.pass r.2
           (ap (slice_get c.args.from.items) is
           ∙ last_of c.args.from.items c.loop-pass.from.items c.pop.new.self.items c.in-Some.pass
           c.loop-pass.invariant.from c.in-Some.ensures.items),
@@ -54,7 +56,8 @@ join_at-requires-clause-passes c =
 pub loop-pass-preserved : goal.loop-pass-preserved
 loop-pass-preserved c =
     let inv = c.loop-pass.invariant in
-    let is : c.len-place.result ≡ length c.pop.new.self.items = omega (arith, c.len-place.ensures) in
+    let is : c.len-place.result ≡ length c.pop.new.self.items = omega (arith, c.len-place.ensures)
+    in
     let at = last_of c.args.from.items c.loop-pass.from.items c.pop.new.self.items c.in-Some.pass
     inv.from c.in-Some.ensures.items in
     record {
@@ -62,12 +65,14 @@ loop-pass-preserved c =
       from = less_one c.args.from.items c.loop-pass.from.items c.pop.new.self.items
           c.in-Some.pass inv.from c.in-Some.ensures.items;
       joined = row_step (length c.pop.new.self.items) _ _ _ _ (view_of c.in-Some.pass)
-          (subst (λ n. RowJoined n (map view_of c.args.into.now.items) (map view_of c.args.from.items)
+          (subst (λ n. RowJoined n (map view_of c.args.into.now.items) (map view_of
+          c.args.from.items)
           (map view_of c.loop-pass.into.items))
           (ap length c.in-Some.ensures.items
           ∙ length-append c.pop.new.self.items (c.in-Some.pass ∷ [])) inv.joined)
           (slice_get-map view_of c.args.from.items (length c.pop.new.self.items)
           ∙ ap (option_map view_of) at)
-          (subst (λ n. TurnsOne n (map view_of c.loop-pass.into.items) (map view_of c.join_at.new.into.items)
+          (subst (λ n. TurnsOne n (map view_of c.loop-pass.into.items) (map view_of
+          c.join_at.new.into.items)
           (Joins (view_of c.in-Some.pass))) is c.join_at.ensures.joins);
     }

@@ -11,7 +11,8 @@ invariant-loop-pass l = record {
   into : (named : ℕ → PlaceLabel) → ArePasses label_of named l.locks.items l.initial.into.items →
       ArePasses label_of named l.locks.items l.into.items;
   from : IsPrefix l.from.items l.fn.from.items;
-  joined : RowJoined (length l.from.items) (map view_of l.initial.into.items) (map view_of l.fn.from.items)
+  joined : RowJoined (length l.from.items) (map view_of l.initial.into.items) (map view_of
+      l.fn.from.items)
       (map view_of l.into.items);
 }
 
