@@ -41,11 +41,14 @@ use Rattle.place_rows.specs.Rows.{Known}
 use Rattle.place_rows.specs.Shares.{notices_at, sent_in_all}
 use Rattle.place_rows.specs.Ending.{IsListOf}
 use Rattle.place_rows.specs.Hearing.{Hears, HearsAs, Among, IsHeard, IsHeardAll, HasHeard}
-use Rattle.place_rows.specs.Hearing.{HasHeardOf, is_from, letters_heard_of}
+use Rattle.place_rows.specs.Hearing.{HasHeardOf, letters_heard_of}
 use Rattle.place_rows.proofs.Lists.{every_both, every_in_front, all_from_mapped}
 use Rattle.place_rows.proofs.Sharing.{points_longer, points_long}
 use Rattle.place_rows.proofs.Placing.{at_from, every_of, flat_at}
 use Rattle.place_rows.proofs.Summing.{all_told}
+
+abbrev is_from : ℕ → Letter → Bool
+is_from queue l = l.queue == queue
 
 -- ---- senders by number
 

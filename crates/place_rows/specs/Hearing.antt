@@ -17,15 +17,13 @@ use Rattle.place_rows.specs.Lists.{AllFrom}
 use Rattle.place_rows.specs.Rows.{Known}
 use Rattle.place_rows.specs.Shares.{sent_in_all}
 
-abbrev pub is_from : ℕ → Letter → Bool
-is_from queue l = l.queue == queue
-
 -- the letters that were received, of all queues and of one
 abbrev pub letters_heard : List Post → List Letter
 letters_heard received = map (λ (p : Post). p.letter) received
 
 abbrev pub letters_heard_of : ℕ → List Post → List Letter
-letters_heard_of queue received = filter (is_from queue) (letters_heard received)
+letters_heard_of queue received =
+    filter (λ (l : Letter). l.queue == queue) (letters_heard received)
 
 -- What a port received from a mailbox that holds so many letters, of these entries, where so many
 -- notices were put there: of each queue a beginning of its notices, and all of them where as many
