@@ -15,7 +15,7 @@ python3 - "$top/crates/nfq_cli/out/nfq_cli" <<'PY'
 import os, subprocess, sys, time
 
 VISITS = 32
-BYTES = "450000140001000040060000" + "0a000001" + "0a000002"
+BYTES = "450000140001000040060000"
 
 def old_journal(packets):
     """Each packet arrives and is sent on by a batch of its own, visit by visit."""
