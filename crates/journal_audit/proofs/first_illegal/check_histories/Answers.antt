@@ -1,0 +1,8 @@
+use Rattle.std.proofs.lemmas.Result.{IfOk-weaker}
+use Rattle.journal_audit.proofs.Beginnings.{none_if_legal}
+use Rattle.journal_audit.proofs.first_illegal.check_histories.Goals as goal
+
+pub returns-clause-none : goal.returns-clause-none
+returns-clause-none c =
+    IfOk-weaker c.first_in.result _ _
+    (λ place is. none_if_legal c.args.histories.now.entries place is) c.first_in.ensures

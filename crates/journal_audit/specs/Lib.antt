@@ -1,0 +1,3 @@
+pub mod Illegal
+pub mod Watching
+pub mod Waiting
