@@ -87,6 +87,7 @@ fn journals_are_migrated_or_refused(rt: HostRuntime) -> Result<(), Fail> {
 fn a_journal_is_migrated_in_its_place(rt: HostRuntime) -> Result<(), Fail> {
     let alloc = rt.alloc();
     let mut host = host(alloc, OLD_JOURNAL)?;
+    host.room(alloc, "old", 16_384)?;
     assert_eq!(rt; done(alloc, &mut host, &["migrate", "old", "old"])?, 0);
     has(&rt, &host, "old", JOURNAL.as_bytes());
     lacks(&rt, &host, &["new", "-"]);
