@@ -42,3 +42,7 @@ lacks_room other = false
 abbrev pub lacks_under : ℕ → Option Bound → Entry → Bool
 lacks_under port None e = false
 lacks_under port (Some q) e = (port == q.port) && lacks_room e.event
+
+-- a notice of this queue
+abbrev pub is_from : ℕ → Letter → Bool
+is_from queue l = l.queue == queue

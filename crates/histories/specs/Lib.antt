@@ -12,4 +12,5 @@ pub mod Sweeps
 pub mod Grouping
 pub mod Lengths
 pub mod Letters
+pub mod Logs
 pub mod Priorities

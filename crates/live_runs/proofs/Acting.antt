@@ -17,12 +17,13 @@ use Rattle.queue_core.specs.declared.event.Event.TheVariants.{Arrive, Ask, Devic
 use Rattle.histories.specs.declared.entry.Entry.{Entry}
 use Rattle.histories.specs.declared.log.AskWords.{AskWords}
 use Rattle.histories.specs.declared.log.Did.{Did}
+use Rattle.histories.specs.Logs.{is_received}
 use Rattle.packet_moves.specs.Calls.{next_call}
 use Rattle.script_lines.specs.declared.ask.Ask.TheVariants.{Words}
 use Rattle.inspector_script.specs.Scripts.{ScriptValue}
 use Rattle.made_runs.specs.Datagrams.{AsksWell, bytes_of, messages_in}
 use Rattle.made_runs.specs.Log.{Begun, Due, Got, Message, Note, Spoke, Still, Turned, all_due}
-use Rattle.made_runs.specs.Log.{answer_to, is_pool, is_received}
+use Rattle.made_runs.specs.Log.{answer_to, is_pool}
 use Rattle.made_runs.specs.NoticeTexts.{fits, told_exactly}
 use Rattle.made_runs.specs.Notices.{heard}
 use Rattle.made_runs.specs.Order.{Ends, Opens, kind_at, kind_by}

@@ -2,6 +2,7 @@
 use Rattle.std.proofs.Common.{◌%◌, ◌*◌, ◌++◌, ◌+◌, ◌<◌, ◌∙◌, ◌∷◌, ◌≡◌, ◌≤◌, ◌⊎◌, Bool, List, None}
 use Rattle.std.proofs.Common.{Option, Some, [], ap, append-nil, append_assoc, arith, false, inl}
 use Rattle.std.proofs.Common.{inr, refl, subst, sym, true, ℕ}
+use Rattle.std.proofs.Math.Nat.{mod-lt}
 use Rattle.std.proofs.lemmas.Bool.{cases_Bool, eq-eqb, eqb-true, ne_eqb}
 use Rattle.std.specs.Prelude.{◌==◌, flat_map}
 use Rattle.packet_entry.specs.declared.packet.Card.{Card}
@@ -75,17 +76,17 @@ turn_feeding laws t u fallen more others mine xs ys turn goes is = record {
 }
 
 -- all places
-abbrev pub AreFeeding : ℕ → List Down → Shares → Type 0
-AreFeeding time fallen shares = (k : ℕ) → IsFeeding time fallen (shares k)
+abbrev pub AreFeeding : ℕ → ℕ → List Down → Shares → Type 0
+AreFeeding places time fallen shares = (k : ℕ) → k < places → IsFeeding time fallen (shares k)
 
 -- a packet enters
 pub enters_feeding : FeedingLaws → (places queue table time number : ℕ) (bypass : Bool)
     (fallen : List Down)
-    (card : Card) (old new : Shares) → card.number ≡ number → time ≤ 2 * number →
-    Enters places queue table bypass card old new → AreFeeding time fallen old →
-    AreFeeding (2 * number + 1) fallen new
-enters_feeding laws places queue table time number bypass fallen card old new at less is are k =
-    by (cases_Bool (k == (queue % places)))
+    (card : Card) (old new : Shares) → 0 < places → card.number ≡ number → time ≤ 2 * number →
+    Enters places queue table bypass card old new → AreFeeding places time fallen old →
+    AreFeeding places (2 * number + 1) fallen new
+enters_feeding laws places queue table time number bypass fallen card old new some at less is are k
+    within = by (cases_Bool (k == (queue % places)))
   where
     here : ℕ
     here = queue % places
@@ -107,23 +108,25 @@ enters_feeding laws places queue table time number bypass fallen card old new at
         is.between
         is.turn
         (λ fed. laws.first time number fallen (entries (old here) ++ is.others) e tt
-        (ap (λ n. 2 * n ∷ (2 * n + 1) ∷ []) at) less fed) (are here)))
+        (ap (λ n. 2 * n ∷ (2 * n + 1) ∷ []) at) less fed) (are here (mod-lt queue some))))
     by (inr h) = grown_feeding laws (2 * number + 1) fallen (old k) (new k)
         (later (old k) (new k) (is.elsewhere k (λ same. differ (eq-eqb k here same))))
-        (later_feeding laws time (2 * number + 1) fallen (old k) (omega (arith, less)) (are k))
+        (later_feeding laws time (2 * number + 1) fallen (old k) (omega (arith, less))
+        (are k within))
       where
         differ : (k == here) ≡ true → ⊥
         differ it_is = absurd (cc)
 
 pub feeds_feeding : FeedingLaws → (places time number : ℕ) (route : Next) (fallen : List Down)
-    (card : Card) (old new : Shares) → card.number ≡ number → time ≤ 2 * number →
-    Feeds places route card old new → AreFeeding time fallen old →
-    AreFeeding (2 * number + 1) fallen new
-feeds_feeding laws places time number Released fallen card old new at less is are k =
+    (card : Card) (old new : Shares) → 0 < places → card.number ≡ number → time ≤ 2 * number →
+    Feeds places route card old new → AreFeeding places time fallen old →
+    AreFeeding places (2 * number + 1) fallen new
+feeds_feeding laws places time number Released fallen card old new some at less is are k within =
     subst (IsFeeding (2 * number + 1) fallen) (sym (is k))
-    (later_feeding laws time (2 * number + 1) fallen (old k) (omega (arith, less)) (are k))
-feeds_feeding laws places time number (To queue bypass table) fallen card old new at less is are k =
-    enters_feeding laws places queue table time number bypass fallen card old new at less is are k
+    (later_feeding laws time (2 * number + 1) fallen (old k) (omega (arith, less)) (are k within))
+feeds_feeding laws places time number (To queue bypass table) fallen card old new some at less is
+    are = enters_feeding laws places queue table time number bypass fallen card old new some at less
+    is are
 
 -- a device goes down at a place
 pub falls_feeding : FeedingLaws → (place time : ℕ) (fallen : List Down) (d : Down)

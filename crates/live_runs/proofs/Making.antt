@@ -12,12 +12,13 @@ use Rattle.histories.specs.declared.entry.Entry.{Entry}
 use Rattle.histories.specs.declared.histories.Histories.{Histories}
 use Rattle.histories.specs.declared.log.Did.{Did}
 use Rattle.histories.specs.declared.log.PortLog.{PortLog}
+use Rattle.histories.specs.Letters.{is_from}
 use Rattle.script_lines.specs.declared.line.Down.{Down}
 use Rattle.inspector_script.specs.Scripts.{ScriptValue}
 use Rattle.made_runs.specs.Closing.{IsClosing, is_closed}
 use Rattle.made_runs.specs.Feeder.{IsFed, IsFedBy, downs_in_effect}
 use Rattle.made_runs.specs.Log.{IsLog, Note, Standing, logged, start, unanswered}
-use Rattle.made_runs.specs.Notices.{heard, is_from, letters_from}
+use Rattle.made_runs.specs.Notices.{heard, letters_from}
 use Rattle.made_runs.specs.Order.{IsOrdered, kinds_told}
 use Rattle.made_runs.specs.Ports.{is_port, log_of, place_in}
 use Rattle.made_runs.specs.Requests.{answer_in, pleas_in, pleas_told}

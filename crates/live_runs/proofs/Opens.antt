@@ -6,8 +6,9 @@ use Rattle.std.proofs.lemmas.Bool.{cases_Bool, eq-eqb, eqb-true, ne_eqb}
 use Rattle.std.specs.List.{list_any}
 use Rattle.std.specs.Prelude.{◌==◌, if◌then◌else◌}
 use Rattle.histories.specs.declared.entry.Entry.{Entry}
+use Rattle.histories.specs.Logs.{is_received}
 use Rattle.inspector_script.specs.Scripts.{IsScript, ScriptValue}
-use Rattle.made_runs.specs.Log.{Note, Standing, is_received, standing}
+use Rattle.made_runs.specs.Log.{Note, Standing, standing}
 use Rattle.made_runs.specs.Ports.{is_port, place_in}
 use Rattle.live_runs.specs.ClosedPlanes.{AreOwned}
 use Rattle.live_runs.specs.Doing.{IsDoing}

@@ -14,11 +14,12 @@ use Rattle.nfqa_msgs.specs.declared.request.Decoded.TheVariants.{Asked}
 use Rattle.histories.specs.History.{history}
 use Rattle.histories.specs.Numbers.{queue_count}
 use Rattle.histories.specs.declared.entry.Entry.{Entry}
+use Rattle.histories.specs.Letters.{is_from}
 use Rattle.made_runs.specs.Closing.{IsClosing}
 use Rattle.made_runs.specs.Datagrams.{messages_in}
 use Rattle.made_runs.specs.FedExamples.{arrives, binds, falls, shuts}
 use Rattle.made_runs.specs.Feeder.{Fell, Passed, Was, downs_in_effect}
-use Rattle.made_runs.specs.Notices.{is_from, letters_from}
+use Rattle.made_runs.specs.Notices.{letters_from}
 use Rattle.made_runs.specs.Order.{Answers, Marked, Opens, early_rank, kinds_of, kinds_told}
 use Rattle.made_runs.specs.Order.{late_ranks}
 use Rattle.made_runs.specs.Ports.{is_port}

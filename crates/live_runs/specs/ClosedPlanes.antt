@@ -8,8 +8,8 @@ use Rattle.histories.specs.declared.log.PortLog.{PortLog}
 use Rattle.histories.specs.History.{history}
 use Rattle.histories.specs.States.{state_of}
 use Rattle.histories.specs.Numbers.{queue_count}
-use Rattle.histories.specs.Letters.{letters_under}
-use Rattle.made_runs.specs.Notices.{is_from, letters_from}
+use Rattle.histories.specs.Letters.{letters_under, is_from}
+use Rattle.made_runs.specs.Notices.{letters_from}
 use Rattle.made_runs.specs.Room.{some_lacks}
 use Rattle.live_runs.specs.Seen.{Seen, Ours, Theirs, Shares, entries, EachIs}
 use Rattle.live_runs.specs.Passes.{Pass, is_pass, pass_numbers, seen_at}

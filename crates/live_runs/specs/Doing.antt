@@ -4,11 +4,12 @@ use Rattle.std.specs.List.{list_any}
 use Rattle.netlink_codec.specs.Messages.{NetlinkMessage}
 use Rattle.histories.specs.declared.log.AskWords.{AskWords}
 use Rattle.histories.specs.declared.log.Did.{Did}
+use Rattle.histories.specs.Logs.{is_received}
 use Rattle.script_lines.specs.declared.ask.Ask.{Ask}
 use Rattle.script_lines.specs.declared.ask.Ask.TheVariants.{Words}
 use Rattle.inspector_script.specs.Scripts.{ScriptValue}
 use Rattle.made_runs.specs.Datagrams.{AsksWell}
-use Rattle.made_runs.specs.Log.{Note, Due, Message, Still, all_due, is_received}
+use Rattle.made_runs.specs.Log.{Note, Due, Message, Still, all_due}
 use Rattle.made_runs.specs.Log.{is_some_due}
 use Rattle.live_runs.specs.Seen.{Seen, Shares, entries, IsNone, OursAre, TheirsAre, EachIs, Grows}
 use Rattle.live_runs.specs.Meetings.{IsAsk}

@@ -1,6 +1,6 @@
 //! What is known of the feeder's pass.
 
-ghost use Rattle.std.specs.Prelude.{◌≤◌, ◌+◌, ◌*◌, ◌++◌, ℕ, List, []};
+ghost use Rattle.std.specs.Prelude.{◌≤◌, ◌<◌, ◌+◌, ◌*◌, ◌++◌, ℕ, List, []};
 ghost use Rattle.packet_entry.specs.declared.packet.Card.{Card};
 ghost use Rattle.hook_chain.specs.declared.chain.Next.{Next};
 ghost use Rattle.histories.specs.declared.entry.Entry.{Entry};
@@ -22,8 +22,9 @@ pub fn the_feeder_keeps_its_time()
     ensures waits { (time later : ℕ) (fallen : List Down) (xs : List Seen) → time ≤ later →
         IsFeeding time fallen xs → IsFeeding later fallen xs }
     ensures feeds { (places time : ℕ) (route : Next) (fallen : List Down) (card : Card)
-        (old new : Shares) → time ≤ 2 * card.number → Feeds places route card old new →
-        ((k : ℕ) → IsFeeding time fallen (old k)) → (k : ℕ) →
+        (old new : Shares) → 0 < places → time ≤ 2 * card.number →
+        Feeds places route card old new →
+        ((k : ℕ) → k < places → IsFeeding time fallen (old k)) → (k : ℕ) → k < places →
         IsFeeding (2 * card.number + 1) fallen (new k) }
     ensures fed { (places : ℕ) (route : Next) (card : Card) (old new : Shares) →
         Feeds places route card old new → (k : ℕ) → Grows IsFeeders (old k) (new k) }

@@ -9,6 +9,7 @@ ghost use Rattle.histories.specs.States.{told, taken_in};
 ghost use Rattle.histories.specs.Happenings.{queue_of, closings, downs};
 ghost use Rattle.packet_moves.specs.HandedOn.{AreInTime};
 ghost use Rattle.place_history.specs.Numbers.{most_places};
+ghost use Rattle.place_history.specs.Lines.{AreLined};
 ghost use Rattle.place_history.specs.PlaceState.{AreHere};
 
 use crate::arrivals::Placed;
@@ -20,7 +21,7 @@ use histories::{Entries, Entry, Lost};
 use mailbox::Sender;
 use nfqa_msgs::Request;
 use packet_entry::{NoMemory, Packet, Stock};
-use place_history::Place;
+use place_history::{Lines, Place};
 use queue_core::{Handed, NoRoom};
 use std::alloc::Global;
 use std::collections::BTreeMap;
@@ -222,6 +223,14 @@ impl LockedPlace {
         publish(&self.place, &mut self.writer, &outlets.board);
         legal_at(&self.place);
         Ok(destroyed)
+    }
+
+    /// Puts the line of each bound queue into others, by its number, for a listing of several
+    /// places. After `NoMemory` some of the lines are there.
+    pub fn put_lines(&self, alloc: Global, lines: &mut Lines) -> Result<(), NoMemory>
+        ensures { OnOk result (AreLined self.now.entries lines.old lines.new) }
+    {
+        self.place.put_lines(alloc, lines)
     }
 
     /// All that happened, in its order, and what is kept of it: of each queue its history, which is

@@ -10,6 +10,8 @@ ghost use Rattle.locked_place.specs.Views.{PlaceLabel, label_of, AreOutletsOf};
 ghost use Rattle.locked_place.specs.Passes.{IsPassOf};
 ghost use Rattle.locked_place.specs.Turns.{ArrivesIn, AsksIn, LooksOn, ClosesIn, GoesDownIn};
 ghost use Rattle.locked_place.specs.Turns.{HasSender};
+ghost use Rattle.place_history.specs.Lines.{AreLined};
+ghost use Rattle.place_history.specs.PlaceState.{AreHere};
 
 use crate::arrivals::Placed;
 use crate::gate::Gate;
@@ -18,6 +20,7 @@ use crate::place::LockedPlace;
 use histories::Lost;
 use nfqa_msgs::Request;
 use packet_entry::{NoMemory, Packet, Stock};
+use place_history::Lines;
 use queue_core::{Handed, NoRoom};
 use std::alloc::Global;
 use std::sync::Wait;
@@ -149,4 +152,30 @@ pub fn device_down<R: Wait>(
     let destroyed = held.state().device_down(outlets, device);
     lock.leave(pass, held);
     destroyed
+}
+
+/// Puts the line of each of the place's bound queues into others, by its number, in a turn of this
+/// pass. After `NoMemory` some of the lines are there.
+pub fn put_lines<R: Wait>(
+    rt: &R,
+    alloc: Global,
+    lock: &TurnLock<LockedPlace>,
+    pass: &mut Pass<LockedPlace>,
+    lines: &mut Lines,
+) -> Result<(), NoMemory>
+    requires pass { (named : PlaceLabel) × IsPassOf label_of named lock.now pass.old }
+    ensures pass { (named : PlaceLabel) → IsPassOf label_of named lock.now pass.old →
+        IsPassOf label_of named lock.now pass.new }
+    ensures part { (view_of pass.new).part ≡ (view_of pass.old).part }
+    ensures turn { LooksOn (view_of pass.old) (view_of pass.new) }
+    ensures lines { OnOk result (AreLined (view_of pass.new).seen lines.old lines.new) }
+    ensures here { (named : PlaceLabel) → IsPassOf label_of named lock.now pass.old →
+        AreHere named.places named.number (view_of pass.new).seen }
+{
+    let mut held = lock.enter(rt, pass);
+    let place = held.state();
+    let _entries = place.entries();
+    let put = place.put_lines(alloc, lines);
+    lock.leave(pass, held);
+    put
 }

@@ -4,7 +4,7 @@ use Rattle.std.specs.List.{list_any}
 use Rattle.packet_entry.specs.declared.letter.Letter.{Letter}
 use Rattle.made_runs.specs.Run.{IsMadeBy}
 use Rattle.made_runs.specs.Requests.{pleas_told}
-use Rattle.made_runs.specs.Notices.{heard, is_from}
+use Rattle.made_runs.specs.Notices.{heard}
 use Rattle.made_runs.specs.Closing.{is_closed}
 use Rattle.made_runs.specs.Order.{kinds_told}
 use Rattle.made_runs.specs.Log.{logged}
@@ -24,6 +24,7 @@ use Rattle.made_runs.specs.LoggedExamples.{header, message, no_logs, opening_scr
 use Rattle.nfqa_msgs.specs.declared.request.Request.{Request}
 use Rattle.histories.specs.declared.log.Did.{Did}
 use Rattle.histories.specs.declared.log.Did.TheVariants.{Sent, Closed}
+use Rattle.histories.specs.Letters.{is_from}
 use Rattle.made_runs.specs.Log.{Note, Got, Turned, Begun, Spoke, Shut, IsLog}
 use Rattle.made_runs.specs.Requests.{AreRequests}
 use Rattle.made_runs.specs.Closing.{IsClosing}

@@ -13,6 +13,7 @@ use Rattle.nfqa_msgs.specs.NoticeMeaning.{notice_of}
 use Rattle.queue_core.specs.Numbers.{largest_count}
 use Rattle.histories.specs.declared.log.Did.{Did}
 use Rattle.histories.specs.declared.log.Did.TheVariants.{Received, Sent, Closed}
+use Rattle.histories.specs.Logs.{is_received}
 use Rattle.script_lines.specs.declared.ask.Ask.{Ask}
 use Rattle.script_lines.specs.declared.ask.Ask.TheVariants.{Words, Close}
 use Rattle.inspector_script.specs.Scripts.{ScriptValue, opening, answer, closing}
@@ -104,12 +105,6 @@ messages_of port dids (Some (Still (Words words))) =
 messages_of port dids (Some (Still Close)) = []
 messages_of port dids (Some (Message m)) = []
 messages_of port dids None = []
-
--- whether what a port did is that it received a notice
-abbrev pub is_received : Did → Bool
-is_received (Received queue number visit) = true
-is_received (Sent call ask answer) = false
-is_received Closed = false
 
 -- how many notices a port received, as its inspector counts them
 abbrev pub received_count : List Did → ℕ

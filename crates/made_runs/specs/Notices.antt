@@ -1,12 +1,12 @@
 -- Notices: what ports receive of the arrivals that their queues took.
-use Rattle.std.specs.Prelude.{◌≡◌, ℕ, Bool, List, [], ◌∷◌, ◌++◌, filter, flat_map, ◌==◌}
+use Rattle.std.specs.Prelude.{◌≡◌, ℕ, List, [], ◌∷◌, ◌++◌, filter, flat_map}
 use Rattle.std.specs.Prelude.{Option, None}
 use Rattle.packet_entry.specs.declared.letter.Letter.{Letter}
 use Rattle.queue_core.specs.State.{Bound}
 use Rattle.queue_core.specs.Step.{step}
 use Rattle.histories.specs.declared.entry.Entry.{Entry}
 use Rattle.histories.specs.History.{history}
-use Rattle.histories.specs.Letters.{letters_under}
+use Rattle.histories.specs.Letters.{letters_under, is_from}
 use Rattle.made_runs.specs.Log.{Note, Got, Turned, Begun, Spoke, Shut}
 
 -- the notices that a port received
@@ -19,9 +19,6 @@ heard_by Shut = []
 
 abbrev pub heard : List Note → List Letter
 heard notes = flat_map heard_by notes
-
-abbrev pub is_from : ℕ → Letter → Bool
-is_from queue l = l.queue == queue
 
 -- the notices for a port of one queue's entries, from a state on
 abbrev pub letters_from : ℕ → Option Bound → List Entry → List Letter

@@ -8,8 +8,8 @@ use Rattle.queue_core.specs.declared.event.Event.TheVariants.{Arrive, Ask, PortC
 use Rattle.histories.specs.declared.entry.Entry.{Entry}
 use Rattle.histories.specs.Numbers.{queue_count}
 use Rattle.histories.specs.History.{history}
+use Rattle.histories.specs.Logs.{is_received}
 use Rattle.inspector_script.specs.Scripts.{ScriptValue}
-use Rattle.made_runs.specs.Log.{is_received}
 use Rattle.made_runs.specs.Log.{Note, Due, Standing, start, after}
 use Rattle.made_runs.specs.Requests.{pleas_of, pleas_told}
 use Rattle.made_runs.specs.Ports.{place_in}

@@ -7,3 +7,4 @@ pub mod Flushing
 pub mod Calling
 pub mod Entering
 pub mod Wording
+pub mod Answering

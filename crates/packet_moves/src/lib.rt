@@ -2,11 +2,13 @@
 //! a plane is made with, what becomes of a packet, what a port's message does, and how it is logged.
 #![tactic(auto)]
 
+mod answers;
 mod fed;
 mod laws;
 mod setting;
 mod words;
 
+pub use answers::{acknowledge, make_answer_room};
 pub use fed::{Fed, Refused};
 pub use laws::{
     histories_stay_sound, only_feeding_feeds, what_goes_on_is_in_time, words_are_the_one_spelling,

@@ -5,3 +5,4 @@ pub mod Handing
 pub mod Requesting
 pub mod Sweeping
 pub mod Here
+pub mod Lining

@@ -4,3 +4,4 @@ pub mod Calls
 pub mod Changes
 pub mod PlaceInvariant
 pub mod Asking
+pub mod Lines

@@ -11,7 +11,7 @@ pub use histories::{
     each_front_of_a_legal_history_is_legal, each_packet_waits_is_lost_or_is_over,
     each_stay_ends_once, ports_and_devices_reach_bound_queues, soundness_is_kept_move_by_move,
 };
-pub use place::Place;
+pub use place::{Lines, Place};
 pub use queue_core::{Event, Reply};
 
 #[cfg(test)]

@@ -16,6 +16,7 @@ ghost use Rattle.histories.specs.Happenings.{arrive};
 ghost use Rattle.histories.specs.Happenings.{queue_of, payload_of, all_handed, closings, downs};
 ghost use Rattle.place_history.specs.Calls.{with_all};
 ghost use Rattle.histories.specs.Listing as text;
+ghost use Rattle.place_history.specs.Lines.{AreLined};
 
 mod arrivals;
 mod bound;
@@ -25,6 +26,7 @@ mod listing;
 mod requests;
 
 use self::held::{Held, Offer, make_room};
+pub use self::listing::Lines;
 use self::requests::{Asker, ConfigRequest};
 use histories::{Entries, Entry};
 use nfqa_msgs::Request;
@@ -247,6 +249,15 @@ impl Place {
         ensures err { OnErr result (out.new.items ≡ out.old.items) }
     {
         listing::listing(&self.held, alloc, out)
+    }
+
+    /// Puts the line of each bound queue into others, by its number, for a listing of several
+    /// places. After `NoMemory` some of the lines are there.
+    pub fn put_lines(&self, alloc: Global, lines: &mut Lines) -> Result<(), NoMemory>
+        requires standing { self.now.is_left ≡ false }
+        ensures { OnOk result (AreLined self.now.entries lines.old lines.new) }
+    {
+        listing::put_lines(&self.held, alloc, lines)
     }
 
     /// The port that a queue is bound to; `None` where it is absent.

@@ -3,6 +3,7 @@ use Rattle.std.proofs.Common.{◌≡◌, ◌≢◌, ◌<◌, ◌≤◌, ◌+◌,
 use Rattle.std.proofs.Common.{◌++◌}
 use Rattle.std.proofs.Common.{length, refl, sym, ap, ◌∙◌, subst, arith, inl, inr, map, take, get_or}
 use Rattle.std.specs.Prelude.{slice_get, slice_set, Option, Some, None, option_map, nat_eq}
+use Rattle.std.specs.Prelude.{IfSome, IsSome}
 use Rattle.std.specs.BTreeMap.{BTreeMap, get}
 use Rattle.std.specs.Ordering.{nat_cmp}
 use Rattle.std.proofs.Math.Path.{fun_ext}
@@ -16,7 +17,7 @@ use Rattle.place_rows.specs.declared.opening.Dealt.{Dealt}
 use Rattle.place_rows.specs.Lists.{Every}
 use Rattle.place_rows.specs.Rows.{sender_made}
 use Rattle.place_rows.specs.Opening.{IsGiven, AreDealt, AreSendersOf, HasNone, IsDealt, IsOpened}
-use Rattle.place_rows.specs.Opening.{port_of}
+use Rattle.place_rows.specs.Opening.{port_of, Holds}
 use Rattle.place_rows.proofs.Lists.{one_item, item_at, get_same, get_other, every_both}
 use Rattle.place_rows.proofs.Lists.{every_mapped}
 
@@ -117,6 +118,15 @@ all_dealt places port n mailbox olds news row row' s most there is given = recor
 
 -- ---- all ports
 
+in_front : (k : ℕ) (xs ys : List ℕ) → In k xs → In k (xs ++ ys)
+in_front k [] ys h = absurd h
+in_front k (x ∷ xs) ys (inl e) = inl e
+in_front k (x ∷ xs) ys (inr h) = inr (in_front k xs ys h)
+
+in_behind : (k : ℕ) (xs ys : List ℕ) → In k ys → In k (xs ++ ys)
+in_behind k [] ys h = h
+in_behind k (x ∷ xs) ys h = inr (in_behind k xs ys h)
+
 -- one port more has a mailbox, with a sender for each place
 pub one_port_more : (places mail port : ℕ) (done : List ℕ) (old new : Dealt) (mailbox : MailboxView)
     (receiver : ReceiverView) → IsDealt places mail done old → (In port done → ⊥) →
@@ -161,6 +171,20 @@ one_port_more places mail port done old new mailbox receiver was fresh dealt own
             },
             tt,
           ));
+      holds = λ p. elim (cases_Bool (nat_eq p port)) [
+        | inl same ↦ (let e : p ≡ port = eqb-true p port same in
+            subst (λ (o : Option MailboxView). IfSome o (Holds mail))
+            (sym (ap (get nat_cmp new.mailboxes) e ∙ own)) holds)
+        | inr other ↦ (let differ = eqb-false p port other in
+            subst (λ (o : Option MailboxView). IfSome o (Holds mail)) (sym (others p differ))
+            (was.holds p))
+      ];
+      no_others = λ p some. elim (cases_Bool (nat_eq p port)) [
+        | inl same ↦ in_behind p done (port ∷ []) (inl (eqb-true p port same))
+        | inr other ↦ in_front p done (port ∷ [])
+            (was.no_others p (subst (λ (o : Option MailboxView). IsSome o)
+            (others p (eqb-false p port other)) some))
+      ];
     }
   where
     still : (ps : List PortReceiver) → (In port (map port_of ps) → ⊥) →
@@ -174,15 +198,6 @@ one_port_more places mail port done old new mailbox receiver was fresh dealt own
       },
       still ps (λ h. none (inr h)) all.1,
     )
-
-in_front : (k : ℕ) (xs ys : List ℕ) → In k xs → In k (xs ++ ys)
-in_front k [] ys h = absurd h
-in_front k (x ∷ xs) ys (inl e) = inl e
-in_front k (x ∷ xs) ys (inr h) = inr (in_front k xs ys h)
-
-in_behind : (k : ℕ) (xs ys : List ℕ) → In k ys → In k (xs ++ ys)
-in_behind k [] ys h = h
-in_behind k (x ∷ xs) ys h = inr (in_behind k xs ys h)
 
 -- a port at this place is none of those before it
 pub fresh_at : (ports : List ℕ) (i d : ℕ) → AreDistinct ports → i < length ports →

@@ -33,7 +33,7 @@ use Rattle.histories.specs.States.{state_of}
 use Rattle.place_history.specs.PlaceState.{AreHere}
 use Rattle.locked_place.specs.Points.{Point, points, points_after, point_after}
 use Rattle.histories.specs.Letters.{letters_under, letters_of_event, letters_of_reply}
-use Rattle.histories.specs.Letters.{letters_of_outcome}
+use Rattle.histories.specs.Letters.{letters_of_outcome, is_from}
 use Rattle.locked_place.specs.Notices.{letters_to, letters_at, lacking, lacks_at}
 use Rattle.place_rows.specs.declared.ending.PortReceiver.{PortReceiver}
 use Rattle.place_rows.specs.Lists.{Every, AllFrom, flat}
@@ -46,9 +46,6 @@ use Rattle.place_rows.proofs.Lists.{every_both, every_in_front, all_from_mapped}
 use Rattle.place_rows.proofs.Sharing.{points_longer, points_long}
 use Rattle.place_rows.proofs.Placing.{at_from, every_of, flat_at}
 use Rattle.place_rows.proofs.Summing.{all_told}
-
-abbrev is_from : ℕ → Letter → Bool
-is_from queue l = l.queue == queue
 
 -- ---- senders by number
 

@@ -1,9 +1,10 @@
 -- Places that open, and the mailboxes of ports, whose senders are dealt to them.
 use Rattle.std.specs.Prelude.{◌≡◌, ◌≢◌, ◌≤◌, ◌<◌, ℕ, List, [], ◌∷◌, length, map, slice_get, Some}
 use Rattle.std.specs.Prelude.{None}
-use Rattle.std.specs.Prelude.{option_map}
+use Rattle.std.specs.Prelude.{option_map, IfSome, IsSome}
 use Rattle.std.specs.BTreeMap.{BTreeMap, get}
 use Rattle.std.specs.Ordering.{nat_cmp}
+use Rattle.mailbox.specs.Roles.{In}
 use Rattle.mailbox.specs.Views.{MailboxView, SenderView, opening_receiver}
 use Rattle.turn_lock.specs.Parts.{Whole}
 use Rattle.place_rows.specs.declared.ending.PortReceiver.{PortReceiver}
@@ -49,11 +50,17 @@ pub record IsOpened (mail : ℕ) (mailboxes : BTreeMap ℕ MailboxView) (p : Por
     pub capacity : p.receiver.mailbox.capacity ≡ mail
     pub nothing_yet : p.receiver ≡ opening_receiver p.receiver.mailbox
 
--- these ports have a mailbox each, with a sender for each of so many places
+-- the mailbox holds so many letters
+abbrev pub Holds : ℕ → MailboxView → Type 0
+Holds mail m = m.capacity ≡ mail
+
+-- these ports, and no others, have a mailbox each, with a sender for each of so many places
 pub record IsDealt (places mail : ℕ) (ports : List ℕ) (d : Dealt) : Type 0 where
   pub senders : AreSendersOf places d.mailboxes d.senders.items
   pub ports_are : map port_of d.receivers.items ≡ ports
   pub opened : Every (IsOpened mail d.mailboxes) d.receivers.items
+  pub holds : (port : ℕ) → IfSome (get nat_cmp d.mailboxes port) (Holds mail)
+  pub no_others : (port : ℕ) → IsSome (get nat_cmp d.mailboxes port) → In port ports
 
 -- ---- rows
 

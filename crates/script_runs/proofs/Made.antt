@@ -20,6 +20,7 @@ use Rattle.packet_moves.specs.Logs.{dids_of}
 use Rattle.packet_moves.specs.Logs as logs
 use Rattle.histories.specs.declared.histories.Histories.{Histories}
 use Rattle.histories.specs.declared.log.PortLog.{PortLog}
+use Rattle.histories.specs.Letters.{is_from}
 use Rattle.packet_moves.specs.Planes.{opened_ports}
 use Rattle.made_runs.specs.Closing.{IsClosing}
 use Rattle.script_runs.proofs.Shut.{AreShut, is_shut, shut_kept}
@@ -27,7 +28,7 @@ use Rattle.script_runs.proofs.Closings.{Laws}
 use Rattle.made_runs.specs.Room.{some_lacks}
 use Rattle.script_runs.proofs.Roomy.{AllRoomy, Roomy, lacking, roomy_kept}
 use Rattle.script_runs.specs.LettersLeft.{left_in}
-use Rattle.made_runs.specs.Notices.{heard, is_from, letters_from}
+use Rattle.made_runs.specs.Notices.{heard, letters_from}
 use Rattle.made_runs.specs.Log.{Note, IsLog}
 use Rattle.made_runs.specs.Requests.{pleas_in, pleas_told, answer_in}
 use Rattle.made_runs.specs.Ports.{log_of}

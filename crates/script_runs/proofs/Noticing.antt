@@ -31,8 +31,8 @@ use Rattle.packet_moves.specs.Moving.{arrived, room_for, with_notice}
 use Rattle.packet_moves.specs.Messages.{asking, with_ask, words_of, answered}
 use Rattle.script_runs.specs.Sending.{carried_out, errno_of}
 use Rattle.made_runs.specs.Log.{Note, Got, Begun, Spoke, Shut}
-use Rattle.histories.specs.Letters.{letters_of_reply, letters_of_event, letters_under}
-use Rattle.made_runs.specs.Notices.{heard, heard_by, is_from, letters_from}
+use Rattle.histories.specs.Letters.{letters_of_reply, letters_of_event, letters_under, is_from}
+use Rattle.made_runs.specs.Notices.{heard, heard_by, letters_from}
 use Rattle.script_runs.proofs.Carrying.{all_moved_keeps}
 use Rattle.script_runs.proofs.Reaching.{noted}
 use Rattle.script_runs.proofs.Asking.{Keeps}

@@ -7,7 +7,7 @@ use Rattle.std.specs.List.{list_any}
 use Rattle.std.proofs.lemmas.List.Folds.{list_any-append}
 use Rattle.packet_entry.specs.declared.letter.Letter.{Letter}
 use Rattle.inspector_script.specs.Scripts.{ScriptValue}
-use Rattle.made_runs.specs.Log.{is_received}
+use Rattle.histories.specs.Logs.{is_received}
 use Rattle.made_runs.specs.Log.{Note, Got, Turned, Begun, Spoke, Shut}
 use Rattle.made_runs.specs.Log.{Due, Standing, after, dids_by, standing}
 use Rattle.made_runs.specs.Log.{owed_then, start, messages_of, first_due}

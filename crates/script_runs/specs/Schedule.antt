@@ -21,11 +21,11 @@ use Rattle.packet_moves.specs.World.{World, Port, at_port, received}
 use Rattle.packet_moves.specs.Moving.{carry}
 use Rattle.packet_moves.specs.Planes.{beginning, entered, without_device}
 use Rattle.histories.specs.Grouping.{IsGrouped}
+use Rattle.histories.specs.Logs.{is_received}
 use Rattle.packet_moves.specs.Logs.{logs_in}
 use Rattle.script_runs.specs.Numbers.{enough_arrivals, rounds_per_frame}
 use Rattle.made_runs.specs.Entering.{card_of}
 use Rattle.made_runs.specs.Feeder.{downs_after}
-use Rattle.made_runs.specs.Log.{is_received}
 use Rattle.made_runs.specs.NoticeTexts.{told_exactly}
 use Rattle.script_runs.specs.Sending.{all_done}
 

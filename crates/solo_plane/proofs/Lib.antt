@@ -1,6 +1,5 @@
 pub mod Settling
 pub mod Stepping
-pub mod Answering
 pub mod Logging
 pub mod Sending
 pub mod Opened

@@ -25,6 +25,7 @@ use Rattle.histories.specs.declared.log.AskWords.{AskWords}
 use Rattle.histories.specs.Journeys.{Arrival}
 use Rattle.histories.specs.States.{state_of}
 use Rattle.histories.specs.Happenings.{all_handed}
+use Rattle.histories.specs.Logs.{is_received}
 use Rattle.packet_moves.specs.declared.setting.Setting.{Setting}
 use Rattle.packet_moves.specs.World.{World, Port, delivered, having_done}
 use Rattle.packet_moves.specs.Calls.{is_sent, after_this, next_call}
@@ -33,7 +34,6 @@ use Rattle.packet_moves.specs.Moving.{arrival_to, arrived, turned_away, left_at_
 use Rattle.packet_moves.specs.Moving.{with_notice}
 use Rattle.packet_moves.specs.Messages.{asking, with_ask, call_at}
 use Rattle.script_runs.specs.Numbers.{enough_arrivals}
-use Rattle.made_runs.specs.Log.{is_received}
 use Rattle.script_runs.specs.Schedule.{is_open_port}
 use Rattle.script_runs.specs.Sending.{all_moved, carried_out, sent}
 use Rattle.solo_run.specs.RunState.{mind_of}

@@ -10,6 +10,7 @@ use Rattle.packet_entry.specs.declared.letter.Letter.{Letter}
 use Rattle.queue_core.specs.Numbers.{largest_count}
 use Rattle.histories.specs.declared.log.Did.{Did}
 use Rattle.histories.specs.declared.log.Did.TheVariants.{Received}
+use Rattle.histories.specs.Logs.{is_received}
 use Rattle.script_lines.specs.declared.ask.Ask.{Ask}
 use Rattle.inspector_script.specs.Scripts.{ScriptValue, next_count}
 use Rattle.packet_moves.specs.declared.setting.Setting.{Setting}
@@ -18,7 +19,6 @@ use Rattle.packet_moves.specs.World.{received, received_from, first_of}
 use Rattle.packet_moves.specs.Calls.{is_sent, next_call}
 use Rattle.packet_moves.specs.Soundness.{IsSound}
 use Rattle.made_runs.specs.NoticeTexts.{told_exactly}
-use Rattle.made_runs.specs.Log.{is_received}
 use Rattle.script_runs.specs.Schedule.{letters_at, received_in, asks_for}
 use Rattle.solo_run.specs.RunState.{IsGoing, Keeps, ReceivesFirst, mind_of}
 use Rattle.solo_run.specs.RunState.{mind_at, port_at, one_notice}

@@ -9,6 +9,7 @@ use Rattle.hook_chain.specs.Route.{next}
 use Rattle.queue_core.specs.Numbers.{largest_count}
 use Rattle.histories.specs.declared.log.Did.{Did}
 use Rattle.histories.specs.declared.log.Did.TheVariants.{Closed}
+use Rattle.histories.specs.Logs.{is_received}
 use Rattle.inspector_script.specs.Scripts.{ScriptValue}
 use Rattle.packet_moves.specs.declared.fed.Fed.{Fed}
 use Rattle.packet_moves.specs.declared.setting.Setting.{Setting}
@@ -18,7 +19,6 @@ use Rattle.packet_moves.specs.Moving.{Carried}
 use Rattle.packet_moves.specs.Planes.{IsFed, entered, with_closed, without_device}
 use Rattle.packet_moves.specs.Soundness.{IsSound}
 use Rattle.script_runs.specs.Numbers.{enough_arrivals}
-use Rattle.made_runs.specs.Log.{is_received}
 use Rattle.script_runs.specs.Schedule.{fed}
 use Rattle.solo_run.specs.RunState.{IsGoing, Keeps, KeepsBut, mind_of, mind_at, port_at}
 use Rattle.solo_run.specs.declared.inspector.Inspector.{Inspector}

@@ -1,17 +1,25 @@
 //! The listing of the bound queues.
 
-ghost use Rattle.std.specs.Prelude.{◌≡◌, ◌++◌, IfOk, OnOk, OnErr, string_bytes, option_map};
+ghost use Rattle.std.specs.Prelude.{◌≡◌, ◌≢◌, ◌++◌, ℕ, Some, IfOk, OnOk, OnErr};
+ghost use Rattle.std.specs.Prelude.{string_bytes, option_map};
+ghost use Rattle.std.specs.BTreeMap.{get};
+ghost use Rattle.std.specs.Ordering.{nat_cmp};
 ghost use Rattle.histories.specs.Listing as text;
 ghost use Rattle.place_history.specs.PlaceInvariant.{IsReplayed};
 ghost use Rattle.place_history.specs.Changes.{queue_at};
+ghost use Rattle.place_history.specs.Lines.{AreLined};
 
 use super::bound::Queues;
 use super::endings::next_bound;
 use super::held::Held;
-use packet_entry::NoMemory;
+use packet_entry::{Bytes, NoMemory};
 use queue_core::Queue;
 use std::alloc::{AllocError, Global};
+use std::collections::BTreeMap;
 use std::string::String;
+
+/// The lines of queues in the listing, by queue number.
+pub type Lines = BTreeMap<u16, Bytes>;
 
 /// Appends a line for each bound queue, by ascending number. `NoMemory` leaves `out` as it was.
 pub(super) fn listing(held: &Held, alloc: Global, out: &mut Vec<u8>) -> Result<(), NoMemory>
@@ -22,6 +30,31 @@ pub(super) fn listing(held: &Held, alloc: Global, out: &mut Vec<u8>) -> Result<(
 {
     let lines = lines(held, alloc)?;
     Ok(out.extend_from_slice(&lines)?)
+}
+
+/// Puts the line of each bound queue into others, by its number. After `NoMemory` some of the lines
+/// are there.
+pub(super) fn put_lines(held: &Held, alloc: Global, lines: &mut Lines) -> Result<(), NoMemory>
+    requires replayed { IsReplayed held.now }
+    ensures { OnOk result (AreLined held.now.entries.items lines.old lines.new) }
+{
+    let mut from = 0u32;
+    while let Some(number) = next_bound(held, from) {
+        let line = line_at(&held.queues, alloc, number)?;
+        put_line(lines, number, Bytes::copy(alloc, line.as_bytes())?)?;
+        from = number as u32 + 1;
+    }
+    Ok(())
+}
+
+/// Puts a queue's line among others.
+fn put_line(lines: &mut Lines, number: u16, line: Bytes) -> Result<(), NoMemory>
+    ensures put { OnOk result (get nat_cmp lines.new number ≡ Some line) }
+    ensures others { OnOk result ((q : ℕ) → q ≢ number →
+        get nat_cmp lines.new q ≡ get nat_cmp lines.old q) }
+{
+    lines.insert(number, line)?;
+    Ok(())
 }
 
 /// The lines of all bound queues.

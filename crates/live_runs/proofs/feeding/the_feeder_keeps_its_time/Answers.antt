@@ -22,8 +22,8 @@ returns c =
       meets = λ time fallen xs es is. grown_feeding laws time fallen xs _
           (met_grows IsNotFed xs _ es refl) is;
       waits = λ time later fallen xs less is. later_feeding laws time later fallen xs less is;
-      feeds = λ places time route fallen card old new less is are k. feeds_feeding laws places time
-          card.number route fallen card old new refl less is are k;
+      feeds = λ places time route fallen card old new some less is are. feeds_feeding laws places
+          time card.number route fallen card old new some refl less is are;
       fed = λ places route card old new is k. feeds_grows places route card old new is k;
       no_place = λ places d shares. nothing_down places d shares;
       next_place = λ place places d old mid new so f. one_down laws place places d old mid new so f;

@@ -1,8 +1,8 @@
 use Rattle.std.proofs.Common.{◌≡◌, ◌<◌, length, arith}
 use Rattle.netlink_codec.specs.Messages.{message_of}
 use Rattle.netlink_codec.specs.Acknowledgements.{answer}
-use Rattle.solo_plane.proofs.Answering.{some_answer, no_answer, longer_by}
-use Rattle.solo_plane.proofs.messages.acknowledge.Goals as goal
+use Rattle.packet_moves.proofs.Answering.{some_answer, no_answer, longer_by}
+use Rattle.packet_moves.proofs.answers.acknowledge.Goals as goal
 
 pub returns-then-before-as_slice-clause-errno : goal.returns-then-before-as_slice-clause-errno
 returns-then-before-as_slice-clause-errno c =
