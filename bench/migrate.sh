@@ -8,8 +8,7 @@ top=$(cd "$(dirname "$0")/.." && pwd)
 export GLIBC_TUNABLES=glibc.malloc.hugetlb=1
 work=$(mktemp -d)
 trap 'rm -rf "$work"' EXIT
-# Builds the program where it is stale. Arguments that are no command end with 1.
-"$top/nfq" >/dev/null || [ $? -eq 1 ]
+"$top/nfq" build
 cd "$work"
 python3 - "$top/crates/nfq_cli/out/nfq_cli" <<'PY'
 import os, subprocess, sys, time
