@@ -8,6 +8,7 @@ import re
 import struct
 import sys
 from dataclasses import dataclass, field
+from functools import lru_cache
 from ipaddress import ip_address
 
 # ---- the names
@@ -323,6 +324,11 @@ def read_times(name):
 # ---- words
 
 
+@lru_cache(maxsize=4096)
+def address(data):
+    return str(ip_address(data))
+
+
 def flow(entry):
     """Who sends an arrival's packet to whom: `TCP 10.0.0.1:80 > 10.0.0.2:1024`."""
     data = entry.data
@@ -335,7 +341,7 @@ def flow(entry):
         protocol, header, is_first = data[6], 40, True
     else:
         return {IPV4: "IPv4", IPV6: "IPv6"}.get(entry.protocol, f"type {entry.protocol}")
-    ends = [str(ip_address(end)) for end in ends]
+    ends = [address(end) for end in ends]
     if protocol in WITH_PORTS and is_first and len(data) >= header + 4:
         ports = struct.unpack(">HH", data[header:header + 4])
         ends = [f"[{end}]:{port}" if ":" in end else f"{end}:{port}"
