@@ -28,15 +28,15 @@ returns-clause-sent c =
     c.in_ok-errno.ensures.carried_out
     (ap (λ (ports : ℕ → Option Port). record (world_of c.carry_out.new.held) { ports = ports })
     c.send.ensures)
-    (rw c.in_ok-reserve.ensures.items at c.acknowledge-answer.ensures.replies)
+    (rw c.in_ok-make_answer_room.ensures.same at c.acknowledge-answer.ensures.replies)
 
 pub returns-in_err-make_log_room-clause-ports : goal.returns-in_err-make_log_room-clause-ports
 returns-in_err-make_log_room-clause-ports c =
     open_same (ports_of c.args.held.now.ports) (ports_of c.make_log_room.new.ports)
     c.make_log_room.ensures.same
 
-pub returns-in_err-reserve-clause-ports : goal.returns-in_err-reserve-clause-ports
-returns-in_err-reserve-clause-ports c =
+pub returns-in_err-make_answer_room-clause-ports : goal.returns-in_err-make_answer_room-clause-ports
+returns-in_err-make_answer_room-clause-ports c =
     open_same (ports_of c.args.held.now.ports) (ports_of c.make_log_room.new.ports)
     c.make_log_room.ensures.same
 
