@@ -7,6 +7,7 @@ taken waits, and a reply says how many left. No rule of a queue is in here.
 import re
 import struct
 import sys
+from collections import OrderedDict
 from dataclasses import dataclass, field
 from functools import lru_cache
 from ipaddress import ip_address
@@ -243,7 +244,7 @@ def lines_of(name):
 
 def read_journal(name):
     """The entries of a journal, queue by queue, and then the lines of the ports' logs."""
-    place, queue, at, port, waits, is_closed, is_ended = 0, -1, 0, None, {}, True, False
+    place, queue, at, port, waits, is_closed, is_ended = 0, -1, 0, None, None, True, False
     for place, line in lines_of(name):
         if place == 1:
             if line == "nfq-journal 1":
@@ -266,7 +267,7 @@ def read_journal(name):
             if found is not None and found.queue != queue:
                 found = found if found.queue > queue else None
                 if found is not None:
-                    queue, at, waits = found.queue, 0, {}
+                    queue, at, waits = found.queue, 0, OrderedDict()
             if found is not None:
                 at += 1
                 found.at = at
