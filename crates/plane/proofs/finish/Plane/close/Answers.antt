@@ -1,0 +1,155 @@
+use Rattle.std.proofs.Common.{◌≡◌, ◌≤◌, ◌∙◌, ◌++◌, ◌∷◌, [], ℕ, List, sym, ap, subst, refl, rules}
+use Rattle.std.proofs.Common.{arith, map}
+use Rattle.place_rows.specs.Hearing as row
+use Rattle.place_rows.specs.Lists.{Every}
+use Rattle.place_rows.specs.Rows.{label_at}
+use Rattle.place_rows.specs.declared.ending.PortReceiver.{PortReceiver}
+use Rattle.plane.specs.Closings.{feeder_holds, port_holds}
+use Rattle.plane.specs.Passes.{FeederView, IsPortOf, PassesView, PortView}
+use Rattle.plane.specs.Planes.{setting_of}
+use Rattle.plane.proofs.Finishing.{rows_of_ports, balanced_all, mailboxes_all, times_same}
+use Rattle.plane.proofs.Finishing.{both_added, both_true, every_both, holders_joined, closed_so}
+use Rattle.plane.proofs.Finishing.{all_in, all_receivers}
+use Rattle.plane.proofs.finish.Plane.close.Goals as goal
+
+pub join_ports-first-requires : goal.join_ports-first-requires
+join_ports-first-requires c =
+    let is = rw (← c.feeder.view_is, ← c.passes.view_is) at c.requires.feeder in
+    record {
+      passes = (
+        label_at c.args.self.outlets,
+        record { locks_are = is.of.locks_are; known = is.of.known_so },
+        rows_of_ports c.args.self c.args.ports c.requires.ports,
+      );
+    }
+
+pub join_closed-second-requires : goal.join_closed-second-requires
+join_closed-second-requires c =
+    let is = rw (← c.feeder.view_is, ← c.passes.view_is) at c.requires.feeder in
+    let named = label_at c.args.self.outlets in
+    record {
+      passes = (
+        named,
+        c.join_ports-first.ensures.passes named
+            (record { locks_are = is.of.locks_are; known = is.of.known_so }),
+        rows_of_ports c.args.self c.args.closed c.requires.closed,
+      );
+    }
+
+pub close_all-requires-clause-row : goal.close_all-requires-clause-row
+close_all-requires-clause-row c =
+    let all =
+    all_in c.args.self c.args.feeder c.args.ports c.args.closed c.passes.inside.row.items
+    c.join_ports-first.new.into.items c.join_closed-second.new.into.items
+    c.rows_are_joined_one_by_one.ensures.none c.rows_are_joined_one_by_one.ensures.whole
+    c.requires.feeder
+    (ap (λ (p : PassesView). p.locks) c.passes.view_is
+    ∙ ap (λ (p : FeederView). p.locks) c.feeder.view_is)
+    (ap (λ (p : PassesView). p.trail.known) c.passes.view_is
+    ∙ ap (λ (p : FeederView). p.trail.known) c.feeder.view_is)
+    c.join_ports-first.ensures.passes c.join_closed-second.ensures.passes
+    c.join_ports-first.ensures.joined c.join_closed-second.ensures.joined c.requires.whole in
+    (label_at c.args.self.outlets, all.passes)
+
+pub close_all-requires-clause-whole : goal.close_all-requires-clause-whole
+close_all-requires-clause-whole c =
+    let all =
+    all_in c.args.self c.args.feeder c.args.ports c.args.closed c.passes.inside.row.items
+    c.join_ports-first.new.into.items c.join_closed-second.new.into.items
+    c.rows_are_joined_one_by_one.ensures.none c.rows_are_joined_one_by_one.ensures.whole
+    c.requires.feeder
+    (ap (λ (p : PassesView). p.locks) c.passes.view_is
+    ∙ ap (λ (p : FeederView). p.locks) c.feeder.view_is)
+    (ap (λ (p : PassesView). p.trail.known) c.passes.view_is
+    ∙ ap (λ (p : FeederView). p.trail.known) c.feeder.view_is)
+    c.join_ports-first.ensures.passes c.join_closed-second.ensures.passes
+    c.join_ports-first.ensures.joined c.join_closed-second.ensures.joined c.requires.whole in
+    all.whole
+
+pub end_rows-entries-requires-clause-row : goal.end_rows-entries-requires-clause-row
+end_rows-entries-requires-clause-row c =
+    let all =
+    all_in c.args.self c.args.feeder c.args.ports c.args.closed c.passes.inside.row.items
+    c.join_ports-first.new.into.items c.join_closed-second.new.into.items
+    c.rows_are_joined_one_by_one.ensures.none c.rows_are_joined_one_by_one.ensures.whole
+    c.requires.feeder
+    (ap (λ (p : PassesView). p.locks) c.passes.view_is
+    ∙ ap (λ (p : FeederView). p.locks) c.feeder.view_is)
+    (ap (λ (p : PassesView). p.trail.known) c.passes.view_is
+    ∙ ap (λ (p : FeederView). p.trail.known) c.feeder.view_is)
+    c.join_ports-first.ensures.passes c.join_closed-second.ensures.passes
+    c.join_ports-first.ensures.joined c.join_closed-second.ensures.joined c.requires.whole in
+    all.passes
+
+pub end_rows-entries-requires-clause-whole : goal.end_rows-entries-requires-clause-whole
+end_rows-entries-requires-clause-whole c =
+    let all =
+    all_in c.args.self c.args.feeder c.args.ports c.args.closed c.passes.inside.row.items
+    c.join_ports-first.new.into.items c.join_closed-second.new.into.items
+    c.rows_are_joined_one_by_one.ensures.none c.rows_are_joined_one_by_one.ensures.whole
+    c.requires.feeder
+    (ap (λ (p : PassesView). p.locks) c.passes.view_is
+    ∙ ap (λ (p : FeederView). p.locks) c.feeder.view_is)
+    (ap (λ (p : PassesView). p.trail.known) c.passes.view_is
+    ∙ ap (λ (p : FeederView). p.trail.known) c.feeder.view_is)
+    c.join_ports-first.ensures.passes c.join_closed-second.ensures.passes
+    c.join_ports-first.ensures.joined c.join_closed-second.ensures.joined c.requires.whole in
+    all.whole
+
+pub end_rows-entries-requires-clause-mailboxes : goal.end_rows-entries-requires-clause-mailboxes
+end_rows-entries-requires-clause-mailboxes c =
+    let both =
+    both_true c.join_ports-first.result c.join_closed-second.result (search rules) in
+    let added =
+    both_added c.args.ports c.args.closed _ _ _ (c.join_ports-first.ensures.kept both.0)
+    (c.join_closed-second.ensures.kept both.1) in
+    subst (Every (row.HasMailbox c.args.self.outlets.mailboxes))
+    (sym (all_receivers _ _ _ refl added))
+    (mailboxes_all c.args.self (c.args.ports ++ c.args.closed)
+    (every_both (IsPortOf c.args.self) c.args.ports c.args.closed c.requires.ports
+    c.requires.closed))
+
+pub end_rows-entries-requires-clause-apart : goal.end_rows-entries-requires-clause-apart
+end_rows-entries-requires-clause-apart c =
+    let both =
+    both_true c.join_ports-first.result c.join_closed-second.result (search rules) in
+    let added =
+    both_added c.args.ports c.args.closed _ _ _ (c.join_ports-first.ensures.kept both.0)
+    (c.join_closed-second.ensures.kept both.1) in
+    λ port.
+    subst (λ (rs : List PortReceiver). row.times_in port rs ≤ 1)
+    (sym (all_receivers _ _ _ refl added))
+    (subst (λ n. n ≤ 1) (sym (times_same port (c.args.ports ++ c.args.closed)))
+    (c.requires.apart port))
+
+pub in_order-requires : goal.in_order-requires
+in_order-requires c = record { distinct = c.args.self.apart }
+
+pub returns : goal.returns
+returns c =
+    let ps : List PortView = c.args.ports ++ c.args.closed in
+    let each =
+    every_both (IsPortOf c.args.self) c.args.ports c.args.closed c.requires.ports
+    c.requires.closed in
+    let all =
+    all_in c.args.self c.args.feeder c.args.ports c.args.closed c.passes.inside.row.items
+    c.join_ports-first.new.into.items c.join_closed-second.new.into.items
+    c.rows_are_joined_one_by_one.ensures.none c.rows_are_joined_one_by_one.ensures.whole
+    c.requires.feeder
+    (ap (λ (p : PassesView). p.locks) c.passes.view_is
+    ∙ ap (λ (p : FeederView). p.locks) c.feeder.view_is)
+    (ap (λ (p : PassesView). p.trail.known) c.passes.view_is
+    ∙ ap (λ (p : FeederView). p.trail.known) c.feeder.view_is)
+    c.join_ports-first.ensures.passes c.join_closed-second.ensures.passes
+    c.join_ports-first.ensures.joined c.join_closed-second.ensures.joined c.requires.whole in
+    let both =
+    both_true c.join_ports-first.result c.join_closed-second.result (search rules) in
+    let added =
+    both_added c.args.ports c.args.closed _ _ _ (c.join_ports-first.ensures.kept both.0)
+    (c.join_closed-second.ensures.kept both.1) in
+    closed_so c.args.self c.args.feeder ps _ c.join_closed-second.new.remains _ _ _ refl refl
+    (ap (λ (p : FeederView). p.trail.lost) c.feeder.view_is) added
+    (c.end_rows-entries.ensures (setting_of c.args.self) (feeder_holds c.args.feeder)
+    (map port_holds ps) (balanced_all c.args.self c.args.feeder ps c.requires.feeder each)
+    (holders_joined c.args.ports c.args.closed c.args.feeder.trail.known _ all.joined))
+    c.in_ok-in_order.ensures c.into_sequence.ensures

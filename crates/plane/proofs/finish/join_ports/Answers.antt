@@ -1,0 +1,57 @@
+use Rattle.std.proofs.Common.{◌≡◌, ◌∷◌, sym, ap, subst, rules, map, []}
+use Rattle.atomic_table.specs.Seated.{TableId}
+use Rattle.turn_lock.specs.Passes.{view_of}
+use Rattle.place_rows.specs.Rows.{id_of}
+use Rattle.plane.specs.Remaining.{IsRowOf}
+use Rattle.plane.proofs.Finishing.{Laws, none_so, one_so, all_so, at_hand, both_true, added_too}
+use Rattle.plane.proofs.finish.join_ports.Goals as goal
+
+pub loop-pass-init : goal.loop-pass-init
+loop-pass-init c = record {
+  into = λ named are. are;
+  so = none_so (map view_of c.args.into.now.items) c.args.remains.now c.args.ports;
+}
+
+pub join_passes-lost-requires : goal.join_passes-lost-requires
+join_passes-lost-requires c =
+    let inv = c.loop-pass.invariant in
+    let r = c.requires.passes in
+    let is =
+    rw (← c.pass.view_is) at
+    (at_hand (IsRowOf (map id_of c.args.locks.now.items) r.0) _ _ _ _ _ c.args.ports
+    c.loop-pass.pass-iterator c.next.new.self c.in-Some.pass r.2 inv.so c.in-Some.ensures.steps)
+    in
+    record { passes = (r.0, inv.into r.0 r.1, is.locks_are, is.known_so) }
+
+pub loop-pass-preserved : goal.loop-pass-preserved
+loop-pass-preserved c =
+    let laws : Laws =
+    record {
+      one = c.rows_are_joined_one_by_one.ensures.one;
+    } in
+    let inv = c.loop-pass.invariant in
+    record {
+      into = λ named are. c.join_passes-lost.ensures.passes named (inv.into named are);
+      so = one_so laws (map view_of c.args.into.now.items)
+          (map view_of c.loop-pass.into.items) (map view_of c.join_passes-lost.new.into.items)
+          c.loop-pass.kept _ c.args.remains.now c.loop-pass.remains c.add.new.remains
+          c.args.ports c.loop-pass.pass-iterator c.next.new.self c.in-Some.pass inv.so
+          c.in-Some.ensures.steps
+          (rw (← c.pass.view_is) c.join_passes-lost.ensures.joined)
+          (rw (← c.pass.view_is)
+          (added_too c.loop-pass.kept _ _ _ _ _ _ _ c.add.result c.add.ensures
+          c.into_dids.ensures c.join_passes-lost.ensures.lost c.is_ok-room.ensures));
+    }
+
+pub returns-clause-passes : goal.returns-clause-passes
+returns-clause-passes c = c.loop-pass.invariant.into
+
+pub returns-clause-joined : goal.returns-clause-joined
+returns-clause-joined c =
+    let none : c.loop-pass.pass-iterator ≡ [] = search rules in
+    (all_so _ _ _ _ _ c.args.ports c.loop-pass.pass-iterator none c.loop-pass.invariant.so).joined
+
+pub returns-clause-kept : goal.returns-clause-kept
+returns-clause-kept c =
+    let none : c.loop-pass.pass-iterator ≡ [] = search rules in
+    (all_so _ _ _ _ _ c.args.ports c.loop-pass.pass-iterator none c.loop-pass.invariant.so).added

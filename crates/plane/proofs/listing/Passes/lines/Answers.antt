@@ -1,0 +1,31 @@
+use Rattle.std.proofs.Common.{refl, ◌∙◌}
+use Rattle.locked_place.specs.Turns.{LooksOn}
+use Rattle.plane.specs.Planes.{places_of}
+use Rattle.plane.proofs.Listing.{no_lines, more_lines, look_one}
+use Rattle.plane.proofs.Parts.{one_parts, look_parts}
+use Rattle.plane.proofs.Passing.{none_turned, one_more}
+use Rattle.plane.proofs.listing.Passes.lines.Goals as goal
+
+pub loop-place-init : goal.loop-place-init
+loop-place-init g c = record {
+  of = c.requires.of;
+  looked = none_turned LooksOn c.args.self.now.trail.known;
+  lines = no_lines (places_of c.args.plane.now) c.args.self.now.trail.known c.new-lines.result ?;
+  lost = refl;
+  parts = refl;
+  kept = λ s entered lost is. is;
+}
+
+pub loop-place-preserved : goal.loop-place-preserved
+loop-place-preserved g c = record {
+  of = c.put_lines_at.ensures.of;
+  looked = one_more LooksOn c.loop-place.place _ _ _ c.loop-place.invariant.looked
+      c.put_lines_at.ensures.turn;
+  lines = more_lines (places_of c.args.plane.now) c.loop-place.place _ _ _ _ LooksOn
+      c.loop-place.invariant.lines c.put_lines_at.ensures.turn ?;
+  lost = c.put_lines_at.ensures.lost.0 ∙ c.loop-place.invariant.lost;
+  parts = one_parts c.loop-place.place _ _ LooksOn look_parts c.put_lines_at.ensures.turn
+      ∙ c.loop-place.invariant.parts;
+  kept = λ s entered lost is. look_one c.rows_stay_balanced.ensures.looks s entered lost _ _
+      c.loop-place.place c.put_lines_at.ensures.turn (c.loop-place.invariant.kept s entered lost is);
+}

@@ -1,0 +1,50 @@
+use Rattle.std.proofs.Common.{◌≡◌, ◌∙◌, sym, ap, subst, refl, [], List}
+use Rattle.atomic_table.specs.Seated.{TableId}
+use Rattle.histories.specs.declared.histories.Lost.{Lost}
+use Rattle.place_rows.specs.Shares.{IsBalanced}
+use Rattle.plane.specs.Passes.{FeederView, PortView}
+use Rattle.plane.specs.Planes.{setting_of}
+use Rattle.plane.proofs.Gathering.{port_kept, feeder_kept}
+use Rattle.plane.proofs.meeting.tell_port.Goals as goal
+
+pub tell-requires-clause-others_of : goal.tell-requires-clause-others_of
+tell-requires-clause-others_of c = (rw (← c.pass.view_is) at c.requires.port).of
+
+pub tell-requires-clause-of : goal.tell-requires-clause-of
+tell-requires-clause-of c = (rw (← c.feeder.view_is) at c.requires.feeder).of
+
+pub returns-clause-port : goal.returns-clause-port
+returns-clause-port c =
+    let is = rw (← c.pass.view_is) at c.requires.port in
+    let feeds = rw (← c.feeder.view_is) at c.requires.feeder in (
+      record {
+        of = c.tell.ensures.others_of;
+        balanced = subst (λ (lost : List Lost). IsBalanced (setting_of c.args.plane.now) []
+            c.tell.new.others.trail.known lost) (sym c.tell.ensures.lost.1)
+            (c.tell.ensures.others_balanced feeds.balanced.legal (setting_of c.args.plane.now) []
+            _ is.balanced);
+        mailbox = is.mailbox;
+        alone = is.alone;
+      },
+      rw (← c.pass.view_is)
+          (port_kept _ _ c.tell.ensures.locks.1 c.tell.ensures.lost.1 refl refl refl),
+    )
+
+pub returns-clause-feeder : goal.returns-clause-feeder
+returns-clause-feeder c =
+    let is = rw (← c.pass.view_is) at c.requires.port in
+    let feeds = rw (← c.feeder.view_is) at c.requires.feeder in (
+      record {
+        of = c.tell.ensures.of;
+        balanced = subst (λ (lost : List Lost). IsBalanced (setting_of c.args.plane.now)
+            c.feeder.inside.fed.items c.tell.new.self.trail.known lost)
+            (sym c.tell.ensures.lost.0)
+            (c.tell.ensures.balanced (setting_of c.args.plane.now) c.feeder.inside.fed.items _
+            feeds.balanced);
+      },
+      rw (← c.feeder.view_is)
+          (feeder_kept _ _ c.tell.ensures.locks.0 c.tell.ensures.lost.0 refl),
+    )
+
+pub returns-clause-told : goal.returns-clause-told
+returns-clause-told c = rw (← c.pass.view_is, ← c.feeder.view_is) c.tell.ensures.told

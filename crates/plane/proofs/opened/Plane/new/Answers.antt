@@ -1,0 +1,75 @@
+use Rattle.std.proofs.Common.{◌≡◌, ◌∙◌, sym, ap, subst, refl, arith, map, length, ℕ}
+use Rattle.std.proofs.lemmas.List.{length-map}
+use Rattle.turn_lock.specs.Passes.{view_of}
+use Rattle.locked_place.specs.declared.outlets.Outlets.{Outlets}
+use Rattle.locked_place.specs.Views.{label_of}
+use Rattle.packet_moves.specs.declared.setting.Setting.{Setting}
+use Rattle.place_rows.specs.Lists.{Every}
+use Rattle.place_rows.specs.Rows.{label_at, lock_of}
+use Rattle.plane.specs.Filling.{IsReady}
+use Rattle.plane.proofs.Passing.{as_many}
+use Rattle.plane.proofs.Splitting.{zero_counted, unused_own}
+use Rattle.plane.proofs.Beginning.{all_unheard, first_unused, first_whole, opened_so}
+use Rattle.plane.proofs.opened.Plane.new.Goals as goal
+
+pub prepare_all-unfilled-requires : goal.prepare_all-unfilled-requires
+prepare_all-unfilled-requires c = record {
+  unheard = all_unheard c.args.mail _ _ c.in_ok-mailboxes.ensures.dealt.opened;
+}
+
+pub fill_all-port_passes-requires-clause-ready : goal.fill_all-port_passes-requires-clause-ready
+fill_all-port_passes-requires-clause-ready c =
+    let outlets : Outlets =
+    record { mailboxes = c.in_ok-mailboxes.mailboxes; board = c.in_ok-board.board } in (
+      outlets,
+      c.args.ports.now,
+      c.in_ok-locks.ensures.row,
+      c.in_ok-locks.ensures.many ∙ sym c.in_ok-board.ensures.places,
+      c.in_ok-mailboxes.ensures.dealt.no_others,
+      subst (λ n. Every (IsReady n c.args.ports.now) _) (sym c.in_ok-board.ensures.places)
+          c.in_ok-unfilled.ensures.ready,
+    )
+
+pub passes_of-requires : goal.passes_of-requires
+passes_of-requires c =
+    let outlets : Outlets =
+    record { mailboxes = c.in_ok-mailboxes.mailboxes; board = c.in_ok-board.board } in
+    let row = c.fill_all-port_passes.new.row.items in
+    let all =
+    (c.fill_all-port_passes.ensures.rows (label_at outlets) c.in_ok-locks.ensures.row).0 in
+    let unused =
+    (c.fill_all-port_passes.ensures.unused (first_unused _ c.in_ok-locks.ensures.first)).0 in
+    record {
+      counted = zero_counted outlets c.args.ports.now (map view_of row) _
+          c.in_ok-mailboxes.ensures.dealt.no_others all.known
+          (unused_own (map view_of row) unused)
+          (c.in_ok-sent.ensures.many ∙ sym c.in_ok-locks.ensures.many
+          ∙ sym (as_many label_of (label_at outlets) _ row all) ∙ sym (length-map row view_of))
+          c.in_ok-sent.ensures.zero;
+    }
+
+pub returns : goal.returns
+returns c =
+    let outlets : Outlets =
+    record { mailboxes = c.in_ok-mailboxes.mailboxes; board = c.in_ok-board.board } in
+    let s : Setting = record { tables = c.args.tables; key = c.args.key; mail = c.args.mail } in
+    let filled = c.fill_all-port_passes.ensures in
+    let first = c.in_ok-locks.ensures.first in
+    let unused = filled.unused (first_unused _ first) in
+    let rows = filled.rows (label_at outlets) c.in_ok-locks.ensures.row in
+    let known = c.passes_of.ensures.known in
+    opened_so c.rows_stay_balanced.ensures.begins c.args.places c.args.ports.now s _ _
+    c.fill_all-port_passes.result _ _ refl c.in_ok-order.ensures.items
+    c.in_ok-board.ensures.places refl c.in_ok-mailboxes.ensures.dealt
+    (c.passes_of.ensures.locks ∙ rows.0.locks_are)
+    (ap length known ∙ length-map _ view_of
+    ∙ sym (ap length c.passes_of.ensures.locks ∙ length-map _ lock_of))
+    (rw known rows.0.known)
+    c.new-2.ensures.items c.passes_of.ensures.none_lost (rw known unused.0) rows.1 unused.1
+    filled.nothing (filled.receivers ∙ c.in_ok-unfilled.ensures.same)
+    (rw known (filled.whole c.args.places
+    (first_whole c.args.places _ first
+    (length-map _ view_of
+    ∙ as_many label_of (label_at outlets) _ _ c.in_ok-locks.ensures.row
+    ∙ c.in_ok-locks.ensures.many))))
+    c.in_ok-board.ensures.pass

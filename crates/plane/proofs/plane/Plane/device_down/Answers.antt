@@ -1,0 +1,29 @@
+use Rattle.std.proofs.Common.{List, sym, subst}
+use Rattle.histories.specs.declared.histories.Lost.{Lost}
+use Rattle.place_rows.specs.Shares.{IsBalanced}
+use Rattle.plane.specs.Planes.{setting_of}
+use Rattle.plane.proofs.Flushed.{down_one}
+use Rattle.plane.proofs.Parts.{down_parts}
+use Rattle.plane.proofs.plane.Plane.device_down.Goals as goal
+
+pub device_down-requires-clause-of : goal.device_down-requires-clause-of
+device_down-requires-clause-of g c = (rw (← c.pass.view_is) at c.requires.pass).of
+
+pub returns-clause-pass : goal.returns-clause-pass
+returns-clause-pass g c =
+    let is = rw (← c.pass.view_is) at c.requires.pass in
+    record {
+      of = c.device_down.ensures.of;
+      balanced = subst (λ (lost : List Lost). IsBalanced (setting_of c.args.self.now)
+          c.pass.inside.fed.items c.device_down.new.self.trail.known lost)
+          (sym c.device_down.ensures.lost.0)
+          (down_one c.rows_stay_balanced.ensures.down c.rows_stay_balanced.ensures.looks
+          (setting_of c.args.self.now) c.args.device c.pass.inside.fed.items _ _ _ _
+          c.device_down.result c.device_down.ensures.turn c.device_down.ensures.err is.balanced);
+    }
+
+pub returns-clause-parts : goal.returns-clause-parts
+returns-clause-parts g c =
+    rw (← c.pass.view_is)
+    (down_parts c.args.device _ _ _ c.device_down.result c.device_down.ensures.turn
+    c.device_down.ensures.err)

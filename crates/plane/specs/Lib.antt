@@ -1,0 +1,14 @@
+pub mod Numbers
+pub mod Planes
+pub mod Trails
+pub mod Moving
+pub mod Messages
+pub mod Passes
+pub mod Counts
+pub mod OnTheWay
+pub mod Opening
+pub mod Meetings
+pub mod Closings
+pub mod Remaining
+pub mod Filling
+pub mod Listings

@@ -1,0 +1,28 @@
+//! Packets routed, queued, told of, answered and moved on, by threads that share places of queues,
+//! each behind a turn lock of its own.
+#![tactic(auto)]
+
+mod arrivals;
+mod asking;
+mod closing;
+mod feeding;
+mod finish;
+mod laws;
+mod listing;
+mod log;
+mod meeting;
+mod messages;
+mod opened;
+mod passes;
+mod plane;
+mod port;
+
+pub use laws::passes_stay_balanced;
+pub use locked_place::{Gate, OpenGate};
+pub use opened::{ClosedPorts, Opened, PortPasses};
+pub use packet_moves::{Fed, Refused};
+pub use plane::Plane;
+pub use port::{ClosedPort, FeederPass, PortPass};
+
+#[cfg(test)]
+mod tests;
