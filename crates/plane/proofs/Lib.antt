@@ -13,7 +13,7 @@ mod Results
 mod Stepping
 pub mod Finishing
 mod Splitting
-mod Listing
+mod Lined
 mod Beginning
 mod Telling
 mod Gathering

@@ -10,7 +10,7 @@ use Rattle.plane.specs.Filling.{IsReady}
 use Rattle.plane.proofs.Passing.{as_many}
 use Rattle.plane.proofs.Splitting.{zero_counted, unused_own}
 use Rattle.plane.proofs.Beginning.{all_unheard, first_unused, first_whole, opened_so}
-use Rattle.plane.proofs.opened.Plane.new.Goals as goal
+use Rattle.plane.proofs.plane.Plane.new.Goals as goal
 
 pub prepare_all-unfilled-requires : goal.prepare_all-unfilled-requires
 prepare_all-unfilled-requires c = record {

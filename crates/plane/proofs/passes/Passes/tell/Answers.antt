@@ -5,7 +5,7 @@ use Rattle.locked_place.specs.Views.{label_of}
 use Rattle.place_rows.specs.Meeting.{ToldUpTo}
 use Rattle.place_rows.specs.Rows.{ArePasses, label_at, lock_of}
 use Rattle.plane.proofs.Telling.{all_placed, counted_told}
-use Rattle.plane.proofs.meeting.Passes.tell.Goals as goal
+use Rattle.plane.proofs.passes.Passes.tell.Goals as goal
 
 pub tell_row-requires : goal.tell_row-requires
 tell_row-requires c =

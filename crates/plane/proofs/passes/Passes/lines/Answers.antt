@@ -1,10 +1,10 @@
 use Rattle.std.proofs.Common.{refl, ◌∙◌}
 use Rattle.locked_place.specs.Turns.{LooksOn}
 use Rattle.plane.specs.Planes.{places_of}
-use Rattle.plane.proofs.Listing.{no_lines, more_lines, look_one}
+use Rattle.plane.proofs.Lined.{no_lines, more_lines, look_one}
 use Rattle.plane.proofs.Parts.{one_parts, look_parts}
 use Rattle.plane.proofs.Passing.{none_turned, one_more}
-use Rattle.plane.proofs.listing.Passes.lines.Goals as goal
+use Rattle.plane.proofs.passes.Passes.lines.Goals as goal
 
 pub loop-place-init : goal.loop-place-init
 loop-place-init g c = record {

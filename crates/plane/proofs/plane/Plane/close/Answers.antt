@@ -10,7 +10,7 @@ use Rattle.plane.specs.Planes.{setting_of}
 use Rattle.plane.proofs.Finishing.{rows_of_ports, balanced_all, mailboxes_all, times_same}
 use Rattle.plane.proofs.Finishing.{both_added, both_true, every_both, holders_joined, closed_so}
 use Rattle.plane.proofs.Finishing.{all_in, all_receivers}
-use Rattle.plane.proofs.finish.Plane.close.Goals as goal
+use Rattle.plane.proofs.plane.Plane.close.Goals as goal
 
 pub join_ports-first-requires : goal.join_ports-first-requires
 join_ports-first-requires c =

@@ -2,8 +2,8 @@ use Rattle.std.proofs.Common.{List, sym, subst, ap, ◌∙◌, ◌++◌}
 use Rattle.histories.specs.declared.histories.Lost.{Lost}
 use Rattle.place_rows.specs.Shares.{IsBalanced}
 use Rattle.plane.specs.Planes.{places_of, setting_of}
-use Rattle.plane.proofs.Listing.{listed_balanced, listed_so}
-use Rattle.plane.proofs.listing.Plane.listing.Goals as goal
+use Rattle.plane.proofs.Lined.{listed_balanced, listed_so}
+use Rattle.plane.proofs.plane.Plane.listing.Goals as goal
 
 pub lines-requires : goal.lines-requires
 lines-requires g c = record { of = (rw (← c.pass.view_is) at c.requires.pass).of }

@@ -9,7 +9,7 @@ use Rattle.plane.specs.Listings.{AreLinesUpTo}
 use Rattle.plane.specs.Passes.{AreOf}
 use Rattle.plane.specs.Planes.{places_of}
 use Rattle.plane.specs.Trails.{parts_of}
-use Rattle.plane.proofs.listing.Passes.lines.Given as goal
+use Rattle.plane.proofs.passes.Passes.lines.Given as goal
 
 abbrev pub invariant-loop-place : goal.invariant-loop-place
 invariant-loop-place g l = record {

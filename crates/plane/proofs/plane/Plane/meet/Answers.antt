@@ -1,5 +1,5 @@
 use Rattle.plane.proofs.Gathering.{Laws, meet_so}
-use Rattle.plane.proofs.meeting.Plane.meet.Goals as goal
+use Rattle.plane.proofs.plane.Plane.meet.Goals as goal
 
 pub returns-clause-met : goal.returns-clause-met
 returns-clause-met c =

@@ -8,10 +8,10 @@ use Rattle.plane.specs.Planes.{places_of}
 use Rattle.plane.proofs.AtPlace.{at_place}
 use Rattle.plane.proofs.CountedRows.{counted_kept}
 use Rattle.plane.proofs.Counting.{counted_look}
-use Rattle.plane.proofs.Listing.{view_there, puts_so}
+use Rattle.plane.proofs.Lined.{view_there, puts_so}
 use Rattle.plane.proofs.Passing.{turns_one}
 use Rattle.plane.proofs.Results.{on_ok_mapped}
-use Rattle.plane.proofs.listing.Passes.put_lines_at.Goals as goal
+use Rattle.plane.proofs.passes.Passes.put_lines_at.Goals as goal
 
 pub put_lines-requires : goal.put_lines-requires
 put_lines-requires g c =
