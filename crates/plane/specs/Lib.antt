@@ -1,4 +1,5 @@
 pub mod Numbers
+pub mod Apart
 pub mod Planes
 pub mod Trails
 pub mod Moving

@@ -2,6 +2,7 @@
 
 ghost use Rattle.std.specs.Prelude.{◌≡◌, ◌≤◌, ◌<◌, ◌%◌, length};
 ghost use Rattle.mailbox.specs.Roles.{AreDistinct};
+ghost use Rattle.plane.specs.Apart.{AreDistinct-prop};
 
 use crate::laws::passes_stay_balanced;
 use crate::port::{ClosedPort, FeederPass, PortPass};
@@ -29,7 +30,7 @@ pub struct Plane {
     ghost sized: { length locks.items ≡ outlets.board.places },
     ghost some: { 1 ≤ length locks.items },
     ghost few: { length locks.items ≤ 64 },
-    ghost apart: { AreDistinct order.items },
+    ghost apart: { AreDistinct order.items } by { AreDistinct-prop order.items },
 }
 
 impl Plane {
