@@ -23,7 +23,9 @@ use Rattle.plane.proofs.Passing.{some_same}
 module _ {X : Type 0} where
   get_middle : (front xs back : List X) (i : ℕ) (x : X) → slice_get xs i ≡ Some x →
       slice_get (front ++ (xs ++ back)) (length front + i) ≡ Some x
-  get_middle [] xs back i x at = in_front xs i at
+  get_middle [] xs back i x at =
+      let on : 0 + i ≡ i = omega arith in
+      ap (slice_get (xs ++ back)) on ∙ in_front xs i at
     where
       in_front : (ys : List X) (j : ℕ) → slice_get ys j ≡ Some x →
           slice_get (ys ++ back) j ≡ Some x
@@ -37,7 +39,9 @@ module _ {X : Type 0} where
   set_middle : (front xs back : List X) (i : ℕ) (x : X) → i < length xs →
       slice_set (front ++ (xs ++ back)) (length front + i) x
       ≡ front ++ (slice_set xs i x ++ back)
-  set_middle [] xs back i x few = in_front xs i few
+  set_middle [] xs back i x few =
+      let on : 0 + i ≡ i = omega arith in
+      ap (λ n. slice_set (xs ++ back) n x) on ∙ in_front xs i few
     where
       in_front : (ys : List X) (j : ℕ) → j < length ys →
           slice_set (ys ++ back) j x ≡ slice_set ys j x ++ back
@@ -101,9 +105,10 @@ keeps_self : (a : PortView) → KeepsAll a a
 keeps_self a = refl
 
 -- a pass of which at most what it knows has changed
-pub port_kept : (old new : PortView) → new.locks ≡ old.locks → new.trail.lost ≡ old.trail.lost →
+pub port_kept : (known : List Known) (old new : PortView) → old.trail.known ≡ known →
+    new.locks ≡ old.locks → new.trail.lost ≡ old.trail.lost →
     new.port ≡ old.port → new.receiver ≡ old.receiver → new.dids ≡ old.dids → KeepsAll old new
-port_kept old new locks lost port receiver dids =
+port_kept known old new was locks lost port receiver dids =
     ap (λ ls. record new { locks = ls }) locks
     ∙ ap (λ l. record old {
       trail = record { known = new.trail.known; lost = l };
@@ -124,9 +129,10 @@ port_kept old new locks lost port receiver dids =
     }) receiver
     ∙ ap (λ ds. record old { trail = with_known old.trail new.trail.known; dids = ds }) dids
 
-pub feeder_kept : (old new : FeederView) → new.locks ≡ old.locks →
+pub feeder_kept : (known : List Known) (old new : FeederView) → old.trail.known ≡ known →
+    new.locks ≡ old.locks →
     new.trail.lost ≡ old.trail.lost → new.fed ≡ old.fed → FeederKeepsAll old new
-feeder_kept old new locks lost fed =
+feeder_kept known old new was locks lost fed =
     ap (λ ls. record new { locks = ls }) locks
     ∙ ap (λ l. record old {
       trail = record { known = new.trail.known; lost = l };

@@ -1,4 +1,4 @@
-use Rattle.std.proofs.Common.{◌≡◌, ◌∙◌, sym, ap, subst, rules, length}
+use Rattle.std.proofs.Common.{◌≡◌, sym, refl, rules, length}
 use Rattle.place_rows.specs.Meeting.{HasGathered}
 use Rattle.plane.specs.Passes.{IsPortOf}
 use Rattle.plane.specs.Planes.{places_of}
@@ -33,7 +33,7 @@ loop-i-preserved c =
     (gather_steps laws (places_of c.args.plane.now)) c.args.plane.now c.loop-i.i
     c.args.feeder.now c.loop-i.feeder c.tell_feeder_closed.new.feeder
     c.args.ports.now c.loop-i.ports _ _
-    c.tell_feeder_closed.new.pass c.loop-i.invariant (sym c.in-Some.ensures.value) ?
+    c.tell_feeder_closed.new.pass c.loop-i.invariant (sym c.in-Some.ensures.value) refl
     c.tell_feeder_closed.ensures.port.0 c.tell_feeder_closed.ensures.port.1
     c.tell_feeder_closed.ensures.feeder.0 c.tell_feeder_closed.ensures.feeder.1 c.tell_feeder_closed.ensures.told
 

@@ -1,8 +1,6 @@
-use Rattle.std.proofs.Common.{◌≡◌, ◌∙◌, sym, ap, subst, refl, [], List}
-use Rattle.atomic_table.specs.Seated.{TableId}
+use Rattle.std.proofs.Common.{sym, subst, refl, [], List}
 use Rattle.histories.specs.declared.histories.Lost.{Lost}
 use Rattle.place_rows.specs.Shares.{IsBalanced}
-use Rattle.plane.specs.Passes.{FeederView, PortView}
 use Rattle.plane.specs.Planes.{setting_of}
 use Rattle.plane.proofs.Gathering.{port_kept, feeder_kept}
 use Rattle.plane.proofs.meeting.tell_port.Goals as goal
@@ -27,7 +25,7 @@ returns-clause-port c =
         alone = is.alone;
       },
       rw (← c.pass.view_is)
-          (port_kept _ _ c.tell.ensures.locks.1 c.tell.ensures.lost.1 refl refl refl),
+          (port_kept c.pass.inside.passes.trail.known _ _ refl c.tell.ensures.locks.1 c.tell.ensures.lost.1 refl refl refl),
     )
 
 pub returns-clause-feeder : goal.returns-clause-feeder
@@ -43,7 +41,7 @@ returns-clause-feeder c =
             feeds.balanced);
       },
       rw (← c.feeder.view_is)
-          (feeder_kept _ _ c.tell.ensures.locks.0 c.tell.ensures.lost.0 refl),
+          (feeder_kept c.feeder.inside.passes.trail.known _ _ refl c.tell.ensures.locks.0 c.tell.ensures.lost.0 refl),
     )
 
 pub returns-clause-told : goal.returns-clause-told

@@ -1,9 +1,8 @@
-use Rattle.std.proofs.Common.{◌≡◌, ◌∙◌, sym, subst, map, length, []}
+use Rattle.std.proofs.Common.{◌∙◌, sym, subst, map, []}
 use Rattle.std.proofs.lemmas.List.{length-map}
 use Rattle.turn_lock.specs.Passes.{view_of}
-use Rattle.locked_place.specs.Views.{label_of}
 use Rattle.place_rows.specs.Meeting.{ToldUpTo}
-use Rattle.place_rows.specs.Rows.{ArePasses, label_at, lock_of}
+use Rattle.place_rows.specs.Rows.{label_at, lock_of}
 use Rattle.plane.proofs.Telling.{all_placed, counted_told}
 use Rattle.plane.proofs.passes.Passes.tell.Goals as goal
 
