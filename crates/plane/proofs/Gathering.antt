@@ -16,6 +16,7 @@ use Rattle.plane.specs.Meetings.{KeepsAll, FeederKeepsAll, Meets, with_known}
 use Rattle.plane.specs.Opening.{all_rows, known_in}
 use Rattle.plane.specs.Passes.{AreOf, FeederView, PortView, IsFeederOf, IsPortOf}
 use Rattle.plane.specs.Planes.{locks_of, places_of}
+use Rattle.plane.specs.Trails.{Trail}
 use Rattle.plane.proofs.Passing.{some_same}
 
 -- ---- an item in the middle of a list
@@ -105,40 +106,19 @@ keeps_self : (a : PortView) → KeepsAll a a
 keeps_self a = refl
 
 -- a pass of which at most what it knows has changed
-pub port_kept : (known : List Known) (old new : PortView) → old.trail.known ≡ known →
-    new.locks ≡ old.locks → new.trail.lost ≡ old.trail.lost →
-    new.port ≡ old.port → new.receiver ≡ old.receiver → new.dids ≡ old.dids → KeepsAll old new
-port_kept known old new was locks lost port receiver dids =
-    ap (λ ls. record new { locks = ls }) locks
-    ∙ ap (λ l. record old {
-      trail = record { known = new.trail.known; lost = l };
-      port = new.port;
-      receiver = new.receiver;
-      dids = new.dids;
-    }) lost
-    ∙ ap (λ p. record old {
-      trail = with_known old.trail new.trail.known;
-      port = p;
-      receiver = new.receiver;
-      dids = new.dids;
-    }) port
-    ∙ ap (λ r. record old {
-      trail = with_known old.trail new.trail.known;
-      receiver = r;
-      dids = new.dids;
-    }) receiver
-    ∙ ap (λ ds. record old { trail = with_known old.trail new.trail.known; dids = ds }) dids
+pub port_kept : (known : List Known) (old : PortView) (locks : List TableId) (trail : Trail) →
+    old.trail.known ≡ known → locks ≡ old.locks → trail.lost ≡ old.trail.lost →
+    KeepsAll old (record old { locks = locks; trail = trail })
+port_kept known old locks trail was same lost =
+    ap (λ ls. record old { locks = ls; trail = trail }) same
+    ∙ ap (λ l. record old { trail = record { known = trail.known; lost = l } }) lost
 
-pub feeder_kept : (known : List Known) (old new : FeederView) → old.trail.known ≡ known →
-    new.locks ≡ old.locks →
-    new.trail.lost ≡ old.trail.lost → new.fed ≡ old.fed → FeederKeepsAll old new
-feeder_kept known old new was locks lost fed =
-    ap (λ ls. record new { locks = ls }) locks
-    ∙ ap (λ l. record old {
-      trail = record { known = new.trail.known; lost = l };
-      fed = new.fed;
-    }) lost
-    ∙ ap (λ fs. record old { trail = with_known old.trail new.trail.known; fed = fs }) fed
+pub feeder_kept : (known : List Known) (old : FeederView) (locks : List TableId) (trail : Trail) →
+    old.trail.known ≡ known → locks ≡ old.locks → trail.lost ≡ old.trail.lost →
+    FeederKeepsAll old (record old { locks = locks; trail = trail })
+feeder_kept known old locks trail was same lost =
+    ap (λ ls. record old { locks = ls; trail = trail }) same
+    ∙ ap (λ l. record old { trail = record { known = trail.known; lost = l } }) lost
 
 -- ---- the ports before port n told the feeder, or were told by it
 

@@ -35,7 +35,8 @@ loop-i-preserved c =
     c.args.ports.now c.loop-i.ports _ _
     c.tell_feeder_closed.new.pass c.loop-i.invariant (sym c.in-Some.ensures.value) refl
     c.tell_feeder_closed.ensures.port.0 c.tell_feeder_closed.ensures.port.1
-    c.tell_feeder_closed.ensures.feeder.0 c.tell_feeder_closed.ensures.feeder.1 c.tell_feeder_closed.ensures.told
+    c.tell_feeder_closed.ensures.feeder.0 c.tell_feeder_closed.ensures.feeder.1
+    c.tell_feeder_closed.ensures.told
 
 pub returns-clause-gathered : goal.returns-clause-gathered
 returns-clause-gathered c =

@@ -25,7 +25,8 @@ returns-clause-port c =
         alone = is.alone;
       },
       rw (← c.pass.view_is)
-          (port_kept c.pass.inside.passes.trail.known _ _ refl c.tell.ensures.locks.1 c.tell.ensures.lost.1 refl refl refl),
+          (port_kept c.pass.inside.passes.trail.known _ _ _ refl c.tell.ensures.locks.1
+          c.tell.ensures.lost.1),
     )
 
 pub returns-clause-feeder : goal.returns-clause-feeder
@@ -41,7 +42,8 @@ returns-clause-feeder c =
             feeds.balanced);
       },
       rw (← c.feeder.view_is)
-          (feeder_kept c.feeder.inside.passes.trail.known _ _ refl c.tell.ensures.locks.0 c.tell.ensures.lost.0 refl),
+          (feeder_kept c.feeder.inside.passes.trail.known _ _ _ refl
+          c.tell.ensures.locks.0 c.tell.ensures.lost.0),
     )
 
 pub returns-clause-told : goal.returns-clause-told
