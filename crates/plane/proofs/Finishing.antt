@@ -289,6 +289,13 @@ from_here : (logs : List PortLog) (n : ℕ) (l : PortLog) → n < length logs �
 from_here logs n l few is =
     drop_more logs n l few ∙ ap (λ (x : PortLog). x ∷ drop (n + 1) logs) (sym is)
 
+-- what was read twice at one place is the same
+pub same_at : (logs : List PortLog) (n : ℕ) (l m : PortLog) → n < length logs →
+    l ≡ get_or logs n l → m ≡ get_or logs n m → m ≡ l
+same_at [] n l m few is also = absurd (omega (arith, few))
+same_at (x ∷ logs) zero l m few is also = also ∙ sym is
+same_at (x ∷ logs) (suc n) l m few is also = same_at logs n l m (omega (arith, few)) is also
+
 pub one_before : (port n : ℕ) (logs : List PortLog) (l : PortLog) → NoneBefore port n logs →
     n < length logs → l ≡ get_or logs n l → l.port ≢ port → NoneBefore port (n + 1) logs
 one_before port n logs l so few is differ = record {

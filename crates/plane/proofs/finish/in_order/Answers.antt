@@ -7,7 +7,7 @@ use Rattle.plane.proofs.finish.in_order.Goals as goal
 
 pub loop-port-init : goal.loop-port-init
 loop-port-init c =
-    none_ordered c.args.order.now c.args.logs.items _ c.requires.distinct c.new-ordered.ensures
+    none_ordered c.args.order.now c.args.logs.items _ c.requires.distinct c.new-ordered.ensures.items
 
 pub loop-port-preserved : goal.loop-port-preserved
 loop-port-preserved c =

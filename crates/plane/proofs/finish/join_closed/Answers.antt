@@ -9,7 +9,8 @@ use Rattle.plane.proofs.finish.join_closed.Goals as goal
 pub loop-pass-init : goal.loop-pass-init
 loop-pass-init c = record {
   into = λ named are. are;
-  so = none_so (map view_of c.args.into.now.items) c.args.remains.now c.args.ports;
+  so = rw c.into_iter-pass-iterator.ensures.into_iter_gives
+      (none_so (map view_of c.args.into.now.items) c.args.remains.now c.args.ports);
 }
 
 pub join_passes-lost-requires : goal.join_passes-lost-requires
@@ -39,8 +40,8 @@ loop-pass-preserved c =
           c.in-Some.ensures.steps
           (rw (← c.pass.view_is) c.join_passes-lost.ensures.joined)
           (rw (← c.pass.view_is)
-          (added_too c.loop-pass.kept _ _ _ _ _ _ _ c.add.result c.add.ensures
-          c.into_dids.ensures c.join_passes-lost.ensures.lost c.is_ok-room.ensures));
+          (added_too c.loop-pass.kept _ _ _ _ _ _ _ _ _ c.add.result c.add.ensures
+          c.into_dids.ensures c.join_passes-lost.ensures.lost c.is_ok-room.ensures.value));
     }
 
 pub returns-clause-passes : goal.returns-clause-passes

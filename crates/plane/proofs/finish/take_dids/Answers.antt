@@ -1,5 +1,8 @@
-use Rattle.std.proofs.Common.{◌≡◌, ◌<◌, ◌≤◌, ◌∙◌, sym, ap, refl, rules, length}
+use Rattle.std.proofs.Common.{◌≡◌, ◌<◌, ◌≤◌, ◌∙◌, sym, ap, refl, rules, length, List}
+use Rattle.histories.specs.declared.log.PortLog.{PortLog}
+use Rattle.plane.specs.Remaining.{dids_in}
 use Rattle.plane.proofs.Finishing.{one_before, found_here, found_nowhere, others_kept}
+use Rattle.plane.proofs.Finishing.{same_at}
 use Rattle.plane.proofs.finish.take_dids.Goals as goal
 
 pub loop-i-init : goal.loop-i-init
@@ -12,17 +15,31 @@ loop-i-preserved c = record {
       c.loop-i.invariant.none (search rules) c.index.ensures (search rules);
 }
 
-pub returns-in-loop-i-clause-dids : goal.returns-in-loop-i-clause-dids
-returns-in-loop-i-clause-dids c =
-    found_here c.args.port c.loop-i.i c.args.logs.now.items c.index_mut.result.now
-    c.loop-i.invariant.none (search rules) c.index_mut.ensures.value (search rules)
+pub returns-then-index-port-clause-dids : goal.returns-then-index-port-clause-dids
+returns-then-index-port-clause-dids c =
+    let few : c.loop-i.i < length c.loop-i.logs.items = search rules in
+    let same = same_at c.loop-i.logs.items c.loop-i.i c.index.result.now c.index_mut.result.now few
+    c.index.ensures c.index_mut.ensures.value in
+    let port : c.index.result.now.port ≡ c.args.port = search rules in
+    c.replace.ensures.value ∙ found_here c.args.port c.loop-i.i c.loop-i.logs.items c.index_mut.result.now
+    c.loop-i.invariant.none few c.index_mut.ensures.value
+    (ap (λ (l : PortLog). l.port) same ∙ port)
+    ∙ ap (λ (ls : List PortLog). dids_in ls c.args.port) c.loop-i.invariant.same
 
-pub returns-in-loop-i-clause-others : goal.returns-in-loop-i-clause-others
-returns-in-loop-i-clause-others c = λ q differ.
-    others_kept c.args.logs.now.items c.loop-i.i c.index_mut.result.now _ (search rules)
-    c.index_mut.ensures.value refl q (search rules)
+pub returns-then-index-port-clause-others : goal.returns-then-index-port-clause-others
+returns-then-index-port-clause-others c = λ q differ.
+    let few : c.loop-i.i < length c.loop-i.logs.items = search rules in
+    let same = same_at c.loop-i.logs.items c.loop-i.i c.index.result.now c.index_mut.result.now few
+    c.index.ensures c.index_mut.ensures.value in
+    let port : c.index.result.now.port ≡ c.args.port = search rules in
+    others_kept c.loop-i.logs.items c.loop-i.i c.index_mut.result.now _ few
+    c.index_mut.ensures.value refl q
+    (λ (e : q ≡ c.index_mut.result.now.port). differ (e ∙ ap (λ (l : PortLog). l.port) same ∙ port))
+    ∙ ap (λ (ls : List PortLog). dids_in ls q) c.loop-i.invariant.same
 
 pub returns-clause-dids : goal.returns-clause-dids
 returns-clause-dids c =
-    found_nowhere c.args.port c.loop-i.i c.args.logs.now.items c.loop-i.invariant.none
+    c.new-2.ensures
+    ∙ found_nowhere c.args.port c.loop-i.i c.loop-i.logs.items c.loop-i.invariant.none
     (search rules)
+    ∙ ap (λ (ls : List PortLog). dids_in ls c.args.port) c.loop-i.invariant.same

@@ -1,5 +1,6 @@
 use Rattle.std.proofs.Common.{◌≡◌, ◌≤◌, ◌∙◌, ◌++◌, ◌∷◌, [], ℕ, List, sym, ap, subst, refl, rules}
 use Rattle.std.proofs.Common.{arith, map}
+use Rattle.mailbox.specs.Roles.{AreDistinct}
 use Rattle.place_rows.specs.Hearing as row
 use Rattle.place_rows.specs.Lists.{Every}
 use Rattle.place_rows.specs.Rows.{label_at}
@@ -7,6 +8,7 @@ use Rattle.place_rows.specs.declared.ending.PortReceiver.{PortReceiver}
 use Rattle.plane.specs.Closings.{feeder_holds, port_holds}
 use Rattle.plane.specs.Passes.{FeederView, IsPortOf, PassesView, PortView}
 use Rattle.plane.specs.Planes.{setting_of}
+use Rattle.plane.specs.Remaining.{log_in}
 use Rattle.plane.proofs.Finishing.{rows_of_ports, balanced_all, mailboxes_all, times_same}
 use Rattle.plane.proofs.Finishing.{both_added, both_true, every_both, holders_joined, closed_so}
 use Rattle.plane.proofs.Finishing.{all_in, all_receivers}
@@ -66,8 +68,8 @@ close_all-requires-clause-whole c =
     c.join_ports-first.ensures.joined c.join_closed-second.ensures.joined c.requires.whole in
     all.whole
 
-pub end_rows-entries-requires-clause-row : goal.end_rows-entries-requires-clause-row
-end_rows-entries-requires-clause-row c =
+pub end_rows-requires-clause-row : goal.end_rows-requires-clause-row
+end_rows-requires-clause-row c =
     let all =
     all_in c.args.self c.args.feeder c.args.ports c.args.closed c.passes.inside.row.items
     c.join_ports-first.new.into.items c.join_closed-second.new.into.items
@@ -81,8 +83,8 @@ end_rows-entries-requires-clause-row c =
     c.join_ports-first.ensures.joined c.join_closed-second.ensures.joined c.requires.whole in
     all.passes
 
-pub end_rows-entries-requires-clause-whole : goal.end_rows-entries-requires-clause-whole
-end_rows-entries-requires-clause-whole c =
+pub end_rows-requires-clause-whole : goal.end_rows-requires-clause-whole
+end_rows-requires-clause-whole c =
     let all =
     all_in c.args.self c.args.feeder c.args.ports c.args.closed c.passes.inside.row.items
     c.join_ports-first.new.into.items c.join_closed-second.new.into.items
@@ -96,21 +98,21 @@ end_rows-entries-requires-clause-whole c =
     c.join_ports-first.ensures.joined c.join_closed-second.ensures.joined c.requires.whole in
     all.whole
 
-pub end_rows-entries-requires-clause-mailboxes : goal.end_rows-entries-requires-clause-mailboxes
-end_rows-entries-requires-clause-mailboxes c =
+pub end_rows-requires-clause-mailboxes : goal.end_rows-requires-clause-mailboxes
+end_rows-requires-clause-mailboxes c =
     let both =
     both_true c.join_ports-first.result c.join_closed-second.result (search rules) in
     let added =
     both_added c.args.ports c.args.closed _ _ _ (c.join_ports-first.ensures.kept both.0)
     (c.join_closed-second.ensures.kept both.1) in
     subst (Every (row.HasMailbox c.args.self.outlets.mailboxes))
-    (sym (all_receivers _ _ _ refl added))
+    (sym (all_receivers _ _ _ c.new.ensures.items added))
     (mailboxes_all c.args.self (c.args.ports ++ c.args.closed)
     (every_both (IsPortOf c.args.self) c.args.ports c.args.closed c.requires.ports
     c.requires.closed))
 
-pub end_rows-entries-requires-clause-apart : goal.end_rows-entries-requires-clause-apart
-end_rows-entries-requires-clause-apart c =
+pub end_rows-requires-clause-apart : goal.end_rows-requires-clause-apart
+end_rows-requires-clause-apart c =
     let both =
     both_true c.join_ports-first.result c.join_closed-second.result (search rules) in
     let added =
@@ -118,12 +120,14 @@ end_rows-entries-requires-clause-apart c =
     (c.join_closed-second.ensures.kept both.1) in
     λ port.
     subst (λ (rs : List PortReceiver). row.times_in port rs ≤ 1)
-    (sym (all_receivers _ _ _ refl added))
+    (sym (all_receivers _ _ _ c.new.ensures.items added))
     (subst (λ n. n ≤ 1) (sym (times_same port (c.args.ports ++ c.args.closed)))
     (c.requires.apart port))
 
 pub in_order-requires : goal.in_order-requires
-in_order-requires c = record { distinct = c.args.self.apart }
+in_order-requires c = record {
+  distinct = subst AreDistinct (sym c.deref.ensures.value) c.args.self.apart;
+}
 
 pub returns : goal.returns
 returns c =
@@ -147,9 +151,13 @@ returns c =
     let added =
     both_added c.args.ports c.args.closed _ _ _ (c.join_ports-first.ensures.kept both.0)
     (c.join_closed-second.ensures.kept both.1) in
-    closed_so c.args.self c.args.feeder ps _ c.join_closed-second.new.remains _ _ _ refl refl
-    (ap (λ (p : FeederView). p.trail.lost) c.feeder.view_is) added
-    (c.end_rows-entries.ensures (setting_of c.args.self) (feeder_holds c.args.feeder)
+    closed_so c.args.self c.args.feeder ps _ c.join_closed-second.new.remains _ _ _ c.new.ensures.items
+    c.new-2.ensures.items
+    (ap (λ (p : PassesView). p.trail.lost) c.passes.view_is
+    ∙ ap (λ (p : FeederView). p.trail.lost) c.feeder.view_is) added
+    (c.in_ok-entries.ensures (setting_of c.args.self) (feeder_holds c.args.feeder)
     (map port_holds ps) (balanced_all c.args.self c.args.feeder ps c.requires.feeder each)
     (holders_joined c.args.ports c.args.closed c.args.feeder.trail.known _ all.joined))
-    c.in_ok-in_order.ensures c.into_sequence.ensures
+    (c.in_ok-in_order.ensures
+    ∙ ap (map (log_in c.join_closed-second.new.remains.logs.items)) c.deref.ensures.value)
+    c.into_sequence.ensures
