@@ -1,8 +1,7 @@
 -- What each call of a plane leaves: its pass is balanced, and a port's log goes with its letters.
-use Rattle.std.proofs.Common.{◌≡◌, ◌<◌, ◌≤◌, ℕ, List, [], ◌∷◌, ◌++◌, length, sym, ap, ◌∙◌}
-use Rattle.std.proofs.Common.{subst, arith, append-nil, Option, Some, None}
-use Rattle.std.specs.Prelude.{Result, Ok, Err, IfOk, OnOk, OnErr, filter, map}
-use Rattle.std.proofs.lemmas.List.{length-append}
+use Rattle.std.proofs.Common.{◌≡◌, ℕ, List, [], ◌∷◌, ◌++◌, sym, ap, ◌∙◌}
+use Rattle.std.proofs.Common.{subst, append-nil, Option, Some, None}
+use Rattle.std.specs.Prelude.{Result, Ok, Err, IfOk, OnOk, OnErr, filter}
 use Rattle.std.proofs.lemmas.List.Elements.{filter-append}
 use Rattle.packet_entry.specs.declared.packet.Card.{Card}
 use Rattle.packet_entry.specs.declared.no_memory.NoMemory.{NoMemory}
@@ -13,7 +12,6 @@ use Rattle.packet_moves.specs.declared.fed.Fed.{Fed}
 use Rattle.packet_moves.specs.declared.fed.Refused.{Refused}
 use Rattle.packet_moves.specs.declared.setting.Setting.{Setting}
 use Rattle.place_rows.specs.Shares.{IsBalanced}
-use Rattle.plane.specs.Numbers.{most_fed}
 use Rattle.plane.specs.Trails.{Trail, MayLook}
 use Rattle.plane.specs.Moving.{IsFed}
 use Rattle.plane.specs.Messages.{Sends}
@@ -50,14 +48,6 @@ feed_balanced keeps looks places s old new was fed card (Ok f) fresh moved noted
 feed_balanced keeps looks places s old new was fed card (Err e) fresh moved noted looked none is =
     subst (λ (l : List Card). IsBalanced s l new.known new.lost) (sym none)
     (looks s was old new looked is)
-
-pub feed_few : (was fed : List Card) (card : Card) (r : Result Fed Refused) →
-    OnOk r (fed ≡ was ++ card ∷ []) → OnErr r (fed ≡ was) → length was < most_fed →
-    length fed ≤ most_fed
-feed_few was fed card (Ok f) noted none few =
-    omega (arith, few, ap (λ (l : List Card). length l) noted, length-append was (card ∷ []))
-feed_few was fed card (Err e) noted none few =
-    omega (arith, few, ap (λ (l : List Card). length l) none)
 
 -- ---- messages
 

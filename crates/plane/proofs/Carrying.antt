@@ -12,17 +12,16 @@ use Rattle.queue_core.specs.Step.{Way, Gone, Open, Decided}
 use Rattle.histories.specs.declared.entry.Entry.{Entry}
 use Rattle.histories.specs.declared.histories.Lost.{Lost}
 use Rattle.histories.specs.Happenings.{arrive}
-use Rattle.histories.specs.Journeys.{Arrival, asked_by, asked_by_some, going_on, visit_of}
+use Rattle.histories.specs.Journeys.{Arrival, asked_by, asked_by_some, going_on}
 use Rattle.histories.specs.States.{entry_of, state_of, step_of}
 use Rattle.packet_moves.specs.declared.fed.Fed.{Fed}
 use Rattle.packet_moves.specs.declared.setting.Setting.{Setting}
-use Rattle.packet_moves.specs.HandedOn.{LeavesAlone}
 use Rattle.packet_moves.specs.Moving.{arrival_to, route_after}
-use Rattle.locked_place.specs.Turns.{IsTurn, LooksOn}
+use Rattle.locked_place.specs.Turns.{LooksOn}
 use Rattle.place_rows.specs.Rows.{Known, TurnsOne, IsTurnAt}
 use Rattle.place_rows.specs.Shares.{IsBalancedBut}
 use Rattle.plane.specs.Trails.{Trail, StepsAt, MayLook}
-use Rattle.plane.specs.Moving.{Carries, Settles, ArrivesThen, IsLost, IsFed}
+use Rattle.plane.specs.Moving.{Carries, Settles, IsFed}
 use Rattle.plane.proofs.Known.{Laws}
 
 -- a trail is balanced, but for what is owed

@@ -1,6 +1,6 @@
 -- Counts of a row of passes, of which the one at one place took a turn.
 use Rattle.std.proofs.Common.{◌≡◌, ◌<◌, ℕ, List, length, refl, sym, ap, ◌∙◌, subst, arith}
-use Rattle.std.specs.Prelude.{map, slice_get, slice_set, option_map, get_or}
+use Rattle.std.specs.Prelude.{map, slice_set, option_map, get_or}
 use Rattle.std.specs.BTreeMap.{BTreeMap}
 use Rattle.std.proofs.lemmas.List.{map-set, length-map}
 use Rattle.std.proofs.lemmas.Option.{slice_get_read, slice_get-map}

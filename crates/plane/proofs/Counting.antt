@@ -7,7 +7,7 @@ use Rattle.std.specs.Prelude.{IfSome, ◌==◌, if◌then◌else◌, nat_eq}
 use Rattle.std.specs.BTreeMap.{BTreeMap, get}
 use Rattle.std.specs.Ordering.{nat_cmp}
 use Rattle.std.proofs.lemmas.Bool.{cases_Bool, eqb-true, eqb-false, eq-eqb}
-use Rattle.std.proofs.lemmas.List.{length-append, length-set}
+use Rattle.std.proofs.lemmas.List.{length-set}
 use Rattle.std.proofs.lemmas.List.Sums.{sum_by-append, sum_by-cons}
 use Rattle.std.proofs.lemmas.Option.{slice_get_within}
 use Rattle.packet_entry.specs.declared.packet.Card.{Card}
@@ -34,12 +34,11 @@ use Rattle.locked_place.specs.declared.arrivals.Placed.{Placed}
 use Rattle.locked_place.specs.declared.arrivals.Placed.TheVariants as spot
 use Rattle.histories.specs.Letters.{letters_under, letters_of_event, letters_of_reply}
 use Rattle.histories.specs.Letters.{letters_of_outcome}
-use Rattle.locked_place.specs.Notices.{letters_at}
 use Rattle.locked_place.specs.Points.{Point, points, points_after, point_after}
 use Rattle.hook_chain.specs.declared.chain.Decision.{Decision}
 use Rattle.locked_place.specs.Turns.{IsTurn, ArrivesIn, AsksIn, ClosesIn, GoesDownIn, LooksOn}
 use Rattle.locked_place.specs.Turns.{PlacesAs, IsPosted}
-use Rattle.locked_place.specs.Views.{PlaceLabel, label_of, port_of}
+use Rattle.locked_place.specs.Views.{label_of, port_of}
 use Rattle.place_rows.specs.Rows.{Known, IsTurnAt}
 use Rattle.place_rows.specs.Shares.{at_places, notices_at, sent_at, sent_in}
 use Rattle.plane.specs.Counts.{count_of, IsCounted, AreCounted}

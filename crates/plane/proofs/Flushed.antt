@@ -1,5 +1,5 @@
 -- Ports that close and devices that go down leave their pass balanced.
-use Rattle.std.proofs.Common.{◌≡◌, ℕ, List, [], ◌++◌}
+use Rattle.std.proofs.Common.{ℕ, List, [], ◌++◌}
 use Rattle.std.specs.Prelude.{Result, Ok, Err, IfOk, OnErr}
 use Rattle.packet_entry.specs.declared.packet.Card.{Card}
 use Rattle.packet_entry.specs.declared.no_memory.NoMemory.{NoMemory}

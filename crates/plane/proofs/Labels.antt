@@ -1,7 +1,7 @@
 -- The label of a place among a plane's.
 use Rattle.std.proofs.Common.{◌≡◌, ℕ, Option, Some, None, refl}
 use Rattle.std.specs.Prelude.{option_map, IsSome}
-use Rattle.std.specs.BTreeMap.{BTreeMap, get}
+use Rattle.std.specs.BTreeMap.{get}
 use Rattle.std.specs.Ordering.{nat_cmp}
 use Rattle.mailbox.specs.Views.{MailboxView, SenderView}
 use Rattle.locked_place.specs.declared.outlets.Outlets.{Outlets}

@@ -1,7 +1,7 @@
 -- No call changes the parts of the locks that its pass has.
-use Rattle.std.proofs.Common.{◌≡◌, ℕ, zero, suc, List, [], ◌∷◌, Option, Some, None, refl, ap, ◌∙◌}
+use Rattle.std.proofs.Common.{◌≡◌, ℕ, zero, suc, List, [], ◌∷◌, Option, Some, None, ap, ◌∙◌}
 use Rattle.std.proofs.Common.{inl, inr}
-use Rattle.std.specs.Prelude.{map, slice_get, slice_set, option_map, Result, Ok, Err, IfOk, OnErr}
+use Rattle.std.specs.Prelude.{slice_set, option_map, Result, Ok, Err, IfOk, OnErr}
 use Rattle.std.proofs.lemmas.List.{map-set}
 use Rattle.std.proofs.lemmas.Option.{slice_get-map}
 use Rattle.packet_entry.specs.declared.packet.Card.{Card}
@@ -27,7 +27,7 @@ use Rattle.packet_moves.specs.Moving.{arrival_to, route_after}
 use Rattle.turn_lock.specs.Parts.{Tree}
 use Rattle.locked_place.specs.Turns.{IsTurn, LooksOn, GoesDownIn}
 use Rattle.place_rows.specs.Rows.{Known, TurnsOne, IsTurnAt}
-use Rattle.plane.specs.Trails.{Trail, StepsAt, MayLook, parts_of}
+use Rattle.plane.specs.Trails.{Trail, MayLook, parts_of}
 use Rattle.plane.specs.Moving.{Carries, Settles, IsFed}
 use Rattle.plane.specs.Messages.{CarriesAll, CarriesOut, Sends}
 use Rattle.plane.specs.Passes.{Shuts}

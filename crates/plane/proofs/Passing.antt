@@ -1,9 +1,9 @@
 -- Of the passes of all places, the one at one place takes a turn.
-use Rattle.std.proofs.Common.{◌≡◌, ◌≢◌, ◌<◌, ◌≤◌, ◌+◌, ℕ, zero, suc, List, [], ◌∷◌, length, refl}
+use Rattle.std.proofs.Common.{◌≡◌, ◌≢◌, ◌<◌, ◌+◌, ℕ, zero, suc, List, [], ◌∷◌, length, refl}
 use Rattle.std.proofs.Common.{sym, ap, ◌∙◌, subst, arith, inl, inr}
-use Rattle.std.specs.Prelude.{map, slice_get, slice_set, Option, Some, None, option_map, get_or}
+use Rattle.std.specs.Prelude.{map, slice_get, slice_set, Some, option_map, get_or}
 use Rattle.std.specs.Prelude.{nat_eq}
-use Rattle.std.proofs.lemmas.List.{length-set, map-set, length-map}
+use Rattle.std.proofs.lemmas.List.{map-set, length-map}
 use Rattle.std.proofs.lemmas.Option.{slice_get_read, slice_get-map, slice_get_within}
 use Rattle.std.proofs.lemmas.Bool.{cases_Bool, eqb-true, eqb-false}
 use Rattle.atomic_table.specs.Seated.{TableId}
@@ -13,9 +13,8 @@ use Rattle.turn_lock.specs.declared.pass.Pass.{Pass}
 use Rattle.turn_lock.specs.declared.lock.TurnLock.{TurnLock}
 use Rattle.turn_lock.specs.Parts.{Tree, void, is_normal}
 use Rattle.turn_lock.specs.Passes.{view_of}
-use Rattle.std.proofs.Common.{true, false}
 use Rattle.locked_place.specs.Passes.{IsPassOf}
-use Rattle.place_rows.specs.Rows.{ArePasses, IsKnown, TurnsOne, TurnedUpTo, HasTurned}
+use Rattle.place_rows.specs.Rows.{ArePasses, IsKnown, TurnsOne, TurnedUpTo}
 use Rattle.place_rows.specs.Rows.{lock_of, id_of}
 
 -- ---- lists in which one item is set

@@ -2,7 +2,7 @@
 use Rattle.std.proofs.Common.{◌≡◌, ◌≢◌, ◌≤◌, ◌<◌, ◌+◌, ◌%◌, ◌∙◌, ℕ, List, [], ◌∷◌, ◌++◌, Option}
 use Rattle.std.proofs.Common.{Some, None, Bool, true, false, refl, sym, ap, subst, inr, arith, cond}
 use Rattle.std.proofs.Common.{append_assoc}
-use Rattle.std.specs.Prelude.{flat_map, map, All, filter}
+use Rattle.std.specs.Prelude.{flat_map, map, All}
 use Rattle.std.proofs.lemmas.Bool.Decides.{nat_tests}
 use Rattle.std.proofs.lemmas.List.Sums.{sum_by-cons}
 use Rattle.std.proofs.lemmas.List.Elements.{All-head, All-tail, filter-append}
@@ -34,7 +34,6 @@ use Rattle.histories.specs.States.{entry_of, state_of}
 use Rattle.packet_moves.specs.declared.setting.Setting.{Setting}
 use Rattle.packet_moves.specs.Calls.{next_call}
 use Rattle.packet_moves.specs.HandedOn.{is_out_of_time, AreInTime}
-use Rattle.place_rows.specs.Rows.{Known}
 use Rattle.place_rows.specs.Shares.{IsBalancedBut}
 use Rattle.plane.specs.Trails.{Trail}
 use Rattle.plane.specs.Messages.{CarriesAll, IsAsked, CarriesOut, Sends}

@@ -1,5 +1,5 @@
 -- One step of a packet on its way.
-use Rattle.std.proofs.Common.{◌≡◌, ℕ, ◌%◌, ◌+◌, suc, List, [], ◌∷◌, ◌++◌, Option, Some, None, Bool}
+use Rattle.std.proofs.Common.{◌≡◌, ℕ, ◌%◌, suc, List, [], ◌∷◌, ◌++◌, Option, Some, Bool}
 use Rattle.std.proofs.Common.{refl, sym, ap, ◌∙◌, subst, inr, arith}
 use Rattle.std.specs.Prelude.{Contains}
 use Rattle.packet_entry.specs.declared.packet.Card.{Card}
@@ -16,18 +16,18 @@ use Rattle.histories.specs.declared.histories.Lost.{Lost}
 use Rattle.histories.specs.Happenings.{arrive}
 use Rattle.histories.specs.History.{AreLegal}
 use Rattle.histories.specs.Journeys.{Arrival}
-use Rattle.histories.specs.States.{state_of, step_of, entry_of}
+use Rattle.histories.specs.States.{state_of, step_of}
 use Rattle.packet_moves.specs.declared.fed.Fed.{Fed}
 use Rattle.packet_moves.specs.declared.fed.Fed.TheVariants as fed
 use Rattle.packet_moves.specs.declared.setting.Setting.{Setting}
 use Rattle.packet_moves.specs.Moving.{arrival_to, route_after}
 use Rattle.locked_place.specs.declared.arrivals.Placed.{Placed}
 use Rattle.locked_place.specs.declared.arrivals.Placed.TheVariants as placed
-use Rattle.locked_place.specs.Turns.{IsTurn, ArrivesIn, LooksOn, PlacesAs}
-use Rattle.place_rows.specs.Rows.{Known, TurnsOne, IsTurnAt}
+use Rattle.locked_place.specs.Turns.{IsTurn, ArrivesIn, PlacesAs}
+use Rattle.place_rows.specs.Rows.{Known, TurnsOne}
 use Rattle.plane.specs.declared.arrivals.Came.{Came}
-use Rattle.plane.specs.declared.arrivals.Came.TheVariants.{Ended, GoesOn}
-use Rattle.plane.specs.Trails.{Trail, StepsAt, MayLook}
+use Rattle.plane.specs.declared.arrivals.Came.TheVariants.{GoesOn}
+use Rattle.plane.specs.Trails.{Trail, MayLook}
 use Rattle.hook_chain.specs.Route.{next}
 use Rattle.plane.specs.Moving.{Carries, Settles, IsFed}
 use Rattle.plane.specs.OnTheWay.{CameTo, StandsAs, IsTurned, IsMoved, LooksFor, IsCarried, trail}

@@ -1,4 +1,4 @@
-use Rattle.std.proofs.Common.{ap, ◌∙◌, arith, ◌≤◌, length, List}
+use Rattle.std.proofs.Common.{ap, ◌∙◌, arith, List}
 use Rattle.std.specs.Prelude.{map, sum_by}
 use Rattle.std.specs.BTreeMap.{BTreeMap}
 use Rattle.std.proofs.lemmas.List.{take_all}

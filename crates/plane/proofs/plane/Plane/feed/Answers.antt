@@ -1,5 +1,5 @@
 use Rattle.plane.specs.Planes.{places_of, setting_of}
-use Rattle.plane.proofs.Balanced.{feed_balanced, feed_few}
+use Rattle.plane.proofs.Balanced.{feed_balanced}
 use Rattle.plane.proofs.Parts.{feed_parts}
 use Rattle.plane.proofs.plane.Plane.feed.Goals as goal
 
