@@ -4,7 +4,9 @@ use Rattle.std.proofs.Common.{refl, sym, ap, ◌∙◌, subst, arith, append_ass
 use Rattle.std.proofs.Common.{None, inl, inr}
 use Rattle.std.specs.Prelude.{slice_get, slice_set, flat_map, filter, All, IsSome, map}
 use Rattle.std.specs.List.{range_with_len}
-use Rattle.std.specs.BTreeMap.{BTreeMap}
+use Rattle.std.specs.BTreeMap.{BTreeMap, is_at, IsEmpty}
+use Rattle.std.specs.Map.{lookup}
+use Rattle.std.specs.Ordering.{nat_cmp}
 use Rattle.std.proofs.lemmas.Bool.{cases_Bool, cases_lt, cases_eq, eqb-true, eqb-false}
 use Rattle.std.proofs.lemmas.Grind.{flat_map-append}
 use Rattle.std.proofs.lemmas.List.Elements.{All-head, All-tail}
@@ -19,7 +21,7 @@ use Rattle.histories.specs.History.{history, is_of, replay}
 use Rattle.histories.specs.Listing.{line_of}
 use Rattle.histories.specs.Numbers.{queue_count}
 use Rattle.histories.specs.States.{state_of, every_number}
-use Rattle.place_history.specs.Lines.{text_at, AreLined}
+use Rattle.place_history.specs.Lines.{text_at, text_of, AreLined}
 use Rattle.place_history.specs.PlaceState.{AreHere}
 use Rattle.locked_place.specs.Turns.{LooksOn}
 use Rattle.locked_place.specs.Views.{LockedView}
@@ -81,6 +83,11 @@ puts_so places place known v olds news at here lined = record {
 }
 
 -- ---- place by place
+
+pub none_lined : (lines : BTreeMap ℕ (List ℕ)) → IsEmpty lines → (queue : ℕ) →
+    text_at lines queue ≡ []
+none_lined lines empty queue =
+    ap (λ (es : List (ℕ × List ℕ)). text_of (lookup (is_at (nat_cmp queue)) es)) empty
 
 pub no_lines : (places : ℕ) (known : List Known) (lines : BTreeMap ℕ (List ℕ)) →
     ((queue : ℕ) → text_at lines queue ≡ []) → AreLinesUpTo places 0 known lines

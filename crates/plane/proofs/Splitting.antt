@@ -4,7 +4,8 @@ use Rattle.std.proofs.Common.{refl, sym, ap, ◌∙◌, subst, arith, inl, inr, 
 use Rattle.std.proofs.Common.{true, false}
 use Rattle.std.specs.Prelude.{map, slice_get, Option, Some, None, option_map, IfSome, IsSome}
 use Rattle.std.specs.Prelude.{nat_eq, sum_by}
-use Rattle.std.specs.BTreeMap.{BTreeMap, get}
+use Rattle.std.specs.BTreeMap.{BTreeMap, get, is_at, IsEmpty}
+use Rattle.std.specs.Map.{lookup}
 use Rattle.std.specs.Ordering.{nat_cmp}
 use Rattle.std.proofs.lemmas.List.{map-append}
 use Rattle.std.proofs.lemmas.Option.{slice_get-map}
@@ -47,6 +48,13 @@ module _ {X : Type 0} (P : X → Type 0) where
   every_more (y ∷ xs) x all is = (all.0, every_more xs x all.1 is)
 
 -- ---- counts that say nothing
+
+pub none_counted : (counts : BTreeMap ℕ ℕ) → IsEmpty counts → AreZero [] counts
+none_counted counts empty = record {
+  none = λ port.
+      ap (λ (es : List (ℕ × ℕ)). count_of (lookup (is_at (nat_cmp port)) es)) empty;
+  each = λ port is. absurd is;
+}
 
 not_last : (p port : ℕ) (ports : List ℕ) → p ≢ port → In p (ports ++ port ∷ []) → In p ports
 not_last p port [] differ (inl e) = differ e
@@ -93,12 +101,12 @@ zero_is_counted : (outlets : Outlets) (ports : List ℕ) (k : ℕ) (v : Known)
     (counts : BTreeMap ℕ ℕ) → AreFor outlets ports →
     IsKnown label_of (label_at outlets k) v → v.own ≡ [] → AreZero ports counts →
     IsCounted v counts
-zero_is_counted outlets ports k v counts for known none zero = record {
-  many = λ port. none_own_sent port v none ∙ sym (zero.none port);
+zero_is_counted outlets ports k v counts for known none zeros = record {
+  many = λ port. none_own_sent port v none ∙ sym (zeros.none port);
   there = λ named is port some.
       let same : named ≡ label_at outlets k =
       some_same named (label_at outlets k) (sym is ∙ known.named_so) in
-      zero.each port
+      zeros.each port
       (for port
       (some_below (sender_made outlets.board.places k) (get nat_cmp outlets.mailboxes port)
       (subst (λ (l : PlaceLabel). IsSome (l.senders port)) same some)));
@@ -110,7 +118,7 @@ pub zero_counted : (outlets : Outlets) (ports : List ℕ) (known : List Known)
     AreKnown label_of (label_at outlets) known →
     ((k : ℕ) (v : Known) → slice_get known k ≡ Some v → v.own ≡ []) →
     length sent ≡ length known → Every (AreZero ports) sent → AreCounted known sent
-zero_counted outlets ports known sent for are none many zero = record {
+zero_counted outlets ports known sent for are none many zeros = record {
   as_many = many;
   each = λ k v at. inner k v at (slice_get sent k) refl;
 }
@@ -120,7 +128,7 @@ zero_counted outlets ports known sent for are none many zero = record {
     inner k v at None is = tt
     inner k v at (Some counts) is =
         zero_is_counted outlets ports k v counts for (are k v at) (none k v at)
-        (every_get (AreZero ports) sent k counts zero is)
+        (every_get (AreZero ports) sent k counts zeros is)
 
 pub split_none : (olds known : List Known) → known ≡ map split_view olds → (k : ℕ) (v : Known) →
     slice_get known k ≡ Some v → v.own ≡ []

@@ -1,6 +1,6 @@
 use Rattle.std.proofs.Common.{◌≡◌, ◌∙◌, sym, ap, subst, rules, map, arith, length, List, ◌∷◌, []}
 use Rattle.std.proofs.Common.{◌++◌}
-use Rattle.std.proofs.lemmas.List.{length-append}
+use Rattle.std.proofs.lemmas.List.{length-append, nil_from_length}
 use Rattle.std.specs.Vec.Iter.{into_iter_items}
 use Rattle.turn_lock.specs.Passes.{view_of}
 use Rattle.locked_place.specs.Views.{label_of}
@@ -9,21 +9,29 @@ use Rattle.place_rows.specs.Rows.{label_at, id_of}
 use Rattle.plane.specs.Filling.{IsReady}
 use Rattle.plane.specs.Remaining.{IsRowOf}
 use Rattle.plane.proofs.Splitting.{Laws, none_filled, one_filled, all_filled, every_more}
-use Rattle.plane.proofs.Splitting.{rows_normal}
+use Rattle.plane.proofs.Splitting.{rows_normal, FilledSo}
+use Rattle.plane.specs.declared.opened.Unfilled.{Unfilled}
 use Rattle.plane.proofs.opened.fill_all.Goals as goal
 
 pub loop-one-init : goal.loop-one-init
-loop-one-init c = record {
-  rows = λ named are. (
-    are,
-    subst (Every (IsRowOf (map id_of c.args.locks.now.items) named))
-        (sym c.requires.room.0) tt,
-  );
-  ready = λ places ports all. all;
-  room = omega (arith, c.requires.room.1, ap length c.requires.room.0);
-  so = none_filled (map view_of c.args.row.now.items) c.args.unfilled.items c.args.passes.items
-      c.requires.room.0;
-}
+loop-one-init c =
+    let gives : into_iter_items c.into_iter-one-iterator.result ≡ c.args.unfilled.items =
+    c.into_iter-one-iterator.ensures.into_iter_gives.0 in
+    record {
+      rows = λ named are. (
+        are,
+        subst (Every (IsRowOf (map id_of c.args.locks.now.items) named))
+            (sym c.requires.room.0) tt,
+      );
+      ready = λ places ports all. subst (Every (IsReady places ports)) (sym gives) all;
+      room = omega (arith, c.requires.room.1, ap length c.requires.room.0, ap length gives);
+      so = subst
+          (λ (l : List Unfilled). FilledSo (map view_of c.args.row.now.items)
+          (map view_of c.args.row.now.items) c.args.unfilled.items l c.args.passes.items)
+          (sym gives)
+          (none_filled (map view_of c.args.row.now.items) c.args.unfilled.items
+          c.args.passes.items c.requires.room.0);
+    }
 
 pub fill-pass-requires : goal.fill-pass-requires
 fill-pass-requires c =
@@ -111,7 +119,9 @@ returns-clause-unused c = λ all. rw c.from_vec.ensures (c.loop-one.invariant.so
 
 pub returns-clause-receivers : goal.returns-clause-receivers
 returns-clause-receivers c =
-    let none : into_iter_items c.loop-one.one-iterator ≡ [] = search rules in
+    let none : into_iter_items c.loop-one.one-iterator ≡ [] =
+    nil_from_length (into_iter_items c.loop-one.one-iterator)
+    (omega (arith, c.in-None.ensures.steps.0)) in
     rw c.from_vec.ensures
     (all_filled _ _ c.args.unfilled.items _ c.loop-one.passes.items c.loop-one.invariant.so none)
 

@@ -6,8 +6,8 @@ use Rattle.plane.specs.Filling.{IsReady, IsUnheard, receiver_in}
 use Rattle.plane.proofs.Splitting.{every_more, one_prepared}
 use Rattle.plane.proofs.opened.prepare_all.Goals as goal
 
-pub prepare-unfilled-requires : goal.prepare-unfilled-requires
-prepare-unfilled-requires c = record {
+pub prepare-requires : goal.prepare-requires
+prepare-requires c = record {
   unheard = (subst (Every IsUnheard) c.in-Some.ensures.steps.0 c.loop-receiver.invariant.rest).0;
 }
 

@@ -1,11 +1,11 @@
 use Rattle.std.proofs.Common.{sym, subst, rules, ◌<◌, length, take, get_or}
 use Rattle.std.proofs.lemmas.List.{take_more}
 use Rattle.plane.specs.Filling.{AreZero}
-use Rattle.plane.proofs.Splitting.{one_zero_more}
+use Rattle.plane.proofs.Splitting.{none_counted, one_zero_more}
 use Rattle.plane.proofs.opened.zero_counts.Goals as goal
 
 pub loop-port-init : goal.loop-port-init
-loop-port-init c = record { none = λ port. ?; each = λ port is. absurd is }
+loop-port-init c = none_counted c.new-counts.result c.new-counts.ensures.empty
 
 pub loop-port-preserved : goal.loop-port-preserved
 loop-port-preserved c =

@@ -1,7 +1,7 @@
 use Rattle.std.proofs.Common.{refl, ◌∙◌}
 use Rattle.locked_place.specs.Turns.{LooksOn}
 use Rattle.plane.specs.Planes.{places_of}
-use Rattle.plane.proofs.Lined.{no_lines, more_lines, look_one}
+use Rattle.plane.proofs.Lined.{none_lined, no_lines, more_lines, look_one}
 use Rattle.plane.proofs.Parts.{one_parts, look_parts}
 use Rattle.plane.proofs.Passing.{none_turned, one_more}
 use Rattle.plane.proofs.passes.Passes.lines.Goals as goal
@@ -10,7 +10,8 @@ pub loop-place-init : goal.loop-place-init
 loop-place-init g c = record {
   of = c.requires.of;
   looked = none_turned LooksOn c.args.self.now.trail.known;
-  lines = no_lines (places_of c.args.plane.now) c.args.self.now.trail.known c.new-lines.result ?;
+  lines = no_lines (places_of c.args.plane.now) c.args.self.now.trail.known c.new-lines.result
+      (none_lined c.new-lines.result c.new-lines.ensures.empty);
   lost = refl;
   parts = refl;
   kept = λ s entered lost is. is;
@@ -22,7 +23,7 @@ loop-place-preserved g c = record {
   looked = one_more LooksOn c.loop-place.place _ _ _ c.loop-place.invariant.looked
       c.put_lines_at.ensures.turn;
   lines = more_lines (places_of c.args.plane.now) c.loop-place.place _ _ _ _ LooksOn
-      c.loop-place.invariant.lines c.put_lines_at.ensures.turn ?;
+      c.loop-place.invariant.lines c.put_lines_at.ensures.turn c.in_ok-put_lines_at.ensures.lines;
   lost = c.put_lines_at.ensures.lost.0 ∙ c.loop-place.invariant.lost;
   parts = one_parts c.loop-place.place _ _ LooksOn look_parts c.put_lines_at.ensures.turn
       ∙ c.loop-place.invariant.parts;

@@ -12,8 +12,8 @@ use Rattle.plane.proofs.Splitting.{zero_counted, unused_own}
 use Rattle.plane.proofs.Beginning.{all_unheard, first_unused, first_whole, opened_so}
 use Rattle.plane.proofs.plane.Plane.new.Goals as goal
 
-pub prepare_all-unfilled-requires : goal.prepare_all-unfilled-requires
-prepare_all-unfilled-requires c = record {
+pub prepare_all-requires : goal.prepare_all-requires
+prepare_all-requires c = record {
   unheard = all_unheard c.args.mail _ _ c.in_ok-mailboxes.ensures.dealt.opened;
 }
 
