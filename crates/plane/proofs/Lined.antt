@@ -11,6 +11,7 @@ use Rattle.std.proofs.lemmas.Bool.{cases_Bool, cases_lt, cases_eq, eqb-true, eqb
 use Rattle.std.proofs.lemmas.Grind.{flat_map-append}
 use Rattle.std.proofs.lemmas.List.Elements.{All-head, All-tail}
 use Rattle.std.proofs.lemmas.List.{map-set}
+use Rattle.std.proofs.lemmas.Nat.{mod_below}
 use Rattle.std.proofs.lemmas.Option.{slice_get_within}
 use Rattle.turn_lock.specs.declared.storied.Storied.{Ghosts}
 use Rattle.turn_lock.specs.declared.pass.Pass.{Pass}
@@ -136,7 +137,7 @@ all_texts places known lines some are =
     (λ q low few. are.here q (omega (arith, few)) (within q))
   where
     within : (q : ℕ) → q % places < places
-    within q = search
+    within q = mod_below q places some
 
 -- ---- balance
 
@@ -185,3 +186,16 @@ texts_more f low n =
         ∙ sym (append_assoc (f from) (flat_map f (range_with_len (from + 1) count))
         (f (from + 1 + count)))
         ∙ ap (λ k. flat_map f (range_with_len from (suc count)) ++ f k) (omega arith)
+
+-- the line of one number more was appended
+pub text_more : (lines : BTreeMap ℕ (List ℕ)) (q : ℕ) (text then_ line : List ℕ) →
+    text ≡ flat_map (text_at lines) (range_with_len 0 q) → text_at lines q ≡ line →
+    then_ ≡ text ++ line → then_ ≡ flat_map (text_at lines) (range_with_len 0 (q + 1))
+text_more lines q text then_ line was at appended =
+    appended ∙ ap (λ (l : List ℕ). l ++ line) was
+    ∙ ap (λ (l : List ℕ). flat_map (text_at lines) (range_with_len 0 q) ++ l)
+    (sym at ∙ ap (text_at lines) from)
+    ∙ sym (texts_more (text_at lines) 0 q)
+  where
+    from : q ≡ 0 + q
+    from = omega arith

@@ -2,6 +2,7 @@ use Rattle.std.proofs.Common.{◌≡◌, ◌++◌, ◌∷◌, List, sym, ap, ◌
 use Rattle.std.specs.Vec.Iter.{into_iter_items}
 use Rattle.place_rows.specs.declared.ending.PortReceiver.{PortReceiver}
 use Rattle.place_rows.specs.Lists.{Every}
+use Rattle.plane.specs.declared.opened.Unfilled.{Unfilled}
 use Rattle.plane.specs.Filling.{IsReady, IsUnheard, receiver_in}
 use Rattle.plane.proofs.Splitting.{every_more, one_prepared}
 use Rattle.plane.proofs.opened.prepare_all.Goals as goal
@@ -16,7 +17,7 @@ loop-receiver-preserved c =
     let inv = c.loop-receiver.invariant in
     record {
       ready = subst (Every (IsReady c.args.places c.args.ports.now))
-          (sym c.in_ok-push.ensures.items)
+          (sym {A = List Unfilled} c.in_ok-push.ensures.items)
           (every_more (IsReady c.args.places c.args.ports.now) c.loop-receiver.all.items _
           inv.ready c.in_ok-unfilled.ensures.ready);
       same = one_prepared _ _ _ _ _ _ _ inv.same c.in-Some.ensures.steps.0

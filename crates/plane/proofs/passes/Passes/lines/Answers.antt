@@ -1,4 +1,4 @@
-use Rattle.std.proofs.Common.{refl, ◌∙◌}
+use Rattle.std.proofs.Common.{refl, ◌∙◌, ◌+◌}
 use Rattle.locked_place.specs.Turns.{LooksOn}
 use Rattle.plane.specs.Planes.{places_of}
 use Rattle.plane.proofs.Lined.{none_lined, no_lines, more_lines, look_one}
@@ -30,3 +30,20 @@ loop-place-preserved g c = record {
   kept = λ s entered lost is. look_one c.rows_stay_balanced.ensures.looks s entered lost _ _
       c.loop-place.place c.put_lines_at.ensures.turn (c.loop-place.invariant.kept s entered lost is);
 }
+
+pub returns-in_err-put_lines_at-clause-looked : goal.returns-in_err-put_lines_at-clause-looked
+returns-in_err-put_lines_at-clause-looked g c = (
+  c.loop-place.place + 1,
+  one_more LooksOn c.loop-place.place _ _ _ c.loop-place.invariant.looked
+      c.put_lines_at.ensures.turn,
+)
+
+pub returns-in_err-put_lines_at-clause-parts : goal.returns-in_err-put_lines_at-clause-parts
+returns-in_err-put_lines_at-clause-parts g c =
+    one_parts c.loop-place.place _ _ LooksOn look_parts c.put_lines_at.ensures.turn
+    ∙ c.loop-place.invariant.parts
+
+pub returns-in_err-put_lines_at-clause-kept : goal.returns-in_err-put_lines_at-clause-kept
+returns-in_err-put_lines_at-clause-kept g c = λ s entered lost is.
+    look_one c.rows_stay_balanced.ensures.looks s entered lost _ _ c.loop-place.place
+    c.put_lines_at.ensures.turn (c.loop-place.invariant.kept s entered lost is)

@@ -1,4 +1,4 @@
-use Rattle.std.proofs.Common.{List, sym, subst, ap, ◌∙◌, ◌++◌}
+use Rattle.std.proofs.Common.{ℕ, List, arith, ap, ◌∙◌, ◌++◌}
 use Rattle.histories.specs.declared.histories.Lost.{Lost}
 use Rattle.place_rows.specs.Shares.{IsBalanced}
 use Rattle.plane.specs.Planes.{places_of, setting_of}
@@ -26,6 +26,16 @@ returns-in_err-text-clause-pass g c =
           c.lines.ensures.kept c.lines.ensures.lost is.balanced;
     }
 
+pub returns-in_err-extend_from_slice-clause-pass :
+    goal.returns-in_err-extend_from_slice-clause-pass
+returns-in_err-extend_from_slice-clause-pass g c =
+    let is = rw (← c.pass.view_is) at c.requires.pass in
+    record {
+      of = c.lines.ensures.of;
+      balanced = listed_balanced (setting_of c.args.self.now) c.pass.inside.fed.items _ _ _ _
+          c.lines.ensures.kept c.lines.ensures.lost is.balanced;
+    }
+
 pub returns-clause-pass : goal.returns-clause-pass
 returns-clause-pass g c =
     let is = rw (← c.pass.view_is) at c.requires.pass in
@@ -34,3 +44,12 @@ returns-clause-pass g c =
       balanced = listed_balanced (setting_of c.args.self.now) c.pass.inside.fed.items _ _ _ _
           c.lines.ensures.kept c.lines.ensures.lost is.balanced;
     }
+
+pub returns-clause-listed : goal.returns-clause-listed
+returns-clause-listed g c =
+    rw (← c.pass.view_is)
+    (listed_so (places_of c.args.self.now) _ _ c.in_ok-lines.lines c.in_ok-text.text.items _ _
+    (omega (arith, c.args.self.now.some, c.args.self.now.sized)) c.in_ok-lines.ensures.all
+    c.in_ok-lines.ensures.lines c.in_ok-text.ensures
+    (c.in_ok-extend_from_slice.ensures.items
+    ∙ ap (λ (t : List ℕ). c.args.out.now.items ++ t) c.deref.ensures.value))

@@ -14,26 +14,27 @@ use Rattle.plane.proofs.plane.Plane.new.Goals as goal
 
 pub prepare_all-requires : goal.prepare_all-requires
 prepare_all-requires c = record {
-  unheard = all_unheard c.args.mail _ _ c.in_ok-mailboxes.ensures.dealt.opened;
+  unheard = all_unheard c.args.mail c.in_ok-mailboxes.field-0 _
+      c.in_ok-mailboxes.ensures.dealt.opened;
 }
 
 pub fill_all-port_passes-requires-clause-ready : goal.fill_all-port_passes-requires-clause-ready
 fill_all-port_passes-requires-clause-ready c =
     let outlets : Outlets =
-    record { mailboxes = c.in_ok-mailboxes.mailboxes; board = c.in_ok-board.board } in (
+    record { mailboxes = c.in_ok-mailboxes.field-0.mailboxes; board = c.in_ok-board.board } in (
       outlets,
       c.args.ports.now,
       c.in_ok-locks.ensures.row,
       c.in_ok-locks.ensures.many ∙ sym c.in_ok-board.ensures.places,
       c.in_ok-mailboxes.ensures.dealt.no_others,
-      subst (λ n. Every (IsReady n c.args.ports.now) _) (sym c.in_ok-board.ensures.places)
+      subst (λ n. Every (IsReady n c.args.ports.now) c.in_ok-unfilled.unfilled.items) (sym c.in_ok-board.ensures.places)
           c.in_ok-unfilled.ensures.ready,
     )
 
 pub passes_of-requires : goal.passes_of-requires
 passes_of-requires c =
     let outlets : Outlets =
-    record { mailboxes = c.in_ok-mailboxes.mailboxes; board = c.in_ok-board.board } in
+    record { mailboxes = c.in_ok-mailboxes.field-0.mailboxes; board = c.in_ok-board.board } in
     let row = c.fill_all-port_passes.new.row.items in
     let all =
     (c.fill_all-port_passes.ensures.rows (label_at outlets) c.in_ok-locks.ensures.row).0 in
@@ -51,7 +52,7 @@ passes_of-requires c =
 pub returns : goal.returns
 returns c =
     let outlets : Outlets =
-    record { mailboxes = c.in_ok-mailboxes.mailboxes; board = c.in_ok-board.board } in
+    record { mailboxes = c.in_ok-mailboxes.field-0.mailboxes; board = c.in_ok-board.board } in
     let s : Setting = record { tables = c.args.tables; key = c.args.key; mail = c.args.mail } in
     let filled = c.fill_all-port_passes.ensures in
     let first = c.in_ok-locks.ensures.first in
@@ -59,7 +60,7 @@ returns c =
     let rows = filled.rows (label_at outlets) c.in_ok-locks.ensures.row in
     let known = c.passes_of.ensures.known in
     opened_so c.rows_stay_balanced.ensures.begins c.args.places c.args.ports.now s _ _
-    c.fill_all-port_passes.result _ _ refl c.in_ok-order.ensures.items
+    c.fill_all-port_passes.result _ c.in_ok-mailboxes.field-0 refl c.in_ok-order.ensures.items
     c.in_ok-board.ensures.places refl c.in_ok-mailboxes.ensures.dealt
     (c.passes_of.ensures.locks ∙ rows.0.locks_are)
     (ap length known ∙ length-map _ view_of
