@@ -1,5 +1,5 @@
 -- A plane that opens: nothing has happened, and its passes have together the whole of each lock.
-use Rattle.std.proofs.Common.{◌≡◌, ◌<◌, ℕ, zero, suc, List, [], ◌∷◌, ◌++◌, length, refl, sym, ap}
+use Rattle.std.proofs.Common.{◌≡◌, ◌<◌, ℕ, zero, suc, List, [], ◌∷◌, length, refl, sym, ap}
 use Rattle.std.proofs.Common.{◌∙◌, subst, arith, append-nil}
 use Rattle.std.specs.Prelude.{map, slice_get, Some, IfSome}
 use Rattle.std.specs.BTreeMap.{BTreeMap, get}
@@ -21,7 +21,7 @@ use Rattle.place_rows.specs.Shares.{IsBalanced}
 use Rattle.plane.specs.declared.plane.Plane.{Plane}
 use Rattle.plane.specs.Closings.{receiver_of}
 use Rattle.plane.specs.Filling.{HasDoneNothing, HasUnused, IsUnheard}
-use Rattle.plane.specs.Opening.{IsNew, IsOpened, IsUnused, all_rows, known_in}
+use Rattle.plane.specs.Opening.{IsNew, IsOpened, IsUnused, known_in}
 use Rattle.plane.specs.Passes.{FeederView, PortView, IsFeederOf, IsPortOf}
 use Rattle.plane.specs.Planes.{setting_of, order_of, outlets_of, board_of, locks_of, places_of}
 use Rattle.plane.specs.Remaining.{IsRowOf}

@@ -1,6 +1,6 @@
 -- Rows that are split off one another: their counts, and their parts of the locks.
-use Rattle.std.proofs.Common.{◌≡◌, ◌≢◌, ◌<◌, ◌≤◌, ◌+◌, ℕ, zero, suc, List, [], ◌∷◌, ◌++◌, length}
-use Rattle.std.proofs.Common.{refl, sym, ap, ◌∙◌, subst, arith, inl, inr, append-nil, append_assoc}
+use Rattle.std.proofs.Common.{◌≡◌, ◌≢◌, ℕ, zero, suc, List, [], ◌∷◌, ◌++◌, length}
+use Rattle.std.proofs.Common.{refl, sym, ap, ◌∙◌, subst, inl, inr, append-nil, append_assoc}
 use Rattle.std.proofs.Common.{true, false}
 use Rattle.std.specs.Prelude.{map, slice_get, Option, Some, None, option_map, IfSome, IsSome}
 use Rattle.std.specs.Prelude.{nat_eq, sum_by}
@@ -12,10 +12,7 @@ use Rattle.std.proofs.lemmas.Option.{slice_get-map}
 use Rattle.std.proofs.lemmas.Bool.{cases_Bool, eqb-true, eqb-false}
 use Rattle.atomic_table.specs.Seated.{TableId}
 use Rattle.mailbox.specs.Roles.{In}
-use Rattle.mailbox.specs.Views.{MailboxView, SenderView}
-use Rattle.histories.specs.declared.entry.Entry.{Entry}
-use Rattle.turn_lock.specs.Parts.{Tree, Whole, Empty, union, void, cut, kept, is_normal}
-use Rattle.turn_lock.specs.Views as lock
+use Rattle.turn_lock.specs.Parts.{Tree, Empty, union, void, cut, kept, is_normal}
 use Rattle.turn_lock.specs.Views.{kept_view, split_view}
 use Rattle.locked_place.specs.declared.outlets.Outlets.{Outlets}
 use Rattle.locked_place.specs.Points.{points}

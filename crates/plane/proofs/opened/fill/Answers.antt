@@ -1,4 +1,4 @@
-use Rattle.std.proofs.Common.{◌≡◌, ◌∙◌, sym, ap, subst, refl, map, filter, arith, List, length}
+use Rattle.std.proofs.Common.{◌∙◌, sym, ap, subst, refl, map, filter, arith, List, length}
 use Rattle.std.proofs.lemmas.List.{length-map}
 use Rattle.mailbox.specs.Views.{ReceiverView}
 use Rattle.turn_lock.specs.Passes.{view_of}

@@ -1,9 +1,7 @@
-use Rattle.std.proofs.Common.{◌≡◌, ◌∙◌, sym, ap, subst, rules, map, arith, length, List, ◌∷◌, []}
-use Rattle.std.proofs.Common.{◌++◌}
+use Rattle.std.proofs.Common.{◌≡◌, sym, ap, subst, map, arith, length, List, ◌∷◌, []}
 use Rattle.std.proofs.lemmas.List.{length-append, nil_from_length}
 use Rattle.std.specs.Vec.Iter.{into_iter_items}
 use Rattle.turn_lock.specs.Passes.{view_of}
-use Rattle.locked_place.specs.Views.{label_of}
 use Rattle.place_rows.specs.Lists.{Every}
 use Rattle.place_rows.specs.Rows.{label_at, id_of}
 use Rattle.plane.specs.Filling.{IsReady}

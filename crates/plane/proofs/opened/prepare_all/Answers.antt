@@ -1,9 +1,7 @@
-use Rattle.std.proofs.Common.{◌≡◌, ◌++◌, ◌∷◌, List, sym, ap, ◌∙◌, subst, rules, map, append-nil, []}
-use Rattle.std.specs.Vec.Iter.{into_iter_items}
-use Rattle.place_rows.specs.declared.ending.PortReceiver.{PortReceiver}
+use Rattle.std.proofs.Common.{List, sym, subst}
 use Rattle.place_rows.specs.Lists.{Every}
 use Rattle.plane.specs.declared.opened.Unfilled.{Unfilled}
-use Rattle.plane.specs.Filling.{IsReady, IsUnheard, receiver_in}
+use Rattle.plane.specs.Filling.{IsReady, IsUnheard}
 use Rattle.plane.proofs.Splitting.{every_more, one_prepared}
 use Rattle.plane.proofs.opened.prepare_all.Goals as goal
 

@@ -1,6 +1,4 @@
 use Rattle.std.proofs.Common.{ℕ, List, arith, ap, ◌∙◌, ◌++◌}
-use Rattle.histories.specs.declared.histories.Lost.{Lost}
-use Rattle.place_rows.specs.Shares.{IsBalanced}
 use Rattle.plane.specs.Planes.{places_of, setting_of}
 use Rattle.plane.proofs.Lined.{listed_balanced, listed_so}
 use Rattle.plane.proofs.plane.Plane.listing.Goals as goal

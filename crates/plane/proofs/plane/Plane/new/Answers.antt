@@ -1,4 +1,4 @@
-use Rattle.std.proofs.Common.{◌≡◌, ◌∙◌, sym, ap, subst, refl, arith, map, length, ℕ}
+use Rattle.std.proofs.Common.{◌∙◌, sym, ap, subst, refl, map, length}
 use Rattle.std.proofs.lemmas.List.{length-map}
 use Rattle.turn_lock.specs.Passes.{view_of}
 use Rattle.locked_place.specs.declared.outlets.Outlets.{Outlets}
