@@ -276,7 +276,7 @@ def read_journal(name):
             found = logged_of(line, port)
             is_closed = line == "X"
         if found is None:
-            raise Refused(f"{name}:{place}: no such line stands here in a journal")
+            raise Refused(f"{name}:{place}: not a valid line at this place of a journal")
         yield found
     if not is_ended:
         raise Refused(f"{name}: cut short: the last line of a journal is `end`"
@@ -293,7 +293,7 @@ def read_ledger(name):
             continue
         found = LEDGER.fullmatch(line or "")
         if not found or int(found[1]) != place - 1 or found[2] not in FATES:
-            raise Refused(f"{name}:{place}: no such line stands here in a ledger")
+            raise Refused(f"{name}:{place}: not a valid line at this place of a ledger")
         count, fate, queue, at, mark, priority, length = found.groups()
         yield Line(int(count), fate, number(queue), number(at), int(mark), int(priority),
                    int(length))
