@@ -13,7 +13,6 @@ ghost use Rattle.plane.specs.Messages.{CarriesAll, IsAsked};
 use crate::arrivals::{Came, carry};
 use crate::passes::Passes;
 use crate::plane::Plane;
-use histories::queue_of;
 use hook_chain::onward;
 use locked_place::Gate;
 use nfqa_msgs::Request;
@@ -73,12 +72,10 @@ pub(crate) fn ask<R: Wait, G: Gate>(
         request passes.old.trail passes.new.trail) }
     ensures looked { OnErr result (MayLook passes.old.trail passes.new.trail) }
 {
-    let place = plane.place_of(queue_of(&request));
     let mut handed = Handed::new(alloc);
     match passes.ask(plane, rt, alloc, gate, port, call, request, &mut handed) {
         Ok(errno) => {
             hand_on(plane, rt, alloc, gate, passes, handed);
-            gate.answered(place as u8);
             Ok(errno)
         }
         Err(NoMemory) => {

@@ -15,6 +15,7 @@ use crate::asking::ask;
 use crate::log::Log;
 use crate::passes::Passes;
 use crate::plane::Plane;
+use histories::queue_of;
 use locked_place::Gate;
 use netlink_codec::{Message, next_message};
 use nfqa_msgs::{Decoded, decode_request};
@@ -85,6 +86,14 @@ pub(crate) fn message<R: Wait, G: Gate>(
     }
 }
 
+/// The place of the queue that a message asks something of.
+fn asked_place(plane: &Plane, decoded: &Decoded) -> Option<u8> {
+    match decoded {
+        Decoded::Asked { request } => Some(plane.place_of(queue_of(request)) as u8),
+        _ => None,
+    }
+}
+
 /// A port sends a message: it is carried out, logged, and acknowledged where that is due.
 /// `NoMemory` leaves all as it was, though the pass may have seen more.
 fn send<R: Wait, G: Gate>(
@@ -112,6 +121,7 @@ fn send<R: Wait, G: Gate>(
     ensures none_answered { OnErr result (replies.new.items ≡ replies.old.items) }
 {
     let decoded = decode_request(alloc, message)?;
+    let place = asked_place(plane, &decoded);
     let call = log.next_call();
     let words = words_of(alloc, port, call, message.whole, &decoded)?;
     log.make_room()?;
@@ -119,5 +129,8 @@ fn send<R: Wait, G: Gate>(
     let errno = carry_out(plane, rt, alloc, gate, passes, port, call, decoded)?;
     let answer = acknowledge(message, errno, replies);
     log.send(words, answer);
+    if let Some(place) = place {
+        gate.answered(place);
+    }
     Ok(())
 }
