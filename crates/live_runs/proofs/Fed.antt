@@ -125,8 +125,8 @@ feeds_feeding laws places time number Released fallen card old new some at less 
     subst (IsFeeding (2 * number + 1) fallen) (sym (is k))
     (later_feeding laws time (2 * number + 1) fallen (old k) (omega (arith, less)) (are k within))
 feeds_feeding laws places time number (To queue bypass table) fallen card old new some at less is
-    are = enters_feeding laws places queue table time number bypass fallen card old new some at less
-    is are
+    are k within = enters_feeding laws places queue table time number bypass fallen card old new some
+    at less is are k within
 
 -- a device goes down at a place
 pub falls_feeding : FeedingLaws → (place time : ℕ) (fallen : List Down) (d : Down)
