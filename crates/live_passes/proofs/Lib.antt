@@ -1,0 +1,12 @@
+mod Turns
+mod Moves
+mod Received
+mod Calls
+mod Counts
+mod Meets
+mod Among
+mod OpenedAll
+mod MetAll
+mod SentAll
+mod OneQueue
+mod ClosedAll
