@@ -17,3 +17,5 @@ mod Lined
 mod Beginning
 mod Telling
 mod Gathering
+mod Going
+mod Only

@@ -13,3 +13,4 @@ pub mod Closings
 pub mod Remaining
 pub mod Filling
 pub mod Listings
+pub mod Examples

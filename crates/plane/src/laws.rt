@@ -1,13 +1,15 @@
 //! Laws of the definitions, each the contract of a function that does nothing.
 
-ghost use Rattle.std.specs.Prelude.{◌≡◌, ℕ, List, [], ◌∷◌, ◌++◌, Option};
+ghost use Rattle.std.specs.Prelude.{◌≡◌, ℕ, List, [], ◌∷◌, ◌++◌, map, Option};
 ghost use Rattle.packet_entry.specs.declared.packet.Card.{Card};
 ghost use Rattle.netlink_codec.specs.Messages.{NetlinkMessage};
 ghost use Rattle.histories.specs.declared.log.Did.{Did};
 ghost use Rattle.packet_moves.specs.declared.fed.Fed.{Fed};
 ghost use Rattle.packet_moves.specs.declared.setting.Setting.{Setting};
+ghost use Rattle.place_rows.specs.Joining.{AreWhole};
+ghost use Rattle.place_rows.specs.Rows.{Known};
 ghost use Rattle.place_rows.specs.Shares.{IsBalanced};
-ghost use Rattle.plane.specs.Trails.{Trail, MayLook};
+ghost use Rattle.plane.specs.Trails.{Trail, MayLook, parts_of};
 ghost use Rattle.plane.specs.Moving.{IsFed};
 ghost use Rattle.plane.specs.Messages.{Sends};
 
@@ -36,3 +38,9 @@ pub fn passes_stay_balanced()
     histories_stay_sound();
     rows_stay_balanced();
 }
+
+/// Rows whose parts stay the same have together the whole of each lock where they had it before.
+pub fn parts_stay_whole()
+    ensures { (places : ℕ) (olds news : List (List Known)) →
+        map parts_of news ≡ map parts_of olds → AreWhole places olds → AreWhole places news }
+{}

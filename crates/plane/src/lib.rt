@@ -17,7 +17,7 @@ mod passes;
 mod plane;
 mod port;
 
-pub use laws::passes_stay_balanced;
+pub use laws::{parts_stay_whole, passes_stay_balanced};
 pub use locked_place::{Gate, OpenGate};
 pub use opened::{ClosedPorts, Opened, PortPasses};
 pub use packet_moves::{Fed, Refused};
