@@ -2,6 +2,7 @@ pub mod Numbers
 pub mod Calls
 pub mod World
 pub mod Moving
+pub mod OnTheWay
 pub mod Planes
 pub mod Messages
 pub mod HandedOn
