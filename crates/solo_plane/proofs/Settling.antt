@@ -14,21 +14,22 @@ use Rattle.queue_core.specs.declared.event.Reply.{Reply}
 use Rattle.queue_core.specs.declared.event.Reply.TheVariants.{Arrived}
 use Rattle.queue_core.specs.declared.offers.Outcome.{Outcome}
 use Rattle.queue_core.specs.State.{Bound, fails_open}
-use Rattle.queue_core.specs.Step.{Stepped, Way, arrive, arrive_in_time, arrive_bound}
-use Rattle.queue_core.specs.Step.{is_decided_early, is_full}
+use Rattle.queue_core.specs.Step.{Stepped, Way, Gone, Open, Decided, arrive, arrive_in_time}
+use Rattle.queue_core.specs.Step.{arrive_bound, is_decided_early, is_full}
 use Rattle.histories.specs.Journeys.{Arrival}
 use Rattle.histories.specs.States.{state_of, entry_of}
 use Rattle.histories.specs.Happenings as happening
 use Rattle.place_history.specs.Calls.{IsTurnedAway, IsTaken, IsOffered}
 use Rattle.packet_moves.specs.declared.fed.Fed.TheVariants.{Waiting}
-use Rattle.solo_plane.specs.declared.arrivals.Came.TheVariants.{Ended}
+use Rattle.packet_moves.specs.declared.came.Came.TheVariants.{Ended}
 use Rattle.solo_plane.specs.declared.port.PortState.{PortState}
 use Rattle.packet_moves.specs.declared.setting.Setting.{Setting}
-use Rattle.solo_plane.specs.declared.arrivals.Came.{Came}
+use Rattle.packet_moves.specs.declared.came.Came.{Came}
 use Rattle.packet_moves.specs.World.{World, Port, changed_at, delivered}
 use Rattle.packet_moves.specs.Moving.{Carried, arrived, turned_away, room_for, has_room, with_notice}
 use Rattle.packet_moves.specs.Moving.{left_at_once, happened}
 use Rattle.packet_moves.specs.Moving.{settled, goes_on, route_after, takes_one}
+use Rattle.packet_moves.specs.OnTheWay.{IsTurned}
 use Rattle.solo_plane.specs.PortView.{port_of, ports_of}
 use Rattle.queue_core.specs.Laws.{way_by}
 use Rattle.solo_plane.specs.OnTheWay.{CameAs, came_to}
@@ -100,11 +101,17 @@ world_back s w a room outcome back t is =
     }) (sym same)
     ∙ ap (happened w a) (sym is)
 
+-- where it stands tells how it goes on
+goes_on_so : (s : Setting) (card : Card) (way : Way) (came : Came) → IsTurned s card way came →
+    (on : World → Card → Next → Carried) (w : World) →
+    goes_on (on w card) w (route_after s (card, way)) ≡ came_to on w came
+goes_on_so s card Gone came is on w = ap (came_to on w) (sym is)
+goes_on_so s card Open came is on w = ap (came_to on w) (sym is)
+goes_on_so s card (Decided decision) came is on w = absurd is
+
 pub came_back : (s : Setting) (w v : World) (a : Arrival) (room : Bool) (outcome : Outcome)
     (back : Card) (came : Came) → IsTurnedAway a room outcome back w.entries →
-    room_for s w a ≡ room →
-    ((on : World → Card → Next → Carried) (u : World) →
-    goes_on (on u back) u (route_after s (back, way_by outcome)) ≡ came_to on u came) →
+    room_for s w a ≡ room → IsTurned s back (way_by outcome) came →
     CameAs s v (turned_away s w a) came
 came_back s w v a room outcome back came t is turned on =
     let by : t.way ≡ way_by outcome =
@@ -112,7 +119,7 @@ came_back s w v a room outcome back came t is turned on =
     t.leaves in
     ap (settled on s v) (left_is is)
     ∙ ap (λ (l : Card × Way). goes_on (on v l.0) v (route_after s l)) (pair (sym t.same) by)
-    ∙ turned on v
+    ∙ goes_on_so s back (way_by outcome) came turned on v
   where
     left_is : room_for s w a ≡ room → turned_away s w a ≡ (a.card, t.way) ∷ []
     left_is is = ap (left_at_once w a) is ∙ t.leaves

@@ -6,12 +6,12 @@ use Rattle.packet_entry.specs.Numbers.{last_visit}
 use Rattle.hook_chain.specs.declared.chain.Next.{Next}
 use Rattle.packet_moves.specs.declared.fed.Fed.{Fed}
 use Rattle.packet_moves.specs.declared.setting.Setting.{Setting}
-use Rattle.solo_plane.specs.declared.arrivals.Came.{Came}
-use Rattle.solo_plane.specs.declared.arrivals.Came.TheVariants.{Ended, GoesOn}
+use Rattle.packet_moves.specs.declared.came.Came.{Came}
+use Rattle.packet_moves.specs.declared.came.Came.TheVariants.{Ended, GoesOn}
 use Rattle.packet_moves.specs.World.{World}
 use Rattle.packet_moves.specs.Moving.{carry}
-use Rattle.solo_plane.specs.OnTheWay.{StepsTo, IsCarried, HasVisit, arrivals_left}
-use Rattle.solo_plane.specs.OnTheWay.{came_to}
+use Rattle.packet_moves.specs.OnTheWay.{HasVisit, arrivals_left}
+use Rattle.solo_plane.specs.OnTheWay.{StepsTo, IsCarried, came_to}
 
 pub nearer : (visit : ℕ) (came : Came) → visit < last_visit → HasVisit (visit + 1) came →
     arrivals_left came < suc (last_visit - visit)

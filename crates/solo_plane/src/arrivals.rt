@@ -1,64 +1,27 @@
 //! Arrivals, and packets that move on, each to its rest or its end.
 
-ghost use Rattle.std.specs.Prelude.{◌≡◌, ◌<◌, ◌≤◌, ◌+◌, ◌-◌, ℕ, suc, ◌++◌, ◌∷◌, [], List};
+ghost use Rattle.std.specs.Prelude.{◌≡◌, ◌<◌, ◌≤◌, ◌-◌, ℕ, suc, List};
 ghost use Rattle.std.specs.Prelude.{Some, IfSome, IsSome, IfOk, OnOk, IfErr, OnErr};
 ghost use Rattle.std.specs.BTreeMap.{get};
 ghost use Rattle.std.specs.Ordering.{nat_cmp};
 ghost use Rattle.packet_entry.specs.declared.packet.Card.{Card};
 ghost use Rattle.packet_entry.specs.Numbers.{last_visit};
-ghost use Rattle.hook_chain.specs.declared.chain.Next.{Next};
-ghost use Rattle.queue_core.specs.Step.{Open};
 ghost use Rattle.histories.specs.States.{state_of};
 ghost use Rattle.packet_moves.specs.World.{World};
-ghost use Rattle.packet_moves.specs.Moving.{Carried, arrived, turned_away, goes_on, route_after};
-ghost use Rattle.packet_moves.specs.Moving.{carry};
+ghost use Rattle.packet_moves.specs.Moving.{arrived, turned_away, carry};
+ghost use Rattle.packet_moves.specs.OnTheWay.{IsInTime, HasVisit, arrivals_left, KeepsRoom};
+ghost use Rattle.packet_moves.specs.OnTheWay.{NeedsRoom, SpendsRoom, WasToArrive};
+ghost use Rattle.packet_moves.specs.declared.came.Came.TheVariants.{GoesOn};
 ghost use Rattle.solo_plane.specs.PortView.{world_of, ports_of, logs_of, OnPort, IsReady};
-ghost use Rattle.solo_plane.specs.declared.arrivals.Came.TheVariants.{Ended, GoesOn};
-ghost use Rattle.packet_moves.specs.declared.fed.Fed.TheVariants as fed;
-ghost use Rattle.queue_core.specs.Laws.{way_by};
-ghost use Rattle.solo_plane.specs.OnTheWay.{CameAs, came_to, IsInTime, arrivals_left};
-ghost use Rattle.solo_plane.specs.OnTheWay.{StepsTo, HasVisit, KeepsRoom, NeedsRoom, SpendsRoom};
-ghost use Rattle.solo_plane.specs.OnTheWay.{IsCarried, WasToArrive};
+ghost use Rattle.solo_plane.specs.OnTheWay.{CameAs, came_to, StepsTo, IsCarried};
 
 use crate::held::Held;
 use crate::ports;
-use histories::Lost;
-use hook_chain::{Decision, Next, onward};
+use hook_chain::Next;
 use packet_entry::{NoMemory, Packet};
-use packet_moves::{Fed, Setting};
-use queue_core::{Begun, NoRoom, Outcome, Settled};
+use packet_moves::{Came, Fed, Setting, lose, turned};
+use queue_core::{Begun, NoRoom, Settled};
 use std::alloc::Global;
-
-/// Where a packet stands on its way.
-pub(crate) enum Came {
-    /// It came to its rest or end.
-    Ended { fed: Fed },
-    /// It goes on by this route, and without one it is destroyed.
-    GoesOn { packet: Packet, route: Option<Next> },
-}
-
-/// Where a packet stands that a queue didn't take.
-fn turned(setting: &Setting, outcome: Outcome, packet: Packet) -> Came
-    requires { way_by outcome ≡ Open → packet.visit < last_visit }
-    ensures came { (on : World → Card → Next → Carried) (w : World) →
-        goes_on (on w packet) w (route_after setting.now (packet, way_by outcome))
-        ≡ came_to on w result }
-    ensures in_time { IsInTime result }
-    ensures visit { HasVisit packet.visit result }
-{
-    match outcome {
-        Outcome::Bypassed | Outcome::OverflowOpen | Outcome::UserFullOpen { .. } => {
-            let route = onward(&setting.tables, setting.key, &packet, &Decision::Accept);
-            Came::GoesOn { packet, route }
-        }
-        _ => {
-            packet.destroy();
-            Came::Ended {
-                fed: Fed::Destroyed,
-            }
-        }
-    }
-}
 
 /// Makes room for the notice of an arrival in the mailbox of the queue's port.
 fn make_room(held: &mut Held, queue: u16) -> Result<(), NoMemory>
@@ -122,25 +85,6 @@ fn arrive(
     }
 }
 
-/// A packet that finds no memory for its next arrival is lost. Takes no memory.
-fn lose(held: &mut Held, packet: Packet) -> Came
-    requires { 0 < held.old.lost.room }
-    ensures place { held.new.place ≡ held.old.place }
-    ensures ports { held.new.ports ≡ held.old.ports }
-    ensures fed { held.new.fed ≡ held.old.fed }
-    ensures lost { held.new.lost.items ≡ held.old.lost.items
-        ++ record { number = packet.number; visit = packet.visit } ∷ [] }
-    ensures room { held.new.lost.room + 1 ≡ held.old.lost.room }
-    ensures came { result ≡ Ended fed.Lost }
-{
-    held.lost.push(Lost {
-        number: packet.number(),
-        visit: packet.visit(),
-    });
-    packet.destroy();
-    Came::Ended { fed: Fed::Lost }
-}
-
 /// Tries to move a packet on by a route: to its next arrival, or to its end. When memory runs out
 /// the packet comes back as it was to arrive, and nothing has happened.
 pub(crate) fn attempt(
@@ -199,7 +143,7 @@ fn go(held: &mut Held, alloc: Global, setting: &Setting, packet: Packet, route: 
 {
     match attempt(held, alloc, setting, packet, route) {
         Ok(came) => came,
-        Err(NoRoom { packet }) => lose(held, packet),
+        Err(NoRoom { packet }) => lose(&mut held.lost, packet),
     }
 }
 

@@ -8,13 +8,13 @@ ghost use Rattle.solo_plane.specs.PortView.{world_of, logs_of, IsReady};
 ghost use Rattle.packet_moves.specs.Messages.{IsAsked, asking};
 ghost use Rattle.packet_moves.specs.HandedOn.{AreInTime, WaitInTime};
 
-use crate::arrivals::{Came, carry};
+use crate::arrivals::carry;
 use crate::held::Held;
 use histories::queue_of;
 use hook_chain::onward;
 use nfqa_msgs::Request;
 use packet_entry::NoMemory;
-use packet_moves::{Setting, what_goes_on_is_in_time};
+use packet_moves::{Came, Setting, what_goes_on_is_in_time};
 use queue_core::Handed;
 use std::alloc::Global;
 

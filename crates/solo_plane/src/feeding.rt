@@ -3,7 +3,7 @@
 ghost use Rattle.std.specs.Prelude.{◌≡◌, ◌<◌, IfOk, OnOk, IfErr, OnErr};
 ghost use Rattle.hook_chain.specs.Route.{next};
 ghost use Rattle.solo_plane.specs.PortView.{world_of, logs_of, IsReady};
-ghost use Rattle.solo_plane.specs.OnTheWay.{HandsBack};
+ghost use Rattle.packet_moves.specs.OnTheWay.{HandsBack};
 ghost use Rattle.packet_moves.specs.Planes.{IsFed};
 
 use crate::arrivals::{attempt, carry};

@@ -36,7 +36,7 @@ pub struct SoloPlane {
 
 impl SoloPlane {
     ghost use Rattle.packet_moves.specs.World.{at_port, received, first_of, closed_ports};
-    ghost use Rattle.solo_plane.specs.OnTheWay.{HandsBack};
+    ghost use Rattle.packet_moves.specs.OnTheWay.{HandsBack};
     ghost use Rattle.packet_moves.specs.Messages.{Sends};
     ghost use Rattle.packet_moves.specs.Planes.{IsFed, beginning, with_closed, without_device};
     ghost use Rattle.histories.specs.Grouping.{IsGrouped};

@@ -1,4 +1,4 @@
-use Rattle.solo_plane.specs.OnTheWay.{arrivals_left}
+use Rattle.packet_moves.specs.OnTheWay.{arrivals_left}
 use Rattle.solo_plane.proofs.arrivals.+carry.Given as goal
 
 abbrev pub decreases-carry : goal.decreases-carry

@@ -18,7 +18,7 @@ returns-in-Back-clause-came c v =
     let back = rw (c.in-Back.is, c.make_room.ensures.place) at c.in_ok-outcome.ensures.begun in
     came_back c.args.setting.now w v a true c.in-Back.outcome c.in-Back.packet c.turned.result
     back.1 (room_early c.args.setting.now w (state_of w.entries a.queue) a.card back.0)
-    c.turned.ensures.came
+    c.turned.ensures.stands
 
 pub returns-in-Waiting-clause-world : goal.returns-in-Waiting-clause-world
 returns-in-Waiting-clause-world c =
@@ -105,4 +105,4 @@ returns-in-Back-settle-clause-came c v =
     let room = room_is c.args.setting.now w a _ _ _ _ offered c.make_room.ensures.ports
     c.takes_one-room.ensures in
     came_back c.args.setting.now w v a _ _ _ c.turned-in-Back-settle.result back room
-    c.turned-in-Back-settle.ensures.came
+    c.turned-in-Back-settle.ensures.stands
