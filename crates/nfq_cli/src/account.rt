@@ -1,19 +1,24 @@
 //! The histories of a run, and what is known of them.
 
-ghost use Rattle.std.specs.Prelude.{◌<◌, ◌≤◌, length, All, IfOk};
+ghost use Rattle.std.specs.Prelude.{◌≡◌, ◌≤◌, ℕ, List, [], length, All, IfOk};
 ghost use Rattle.hook_chain.specs.Rules.{RuleTables};
 ghost use Rattle.inspector_script.specs.Scripts.{ScriptValue, IsScript};
 ghost use Rattle.packet_entry.specs.Numbers.{longest_packet};
 ghost use Rattle.pcap_io.specs.declared.capture.Capture.{Capture as ACapture};
 ghost use Rattle.pcap_io.specs.Text.{IsHeld};
+ghost use Rattle.histories.specs.declared.entry.Entry.{Entry as AnEntry};
 ghost use Rattle.histories.specs.declared.histories.Histories.{Histories as AHistories};
+ghost use Rattle.histories.specs.Grouping.{IsGrouped};
 ghost use Rattle.histories.specs.History.{AreLegal};
 ghost use Rattle.histories.specs.Journeys.{AreSound};
+ghost use Rattle.histories.specs.Lengths.{AreShort};
 ghost use Rattle.made_runs.specs.Entering.{cards};
+ghost use Rattle.made_runs.specs.Log.{Note};
+ghost use Rattle.made_runs.specs.Run.{IsMadeBy};
 ghost use Rattle.script_runs.specs.Schedule.{IsSolo};
 ghost use Rattle.fate_ledger.specs.Released.{released};
 ghost use Rattle.solo_run.specs.Numbers.{most_frames};
-ghost use Rattle.nfq_cli.specs.Account.{IsAccounted};
+ghost use Rattle.nfq_cli.specs.Account.{AreAccounted, IsAccounted};
 ghost use Rattle.run_files.specs.Outputs.{fates_of};
 ghost use Rattle.journals.specs.WellFormed.{Fit};
 
@@ -53,40 +58,58 @@ pub fn histories_of(
     ensures held { IfOk result (λ h. IsHeld (released capture.now (fates_of capture.now h))) }
 {
     each_packet_is_accounted_for();
+    released_frames_can_be_written();
+    packets_and_payloads_are_within_bounds();
     let histories = solo(alloc, script, tables, capture)?;
     histories_fit(&histories);
     Ok(histories)
 }
 
-/// Over every script, rules and capture, each packet of the schedule's histories is accounted for,
-/// where they are legal and sound and each value fits its field: and those that
-/// `solo_run::solo` answers are and do. What is released of a capture that the format can hold can be
-/// written again.
-fn each_packet_is_accounted_for()
-    ensures account { (tables : RuleTables) (script : ScriptValue) (c : ACapture)
-        (h : AHistories) → IsScript script → IsSolo script tables c h → AreLegal h.entries →
-        Fit h → AreSound tables script.key (cards c) h.entries h.lost →
-        IsAccounted tables script c h }
-    ensures fit { (tables : RuleTables) (script : ScriptValue) (c : ACapture)
-        (h : AHistories) → IsScript script → IsHeld c → IsSolo script tables c h →
+/// Each packet of a run is accounted for, over every script, rules and capture, however many workers
+/// and feeders made it: where its histories are legal and sound, stand by queue, lose nothing and fit
+/// their fields, and every notice was received.
+fn a_run_is_accounted_for()
+    ensures { (workers feeders : ℕ) (tables : RuleTables) (script : ScriptValue) (c : ACapture)
+        (h : AHistories) (notes : ℕ → List Note) (es : List AnEntry) → IsScript script → Fit h →
+        h.lost ≡ [] → IsGrouped es h.entries → AreLegal h.entries →
         AreSound tables script.key (cards c) h.entries h.lost →
-        All (λ l. length l.payload ≤ longest_packet) (fates_of c h) }
-    ensures held { (tables : RuleTables) (script : ScriptValue) (c : ACapture)
-        (h : AHistories) → IsScript script → IsHeld c → IsSolo script tables c h →
-        AreSound tables script.key (cards c) h.entries h.lost →
-        IsHeld (released c (fates_of c h)) }
+        IsMadeBy workers feeders script (length c.frames) h notes (λ port. []) →
+        AreAccounted workers feeders tables script c h }
 {
-    a_schedule_has_one_run();
-    no_notice_is_left();
     each_log_is_what_is_told();
-    packets_and_payloads_are_within_bounds();
-    packets_are_read_with_their_frames();
     each_line_names_the_last_event();
     the_last_event_is_where_it_left_or_waits();
     what_left_last_is_over();
     no_visit_arrives_twice();
     each_packet_waits_is_lost_or_is_over();
     released_frames_are_those_let_go();
-    payloads_were_read_or_given();
     replies_tell_how_many_left();
+}
+
+/// What is written of a run of packets of a capture that the format can hold can be written again:
+/// the payloads of its fates, and the capture of what is released.
+fn released_frames_can_be_written()
+    ensures fit { (tables : RuleTables) (script : ScriptValue) (c : ACapture) (h : AHistories) →
+        IsHeld c → AreShort h.entries → AreSound tables script.key (cards c) h.entries h.lost →
+        All (λ l. length l.payload ≤ longest_packet) (fates_of c h) }
+    ensures held { (tables : RuleTables) (script : ScriptValue) (c : ACapture) (h : AHistories) →
+        IsHeld c → AreShort h.entries → AreSound tables script.key (cards c) h.entries h.lost →
+        IsHeld (released c (fates_of c h)) }
+{
+    packets_are_read_with_their_frames();
+    payloads_were_read_or_given();
+}
+
+/// Over every script, rules and capture, each packet of the schedule's histories is accounted for,
+/// where they are legal and sound and each value fits its field: and those that
+/// `solo_run::solo` answers are and do.
+fn each_packet_is_accounted_for()
+    ensures { (tables : RuleTables) (script : ScriptValue) (c : ACapture)
+        (h : AHistories) → IsScript script → IsSolo script tables c h → AreLegal h.entries →
+        Fit h → AreSound tables script.key (cards c) h.entries h.lost →
+        IsAccounted tables script c h }
+{
+    a_schedule_has_one_run();
+    no_notice_is_left();
+    a_run_is_accounted_for();
 }
