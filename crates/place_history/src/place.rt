@@ -11,10 +11,9 @@ ghost use Rattle.histories.specs.History.{AreLegal};
 ghost use Rattle.place_history.specs.PlaceState.{IsAt, AreHere, after_event};
 ghost use Rattle.histories.specs.States.{step_of, told};
 ghost use Rattle.histories.specs.States.{taken_in, waiting_in_all, state_of, waiting_at};
-ghost use Rattle.place_history.specs.Calls.{BeginsAs, after_begin, SettlesAs};
+ghost use Rattle.place_history.specs.Calls.{BeginsAs, after_begin, SettlesAs, with_all};
 ghost use Rattle.histories.specs.Happenings.{arrive};
 ghost use Rattle.histories.specs.Happenings.{queue_of, payload_of, all_handed, closings, downs};
-ghost use Rattle.place_history.specs.Calls.{with_all};
 ghost use Rattle.histories.specs.Listing as text;
 ghost use Rattle.place_history.specs.Lines.{AreLined};
 

@@ -1,9 +1,7 @@
 //! The queues that are bound, by number, and one call at one of them.
 
-ghost use Rattle.std.specs.Prelude.{◌≡◌, ◌≢◌, ◌<◌, ◌≤◌, ◌+◌, ◌++◌, ℕ, [], length, Some, None};
-ghost use Rattle.std.specs.Prelude.{false};
-ghost use Rattle.std.specs.Prelude.{IsSome, IsSomeAnd, IfSome, IfNone, IfOk, OnOk, IfErr, OnErr};
-ghost use Rattle.std.specs.Prelude.{option_to_list};
+ghost use Rattle.std.specs.Prelude.{◌≡◌, ◌≢◌, ◌≤◌, ◌+◌, ◌++◌, ℕ, [], length, Some, None, false};
+ghost use Rattle.std.specs.Prelude.{IsSomeAnd, IfSome, IfOk, OnOk, IfErr, OnErr, option_to_list};
 ghost use Rattle.std.specs.BTreeMap.{btree_map_len};
 ghost use Rattle.packet_entry.specs.Numbers.{longest_payload};
 ghost use Rattle.nfqa_msgs.specs.declared.request.Request.TheVariants.{Verdict, Batch};
@@ -13,7 +11,6 @@ ghost use Rattle.queue_core.specs.Calls.{BeginsArrival, SettlesArrival, hands_ou
 ghost use Rattle.queue_core.specs.Decision.{IsVerdict};
 ghost use Rattle.queue_core.specs.State.{configured};
 ghost use Rattle.queue_core.specs.Step.{are_flags_refused, all_gone, step};
-ghost use Rattle.histories.specs.Numbers.{queue_count};
 ghost use Rattle.place_history.specs.Changes.{queue_at, OthersStay, Changes, AreSame};
 
 use hook_chain::Decision;
@@ -183,19 +180,6 @@ pub(super) fn put_in(queues: &mut Queues, number: u16, queue: Queue) -> Result<(
             queue.finish();
             Err(NoMemory)
         }
-    }
-}
-
-/// The first bound queue from this number on, by ascending number.
-pub(super) fn first_from(queues: &Queues, from: u16) -> Option<u16>
-    ensures found { IfSome result (λ n. (from ≤ n) × IsSome (queue_at queues.now n)) }
-    ensures first { IfSome result (λ n. (q : ℕ) → from ≤ q → q < n → queue_at queues.now q ≡ None) }
-    ensures none { IfNone result ((q : ℕ) → from ≤ q → q < queue_count →
-        queue_at queues.now q ≡ None) }
-{
-    match queues.range(from..).next() {
-        Some((number, _)) => Some(*number),
-        None => None,
     }
 }
 

@@ -13,7 +13,7 @@ use super::held::{Held, append, port_of};
 use histories::{Entry, ports_and_devices_reach_bound_queues};
 use queue_core::{Event, Reply};
 
-/// The first bound queue from this number on.
+/// The first bound queue from this number on, by ascending number.
 pub(super) fn next_bound(held: &Held, from: u32) -> Option<u16>
     requires replayed { IsReplayed held.now }
     ensures found { IfSome result (λ n.
@@ -24,7 +24,10 @@ pub(super) fn next_bound(held: &Held, from: u32) -> Option<u16>
         state_of held.now.entries.items q ≡ None) }
 {
     let from = u16::try_from(from).ok()?;
-    bound::first_from(&held.queues, from)
+    match held.queues.range(from..).next() {
+        Some((number, _)) => Some(*number),
+        None => None,
+    }
 }
 
 /// The entry of a port that closes or a device that goes down, with how many packets it destroyed.
