@@ -4,9 +4,11 @@ use Rattle.std.proofs.Common.{false, inl, inr, refl, subst, sym, true, ℕ}
 use Rattle.std.proofs.lemmas.Bool.{cases_Bool, eq-eqb, eqb-false, eqb-true}
 use Rattle.std.proofs.lemmas.List.Sums.{sum_by-cons}
 use Rattle.std.specs.List.{AllZip, list_any}
-use Rattle.std.specs.Prelude.{◌==◌, if◌then◌else◌, nat_eq}
+use Rattle.std.specs.Prelude.{◌==◌, if◌then◌else◌, map, nat_eq}
 use Rattle.mailbox.specs.Roles.{AreDistinct, In}
 use Rattle.place_rows.specs.Lists.{Every}
+use Rattle.place_rows.specs.declared.ending.PortReceiver.{PortReceiver}
+use Rattle.plane.specs.Closings.{receiver_of}
 use Rattle.plane.specs.Passes.{PortView}
 use Rattle.plane.specs.Remaining.{times_in}
 use Rattle.live_passes.specs.Numbered.{numbers_of, pass_among}
@@ -19,7 +21,9 @@ is_once port p = if nat_eq p.port port then 1 else 0
 
 pub times_more : (port : ℕ) (p : PortView) (ps : List PortView) →
     times_in port (p ∷ ps) ≡ is_once port p + times_in port ps
-times_more port p ps = sum_by-cons (is_once port) p ps
+times_more port p ps =
+    sum_by-cons (λ (r : PortReceiver). if nat_eq r.port port then 1 else 0) (receiver_of p)
+    (map receiver_of ps)
 
 pub times_here : (port : ℕ) (p : PortView) (ps : List PortView) → (p.port == port) ≡ true →
     times_in port (p ∷ ps) ≡ 1 + times_in port ps

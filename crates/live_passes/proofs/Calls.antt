@@ -41,12 +41,13 @@ use Rattle.live_passes.specs.Views.{pass_with, port_pass, seen_of, shares_of}
 use Rattle.locked_place.specs.Turns.{GoesDownIn}
 use Rattle.mailbox.specs.declared.view.Post.{Post}
 use Rattle.place_rows.specs.Rows.{Known, TurnsOne}
-use Rattle.plane.specs.Messages.{IsAsked, Sends}
-use Rattle.plane.specs.Moving.{Carries}
+use Rattle.place_turns.specs.Messages.{IsAsked, Sends}
+use Rattle.place_turns.specs.Moving.{Carries}
+use Rattle.place_turns.specs.Passes.{Shuts as ShutsPlace}
 use Rattle.plane.specs.Passes.{Closes, PortView}
-use Rattle.plane.specs.Trails.{MayLook, Trail}
+use Rattle.place_turns.specs.Trails.{MayLook, Trail}
 use Rattle.locked_place.specs.Turns as lock
-use Rattle.plane.specs.Messages as message
+use Rattle.place_turns.specs.Messages as message
 use Rattle.plane.specs.Passes as view
 
 module _ (laws : TurnLaws) (alone : LeaveAlone)
@@ -239,7 +240,7 @@ put_at (y ∷ xs) (suc k) x is = ap (λ ys. y ∷ ys) (put_at xs k x is)
 
 shuts_at : TurnLaws → (port : ℕ) (olds news : List Known) (k : ℕ) (v w : Known) →
     slice_get olds k ≡ Some v → slice_get news k ≡ Some w → AreInPlace olds →
-    view.Shuts port v w → ShutsAt port (shares_of olds k) (shares_of news k)
+    ShutsPlace port v w → ShutsAt port (shares_of olds k) (shares_of news k)
 shuts_at laws port olds news k v w had has placed shut =
     let found = shut.1.found in
     let mid = slice_set olds k w in

@@ -469,7 +469,7 @@ module _ (owners : OwnerLaw) (of_place : PlaceLaw) (plane : Plane) (feeder : Fee
   -- ---- queues
 
   some_places : 0 < places
-  some_places = omega (arith, plane.some, plane.sized)
+  some_places = omega (arith, plane.shared.some, plane.shared.sized)
 
   same_history : (queue : ℕ) → history queue h.entries ≡ history queue (whole (queue % places))
   same_history queue =

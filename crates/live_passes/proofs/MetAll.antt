@@ -21,7 +21,8 @@ use Rattle.place_rows.specs.Rows.{Known, id_of}
 use Rattle.place_rows.specs.Shares.{IsBalanced}
 use Rattle.plane.specs.Meetings.{KeepsAll, Meets}
 use Rattle.plane.specs.Opening.{all_rows, known_in}
-use Rattle.plane.specs.Passes.{AreOf, FeederView, IsFeederOf, IsPortOf, PortView}
+use Rattle.place_turns.specs.Passes.{AreOf}
+use Rattle.plane.specs.Passes.{FeederView, IsFeederOf, IsPortOf, PortView}
 use Rattle.plane.specs.Planes.{order_of, places_of, setting_of}
 use Rattle.plane.specs.Remaining.{times_in}
 use Rattle.plane.specs.declared.plane.Plane.{Plane}
@@ -156,9 +157,10 @@ of_port feeder ps p h = rw h refl
 
 -- a row of the plane has as many passes as there are places
 pub row_length : (plane : Plane) (locks : List TableId) (known : List Known) →
-    AreOf plane locks known → length known ≡ places_of plane
+    AreOf plane.shared locks known → length known ≡ places_of plane
 row_length plane locks known of =
-    of.as_many ∙ ap length of.locks_are ∙ length-map plane.locks.items id_of ∙ plane.sized
+    of.as_many ∙ ap length of.locks_are ∙ length-map plane.shared.locks.items id_of
+    ∙ plane.shared.sized
 
 abbrev pub all_own : (s : Setting) (fed : List Card) (known : List Known) (lost : List Lost) →
     IsBalanced s fed known lost → HaveSeenOwn known

@@ -26,9 +26,9 @@ use Rattle.live_runs.specs.Seen.{Grows, Ours, OursAre, Seen, Theirs, all_ours, a
 use Rattle.live_passes.proofs.Turns.{AreInPlace, TurnLaws, TurnedAt, placed_at, turned_at}
 use Rattle.live_passes.specs.Views.{shares_of}
 use Rattle.place_rows.specs.Rows.{TurnsOne}
-use Rattle.plane.specs.Messages.{CarriesAll}
-use Rattle.plane.specs.Moving.{Carries, Settles}
-use Rattle.plane.specs.Trails.{StepsAt, Trail}
+use Rattle.place_turns.specs.Messages.{CarriesAll}
+use Rattle.place_turns.specs.Moving.{Carries, Settles}
+use Rattle.place_turns.specs.Trails.{StepsAt, Trail}
 use Rattle.locked_place.specs.Turns as lock
 
 -- what leaves as a packet arrives

@@ -13,7 +13,7 @@ use Rattle.plane.specs.Opening.{all_rows, known_in}
 use Rattle.plane.specs.Passes.{FeederView, PortView, IsFeederOf, IsPortOf}
 use Rattle.plane.specs.Planes.{order_of, outlets_of, places_of, setting_of}
 use Rattle.plane.specs.Remaining.{times_in}
-use Rattle.plane.specs.Trails.{parts_of}
+use Rattle.place_turns.specs.Trails.{parts_of}
 use Rattle.live_runs.specs.Passes.{Pass, feeder_number}
 use Rattle.live_passes.specs.Views.{port_pass, feeder_pass}
 

@@ -12,9 +12,9 @@ use Rattle.packet_moves.specs.declared.fed.Fed.{Fed}
 use Rattle.packet_moves.specs.declared.fed.Refused.{Refused}
 use Rattle.packet_moves.specs.declared.setting.Setting.{Setting}
 use Rattle.place_rows.specs.Shares.{IsBalanced}
-use Rattle.plane.specs.Trails.{Trail, MayLook}
-use Rattle.plane.specs.Moving.{IsFed}
-use Rattle.plane.specs.Messages.{Sends}
+use Rattle.place_turns.specs.Trails.{Trail, MayLook}
+use Rattle.place_turns.specs.Moving.{IsFed}
+use Rattle.place_turns.specs.Messages.{Sends}
 use Rattle.histories.specs.Logs.{is_received}
 
 -- what the law says of feeding, of messages and of looks

@@ -2,11 +2,10 @@
 use Rattle.std.proofs.Common.{◌≡◌, ◌≢◌, ◌<◌, ◌≤◌, ◌+◌, ℕ, zero, suc, List, [], ◌∷◌, ◌++◌, length}
 use Rattle.std.proofs.Common.{refl, sym, ap, ◌∙◌, subst, arith, inl, inr, take, get_or}
 use Rattle.std.proofs.Common.{append_assoc, append-nil, Bool, true, false, drop}
-use Rattle.std.specs.Prelude.{map, flat_map, sum_by, nat_eq, slice_set, if◌then◌else◌, ◌&&◌, ◌==◌}
+use Rattle.std.specs.Prelude.{map, flat_map, slice_set, if◌then◌else◌, ◌&&◌, ◌==◌}
 use Rattle.std.specs.Prelude.{Result, Ok, Err, OnOk, is_ok, slice_get, Some}
 use Rattle.std.proofs.lemmas.Bool.{cases_Bool, eqb-true, eqb-false}
 use Rattle.std.proofs.lemmas.List.{length-map, map-append, drop_all, drop_more, take_more}
-use Rattle.std.proofs.lemmas.List.Sums.{sum_by-cons}
 use Rattle.histories.specs.declared.entry.Entry.{Entry}
 use Rattle.histories.specs.declared.histories.Lost.{Lost}
 use Rattle.histories.specs.declared.log.Did.{Did}
@@ -36,9 +35,9 @@ use Rattle.place_rows.specs.Rows as rows
 use Rattle.plane.specs.Closings.{feeder_holds, port_holds, receiver_of, all_holders, IsClosed}
 use Rattle.plane.specs.Closings.{dids_among, log_among}
 use Rattle.plane.specs.Opening.{all_rows, known_in}
-use Rattle.plane.specs.Remaining.{log_left, lost_in, times_in, dids_in, log_in, IsRowOf}
+use Rattle.plane.specs.Remaining.{log_left, lost_in, dids_in, log_in, IsRowOf}
 use Rattle.plane.specs.Remaining.{IsAdded, AreAdded}
-use Rattle.plane.proofs.Passing.{as_many}
+use Rattle.plane.proofs.Splitting.{as_many}
 
 -- what is known of rows that are joined
 pub record Laws : Type 0 where
@@ -209,20 +208,6 @@ mailboxes_all plane (p ∷ ps) all = (
   },
   mailboxes_all plane ps all.1,
 )
-
-abbrev once : ℕ → ℕ → ℕ
-once port p = if nat_eq p port then 1 else 0
-
-pub times_same : (port : ℕ) (ps : List PortView) →
-    row.times_in port (map receiver_of ps) ≡ times_in port ps
-times_same port [] = refl
-times_same port (p ∷ ps) =
-    omega (
-      arith,
-      times_same port ps,
-      sum_by-cons (λ (q : PortReceiver). once port q.port) (receiver_of p) (map receiver_of ps),
-      sum_by-cons (λ (q : PortView). once port q.port) p ps,
-    )
 
 pub rows_are : (ps : List PortView) → rows_of (map port_holds ps) ≡ map known_in ps
 rows_are [] = refl
@@ -413,7 +398,7 @@ closed_so plane feeder ps old now es logs lost none none_logged was added entrie
 -- the row that all are joined into: it has the whole of each lock
 pub record AllIn {g : Ghosts LockedView Entry} (plane : Plane) (ports closed : List PortView)
     (first : List Known) (row : List (Pass LockedView Entry g)) : Type 0 where
-  pub passes : rows.ArePasses label_of (rows.label_at (outlets_of plane)) plane.locks.items row
+  pub passes : rows.ArePasses label_of (rows.label_at (outlets_of plane)) plane.shared.locks.items row
   pub joined : AllJoined (map known_in ports ++ map known_in closed) first (map view_of row)
   pub whole : (k : ℕ) (v : Known) → slice_get (map view_of row) k ≡ Some v → v.part ≡ Whole
 
@@ -425,10 +410,10 @@ pub all_in : {g : Ghosts LockedView Entry} (plane : Plane) (feeder : FeederView)
     (k : ℕ) (v : Known) → slice_get after k ≡ Some v → v.part ≡ Whole) →
     IsFeederOf plane feeder → map rows.lock_of start ≡ feeder.locks →
     map view_of start ≡ feeder.trail.known →
-    ((named : ℕ → PlaceLabel) → rows.ArePasses label_of named plane.locks.items start →
-    rows.ArePasses label_of named plane.locks.items now) →
-    ((named : ℕ → PlaceLabel) → rows.ArePasses label_of named plane.locks.items now →
-    rows.ArePasses label_of named plane.locks.items last) →
+    ((named : ℕ → PlaceLabel) → rows.ArePasses label_of named plane.shared.locks.items start →
+    rows.ArePasses label_of named plane.shared.locks.items now) →
+    ((named : ℕ → PlaceLabel) → rows.ArePasses label_of named plane.shared.locks.items now →
+    rows.ArePasses label_of named plane.shared.locks.items last) →
     ((others : List (List Known)) (first : List Known) →
     AllJoined others first (map view_of start) →
     AllJoined (others ++ map known_in ports) first (map view_of now)) →
@@ -443,12 +428,12 @@ all_in plane feeder ports closed start now last none whole feeds locks known kee
       whole = whole (places_of plane) feeder.trail.known (map view_of last)
           (map known_in ports ++ map known_in closed) joined
           (length-map last view_of
-          ∙ as_many label_of (rows.label_at (outlets_of plane)) plane.locks.items last passes
-          ∙ plane.sized)
+          ∙ as_many label_of (rows.label_at (outlets_of plane)) plane.shared.locks.items last passes
+          ∙ plane.shared.sized)
           all;
     }
   where
-    passes : rows.ArePasses label_of (rows.label_at (outlets_of plane)) plane.locks.items last
+    passes : rows.ArePasses label_of (rows.label_at (outlets_of plane)) plane.shared.locks.items last
     passes =
         also (rows.label_at (outlets_of plane))
         (keeps (rows.label_at (outlets_of plane)) (record {

@@ -14,10 +14,11 @@ use Rattle.place_rows.specs.Rows.{Known, id_of}
 use Rattle.plane.specs.declared.plane.Plane.{Plane}
 use Rattle.plane.specs.Meetings.{KeepsAll, FeederKeepsAll, Meets, with_known}
 use Rattle.plane.specs.Opening.{all_rows, known_in}
-use Rattle.plane.specs.Passes.{AreOf, FeederView, PortView, IsFeederOf, IsPortOf}
+use Rattle.plane.specs.Passes.{FeederView, PortView, IsFeederOf, IsPortOf}
 use Rattle.plane.specs.Planes.{locks_of, places_of}
-use Rattle.plane.specs.Trails.{Trail}
-use Rattle.plane.proofs.Passing.{some_same}
+use Rattle.place_turns.specs.Passes.{AreOf}
+use Rattle.place_turns.specs.Trails.{Trail}
+use Rattle.plane.proofs.Splitting.{some_same}
 
 -- ---- an item in the middle of a list
 
@@ -240,13 +241,14 @@ module _ (laws : Laws) (places : ℕ) where
 -- ---- all of it
 
 -- there is one pass for each place
-row_long : (plane : Plane) (locks : List TableId) (known : List Known) → AreOf plane locks known →
-    length known ≡ places_of plane
+row_long : (plane : Plane) (locks : List TableId) (known : List Known) →
+    AreOf plane.shared locks known → length known ≡ places_of plane
 row_long plane locks known is =
-    is.as_many ∙ ap length is.locks_are ∙ length-map plane.locks.items id_of ∙ plane.sized
+    is.as_many ∙ ap length is.locks_are ∙ length-map plane.shared.locks.items id_of
+    ∙ plane.shared.sized
 
-row_normal : (plane : Plane) (locks : List TableId) (known : List Known) → AreOf plane locks known →
-    AreNormal known
+row_normal : (plane : Plane) (locks : List TableId) (known : List Known) →
+    AreOf plane.shared locks known → AreNormal known
 row_normal plane locks known is = λ k v at. (is.known_so k v at).normal
 
 every_long : (plane : Plane) (ps more : List PortView) → Every (IsPortOf plane) ps →

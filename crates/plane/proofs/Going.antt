@@ -4,7 +4,7 @@ use Rattle.std.specs.Prelude.{map, slice_get, Option, Some, None}
 use Rattle.turn_lock.specs.Parts.{Tree, Empty, union}
 use Rattle.place_rows.specs.Joining.{AreWhole, part_in, together_at}
 use Rattle.place_rows.specs.Rows.{Known}
-use Rattle.plane.specs.Trails.{parts_of}
+use Rattle.place_turns.specs.Trails.{parts_of}
 
 abbrev part_of : Option Tree → Tree
 part_of None = Empty

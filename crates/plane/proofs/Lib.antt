@@ -1,21 +1,10 @@
-mod AtPlace
 mod Balanced
-mod Carrying
-mod CountedRows
-mod Counting
 mod Flushed
-mod Known
-mod Labels
 mod Parts
-mod Passing
-mod Requested
-mod Results
-mod Stepping
 pub mod Finishing
 mod Splitting
-mod Lined
+mod Texts
 mod Beginning
-mod Telling
 mod Gathering
 mod Going
 mod Only

@@ -13,18 +13,20 @@ use Rattle.packet_entry.specs.declared.no_memory.NoMemory.{NoMemory}
 use Rattle.turn_lock.specs.Parts.{Tree}
 use Rattle.packet_moves.specs.declared.setting.Setting.{Setting}
 use Rattle.glance.specs.Views.{PassView}
+use Rattle.place_rows.specs.declared.ending.PortReceiver.{PortReceiver}
 use Rattle.place_rows.specs.Joining.{AreWhole}
 use Rattle.place_rows.specs.Lists.{Every}
 use Rattle.place_rows.specs.Rows.{Known}
 use Rattle.plane.specs.declared.opened.Opened.{Opened}
 use Rattle.plane.specs.declared.plane.Plane.{Plane}
+use Rattle.plane.specs.Closings.{receiver_of}
 use Rattle.plane.specs.Examples.{AreGoing, IsGoing, Keeps, Stay}
 use Rattle.plane.specs.Meetings.{Meets, KeepsAll}
 use Rattle.plane.specs.Opening.{IsOpened, all_rows, known_in}
 use Rattle.plane.specs.Passes.{FeederView, PortView, IsFeederOf, IsPortOf, Receives, Closes}
 use Rattle.plane.specs.Planes.{places_of}
 use Rattle.plane.specs.Remaining.{times_in}
-use Rattle.plane.specs.Trails.{parts_of}
+use Rattle.place_turns.specs.Trails.{parts_of}
 use Rattle.plane.proofs.Gathering.{every_set}
 use Rattle.plane.proofs.Going.{whole_same}
 
@@ -35,7 +37,8 @@ once port p = if nat_eq p port then 1 else 0
 
 times_more : (port : ℕ) (p : PortView) (ps : List PortView) →
     times_in port (p ∷ ps) ≡ once port p.port + times_in port ps
-times_more port p ps = sum_by-cons (λ (q : PortView). once port q.port) p ps
+times_more port p ps =
+    sum_by-cons (λ (r : PortReceiver). once port r.port) (receiver_of p) (map receiver_of ps)
 
 times_same : (port : ℕ) (olds news : List PortView) → AllZip Keeps olds news →
     times_in port news ≡ times_in port olds

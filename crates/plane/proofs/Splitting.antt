@@ -7,11 +7,14 @@ use Rattle.std.specs.Prelude.{nat_eq, sum_by}
 use Rattle.std.specs.BTreeMap.{BTreeMap, get, is_at, IsEmpty}
 use Rattle.std.specs.Map.{lookup}
 use Rattle.std.specs.Ordering.{nat_cmp}
-use Rattle.std.proofs.lemmas.List.{map-append}
+use Rattle.std.proofs.lemmas.List.{map-append, length-map}
 use Rattle.std.proofs.lemmas.Option.{slice_get-map}
 use Rattle.std.proofs.lemmas.Bool.{cases_Bool, eqb-true, eqb-false}
 use Rattle.atomic_table.specs.Seated.{TableId}
 use Rattle.mailbox.specs.Roles.{In}
+use Rattle.turn_lock.specs.declared.storied.Storied.{Ghosts}
+use Rattle.turn_lock.specs.declared.pass.Pass.{Pass}
+use Rattle.turn_lock.specs.declared.lock.TurnLock.{TurnLock}
 use Rattle.turn_lock.specs.Parts.{Tree, Empty, union, void, cut, kept, is_normal}
 use Rattle.turn_lock.specs.Views.{kept_view, split_view}
 use Rattle.locked_place.specs.declared.outlets.Outlets.{Outlets}
@@ -21,18 +24,21 @@ use Rattle.place_rows.specs.declared.ending.PortReceiver.{PortReceiver}
 use Rattle.place_rows.specs.Joining.{part_in, together_at, AreWhole}
 use Rattle.place_rows.specs.Lists.{Every}
 use Rattle.place_rows.specs.Meeting.{AreNormal}
-use Rattle.place_rows.specs.Rows.{Known, AreKnown, IsKnown, label_at, sender_made}
+use Rattle.place_rows.specs.Rows.{Known, AreKnown, ArePasses, IsKnown, id_of, label_at, lock_of}
+use Rattle.place_rows.specs.Rows.{sender_made}
 use Rattle.place_rows.specs.Shares.{at_places, notices_at, sent_at}
 use Rattle.plane.specs.declared.opened.Unfilled.{Unfilled}
 use Rattle.plane.specs.Closings.{receiver_of}
-use Rattle.plane.specs.Counts.{IsCounted, AreCounted, count_of}
+use Rattle.place_turns.specs.Counts.{IsCounted, AreCounted, count_of}
 use Rattle.plane.specs.Filling.{AreZero, AreFor, HasDoneNothing, HasUnused, IsFilled, receiver_in}
 use Rattle.plane.specs.Opening.{IsUnused, known_in}
 use Rattle.plane.specs.Passes.{PortView}
 use Rattle.plane.specs.Remaining.{IsRowOf}
-use Rattle.plane.proofs.Passing.{some_same}
 
 -- ---- facts of each item
+
+pub some_same : {X : Type 0} (x y : X) → Some x ≡ Some y → x ≡ y
+some_same x y e = cc
 
 module _ {X : Type 0} (P : X → Type 0) where
   pub every_get : (xs : List X) (i : ℕ) (x : X) → Every P xs → slice_get xs i ≡ Some x → P x
@@ -43,6 +49,15 @@ module _ {X : Type 0} (P : X → Type 0) where
   pub every_more : (xs : List X) (x : X) → Every P xs → P x → Every P (xs ++ x ∷ [])
   every_more [] x all is = (is, tt)
   every_more (y ∷ xs) x all is = (all.0, every_more xs x all.1 is)
+
+-- ---- a row of passes
+
+-- it has one of each lock
+pub as_many : {S E : Type 0} {g : Ghosts S E} {L : Type 0} (label : S → L) (named : ℕ → L)
+    (locks : List (TurnLock S E)) (row : List (Pass S E g)) → ArePasses label named locks row →
+    length row ≡ length locks
+as_many label named locks row all =
+    sym (length-map row lock_of) ∙ ap length all.locks_are ∙ length-map locks id_of
 
 -- ---- counts that say nothing
 

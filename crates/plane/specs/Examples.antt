@@ -9,7 +9,7 @@ use Rattle.plane.specs.Opening.{all_rows}
 use Rattle.plane.specs.Passes.{FeederView, PortView, IsFeederOf, IsPortOf}
 use Rattle.plane.specs.Planes.{board_of, places_of}
 use Rattle.plane.specs.Remaining.{times_in}
-use Rattle.plane.specs.Trails.{parts_of}
+use Rattle.place_turns.specs.Trails.{parts_of}
 
 -- The passes are of this plane and have together the whole of each lock, and no port is there
 -- twice.

@@ -10,7 +10,7 @@ use Rattle.place_rows.specs.declared.ending.PortReceiver.{PortReceiver}
 use Rattle.place_rows.specs.Lists.{Every}
 use Rattle.plane.specs.declared.opened.Unfilled.{Unfilled}
 use Rattle.plane.specs.Closings.{receiver_of}
-use Rattle.plane.specs.Counts.{count_of}
+use Rattle.place_turns.specs.Counts.{count_of}
 use Rattle.plane.specs.Opening.{IsUnused}
 use Rattle.plane.specs.Passes.{PortView}
 

@@ -1,12 +1,7 @@
 pub mod Numbers
 pub mod Apart
 pub mod Planes
-pub mod Trails
-pub mod Moving
-pub mod Messages
 pub mod Passes
-pub mod Counts
-pub mod OnTheWay
 pub mod Opening
 pub mod Meetings
 pub mod Closings

@@ -5,7 +5,7 @@ use Rattle.place_rows.specs.Meeting.{HaveMet}
 use Rattle.place_rows.specs.Rows.{Known}
 use Rattle.plane.specs.Opening.{all_rows}
 use Rattle.plane.specs.Passes.{FeederView, PortView}
-use Rattle.plane.specs.Trails.{Trail}
+use Rattle.place_turns.specs.Trails.{Trail}
 
 -- of a trail, at most what is known has changed
 abbrev pub with_known : Trail → List Known → Trail

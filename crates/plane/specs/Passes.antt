@@ -1,6 +1,5 @@
 -- What contracts see of the passes of a plane: of who feeds, and of its ports.
 use Rattle.std.specs.Prelude.{◌≡◌, ◌<◌, ℕ, List, [], ◌∷◌, ◌++◌, filter, map}
-use Rattle.std.specs.Prelude.{length}
 use Rattle.std.specs.Prelude.{Option, Some, None}
 use Rattle.std.specs.BTreeMap.{get}
 use Rattle.std.specs.Ordering.{nat_cmp}
@@ -13,23 +12,14 @@ use Rattle.mailbox.specs.Views.{ReceiverView, receiver_with, receiver_empty}
 use Rattle.histories.specs.declared.log.Did.{Did}
 use Rattle.histories.specs.declared.log.Did.TheVariants.{Received, Closed}
 use Rattle.histories.specs.Logs.{is_received}
-use Rattle.locked_place.specs.Turns.{ClosesIn}
-use Rattle.locked_place.specs.Views.{label_of}
-use Rattle.place_rows.specs.Rows.{Known, AreKnown, TurnedUpTo, label_at}
+use Rattle.place_rows.specs.Rows.{TurnedUpTo}
 use Rattle.place_rows.specs.Shares.{IsBalanced}
 use Rattle.plane.specs.declared.plane.Plane.{Plane}
-use Rattle.plane.specs.Planes.{setting_of, outlets_of, locks_of}
-use Rattle.plane.specs.Trails.{Trail}
+use Rattle.plane.specs.Planes.{setting_of, outlets_of}
+use Rattle.place_turns.specs.Passes.{AreOf, Shuts}
+use Rattle.place_turns.specs.Trails.{Trail}
 
 -- ---- views
-
--- the passes of one holder, one of each place's lock
-pub record PassesView : Type 0 where
-  -- the locks, in the places' order
-  pub locks : List TableId
-  pub trail : Trail
-  -- how many more packets may be lost without memory
-  pub room : ℕ
 
 -- the pass of who feeds
 pub record FeederView : Type 0 where
@@ -67,21 +57,15 @@ pub record IsPort (dids : ListWithRoom Did) (receiver : ReceiverView) : Type 0 w
 
 -- ---- passes of a plane
 
--- these locks are the plane's, one thing is known of each, and that is of the place with its number
-pub record AreOf (plane : Plane) (locks : List TableId) (known : List Known) : Type 0 where
-  pub locks_are : locks ≡ locks_of plane
-  pub as_many : length known ≡ length locks
-  pub known_so : AreKnown label_of (label_at (outlets_of plane)) known
-
 -- The pass feeds this plane, and it is balanced: what it has seen is legal, and its own entries are
 -- sound for the packets that it fed and those that its calls lost.
 pub record IsFeederOf (plane : Plane) (p : FeederView) : Type 0 where
-  pub of : AreOf plane p.locks p.trail.known
+  pub of : AreOf plane.shared p.locks p.trail.known
   pub balanced : IsBalanced (setting_of plane) p.fed p.trail.known p.trail.lost
 
 -- The pass is of a port of this plane, or of one that closed, and it is balanced.
 pub record IsPortOf (plane : Plane) (p : PortView) : Type 0 where
-  pub of : AreOf plane p.locks p.trail.known
+  pub of : AreOf plane.shared p.locks p.trail.known
   pub balanced : IsBalanced (setting_of plane) [] p.trail.known p.trail.lost
   pub mailbox : get nat_cmp (outlets_of plane).mailboxes p.port ≡ Some p.receiver.mailbox
   -- no sender was joined into its receiver yet
@@ -97,10 +81,6 @@ Receives old new (Some l) =
       receiver = receiver_with old.receiver from l;
       dids = old.dids ++ did_receive l ∷ [];
     })
-
--- a port closed in a turn, whatever was destroyed with that
-abbrev pub Shuts : ℕ → Known → Known → Type 0
-Shuts port v w = (count : ℕ) × ClosesIn port v w count
 
 -- a port closed at each of so many places, in a turn of its own, and its log says so
 pub record Closes (places : ℕ) (old new : PortView) : Type 0 where

@@ -1,5 +1,5 @@
 -- What is left of ports, while their passes are joined into one row.
-use Rattle.std.specs.Prelude.{◌≡◌, ℕ, List, [], ◌∷◌, ◌++◌, map, flat_map, sum_by, nat_eq}
+use Rattle.std.specs.Prelude.{◌≡◌, ℕ, List, [], ◌∷◌, ◌++◌, map, flat_map}
 use Rattle.std.specs.Prelude.{if◌then◌else◌, ◌==◌, length}
 use Rattle.atomic_table.specs.Seated.{TableId}
 use Rattle.mailbox.specs.Views.{ReceiverView}
@@ -7,6 +7,7 @@ use Rattle.histories.specs.declared.histories.Lost.{Lost}
 use Rattle.histories.specs.declared.log.Did.{Did}
 use Rattle.histories.specs.declared.log.PortLog.{PortLog}
 use Rattle.locked_place.specs.Views.{PlaceLabel, label_of}
+use Rattle.place_rows.specs.Hearing as row
 use Rattle.place_rows.specs.Rows.{AreKnown}
 use Rattle.plane.specs.declared.finish.Remains.{Remains}
 use Rattle.plane.specs.Closings.{receiver_of}
@@ -28,7 +29,7 @@ log_in logs port = record { port = port; dids = dids_in logs port }
 
 -- how often a port is among these
 abbrev pub times_in : ℕ → List PortView → ℕ
-times_in port ps = sum_by (λ (p : PortView). if nat_eq p.port port then 1 else 0) ps
+times_in port ps = row.times_in port (map receiver_of ps)
 
 -- a pass of these locks
 pub record IsRowOf (locks : List TableId) (named : ℕ → PlaceLabel) (p : PortView) : Type 0 where

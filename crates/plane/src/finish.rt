@@ -14,7 +14,6 @@ ghost use Rattle.plane.specs.Opening.{all_rows, known_in};
 ghost use Rattle.plane.specs.Remaining.{times_in, dids_in, log_in, IsRowOf, IsAdded, AreAdded};
 
 use crate::opened::{ClosedPorts, PortPasses};
-use crate::passes::Passes;
 use crate::plane::Plane;
 use crate::port::{ClosedPort, FeederPass, PortPass};
 use histories::{Dids, Histories, Logs, Lost, PortLog};
@@ -23,6 +22,7 @@ use packet_entry::{NoMemory, Sequence, Stock};
 use place_rows::{
     Locks, PortReceiver, Row, close_all, end_rows, join_row, rows_are_joined_one_by_one,
 };
+use place_turns::{Passes, Places};
 use std::alloc::Global;
 use std::mem::replace;
 
@@ -180,12 +180,12 @@ impl Plane {
         ensures { IfOk result (IsClosed self feeder (ports ++ closed)) }
     {
         rows_are_joined_one_by_one();
-        let Plane {
+        let Plane { order, shared } = self;
+        let Places {
             setting: _setting,
-            order,
             outlets,
             locks,
-        } = self;
+        } = shared;
         let FeederPass { passes, fed: _fed } = feeder;
         let Passes {
             mut row,

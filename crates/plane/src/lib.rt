@@ -2,25 +2,19 @@
 //! each behind a turn lock of its own.
 #![tactic(auto)]
 
-mod arrivals;
-mod asking;
-mod closing;
-mod feeding;
 mod finish;
 mod laws;
 mod listing;
-mod log;
 mod meeting;
-mod messages;
 mod opened;
-mod passes;
 mod plane;
 mod port;
 
-pub use laws::{parts_stay_whole, passes_stay_balanced};
+pub use laws::parts_stay_whole;
 pub use locked_place::{Gate, OpenGate};
 pub use opened::{ClosedPorts, Opened, PortPasses};
 pub use packet_moves::{Fed, Refused};
+pub use place_turns::passes_stay_balanced;
 pub use plane::Plane;
 pub use port::{ClosedPort, FeederPass, PortPass};
 

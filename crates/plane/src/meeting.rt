@@ -1,53 +1,20 @@
 //! Passes that meet. None of it takes memory or waits.
 
-ghost use Rattle.std.specs.Prelude.{◌≡◌, ◌+◌, ◌++◌, ℕ, List, map, length, slice_get, Some, IsOk};
+ghost use Rattle.std.specs.Prelude.{◌+◌, ◌++◌, List, map, length, IsOk};
 ghost use Rattle.std.specs.List.{AllZip};
-ghost use Rattle.packet_entry.specs.declared.packet.Card.{Card};
-ghost use Rattle.histories.specs.declared.histories.Lost.{Lost};
-ghost use Rattle.histories.specs.History.{AreLegal};
-ghost use Rattle.packet_moves.specs.declared.setting.Setting.{Setting};
 ghost use Rattle.place_rows.specs.Lists.{Every};
 ghost use Rattle.place_rows.specs.Rows.{Known};
-ghost use Rattle.place_rows.specs.Shares.{IsBalanced};
 ghost use Rattle.place_rows.specs.Meeting.{ToldUpTo, HasGathered, HasSpread};
-ghost use Rattle.plane.specs.Passes.{AreOf, IsFeederOf, IsPortOf};
+ghost use Rattle.plane.specs.Passes.{IsFeederOf, IsPortOf};
 ghost use Rattle.plane.specs.Planes.{places_of};
 ghost use Rattle.plane.specs.Opening.{known_in};
 ghost use Rattle.plane.specs.Meetings.{KeepsAll, FeederKeepsAll, Meets};
 
 use crate::opened::{ClosedPorts, PortPasses};
-use crate::passes::Passes;
 use crate::plane::Plane;
 use crate::port::{ClosedPort, FeederPass, PortPass};
 use packet_entry::NoMemory;
-use place_rows::{rows_meet_by_the_first, tell_row, telling_changes_nothing_of_ones_own};
-
-impl Passes {
-    /// Lets others see all that these passes have seen.
-    fn tell(&mut self, plane: &Plane, others: &mut Passes)
-        requires of { AreOf plane.now self.old.locks self.old.trail.known }
-        requires others_of { AreOf plane.now others.old.locks others.old.trail.known }
-        ensures of { AreOf plane.now self.new.locks self.new.trail.known }
-        ensures others_of { AreOf plane.now others.new.locks others.new.trail.known }
-        ensures told { ToldUpTo (places_of plane.now) self.old.trail.known
-            others.old.trail.known self.new.trail.known others.new.trail.known }
-        ensures locks { (self.new.locks ≡ self.old.locks)
-            × (others.new.locks ≡ others.old.locks) }
-        ensures lost { (self.new.trail.lost ≡ self.old.trail.lost)
-            × (others.new.trail.lost ≡ others.old.trail.lost) }
-        ensures balanced { (s : Setting) (entered : List Card) (lost : List Lost) →
-            IsBalanced s entered self.old.trail.known lost →
-            IsBalanced s entered self.new.trail.known lost }
-        ensures others_balanced { ((k : ℕ) (v : Known) →
-            slice_get self.old.trail.known k ≡ Some v → AreLegal v.seen) →
-            (s : Setting) (entered : List Card) (lost : List Lost) →
-            IsBalanced s entered others.old.trail.known lost →
-            IsBalanced s entered others.new.trail.known lost }
-    {
-        telling_changes_nothing_of_ones_own();
-        tell_row(&plane.locks, &mut self.row, &mut others.row);
-    }
-}
+use place_rows::rows_meet_by_the_first;
 
 /// Lets the feeder's pass see all that a port's has seen.
 fn tell_feeder(plane: &Plane, pass: &mut PortPass, feeder: &mut FeederPass)
@@ -58,7 +25,7 @@ fn tell_feeder(plane: &Plane, pass: &mut PortPass, feeder: &mut FeederPass)
     ensures told { ToldUpTo (places_of plane.now) pass.old.trail.known feeder.old.trail.known
         pass.new.trail.known feeder.new.trail.known }
 {
-    pass.passes.tell(plane, &mut feeder.passes);
+    pass.passes.tell(&plane.shared, &mut feeder.passes);
 }
 
 /// The same of a closed port.
@@ -70,7 +37,7 @@ fn tell_feeder_closed(plane: &Plane, pass: &mut ClosedPort, feeder: &mut FeederP
     ensures told { ToldUpTo (places_of plane.now) pass.old.trail.known feeder.old.trail.known
         pass.new.trail.known feeder.new.trail.known }
 {
-    pass.passes.tell(plane, &mut feeder.passes);
+    pass.passes.tell(&plane.shared, &mut feeder.passes);
 }
 
 /// Lets a port's pass see all that the feeder's has seen.
@@ -82,7 +49,7 @@ fn tell_port(plane: &Plane, feeder: &mut FeederPass, pass: &mut PortPass)
     ensures told { ToldUpTo (places_of plane.now) feeder.old.trail.known pass.old.trail.known
         feeder.new.trail.known pass.new.trail.known }
 {
-    feeder.passes.tell(plane, &mut pass.passes);
+    feeder.passes.tell(&plane.shared, &mut pass.passes);
 }
 
 /// The same of a closed port.
@@ -94,7 +61,7 @@ fn tell_closed(plane: &Plane, feeder: &mut FeederPass, pass: &mut ClosedPort)
     ensures told { ToldUpTo (places_of plane.now) feeder.old.trail.known pass.old.trail.known
         feeder.new.trail.known pass.new.trail.known }
 {
-    feeder.passes.tell(plane, &mut pass.passes);
+    feeder.passes.tell(&plane.shared, &mut pass.passes);
 }
 
 /// Lets the feeder's pass see all that these ports' passes have seen.

@@ -15,14 +15,12 @@ ghost use Rattle.place_rows.specs.Lists.{Every};
 ghost use Rattle.place_rows.specs.Rows.{ArePasses, label_at, id_of, lock_of};
 ghost use Rattle.place_rows.specs.Joining.{AreWhole};
 ghost use Rattle.plane.specs.Closings.{receiver_of};
-ghost use Rattle.plane.specs.Counts.{AreCounted};
+ghost use Rattle.place_turns.specs.Counts.{AreCounted};
 ghost use Rattle.plane.specs.Filling.{AreZero, IsReady, AreFor, IsFilled, HasDoneNothing};
 ghost use Rattle.plane.specs.Filling.{receiver_in, IsUnheard, HasUnused};
 ghost use Rattle.plane.specs.Opening.{IsOpened, IsUnused, known_in};
 ghost use Rattle.plane.specs.Remaining.{IsRowOf};
 
-use crate::log::Log;
-use crate::passes::{Counts, Passes};
 use crate::plane::Plane;
 use crate::port::{ClosedPort, FeederPass, PortPass};
 use glance::{Board, GlancePass};
@@ -34,6 +32,7 @@ use packet_moves::Setting;
 use place_rows::{
     Dealt, Locks, PortReceiver, Row, deal_ports, open_places, rows_stay_balanced, split_row,
 };
+use place_turns::{Counts, Log, Passes, Places};
 use std::alloc::Global;
 use std::collections::BTreeMap;
 use turn_lock::{a_part_is_known_by_its_ways, parts_are_put_together_in_any_order};
@@ -258,10 +257,12 @@ impl Plane {
         let setting = Setting { tables, key, mail };
         Ok(Opened {
             plane: Plane {
-                setting,
                 order,
-                outlets,
-                locks,
+                shared: Places {
+                    setting,
+                    outlets,
+                    locks,
+                },
             },
             feeder,
             ports: port_passes,

@@ -1,35 +1,28 @@
 //! A plane.
 
-ghost use Rattle.std.specs.Prelude.{◌≡◌, ◌≤◌, ◌<◌, ◌%◌, length};
+ghost use Rattle.std.specs.Prelude.{◌≡◌, ◌<◌, length};
 ghost use Rattle.mailbox.specs.Roles.{AreDistinct};
 ghost use Rattle.plane.specs.Apart.{AreDistinct-prop};
 
-use crate::laws::passes_stay_balanced;
 use crate::port::{ClosedPort, FeederPass, PortPass};
-use crate::{feeding, messages};
 use glance::{GlancePass, Totals};
-use locked_place::{Gate, LockedPlace, Outlets};
+use locked_place::Gate;
 use packet_entry::{Letter, NoMemory, Packet};
-use packet_moves::{Fed, Refused, Setting};
+use packet_moves::{Fed, Refused};
 use place_rows::rows_stay_balanced;
+use place_turns::{Places, passes_keep_their_parts, passes_stay_balanced};
 use std::alloc::Global;
 use std::sync::Wait;
-use turn_lock::TurnLock;
 
 /// A plane: places of queues, each behind a lock of its own, and a mailbox for each port. Threads
 /// share it, and act on it by passes of their own. Packets are fed to it, its ports send messages
 /// to its queues and receive notices, and each packet is moved on, from queue to queue, to its rest
 /// or its end. Queue `q` is at place `q % places`.
 pub struct Plane {
-    pub(crate) setting: Setting,
     /// The ports in the order in which they were given.
     pub(crate) order: Vec<u32>,
-    pub(crate) outlets: Outlets,
-    /// The lock of each place, in the places' order.
-    pub(crate) locks: Vec<TurnLock<LockedPlace>>,
-    ghost sized: { length locks.items ≡ outlets.board.places },
-    ghost some: { 1 ≤ length locks.items },
-    ghost few: { length locks.items ≤ 64 },
+    /// The places, which all passes share.
+    pub(crate) shared: Places,
     ghost apart: { AreDistinct order.items } by { AreDistinct-prop order.items },
 }
 
@@ -41,10 +34,10 @@ impl Plane {
     ghost use Rattle.place_rows.specs.Rows.{TurnsOne};
     ghost use Rattle.plane.specs.Numbers.{most_fed};
     ghost use Rattle.plane.specs.Planes.{places_of, setting_of};
-    ghost use Rattle.plane.specs.Trails.{MayLook, parts_of};
-    ghost use Rattle.plane.specs.Moving.{IsFed};
-    ghost use Rattle.plane.specs.Messages.{Sends};
-    ghost use Rattle.plane.specs.OnTheWay.{HandsBack};
+    ghost use Rattle.place_turns.specs.Trails.{MayLook, parts_of};
+    ghost use Rattle.place_turns.specs.Moving.{IsFed};
+    ghost use Rattle.place_turns.specs.Messages.{Sends};
+    ghost use Rattle.place_turns.specs.OnTheWay.{HandsBack};
     ghost use Rattle.plane.specs.Passes.{IsFeederOf, IsPortOf, Receives, Closes};
 
     /// Feeds a packet: it goes through the tables from the first on, and is moved on until it waits
@@ -73,8 +66,9 @@ impl Plane {
         ensures parts { parts_of pass.new.trail.known ≡ parts_of pass.old.trail.known }
     {
         passes_stay_balanced();
-        feeding::feed(
-            self,
+        passes_keep_their_parts();
+        place_turns::feed(
+            &self.shared,
             rt,
             alloc,
             gate,
@@ -113,8 +107,9 @@ impl Plane {
         ensures parts { parts_of pass.new.trail.known ≡ parts_of pass.old.trail.known }
     {
         passes_stay_balanced();
-        messages::message(
-            self,
+        passes_keep_their_parts();
+        place_turns::message(
+            &self.shared,
             rt,
             alloc,
             gate,
@@ -135,7 +130,7 @@ impl Plane {
         ensures err { OnErr result (pass.new ≡ pass.old) }
     {
         pass.log.make_room()?;
-        let Some(mailbox) = self.outlets.mailboxes.get(&pass.port) else {
+        let Some(mailbox) = self.shared.outlets.mailboxes.get(&pass.port) else {
             unreachable!()
         };
         match mailbox.receive(rt, &mut pass.receiver) {
@@ -161,7 +156,7 @@ impl Plane {
             receiver,
             mut log,
         } = pass;
-        passes.close_port(self, rt, port);
+        passes.close_port(&self.shared, rt, port);
         log.close();
         ClosedPort {
             passes,
@@ -193,8 +188,10 @@ impl Plane {
         ensures parts { parts_of pass.new.trail.known ≡ parts_of pass.old.trail.known }
     {
         rows_stay_balanced();
+        passes_stay_balanced();
+        passes_keep_their_parts();
         pass.passes
-            .device_down(self, rt, device, usize::from(place))
+            .device_down(&self.shared, rt, device, usize::from(place))
     }
 }
 
@@ -207,7 +204,7 @@ impl Plane {
     pub fn places(&self) -> u8
         ensures { result ≡ places_of self.now }
     {
-        self.locks.len() as u8
+        self.shared.count()
     }
 
     /// The totals of a place, as the board shows them. One load: it never waits, and takes no
@@ -222,15 +219,6 @@ impl Plane {
             readings_of k pass.new.readings ≡ readings_of k pass.old.readings }
         ensures rise { NeverDescend (readings_of place pass.new.readings) }
     {
-        self.outlets.board.glance(pass, place)
-    }
-
-    /// The place of a queue.
-    pub(crate) fn place_of(&self, queue: u16) -> usize
-        ensures value { result ≡ queue % places_of self.now }
-        ensures there { result < length self.now.locks.items }
-        ensures few { result < 64 }
-    {
-        usize::from(queue) % self.locks.len()
+        self.shared.outlets.board.glance(pass, place)
     }
 }

@@ -4,10 +4,9 @@ ghost use Rattle.std.specs.Prelude.{◌≡◌, length};
 ghost use Rattle.packet_moves.specs.Calls.{sent_in};
 ghost use Rattle.place_rows.specs.Shares as share;
 
-use crate::log::Log;
-use crate::passes::Passes;
 use mailbox::Receiver;
 use packet_entry::{Card, Stock};
+use place_turns::{Log, Passes};
 use std::marker::Model;
 
 /// The right to feed packets to one plane. It may go from thread to thread.

@@ -8,7 +8,7 @@ ghost use Rattle.place_rows.specs.Lists.{Every};
 ghost use Rattle.plane.specs.Examples.{IsGoing, Keeps, Stay};
 ghost use Rattle.plane.specs.Passes.{IsFeederOf, IsPortOf};
 ghost use Rattle.plane.specs.Planes.{board_of};
-ghost use Rattle.plane.specs.Trails.{parts_of};
+ghost use Rattle.place_turns.specs.Trails.{parts_of};
 
 mod inside;
 mod memory;

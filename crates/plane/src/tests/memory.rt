@@ -4,7 +4,7 @@
 ghost use Rattle.std.specs.Prelude.{◌≡◌};
 ghost use Rattle.plane.specs.Examples.{AreGoing, Keeps};
 ghost use Rattle.plane.specs.Passes.{IsFeederOf, IsPortOf};
-ghost use Rattle.plane.specs.Trails.{parts_of};
+ghost use Rattle.place_turns.specs.Trails.{parts_of};
 
 use super::worked::TO_QUEUE_1;
 use super::{Ask, ONE_RULE, feed, open, say};

@@ -6,7 +6,7 @@ ghost use Rattle.place_rows.specs.Lists.{Every};
 ghost use Rattle.plane.specs.Examples.{AreGoing, IsGoing, Stay};
 ghost use Rattle.plane.specs.Passes.{IsFeederOf, IsPortOf};
 ghost use Rattle.plane.specs.Planes.{board_of};
-ghost use Rattle.plane.specs.Trails.{parts_of};
+ghost use Rattle.place_turns.specs.Trails.{parts_of};
 
 use super::{Ask, Line, ONE_RULE, Shown, asks, close, feed, lines_of, open, receive, shown};
 use crate::{Fed, FeederPass, OpenGate, Opened, Plane, PortPasses};

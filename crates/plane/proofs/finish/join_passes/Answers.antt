@@ -1,6 +1,6 @@
 use Rattle.std.proofs.Common.{refl, ap}
 use Rattle.histories.specs.declared.histories.Lost.{Lost}
-use Rattle.plane.specs.Passes.{PassesView}
+use Rattle.place_turns.specs.Passes.{PassesView}
 use Rattle.plane.proofs.finish.join_passes.Goals as goal
 
 pub join_row-requires : goal.join_row-requires

@@ -3,7 +3,7 @@ use Rattle.std.specs.Prelude.{flat_map}
 use Rattle.std.specs.List.{range_with_len}
 use Rattle.histories.specs.States.{every_number}
 use Rattle.place_history.specs.Lines.{text_at, text_of}
-use Rattle.plane.proofs.Lined.{text_more}
+use Rattle.plane.proofs.Texts.{text_more}
 use Rattle.plane.proofs.listing.text_of_all.Goals as goal
 use Rattle.plane.proofs.listing.text_of_all.Goals.{in-Some+in_ok-extend_from_slice, in_default}
 

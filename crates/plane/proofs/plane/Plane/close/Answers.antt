@@ -5,11 +5,12 @@ use Rattle.place_rows.specs.Hearing as row
 use Rattle.place_rows.specs.Lists.{Every}
 use Rattle.place_rows.specs.Rows.{label_at}
 use Rattle.place_rows.specs.declared.ending.PortReceiver.{PortReceiver}
+use Rattle.place_turns.specs.Passes.{PassesView}
 use Rattle.plane.specs.Closings.{feeder_holds, port_holds}
-use Rattle.plane.specs.Passes.{FeederView, IsPortOf, PassesView, PortView}
+use Rattle.plane.specs.Passes.{FeederView, IsPortOf, PortView}
 use Rattle.plane.specs.Planes.{setting_of}
 use Rattle.plane.specs.Remaining.{log_in}
-use Rattle.plane.proofs.Finishing.{rows_of_ports, balanced_all, mailboxes_all, times_same}
+use Rattle.plane.proofs.Finishing.{rows_of_ports, balanced_all, mailboxes_all}
 use Rattle.plane.proofs.Finishing.{both_added, both_true, every_both, holders_joined, closed_so}
 use Rattle.plane.proofs.Finishing.{all_in, all_receivers}
 use Rattle.plane.proofs.plane.Plane.close.Goals as goal
@@ -19,7 +20,7 @@ join_ports-first-requires c =
     let is = rw (← c.feeder.view_is, ← c.passes.view_is) at c.requires.feeder in
     record {
       passes = (
-        label_at c.args.self.outlets,
+        label_at c.args.self.shared.outlets,
         record { locks_are = is.of.locks_are; known = is.of.known_so },
         rows_of_ports c.args.self c.args.ports c.requires.ports,
       );
@@ -28,7 +29,7 @@ join_ports-first-requires c =
 pub join_closed-second-requires : goal.join_closed-second-requires
 join_closed-second-requires c =
     let is = rw (← c.feeder.view_is, ← c.passes.view_is) at c.requires.feeder in
-    let named = label_at c.args.self.outlets in
+    let named = label_at c.args.self.shared.outlets in
     record {
       passes = (
         named,
@@ -51,7 +52,7 @@ close_all-requires-clause-row c =
     ∙ ap (λ (p : FeederView). p.trail.known) c.feeder.view_is)
     c.join_ports-first.ensures.passes c.join_closed-second.ensures.passes
     c.join_ports-first.ensures.joined c.join_closed-second.ensures.joined c.requires.whole in
-    (label_at c.args.self.outlets, all.passes)
+    (label_at c.args.self.shared.outlets, all.passes)
 
 pub close_all-requires-clause-whole : goal.close_all-requires-clause-whole
 close_all-requires-clause-whole c =
@@ -105,7 +106,7 @@ end_rows-requires-clause-mailboxes c =
     let added =
     both_added c.args.ports c.args.closed _ _ _ (c.join_ports-first.ensures.kept both.0)
     (c.join_closed-second.ensures.kept both.1) in
-    subst (Every (row.HasMailbox c.args.self.outlets.mailboxes))
+    subst (Every (row.HasMailbox c.args.self.shared.outlets.mailboxes))
     (sym (all_receivers _ _ _ c.new.ensures.items added))
     (mailboxes_all c.args.self (c.args.ports ++ c.args.closed)
     (every_both (IsPortOf c.args.self) c.args.ports c.args.closed c.requires.ports
@@ -121,8 +122,7 @@ end_rows-requires-clause-apart c =
     λ port.
     subst (λ (rs : List PortReceiver). row.times_in port rs ≤ 1)
     (sym (all_receivers _ _ _ c.new.ensures.items added))
-    (subst (λ n. n ≤ 1) (sym (times_same port (c.args.ports ++ c.args.closed)))
-    (c.requires.apart port))
+    (c.requires.apart port)
 
 pub in_order-requires : goal.in_order-requires
 in_order-requires c = record {

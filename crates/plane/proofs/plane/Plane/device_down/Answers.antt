@@ -17,7 +17,7 @@ returns-clause-pass g c =
       balanced = subst (λ (lost : List Lost). IsBalanced (setting_of c.args.self.now)
           c.pass.inside.fed.items c.device_down.new.self.trail.known lost)
           (sym c.device_down.ensures.lost.0)
-          (down_one c.rows_stay_balanced.ensures.down c.rows_stay_balanced.ensures.looks
+          (down_one c.rows_stay_balanced.ensures.down c.passes_stay_balanced.ensures.looked
           (setting_of c.args.self.now) c.args.device c.pass.inside.fed.items _ _ _ _
           c.device_down.result c.device_down.ensures.turn c.device_down.ensures.err is.balanced);
     }
@@ -25,5 +25,6 @@ returns-clause-pass g c =
 pub returns-clause-parts : goal.returns-clause-parts
 returns-clause-parts g c =
     rw (← c.pass.view_is)
-    (down_parts c.args.device _ _ _ c.device_down.result c.device_down.ensures.turn
-    c.device_down.ensures.err)
+    (down_parts c.passes_keep_their_parts.ensures.down c.passes_keep_their_parts.ensures.looked
+    c.args.device _ c.pass.inside.passes.trail c.device_down.new.self.trail c.device_down.result
+    c.device_down.ensures.lost.0 c.device_down.ensures.turn c.device_down.ensures.err)

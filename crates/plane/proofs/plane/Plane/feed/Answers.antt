@@ -21,5 +21,6 @@ returns-clause-pass g c =
 pub returns-clause-parts : goal.returns-clause-parts
 returns-clause-parts g c =
     rw (← c.pass.view_is)
-    (feed_parts (places_of c.args.self.now) (setting_of c.args.self.now) _ _ c.args.packet
+    (feed_parts c.passes_keep_their_parts.ensures.fed c.passes_keep_their_parts.ensures.looked
+    (places_of c.args.self.now) (setting_of c.args.self.now) _ _ c.args.packet
     c.feed.result c.feed.ensures.moved c.feed.ensures.looked)

@@ -1,6 +1,6 @@
 use Rattle.std.proofs.Common.{ℕ, List, arith, ap, ◌∙◌, ◌++◌}
 use Rattle.plane.specs.Planes.{places_of, setting_of}
-use Rattle.plane.proofs.Lined.{listed_balanced, listed_so}
+use Rattle.plane.proofs.Texts.{listed_balanced, listed_so}
 use Rattle.plane.proofs.plane.Plane.listing.Goals as goal
 
 pub lines-requires : goal.lines-requires
@@ -47,7 +47,7 @@ pub returns-clause-listed : goal.returns-clause-listed
 returns-clause-listed g c =
     rw (← c.pass.view_is)
     (listed_so (places_of c.args.self.now) _ _ c.in_ok-lines.lines c.in_ok-text.text.items _ _
-    (omega (arith, c.args.self.now.some, c.args.self.now.sized)) c.in_ok-lines.ensures.all
+    (omega (arith, c.args.self.now.shared.some, c.args.self.now.shared.sized)) c.in_ok-lines.ensures.all
     c.in_ok-lines.ensures.lines c.in_ok-text.ensures
     (c.in_ok-extend_from_slice.ensures.items
     ∙ ap (λ (t : List ℕ). c.args.out.now.items ++ t) c.deref.ensures.value))

@@ -33,6 +33,7 @@ returns-clause-pass g c =
 pub returns-clause-parts : goal.returns-clause-parts
 returns-clause-parts g c =
     rw (← c.pass.view_is)
-    (message_parts (places_of c.args.self.now) (setting_of c.args.self.now) c.pass.inside.port
+    (message_parts c.passes_keep_their_parts.ensures.sent
+    c.passes_keep_their_parts.ensures.looked (places_of c.args.self.now) (setting_of c.args.self.now) c.pass.inside.port
     (first_message c.args.datagram.now) _ _ _ _ _ _ c.message.result c.message.ensures.sent
     c.message.ensures.looked)

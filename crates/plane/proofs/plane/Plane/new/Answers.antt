@@ -1,5 +1,6 @@
 use Rattle.std.proofs.Common.{◌∙◌, sym, ap, subst, refl, map, length}
 use Rattle.std.proofs.lemmas.List.{length-map}
+use Rattle.mailbox.specs.Roles.{AreDistinct}
 use Rattle.turn_lock.specs.Passes.{view_of}
 use Rattle.locked_place.specs.declared.outlets.Outlets.{Outlets}
 use Rattle.locked_place.specs.Views.{label_of}
@@ -7,8 +8,7 @@ use Rattle.packet_moves.specs.declared.setting.Setting.{Setting}
 use Rattle.place_rows.specs.Lists.{Every}
 use Rattle.place_rows.specs.Rows.{label_at, lock_of}
 use Rattle.plane.specs.Filling.{IsReady}
-use Rattle.plane.proofs.Passing.{as_many}
-use Rattle.plane.proofs.Splitting.{zero_counted, unused_own}
+use Rattle.plane.proofs.Splitting.{as_many, zero_counted, unused_own}
 use Rattle.plane.proofs.Beginning.{all_unheard, first_unused, first_whole, opened_so}
 use Rattle.plane.proofs.plane.Plane.new.Goals as goal
 
@@ -48,6 +48,11 @@ passes_of-requires c =
           ∙ sym (as_many label_of (label_at outlets) _ row all) ∙ sym (length-map row view_of))
           c.in_ok-sent.ensures.zero;
     }
+
+pub invariant_of-result-2 : goal.invariant_of-result-2
+invariant_of-result-2 c = record {
+  apart = subst AreDistinct (sym c.in_ok-order.ensures.items) c.requires.apart;
+}
 
 pub returns : goal.returns
 returns c =

@@ -1,6 +1,6 @@
 use Rattle.std.proofs.Common.{◌≡◌}
 use Rattle.plane.specs.Passes.{IsFeederOf}
-use Rattle.plane.specs.Trails.{parts_of}
+use Rattle.place_turns.specs.Trails.{parts_of}
 use Rattle.plane.proofs.tests.wide.all_fed.Given as goal
 
 abbrev pub invariant-loop-number : goal.invariant-loop-number

@@ -1,0 +1,14 @@
+mod AtPlace
+mod Carrying
+mod CountedRows
+mod Counting
+mod Flushed
+mod Known
+mod Labels
+mod Lined
+mod Parts
+mod Passing
+mod Requested
+mod Results
+mod Stepping
+mod Telling

@@ -1,0 +1,23 @@
+use Rattle.std.proofs.Common.{subst}
+use Rattle.place_turns.specs.Trails.{Trail, MayLook}
+use Rattle.place_turns.specs.Moving.{IsFed}
+use Rattle.place_turns.specs.Places.{places_of, setting_of}
+use Rattle.place_turns.proofs.Stepping.{fed_so, looks_for}
+use Rattle.place_turns.proofs.feeding.feed.Goals as goal
+
+pub returns-in-Ok-attempt-clause-moved : goal.returns-in-Ok-attempt-clause-moved
+returns-in-Ok-attempt-clause-moved g c =
+    subst (λ (t : Trail). IsFed (places_of c.args.places.now) (setting_of c.args.places.now) t
+    c.args.packet c.carry.new.passes.trail c.carry.result) c.make_room.ensures.trail
+    (fed_so (places_of c.args.places.now) (setting_of c.args.places.now)
+    c.make_room.new.passes.trail c.attempt.new.passes.trail c.carry.new.passes.trail c.args.packet
+    c.route-route.result c.in-Ok-attempt.came c.carry.result c.in-Ok-attempt.ensures.lost.0
+    c.in-Ok-attempt.ensures.moved c.route-route.ensures.exact c.carry.ensures.carried)
+
+pub returns-in-Err-clause-looked : goal.returns-in-Err-clause-looked
+returns-in-Err-clause-looked g c =
+    subst (λ (t : Trail). MayLook t c.attempt.new.passes.trail) c.make_room.ensures.trail
+    (looks_for (places_of c.args.places.now) c.make_room.new.passes.trail.known
+    c.attempt.new.passes.trail.known c.make_room.new.passes.trail.lost
+    c.attempt.new.passes.trail.lost c.route-route.result c.in-Err.ensures.err
+    c.in-Err.ensures.lost.0)

@@ -1,0 +1,60 @@
+use Rattle.std.proofs.Common.{arith}
+use Rattle.turn_lock.specs.Passes.{view_of}
+use Rattle.place_rows.specs.Rows.{label_at}
+use Rattle.place_turns.specs.Passes.{Shuts}
+use Rattle.place_turns.proofs.AtPlace.{at_place}
+use Rattle.place_turns.proofs.CountedRows.{counted_kept}
+use Rattle.place_turns.proofs.Counting.{counted_closed}
+use Rattle.place_turns.proofs.Labels.{outlets_are}
+use Rattle.place_turns.proofs.Passing.{turns_one}
+use Rattle.place_turns.proofs.passes.Passes.close_port_at.Goals as goal
+
+pub close_port-requires : goal.close_port-requires
+close_port-requires g c =
+    let at =
+    at_place c.args.places.now c.self.inside.row.items c.args.place c.index.result.now
+    c.index_mut.result.now (rw (← c.self.view_is) at c.requires.of)
+    (omega (arith, c.requires.there, c.args.places.now.sized)) c.index.ensures
+    c.index_mut.ensures.value in
+    record {
+      pass = (
+        label_at c.args.places.now.outlets c.args.place,
+        at.of,
+        outlets_are c.args.places.now.outlets c.args.place,
+      );
+    }
+
+pub invariant_of-self : goal.invariant_of-self
+invariant_of-self g c =
+    let at =
+    at_place c.args.places.now c.self.inside.row.items c.args.place c.index.result.now
+    c.index_mut.result.now (rw (← c.self.view_is) at c.requires.of)
+    (omega (arith, c.requires.there, c.args.places.now.sized)) c.index.ensures
+    c.index_mut.ensures.value in
+    counted_kept c.self.inside.row.items c.self.inside.sent.items c.args.place
+    c.self.invariant at.inside c.index_mut.result.now c.close_port.new.pass
+    c.index_mut.ensures.value
+    (λ counts is. counted_closed c.own_entries_grow_by_each_turn.ensures.sent c.args.port
+    (view_of c.index_mut.result.now) (view_of c.close_port.new.pass) c.close_port.result counts
+    c.index_mut.result.now.placed c.close_port.ensures.turn is)
+
+pub returns-clause-of : goal.returns-clause-of
+returns-clause-of g c =
+    let at =
+    at_place c.args.places.now c.self.inside.row.items c.args.place c.index.result.now
+    c.index_mut.result.now (rw (← c.self.view_is) at c.requires.of)
+    (omega (arith, c.requires.there, c.args.places.now.sized)) c.index.ensures
+    c.index_mut.ensures.value in
+    at.after c.close_port.new.pass c.close_port.ensures.part c.close_port.ensures.pass
+
+pub returns-clause-turn : goal.returns-clause-turn
+returns-clause-turn g c =
+    let at =
+    at_place c.args.places.now c.self.inside.row.items c.args.place c.index.result.now
+    c.index_mut.result.now (rw (← c.self.view_is) at c.requires.of)
+    (omega (arith, c.requires.there, c.args.places.now.sized)) c.index.ensures
+    c.index_mut.ensures.value in
+    rw (← c.self.view_is)
+    (turns_one c.self.inside.row.items c.args.place c.index_mut.result.now
+    c.close_port.new.pass (Shuts c.args.port) at.inside c.index_mut.ensures.value
+    (c.close_port.result, c.close_port.ensures.turn))

@@ -1,0 +1,43 @@
+use Rattle.turn_lock.specs.Passes.{view_of}
+use Rattle.histories.specs.Journeys.{Arrival}
+use Rattle.place_turns.proofs.Counting.{counted_back, counted_posted, counted_look, count_fits}
+use Rattle.place_turns.proofs.passes.arrive_at.Goals as goal
+
+pub returns-in_err-port-clause-counted : goal.returns-in_err-port-clause-counted
+returns-in_err-port-clause-counted g c =
+    counted_look c.own_entries_grow_by_each_turn.ensures.sent (view_of c.args.pass.now)
+    (view_of c.arrive.new.pass) c.args.sent.now c.args.pass.now.placed c.in_err-port.ensures.err
+    c.requires.counted
+
+pub count-requires-clause-there : goal.count-requires-clause-there
+count-requires-clause-there g c =
+    c.requires.counted.there c.requires.pass.0 c.requires.pass.1.named_so c.in-Waiting.port
+    (rw c.in-Waiting.is at (c.in_ok-port.ensures.sender c.requires.pass.0 c.requires.pass.1))
+
+pub count-requires-clause-few : goal.count-requires-clause-few
+count-requires-clause-few g c =
+    let a : Arrival =
+    record { queue = c.args.queue; card = c.args.packet; bypass = c.args.bypass } in
+    count_fits c.own_entries_grow_by_each_turn.ensures.sent a (view_of c.args.pass.now)
+    (view_of c.arrive.new.pass) c.in-Waiting.port c.args.sent.now
+    c.args.pass.now.placed c.arrive.new.pass.placed
+    (rw c.in-Waiting.is at c.in_ok-port.ensures.turn) c.requires.counted
+    c.arrive.ensures.short
+
+pub returns-in-Waiting-clause-counted : goal.returns-in-Waiting-clause-counted
+returns-in-Waiting-clause-counted g c =
+    let a : Arrival =
+    record { queue = c.args.queue; card = c.args.packet; bypass = c.args.bypass } in
+    counted_posted c.own_entries_grow_by_each_turn.ensures.sent a (view_of c.args.pass.now)
+    (view_of c.arrive.new.pass) c.in-Waiting.port c.args.sent.now c.count.new.sent
+    c.args.pass.now.placed (rw c.in-Waiting.is at c.in_ok-port.ensures.turn) c.requires.counted
+    c.count.ensures.more c.count.ensures.others
+
+pub returns-in-Back-clause-counted : goal.returns-in-Back-clause-counted
+returns-in-Back-clause-counted g c =
+    let a : Arrival =
+    record { queue = c.args.queue; card = c.args.packet; bypass = c.args.bypass } in
+    counted_back c.own_entries_grow_by_each_turn.ensures.sent
+    c.replies_tell_how_many_left.ensures a (view_of c.args.pass.now)
+    (view_of c.arrive.new.pass) c.in-Back.outcome c.in-Back.packet c.args.sent.now
+    c.args.pass.now.placed (rw c.in-Back.is at c.in_ok-port.ensures.turn) c.requires.counted

@@ -1,0 +1,115 @@
+-- Where a packet stands on its way, as the code has it, beside what the definitions say.
+use Rattle.std.specs.Prelude.{◌≡◌, ◌⊎◌, ◌<◌, ◌≤◌, ◌-◌, ◌+◌, ◌%◌, ℕ, suc, List, Some}
+use Rattle.packet_entry.specs.declared.packet.Card.{Card}
+use Rattle.packet_entry.specs.Numbers.{last_visit}
+use Rattle.hook_chain.specs.declared.chain.Next.{Next}
+use Rattle.hook_chain.specs.declared.chain.Next.TheVariants.{Released, To}
+use Rattle.queue_core.specs.Laws.{way_by}
+use Rattle.queue_core.specs.Step.{Way, Gone, Open, Decided}
+use Rattle.histories.specs.declared.histories.Lost.{Lost}
+use Rattle.packet_moves.specs.declared.fed.Fed.{Fed}
+use Rattle.packet_moves.specs.declared.fed.Fed.TheVariants as fed
+use Rattle.packet_moves.specs.declared.setting.Setting.{Setting}
+use Rattle.packet_moves.specs.Moving.{route_after}
+use Rattle.locked_place.specs.declared.arrivals.Placed.{Placed}
+use Rattle.locked_place.specs.declared.arrivals.Placed.TheVariants as placed
+use Rattle.locked_place.specs.Turns.{LooksOn}
+use Rattle.place_rows.specs.Rows.{Known, TurnsOne}
+use Rattle.place_turns.specs.declared.arrivals.Came.{Came}
+use Rattle.place_turns.specs.declared.arrivals.Came.TheVariants.{Ended, GoesOn}
+use Rattle.place_turns.specs.Trails.{Trail}
+use Rattle.place_turns.specs.Moving.{Goes, Carries}
+
+-- how it goes on from there
+abbrev pub CameTo : Goes → Trail → Came → Trail → Fed → Type 0
+CameTo on t (Ended ended) u f = (u ≡ t) × (f ≡ ended)
+CameTo on t (GoesOn card route) u f = on t card route u f
+
+-- it can have one arrival more
+abbrev pub IsInTime : Came → Type 0
+IsInTime (Ended fed) = Unit {0}
+IsInTime (GoesOn card route) = card.visit < last_visit
+
+-- where it goes on it has this visit
+abbrev pub HasVisit : ℕ → Came → Type 0
+HasVisit visit (Ended fed) = Unit {0}
+HasVisit visit (GoesOn card route) = card.visit ≡ visit
+
+-- how many arrivals are left to it, and one more while it goes on; 0 once it ended
+abbrev pub arrivals_left : Came → ℕ
+arrivals_left (Ended fed) = 0
+arrivals_left (GoesOn card route) = suc (last_visit - card.visit)
+
+-- where a packet stands that a queue didn't take
+abbrev pub IsTurned : Setting → Card → Way → Came → Type 0
+IsTurned s card Gone came = came ≡ Ended fed.Destroyed
+IsTurned s card Open came = came ≡ GoesOn card (route_after s (card, Open))
+IsTurned s card (Decided decision) came = ⊥
+
+-- where it stands after its arrival
+abbrev pub StandsAs : Setting → Placed → Came → Type 0
+StandsAs s (placed.Waiting port) came = came ≡ Ended fed.Waiting
+StandsAs s (placed.Back outcome card) came = IsTurned s card (way_by outcome) came
+
+-- it goes on from the queue only before its last visit
+abbrev pub GoesInTime : Placed → Type 0
+GoesInTime (placed.Waiting port) = Unit {0}
+GoesInTime (placed.Back outcome card) = way_by outcome ≡ Open → card.visit < last_visit
+
+-- where it comes back it has this visit
+abbrev pub ComesWith : ℕ → Placed → Type 0
+ComesWith visit (placed.Waiting port) = Unit {0}
+ComesWith visit (placed.Back outcome card) = card.visit ≡ visit
+
+abbrev pub trail : List Known → List Lost → Trail
+trail known lost = record { known = known; lost = lost }
+
+-- With memory for so many arrivals from here on, it's as if it had been moved on from where it was
+-- before this step, with memory for one more, whatever was lost before.
+abbrev pub IsMoved : ℕ → Setting → List Known → List Known → Card → Next → Came → Type 0
+IsMoved places s olds news card route came =
+    (memory : ℕ) (lost : List Lost) (u : Trail) (f : Fed) →
+    CameTo (Carries memory places s) (trail news lost) came u f →
+    Carries (suc memory) places s (trail olds lost) card (Some route) u f
+
+-- it found no memory for an arrival by this route
+abbrev pub LooksFor : ℕ → List Known → List Known → Next → Type 0
+LooksFor places olds news Released = ⊥
+LooksFor places olds news (To queue bypass table) = TurnsOne (queue % places) olds news LooksOn
+
+-- it was moved on to its rest or its end
+pub record IsCarried (places : ℕ) (s : Setting) (old : Trail) (came : Came) (new : Trail) (f : Fed)
+    : Type 0 where
+  pub memory : ℕ
+  pub moved : CameTo (Carries memory places s) old came new f
+
+-- wherever it is moved on to from there, it was so from where it stood before
+abbrev pub StepsTo : ℕ → Setting → Trail → Came → Trail → Came → Type 0
+StepsTo places s old before new after =
+    (memory : ℕ) (u : Trail) (f : Fed) → CameTo (Carries memory places s) new after u f →
+    IsCarried places s old before u f
+
+-- one more may be lost while it goes on; once it ended at most one more was
+abbrev pub KeepsRoom : ℕ → ℕ → Came → Type 0
+KeepsRoom old new (Ended fed) = old ≤ new + 1
+KeepsRoom old new (GoesOn card route) = new ≡ old
+
+-- to go on it needs room for one that is lost
+abbrev pub NeedsRoom : Came → ℕ → Type 0
+NeedsRoom (Ended fed) room = Unit {0}
+NeedsRoom (GoesOn card route) room = 0 < room
+
+-- and spends no more than that
+abbrev pub SpendsRoom : Came → ℕ → ℕ → Type 0
+SpendsRoom (Ended fed) old new = new ≡ old
+SpendsRoom (GoesOn card route) old new = old ≤ new + 1
+
+-- the packet as it was to arrive by this route
+abbrev pub WasToArrive : Card → Next → Card → Type 0
+WasToArrive card Released back = ⊥
+WasToArrive card (To queue bypass table) back =
+    back ≡ record card { visit = card.visit + 1; table = table }
+
+-- a packet that is handed back is as it was, or as it was to arrive
+abbrev pub HandsBack : Card → Next → Card → Type 0
+HandsBack card route back = (back ≡ card) ⊎ WasToArrive card route back

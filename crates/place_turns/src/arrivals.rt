@@ -1,0 +1,188 @@
+//! Packets that move on, from queue to queue, each to its rest or its end.
+
+ghost use Rattle.std.specs.Prelude.{◌≡◌, ◌≤◌, ◌<◌, ◌-◌, ◌+◌, ◌++◌, ◌∷◌, [], ℕ, suc};
+ghost use Rattle.std.specs.Prelude.{IfOk, IfErr, OnErr};
+ghost use Rattle.packet_entry.specs.Numbers.{last_visit};
+ghost use Rattle.queue_core.specs.Laws.{way_by};
+ghost use Rattle.queue_core.specs.Step.{Open};
+ghost use Rattle.packet_moves.specs.declared.fed.Fed.{Fed};
+ghost use Rattle.packet_moves.specs.declared.fed.Fed.TheVariants as fed;
+ghost use Rattle.place_turns.specs.Passes.{AreOf};
+ghost use Rattle.place_turns.specs.Places.{places_of, setting_of};
+ghost use Rattle.place_turns.specs.Trails.{Trail};
+ghost use Rattle.place_turns.specs.Moving.{Carries};
+ghost use Rattle.place_turns.specs.OnTheWay.{IsTurned, IsInTime, HasVisit, arrivals_left, CameTo};
+ghost use Rattle.place_turns.specs.OnTheWay.{WasToArrive, StandsAs, GoesInTime, ComesWith, StepsTo};
+ghost use Rattle.place_turns.specs.OnTheWay.{LooksFor, IsCarried, KeepsRoom, NeedsRoom, SpendsRoom};
+ghost use Rattle.place_turns.specs.OnTheWay.{IsMoved};
+ghost use Rattle.place_turns.specs.declared.arrivals.Came.TheVariants.{Ended, GoesOn};
+
+use crate::passes::Passes;
+use crate::places::Places;
+use histories::Lost;
+use hook_chain::{Decision, Next, onward};
+use locked_place::{Gate, Placed};
+use packet_entry::{Packet, Stock};
+use packet_moves::{Fed, Setting};
+use queue_core::{NoRoom, Outcome, an_arrival_leaves_as_its_outcome_says};
+use std::alloc::Global;
+use std::sync::Wait;
+
+/// Where a packet stands on its way.
+pub(crate) enum Came {
+    /// It came to its rest or end.
+    Ended { fed: Fed },
+    /// It goes on by this route, and without one it is destroyed.
+    GoesOn { packet: Packet, route: Option<Next> },
+}
+
+/// Where a packet stands that a queue didn't take.
+fn turned(setting: &Setting, outcome: Outcome, packet: Packet) -> Came
+    requires { way_by outcome ≡ Open → packet.visit < last_visit }
+    ensures stands { IsTurned setting.now packet (way_by outcome) result }
+    ensures in_time { IsInTime result }
+    ensures visit { HasVisit packet.visit result }
+{
+    match outcome {
+        Outcome::Bypassed | Outcome::OverflowOpen | Outcome::UserFullOpen { .. } => {
+            let route = onward(&setting.tables, setting.key, &packet, &Decision::Accept);
+            Came::GoesOn { packet, route }
+        }
+        _ => {
+            packet.destroy();
+            Came::Ended {
+                fed: Fed::Destroyed,
+            }
+        }
+    }
+}
+
+/// Where a packet stands after its arrival.
+fn stands(setting: &Setting, placed: Placed) -> Came
+    requires { GoesInTime placed }
+    ensures stands { StandsAs setting.now placed result }
+    ensures in_time { IsInTime result }
+    ensures visit { (visit : ℕ) → ComesWith visit placed → HasVisit visit result }
+{
+    match placed {
+        Placed::Waiting { port: _ } => Came::Ended { fed: Fed::Waiting },
+        Placed::Back { outcome, packet } => turned(setting, outcome, packet),
+    }
+}
+
+/// Tries to move a packet on by a route: to its next arrival, or to its end. When memory runs out
+/// the packet comes back as it was to arrive, and nothing has happened.
+pub(crate) fn attempt<R: Wait, G: Gate>(
+    places: &Places,
+    rt: &R,
+    alloc: Global,
+    gate: &G,
+    passes: &mut Passes,
+    mut packet: Packet,
+    route: Next,
+) -> Result<Came, NoRoom>
+    requires in_time { packet.visit < last_visit }
+    requires of { AreOf places.now passes.old.locks passes.old.trail.known }
+    ensures of { AreOf places.now passes.new.locks passes.new.trail.known }
+    ensures in_time { IfOk result IsInTime }
+    ensures nearer { IfOk result (λ came. arrivals_left came < suc (last_visit - packet.visit)) }
+    ensures moved { IfOk result (IsMoved (places_of places.now) (setting_of places.now)
+        passes.old.trail.known passes.new.trail.known packet route) }
+    ensures returned { IfErr result (λ back. WasToArrive packet route back.packet) }
+    ensures err { OnErr result (LooksFor (places_of places.now)
+        passes.old.trail.known passes.new.trail.known route) }
+    ensures lost { (passes.new.trail.lost ≡ passes.old.trail.lost)
+        × (passes.new.room ≡ passes.old.room) }
+{
+    match route {
+        Next::Released => {
+            packet.release();
+            Ok(Came::Ended { fed: Fed::Released })
+        }
+        Next::To {
+            queue,
+            bypass,
+            table,
+        } => {
+            packet.queued(table);
+            an_arrival_leaves_as_its_outcome_says();
+            let placed = passes.arrive(places, rt, alloc, gate, queue, bypass, packet)?;
+            Ok(stands(&places.setting, placed))
+        }
+    }
+}
+
+/// A packet that finds no memory for its next arrival is lost. Takes no memory.
+fn lose(lost: &mut Stock<Lost>, packet: Packet) -> Came
+    requires { 0 < lost.old.room }
+    ensures lost { lost.new.items ≡ lost.old.items
+        ++ record { number = packet.number; visit = packet.visit } ∷ [] }
+    ensures room { lost.new.room + 1 ≡ lost.old.room }
+    ensures came { result ≡ Ended fed.Lost }
+{
+    lost.push(Lost {
+        number: packet.number(),
+        visit: packet.visit(),
+    });
+    packet.destroy();
+    Came::Ended { fed: Fed::Lost }
+}
+
+/// Moves a packet on by a route: to its next arrival, or to its end. A packet that finds no memory
+/// is lost.
+fn go<R: Wait, G: Gate>(
+    places: &Places,
+    rt: &R,
+    alloc: Global,
+    gate: &G,
+    passes: &mut Passes,
+    packet: Packet,
+    route: Option<Next>,
+) -> Came
+    requires in_time { packet.visit < last_visit }
+    requires room { 0 < passes.old.room }
+    requires of { AreOf places.now passes.old.locks passes.old.trail.known }
+    ensures of { AreOf places.now passes.new.locks passes.new.trail.known }
+    ensures in_time { IsInTime result }
+    ensures nearer { arrivals_left result < suc (last_visit - packet.visit) }
+    ensures carried { StepsTo (places_of places.now) (setting_of places.now)
+        passes.old.trail (GoesOn packet route) passes.new.trail result }
+    ensures room { KeepsRoom passes.old.room passes.new.room result }
+{
+    let Some(route) = route else {
+        packet.destroy();
+        return Came::Ended {
+            fed: Fed::Destroyed,
+        };
+    };
+    match attempt(places, rt, alloc, gate, passes, packet, route) {
+        Ok(came) => came,
+        Err(NoRoom { packet }) => lose(&mut passes.lost, packet),
+    }
+}
+
+/// Moves a packet on to its rest or its end.
+pub(crate) fn carry<R: Wait, G: Gate>(
+    places: &Places,
+    rt: &R,
+    alloc: Global,
+    gate: &G,
+    passes: &mut Passes,
+    came: Came,
+) -> Fed
+    requires in_time { IsInTime came }
+    requires room { NeedsRoom came passes.old.room }
+    requires of { AreOf places.now passes.old.locks passes.old.trail.known }
+    ensures of { AreOf places.now passes.new.locks passes.new.trail.known }
+    ensures carried { IsCarried (places_of places.now) (setting_of places.now)
+        passes.old.trail came passes.new.trail result }
+    ensures room { SpendsRoom came passes.old.room passes.new.room }
+{
+    match came {
+        Came::Ended { fed } => fed,
+        Came::GoesOn { packet, route } => {
+            let came = go(places, rt, alloc, gate, passes, packet, route);
+            carry(places, rt, alloc, gate, passes, came)
+        }
+    }
+}

@@ -1,0 +1,138 @@
+//! Messages of a port.
+
+ghost use Rattle.std.specs.Prelude.{◌≡◌, ◌^◌, ◌<◌, ◌≤◌, ◌+◌, ◌++◌, length, IsSome};
+ghost use Rattle.std.specs.Prelude.{IfOk, OnOk, OnErr};
+ghost use Rattle.std.specs.BTreeMap.{get};
+ghost use Rattle.std.specs.Ordering.{nat_cmp};
+ghost use Rattle.netlink_codec.specs.Messages.{message_of, first_message};
+ghost use Rattle.nfqa_msgs.specs.RequestReading.{AskedFits};
+ghost use Rattle.place_turns.specs.Passes.{AreOf};
+ghost use Rattle.place_turns.specs.Places.{places_of, setting_of, outlets_of};
+ghost use Rattle.place_turns.specs.Trails.{MayLook};
+ghost use Rattle.place_turns.specs.Messages.{CarriesOut, IsSent, Sends};
+
+use crate::asking::ask;
+use crate::log::Log;
+use crate::passes::Passes;
+use crate::places::Places;
+use histories::queue_of;
+use locked_place::Gate;
+use netlink_codec::{Message, next_message};
+use nfqa_msgs::{Decoded, decode_request};
+use packet_entry::NoMemory;
+use packet_moves::{acknowledge, make_answer_room, words_of};
+use std::alloc::Global;
+use std::sync::Wait;
+
+/// Carries out what a message is decoded to: its errno. `NoMemory` leaves all as it was, though the
+/// pass may have seen more; a packet whose next arrival finds no memory is lost.
+fn carry_out<R: Wait, G: Gate>(
+    places: &Places,
+    rt: &R,
+    alloc: Global,
+    gate: &G,
+    passes: &mut Passes,
+    port: u32,
+    call: u32,
+    decoded: Decoded,
+) -> Result<u16, NoMemory>
+    requires payload { AskedFits decoded }
+    requires port { IsSome (get nat_cmp (outlets_of places.now).mailboxes port) }
+    requires of { AreOf places.now passes.old.locks passes.old.trail.known }
+    ensures of { AreOf places.now passes.new.locks passes.new.trail.known }
+    ensures carried_out { IfOk result (CarriesOut (places_of places.now) (setting_of places.now)
+        port call decoded passes.old.trail passes.new.trail) }
+    ensures looked { OnErr result (MayLook passes.old.trail passes.new.trail) }
+{
+    match decoded {
+        Decoded::Nothing => Ok(0),
+        Decoded::Refused { errno } => Ok(errno),
+        Decoded::Asked { request } => ask(places, rt, alloc, gate, passes, port, call, request),
+    }
+}
+
+/// A port sends the first message of some bytes, where one stands there: how many bytes it uses.
+/// `NoMemory` leaves all as it was, though the pass may have seen more.
+pub fn message<R: Wait, G: Gate>(
+    places: &Places,
+    rt: &R,
+    alloc: Global,
+    gate: &G,
+    passes: &mut Passes,
+    log: &mut Log,
+    port: u32,
+    datagram: &[u8],
+    replies: &mut Vec<u8>,
+) -> Result<u32, NoMemory>
+    requires short { length datagram.now < 2 ^ 31 }
+    requires port { IsSome (get nat_cmp (outlets_of places.now).mailboxes port) }
+    requires room { 0 < log.old.dids.room }
+    requires of { AreOf places.now passes.old.locks passes.old.trail.known }
+    ensures of { AreOf places.now passes.new.locks passes.new.trail.known }
+    ensures room { 0 < log.new.dids.room }
+    ensures sent { IfOk result (Sends (places_of places.now) (setting_of places.now) port
+        (first_message datagram.now) log.old.dids.items log.new.dids.items
+        passes.old.trail passes.new.trail replies.old.items replies.new.items) }
+    ensures looked { OnErr result (MayLook passes.old.trail passes.new.trail) }
+    ensures same { OnErr result (log.new.dids.items ≡ log.old.dids.items) }
+    ensures none_answered { OnErr result (replies.new.items ≡ replies.old.items) }
+{
+    match next_message(datagram) {
+        Some((message, used)) => {
+            send(
+                places, rt, alloc, gate, passes, log, port, &message, replies,
+            )?;
+            Ok(used as u32)
+        }
+        None => Ok(0),
+    }
+}
+
+/// The place of the queue that a message asks something of.
+fn asked_place(places: &Places, decoded: &Decoded) -> Option<u8> {
+    match decoded {
+        Decoded::Asked { request } => Some(places.place_of(queue_of(request)) as u8),
+        _ => None,
+    }
+}
+
+/// A port sends a message: it is carried out, logged, and acknowledged where that is due.
+/// `NoMemory` leaves all as it was, though the pass may have seen more.
+fn send<R: Wait, G: Gate>(
+    places: &Places,
+    rt: &R,
+    alloc: Global,
+    gate: &G,
+    passes: &mut Passes,
+    log: &mut Log,
+    port: u32,
+    message: &Message<'_>,
+    replies: &mut Vec<u8>,
+) -> Result<(), NoMemory>
+    requires short { length message.now.whole.now < 2 ^ 31 }
+    requires port { IsSome (get nat_cmp (outlets_of places.now).mailboxes port) }
+    requires room { 0 < log.old.dids.room }
+    requires of { AreOf places.now passes.old.locks passes.old.trail.known }
+    ensures of { AreOf places.now passes.new.locks passes.new.trail.known }
+    ensures room { 0 < log.new.dids.room }
+    ensures sent { OnOk result (IsSent (places_of places.now) (setting_of places.now) port
+        (message_of message.now) log.old.dids.items log.new.dids.items
+        passes.old.trail passes.new.trail replies.old.items replies.new.items) }
+    ensures looked { OnErr result (MayLook passes.old.trail passes.new.trail) }
+    ensures same { OnErr result (log.new.dids.items ≡ log.old.dids.items) }
+    ensures none_answered { OnErr result (replies.new.items ≡ replies.old.items) }
+{
+    let decoded = decode_request(alloc, message)?;
+    let place = asked_place(places, &decoded);
+    let call = log.next_call();
+    let words = words_of(alloc, port, call, message.whole, &decoded)?;
+    log.make_room()?;
+    make_answer_room(message, replies)?;
+    let errno = carry_out(places, rt, alloc, gate, passes, port, call, decoded)?;
+    let answer = acknowledge(message, errno, replies);
+    log.send(words, answer);
+    if let Some(place) = place {
+        gate.answered(place);
+    }
+    Ok(())
+}
