@@ -110,12 +110,15 @@ messages_of port dids None = []
 abbrev pub received_count : List Did → ℕ
 received_count dids = min (count_by is_received dids) largest_count
 
--- what the script answers to the last notice: the first line whose conditions all hold of the
--- notice and its count says it
+-- what is asked for in answer to the notice with this number, whose text says this: the first line
+-- whose conditions all hold of the notice and its count says it; nothing, where it can't be read
+abbrev pub asks_for : ScriptValue → ℕ → ℕ → Option Told → List Ask
+asks_for script place received None = []
+asks_for script place received (Some told) = answer script place received (notice_of told)
+
+-- what the script answers to the last notice
 abbrev pub answer_to : ScriptValue → ℕ → List Did → Option Told → List Ask
-answer_to script place dids None = []
-answer_to script place dids (Some told) =
-    answer script place (received_count dids) (notice_of told)
+answer_to script place dids told = asks_for script place (received_count dids) told
 
 abbrev pub is_some_due : List Due → Bool
 is_some_due [] = false

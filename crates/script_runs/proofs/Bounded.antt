@@ -56,12 +56,13 @@ use Rattle.packet_moves.specs.Planes.{entered, with_closed, without_device, begi
 use Rattle.made_runs.specs.Datagrams.{AsksWell}
 use Rattle.script_runs.specs.Numbers.{enough_arrivals}
 use Rattle.made_runs.specs.Entering.{card_of, card_at}
+use Rattle.made_runs.specs.Log.{asks_for}
 use Rattle.made_runs.specs.NoticeTexts.{told_exactly}
 use Rattle.script_runs.specs.Sending.{all_moved, carried_out, sent, all_sent}
 use Rattle.made_runs.specs.Datagrams.{messages_in, bytes_of}
 use Rattle.script_runs.specs.Sending.{done, all_done}
 use Rattle.script_runs.specs.Schedule.{Looked, letters_at, is_open_port, looked_at}
-use Rattle.script_runs.specs.Schedule.{looked, round, emptied_in, received_in, asks_for}
+use Rattle.script_runs.specs.Schedule.{looked, round, emptied_in, received_in}
 use Rattle.script_runs.specs.Schedule.{opened_all, all_down, fed, frame_passed, frames_passed}
 use Rattle.made_runs.specs.Feeder.{downs_after}
 use Rattle.script_runs.specs.Schedule.{is_pause, ended_all, rounds_for}

@@ -9,13 +9,11 @@ use Rattle.pcap_io.specs.declared.capture.Capture.{Capture}
 use Rattle.pcap_io.specs.declared.capture.Frame.{Frame}
 use Rattle.hook_chain.specs.Rules.{RuleTables}
 use Rattle.hook_chain.specs.Route.{next}
-use Rattle.nfqa_msgs.specs.NoticeMeaning.{notice_of}
 use Rattle.nfqa_msgs.specs.NoticeWriting.{Told}
 use Rattle.queue_core.specs.Numbers.{largest_count}
 use Rattle.histories.specs.declared.histories.Histories.{Histories}
-use Rattle.script_lines.specs.declared.ask.Ask.{Ask}
 use Rattle.script_lines.specs.declared.line.Down.{Down}
-use Rattle.inspector_script.specs.Scripts.{ScriptValue, opening, answer, closing}
+use Rattle.inspector_script.specs.Scripts.{ScriptValue, opening, closing}
 use Rattle.packet_moves.specs.declared.setting.Setting.{Setting}
 use Rattle.packet_moves.specs.World.{World, Port, at_port, received}
 use Rattle.packet_moves.specs.Moving.{carry}
@@ -26,6 +24,7 @@ use Rattle.packet_moves.specs.Logs.{logs_in}
 use Rattle.script_runs.specs.Numbers.{enough_arrivals, rounds_per_frame}
 use Rattle.made_runs.specs.Entering.{card_of}
 use Rattle.made_runs.specs.Feeder.{downs_after}
+use Rattle.made_runs.specs.Log.{asks_for}
 use Rattle.made_runs.specs.NoticeTexts.{told_exactly}
 use Rattle.script_runs.specs.Sending.{all_done}
 
@@ -53,11 +52,6 @@ is_open_port (Some p) = not p.is_closed
 pub record Looked : Type 0 where
   pub world : World
   pub found : Bool
-
--- what is asked for in answer to a notice; nothing, where it can't be read
-abbrev pub asks_for : ScriptValue → ℕ → ℕ → Option Told → List Ask
-asks_for script place received None = []
-asks_for script place received (Some told) = answer script place received (notice_of told)
 
 -- the inspector of the script's port at this place answers the notice that was received last
 abbrev pub answered_by : Setting → ScriptValue → ℕ → ℕ → Option Told → World → World

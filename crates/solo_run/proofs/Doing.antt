@@ -6,7 +6,8 @@ use Rattle.packet_moves.specs.declared.setting.Setting.{Setting}
 use Rattle.packet_moves.specs.World.{World}
 use Rattle.script_runs.specs.Schedule.{is_open_port}
 use Rattle.script_runs.specs.Sending.{all_done, done}
-use Rattle.solo_run.specs.RunState.{AreWords, ClosesLast, Keeps, KeepsBut, LeavesBy}
+use Rattle.port_scripts.specs.Words.{AreWords, ClosesLast}
+use Rattle.solo_run.specs.RunState.{Keeps, KeepsBut, LeavesBy}
 use Rattle.solo_run.proofs.Keeping.{keeps_both}
 
 -- the port is open, where there is something left

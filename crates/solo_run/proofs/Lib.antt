@@ -10,4 +10,3 @@ pub mod Receiving
 pub mod Words
 pub mod Looking
 pub mod Passing
-pub mod Notices

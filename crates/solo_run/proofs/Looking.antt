@@ -8,8 +8,9 @@ use Rattle.script_lines.specs.declared.ask.Ask.{Ask}
 use Rattle.inspector_script.specs.Scripts.{ScriptValue}
 use Rattle.packet_moves.specs.declared.setting.Setting.{Setting}
 use Rattle.packet_moves.specs.World.{World}
+use Rattle.made_runs.specs.Log.{asks_for}
 use Rattle.made_runs.specs.NoticeTexts.{told_exactly}
-use Rattle.script_runs.specs.Schedule.{asks_for, looked, looked_at, letters_at, is_open_port}
+use Rattle.script_runs.specs.Schedule.{looked, looked_at, letters_at, is_open_port}
 use Rattle.script_runs.specs.Schedule.{received_in, round, emptied_in, go_on_while}
 use Rattle.script_runs.specs.Sending.{all_done}
 use Rattle.solo_run.specs.RunState.{ReceivesFirst, port_at}

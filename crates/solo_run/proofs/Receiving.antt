@@ -18,8 +18,9 @@ use Rattle.packet_moves.specs.World.{World, Port, at_port, changed_at}
 use Rattle.packet_moves.specs.World.{received, received_from, first_of}
 use Rattle.packet_moves.specs.Calls.{is_sent, next_call}
 use Rattle.packet_moves.specs.Soundness.{IsSound}
+use Rattle.made_runs.specs.Log.{asks_for}
 use Rattle.made_runs.specs.NoticeTexts.{told_exactly}
-use Rattle.script_runs.specs.Schedule.{letters_at, received_in, asks_for}
+use Rattle.script_runs.specs.Schedule.{letters_at, received_in}
 use Rattle.solo_run.specs.RunState.{IsGoing, Keeps, ReceivesFirst, mind_of}
 use Rattle.solo_run.specs.RunState.{mind_at, port_at, one_notice}
 use Rattle.solo_run.specs.declared.inspector.Inspector.{Inspector}

@@ -1,3 +1,2 @@
-pub mod Downs
 pub mod Numbers
 pub mod RunState

@@ -13,7 +13,8 @@ use Rattle.packet_moves.specs.Messages.{call_at}
 use Rattle.packet_moves.specs.Soundness.{IsSound}
 use Rattle.solo_plane.specs.PlaneView as plane
 use Rattle.script_runs.specs.Sending.{sent}
-use Rattle.script_runs.specs.Schedule.{asks_for, received_in, is_open_port}
+use Rattle.script_runs.specs.Schedule.{received_in, is_open_port}
+use Rattle.made_runs.specs.Log.{asks_for}
 use Rattle.made_runs.specs.NoticeTexts.{told_exactly}
 use Rattle.solo_run.specs.declared.inspector.Inspector.{Inspector}
 use Rattle.solo_run.specs.declared.run.Run.{Run}
@@ -108,18 +109,6 @@ ReceivesFirst script place port [] asks old new = (asks ≡ None) × (new ≡ ol
 ReceivesFirst script place port (letter ∷ letters) asks old new =
     (asks ≡ Some (asks_for script place (received_in (new.ports port)) (told_exactly letter.bytes)))
     × (new ≡ at_port port received old)
-
--- nothing is asked for behind a closing
-abbrev pub ClosesLast : List Ask → Type 0
-ClosesLast [] = Unit {0}
-ClosesLast (Words words ∷ asks) = ClosesLast asks
-ClosesLast (Close ∷ asks) = asks ≡ []
-
--- no closing is asked for
-abbrev pub AreWords : List Ask → Type 0
-AreWords [] = Unit {0}
-AreWords (Words words ∷ asks) = AreWords asks
-AreWords (Close ∷ asks) = ⊥
 
 -- what an ask leaves as it is
 abbrev pub LeavesBy : Ask → ℕ → World → World → Type 0

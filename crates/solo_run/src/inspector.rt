@@ -1,21 +1,19 @@
 //! The inspectors behind the ports of a run.
 
 ghost use Rattle.std.specs.Prelude.{◌≡◌, ◌≢◌, ◌<◌, ℕ, length};
-ghost use Rattle.std.specs.Prelude.{slice_index_or, All, IfOk, OnOk, Some};
-ghost use Rattle.std.specs.Prelude.{false, option_map};
-ghost use Rattle.nfqa_msgs.specs.NoticeMeaning.{notice_of};
+ghost use Rattle.std.specs.Prelude.{slice_index_or, All, IfOk, OnOk, Some, false};
 ghost use Rattle.script_lines.specs.Limits.{IsAsk};
 ghost use Rattle.inspector_script.specs.Scripts.{next_count};
+ghost use Rattle.made_runs.specs.Log.{asks_for};
 ghost use Rattle.made_runs.specs.NoticeTexts.{told_exactly};
-ghost use Rattle.script_runs.specs.Schedule.{asks_for};
 ghost use Rattle.packet_moves.specs.World.{opened};
 ghost use Rattle.packet_moves.specs.Calls.{after_this};
 ghost use Rattle.solo_run.specs.RunState.{mind_of, one_notice};
 ghost use Rattle.solo_run.specs.declared.inspector.Inspector.{Inspector};
 
 use inspector_script::{Asks, PortMachine, Script};
-use nfqa_msgs::{Notice, decode_shared_notice, notices_are_told_apart};
-use packet_entry::{Bytes, Letter, NoMemory, Sequence};
+use packet_entry::{Letter, NoMemory};
+use port_scripts::answered;
 use std::alloc::Global;
 
 /// The inspector behind one port.
@@ -96,36 +94,4 @@ pub(crate) fn asked(
 {
     let machine = &mut all[place as usize].machine;
     answered(machine, alloc, script, letter)
-}
-
-/// The same of its machine alone.
-fn answered(
-    machine: &mut PortMachine,
-    alloc: Global,
-    script: &Script,
-    letter: &Letter,
-) -> Result<Asks, NoMemory>
-    requires has_port { machine.old.place < length script.now.ports }
-    ensures asks { IfOk result (λ asks. asks ≡ asks_for script.now machine.old.place
-        (next_count machine.old.received) (told_exactly letter.now.bytes)) }
-    ensures fit { IfOk result (All IsAsk) }
-    ensures counted { OnOk result
-        (machine.new ≡ record machine.old { received = next_count machine.old.received }) }
-{
-    match notice_in(alloc, &letter.bytes)? {
-        Some(notice) => machine.answer(alloc, script, &notice),
-        None => {
-            machine.pass_over();
-            Ok(Sequence::new(alloc))
-        }
-    }
-}
-
-/// The notice whose text these bytes are. Its payload is a part of them: nothing is copied.
-fn notice_in(alloc: Global, bytes: &Bytes) -> Result<Option<Notice>, NoMemory>
-    ensures { IfOk result
-        (λ notice. notice ≡ option_map notice_of (told_exactly bytes.now)) }
-{
-    notices_are_told_apart();
-    decode_shared_notice(alloc, bytes)
 }

@@ -7,10 +7,8 @@
 #![tactic(auto)]
 
 mod between;
-mod downs;
 mod inspector;
 mod one_thread;
-mod packet;
 mod parts;
 mod rounds;
 mod run;

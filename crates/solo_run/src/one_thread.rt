@@ -12,7 +12,6 @@ ghost use Rattle.script_runs.specs.Schedule as schedule;
 ghost use Rattle.solo_run.specs.Numbers.{most_frames};
 ghost use Rattle.solo_run.specs.RunState.{AreOpen, Goes, IsWith, setting_of, world_of};
 
-use crate::downs::downs_by_frame;
 use crate::parts::{end_all, open_all, pass_all, rounds_for, take_down};
 use crate::rounds::empty;
 use crate::run::Run;
@@ -21,6 +20,7 @@ use hook_chain::Tables;
 use inspector_script::Script;
 use packet_entry::NoMemory;
 use pcap_io::Capture;
+use port_scripts::downs_by_frame;
 use std::alloc::Global;
 
 /// Runs a script over the packets of a capture, of at most 200,000 frames: the histories of the

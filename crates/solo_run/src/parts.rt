@@ -7,20 +7,19 @@ ghost use Rattle.script_runs.specs.Schedule.{all_down, ended_all, fed, frame_pas
 ghost use Rattle.made_runs.specs.Feeder.{downs_after};
 ghost use Rattle.script_runs.specs.Schedule.{frames_passed, is_pause, opened_all, paused};
 ghost use Rattle.script_runs.specs.Schedule.{rounds_for};
-ghost use Rattle.solo_run.specs.Downs.{AreDownsOf};
+ghost use Rattle.port_scripts.specs.Downs.{AreDownsOf};
 ghost use Rattle.solo_run.specs.Numbers.{most_frames};
 ghost use Rattle.solo_run.specs.RunState.{AreOpen, Goes, IsWith, Keeps, SameOpen};
 ghost use Rattle.solo_run.specs.RunState.{setting_of, world_of};
 
 use crate::between::Nothing;
-use crate::downs::DownsByFrame;
-use crate::packet::packet_of;
 use crate::rounds::{Emptied, empty};
 use crate::run::Run;
 use crate::sending::do_all;
 use inspector_script::{Downs, Script};
 use packet_entry::NoMemory;
 use pcap_io::{Capture, Frame};
+use port_scripts::{DownsByFrame, packet_of, ports_close_at_the_end};
 use std::alloc::Global;
 
 /// The ports open, in the script's order: each sends its opening messages.
@@ -33,6 +32,7 @@ pub(crate) fn open_all(run: &mut Run, alloc: Global, script: &Script) -> Result<
         ≡ opened_all (setting_of run.old) script.now 0 script.now.ports (world_of run.old)) }
     ensures keeps { OnOk result (Keeps (world_of run.old) (world_of run.new)) }
 {
+    ports_close_at_the_end();
     for place in 0..script.ports().len() {
         let place = place as u32;
         let asks = run.opening(alloc, script, place)?;
@@ -57,6 +57,7 @@ pub(crate) fn end_all(
         script.now 0 script.now.ports (world_of run.old)) }
     ensures fed { OnOk result ((world_of run.new).fed ≡ (world_of run.old).fed) }
 {
+    ports_close_at_the_end();
     for place in 0..script.ports().len() {
         let place = place as u32;
         let asks = run.closing(alloc, script, place)?;

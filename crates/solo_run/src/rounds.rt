@@ -9,6 +9,7 @@ use crate::run::Run;
 use crate::sending::do_all;
 use inspector_script::Script;
 use packet_entry::NoMemory;
+use port_scripts::ports_close_at_the_end;
 use std::alloc::Global;
 
 /// A port that is open looks into its mailbox: its first notice is received and answered. Whether
@@ -27,6 +28,7 @@ fn look(run: &mut Run, alloc: Global, script: &Script, place: u32) -> Result<boo
     if !run.is_open(script, place) {
         return Ok(false);
     }
+    ports_close_at_the_end();
     match run.receive(alloc, script, place)? {
         Some(asks) => {
             do_all(run, alloc, script, place, asks, &Nothing)?;

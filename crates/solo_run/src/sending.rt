@@ -1,23 +1,23 @@
 //! What ports send.
 
-ghost use Rattle.std.specs.Prelude.{◌≡◌, ◌<◌, ◌≤◌, ◌^◌, drop, length, All, OnOk, true};
+ghost use Rattle.std.specs.Prelude.{◌≡◌, ◌<◌, ◌^◌, length, All, OnOk, true};
 ghost use Rattle.nfqa_msgs.specs.RequestWriting.{spelling};
 ghost use Rattle.script_lines.specs.Limits.{IsAsk, IsRequest, IsWords};
 ghost use Rattle.script_lines.specs.declared.ask.Ask.TheVariants.{Words};
 ghost use Rattle.packet_moves.specs.Messages.{call_at};
 ghost use Rattle.script_runs.specs.Sending.{all_done, all_sent, done};
 ghost use Rattle.made_runs.specs.Datagrams.{messages_in};
-ghost use Rattle.solo_run.specs.RunState.{AreWords, ClosesLast, Goes, IsWith, Keeps, KeepsBut};
-ghost use Rattle.solo_run.specs.RunState.{LeavesBy};
-ghost use Rattle.solo_run.specs.RunState.{is_open_at, port_at, setting_of, world_of};
+ghost use Rattle.port_scripts.specs.Words.{AreWords, ClosesLast};
+ghost use Rattle.solo_run.specs.RunState.{Goes, IsWith, Keeps, KeepsBut, LeavesBy, is_open_at};
+ghost use Rattle.solo_run.specs.RunState.{port_at, setting_of, world_of};
 
 use crate::between::Between;
 use crate::run::Run;
 use histories::AskWords;
 use inspector_script::Script;
-use made_runs::datagrams_are_short;
-use nfqa_msgs::{Request, encode_request};
+use nfqa_msgs::Request;
 use packet_entry::NoMemory;
+use port_scripts::{behind, put_text};
 use script_lines::{Ask, Asks};
 use std::alloc::Global;
 use std::mem;
@@ -53,26 +53,6 @@ pub(crate) fn send_all<B: Between>(
         between.go(run, alloc, script)?;
     }
     Ok(())
-}
-
-/// The bytes behind this many.
-fn behind(bytes: &[u8], used: usize) -> &[u8]
-    requires { used ≤ length bytes.now }
-    ensures value { result.now ≡ drop used bytes.now }
-    ensures length { length result.now ≤ length bytes.now }
-{
-    &bytes[used..]
-}
-
-/// A request's text, in place of what the buffer held.
-fn put_text(text: &mut Vec<u8>, port: u32, call: u32, request: &Request) -> Result<(), NoMemory>
-    requires { IsRequest request.now }
-    ensures text { OnOk result (text.new.items ≡ spelling port call request.now) }
-    ensures short { OnOk result (length text.new.items < 2 ^ 31) }
-{
-    datagrams_are_short();
-    text.clear();
-    encode_request(port, call, request, text)
 }
 
 /// A port sends a request, as its message with the next number.

@@ -5,12 +5,13 @@ use Rattle.script_runs.specs.Sending.{all_done}
 use Rattle.solo_run.specs.RunState.{port_at, setting_of, world_of}
 use Rattle.solo_run.proofs.Keeping.{with_both}
 use Rattle.solo_run.proofs.Passing.{ended_on, later_open}
-use Rattle.solo_run.proofs.Words.{closes_last}
+use Rattle.solo_run.proofs.Words.{same_last}
 use Rattle.solo_run.proofs.parts.end_all.Goals as goal
 
 pub do_all-requires-clause-last : goal.do_all-requires-clause-last
 do_all-requires-clause-last c =
-    closes_last c.args.script.now c.loop-place.place c.in_ok-asks.asks c.in_ok-asks.ensures.asks
+    same_last c.in_ok-asks.asks _ c.in_ok-asks.ensures.asks
+    (c.ports_close_at_the_end.ensures.closing c.args.script.now c.loop-place.place)
 
 pub loop-place-preserved : goal.loop-place-preserved
 loop-place-preserved c =

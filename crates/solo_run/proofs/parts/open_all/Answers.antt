@@ -4,12 +4,14 @@ use Rattle.script_runs.specs.Sending.{all_done}
 use Rattle.solo_run.specs.RunState.{port_at, setting_of, world_of}
 use Rattle.solo_run.proofs.Keeping.{keeps_both, with_both}
 use Rattle.solo_run.proofs.Passing.{opened_on}
-use Rattle.solo_run.proofs.Words.{opening_all_words, opening_last}
+use Rattle.solo_run.proofs.Words.{last_of_words, same_words}
 use Rattle.solo_run.proofs.parts.open_all.Goals as goal
 
 pub do_all-requires-clause-last : goal.do_all-requires-clause-last
 do_all-requires-clause-last c =
-    opening_last c.args.script.now c.loop-place.place c.in_ok-asks.asks c.in_ok-asks.ensures.asks
+    last_of_words c.in_ok-asks.asks
+    (same_words c.in_ok-asks.asks _ c.in_ok-asks.ensures.asks
+    (c.ports_close_at_the_end.ensures.opening c.args.script.now c.loop-place.place))
 
 pub loop-place-preserved : goal.loop-place-preserved
 loop-place-preserved c =
@@ -23,8 +25,9 @@ loop-place-preserved c =
           c.loop-place.invariant.made_with c.in_ok-do_all.ensures.made_with;
       keeps = keeps_both (world_of c.args.run.now) (world_of c.loop-place.run)
           (world_of c.do_all.new.run) c.loop-place.invariant.keeps
-          (c.in_ok-do_all.ensures.keeps (opening_all_words c.args.script.now c.loop-place.place
-          c.in_ok-asks.asks c.in_ok-asks.ensures.asks));
+          (c.in_ok-do_all.ensures.keeps
+          (same_words c.in_ok-asks.asks _ c.in_ok-asks.ensures.asks
+          (c.ports_close_at_the_end.ensures.opening c.args.script.now c.loop-place.place)));
       on = opened_on (setting_of c.args.run.now) c.args.script.now c.loop-place.place
           c.in_ok-asks.asks (world_of c.loop-place.run) (world_of c.do_all.new.run)
           (rw c.ports-place-end.ensures.value at c.loop-place-test.true)

@@ -12,7 +12,8 @@ do_all-requires-clause-last c =
     last_of_words c.in-Some.asks
     (received_words c.args.script.now c.args.place (port_at c.args.script.now c.args.place) _
     c.in-Some.asks (world_of c.args.run.now) (world_of c.receive.new.self)
-    (rw c.in-Some.is at c.in_ok-asks.ensures.received))
+    (rw c.in-Some.is at c.in_ok-asks.ensures.received)
+    (c.ports_close_at_the_end.ensures.answer c.args.script.now))
 
 pub returns-in_ok-do_all-in-Some-clause-looked : goal.returns-in_ok-do_all-in-Some-clause-looked
 returns-in_ok-do_all-in-Some-clause-looked c before =
@@ -33,4 +34,5 @@ returns-in_ok-do_all-in-Some-clause-keeps c =
     (c.in_ok-do_all-in-Some.ensures.keeps
     (received_words c.args.script.now c.args.place (port_at c.args.script.now c.args.place) _
     c.in-Some.asks (world_of c.args.run.now) (world_of c.receive.new.self)
-    (rw c.in-Some.is at c.in_ok-asks.ensures.received)))
+    (rw c.in-Some.is at c.in_ok-asks.ensures.received)
+    (c.ports_close_at_the_end.ensures.answer c.args.script.now)))

@@ -13,11 +13,7 @@ const NANOS_IN_A_MICRO: u32 = 1_000;
 
 /// The packet of a frame with this number, which shares the frame's bytes; `None` of a frame that
 /// isn't IP.
-pub(crate) fn packet_of(
-    capture: &Capture,
-    number: u32,
-    frame: &Frame,
-) -> Result<Option<Packet>, NoMemory>
+pub fn packet_of(capture: &Capture, number: u32, frame: &Frame) -> Result<Option<Packet>, NoMemory>
     requires number { 1 ≤ number }
     requires bytes { length frame.now.bytes ≤ longest_packet }
     ensures { IfOk result (λ packet. packet ≡ card_of capture.now number frame.now) }

@@ -1,8 +1,8 @@
 use Rattle.std.proofs.Common.{◌≡◌, ◌++◌, ℕ}
 use Rattle.std.specs.Prelude.{filter}
 use Rattle.made_runs.specs.Feeder.{downs_after, is_after}
-use Rattle.solo_run.specs.Downs.{lines_after}
-use Rattle.solo_run.proofs.downs.downs_by_frame.Given as goal
+use Rattle.port_scripts.specs.Downs.{lines_after}
+use Rattle.port_scripts.proofs.downs.downs_by_frame.Given as goal
 
 abbrev pub invariant-loop-down : goal.invariant-loop-down
 invariant-loop-down l = record {

@@ -1,5 +1,5 @@
-use Rattle.solo_run.proofs.Notices.{notice_is}
-use Rattle.solo_run.proofs.inspector.notice_in.Goals as goal
+use Rattle.port_scripts.proofs.Notices.{notice_is}
+use Rattle.port_scripts.proofs.answers.notice_in.Goals as goal
 
 pub returns : goal.returns
 returns c =

@@ -2,7 +2,7 @@
 
 ghost use Rattle.std.specs.Prelude.{◌≡◌, ◌∷◌, ◌++◌, ℕ, [], filter, IfOk, OnOk};
 ghost use Rattle.made_runs.specs.Feeder.{is_after};
-ghost use Rattle.solo_run.specs.Downs.{AreDownsOf, lines_after};
+ghost use Rattle.port_scripts.specs.Downs.{AreDownsOf, lines_after};
 
 use inspector_script::{Downs, Script};
 use packet_entry::{NoMemory, Sequence};
@@ -12,10 +12,10 @@ use std::collections::BTreeMap;
 
 /// The `down` lines of a script by the frame after which they take effect, those of one frame in
 /// the script's order.
-pub(crate) type DownsByFrame = BTreeMap<u32, Downs>;
+pub type DownsByFrame = BTreeMap<u32, Downs>;
 
 /// The `down` lines of a script by frame.
-pub(crate) fn downs_by_frame(alloc: Global, script: &Script) -> Result<DownsByFrame, NoMemory>
+pub fn downs_by_frame(alloc: Global, script: &Script) -> Result<DownsByFrame, NoMemory>
     ensures { IfOk result (AreDownsOf script.now) }
 {
     let mut by_frame = BTreeMap::new(alloc);

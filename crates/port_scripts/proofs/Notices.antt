@@ -1,5 +1,5 @@
 -- The notice that is read of bytes is what their exact text tells.
-use Rattle.std.proofs.Common.{◌≡◌, ◌<◌, ◌≤◌, ◌^◌, ◌∙◌, ℕ, List, length, Option, Some, None, Bool}
+use Rattle.std.proofs.Common.{◌≡◌, ◌<◌, ◌^◌, ◌∙◌, ℕ, List, length, Option, Some, None, Bool}
 use Rattle.std.proofs.Common.{true, refl, sym, ap}
 use Rattle.std.specs.Prelude.{◌↔◌, ◌&&◌, Result, Ok, Err, IfOk, IfSome, IsNone, option_map}
 use Rattle.std.specs.Prelude.{if◌then◌else◌}
