@@ -31,8 +31,8 @@ pub enum Came {
     },
 }
 
-/// Where a packet stands that a queue didn't take: it goes on as if it were accepted where the queue
-/// let it through, and else it is destroyed.
+/// Where a packet stands that a queue didn't take: where the queue let it through it goes on as if
+/// it were accepted, and else it is destroyed.
 pub fn turned(setting: &Setting, outcome: Outcome, packet: Packet) -> Came
     requires { way_by outcome ≡ Open → packet.visit < last_visit }
     ensures stands { IsTurned setting.now packet (way_by outcome) result }

@@ -1,6 +1,6 @@
-//! How packets move from queue to queue, each to its rest or its end, whatever holds the queues: what
-//! a plane is made with, where a packet stands between two queues, what becomes of it, what a port's
-//! message does, and how it is logged.
+//! How packets move from queue to queue, each to its rest or its end, whatever holds the queues:
+//! what a plane is made with, where a packet stands between two queues, what becomes of it, what a
+//! port's message does, and how it is logged.
 #![tactic(auto)]
 
 mod answers;
