@@ -25,13 +25,14 @@ use Rattle.locked_place.specs.declared.arrivals.Placed.{Placed}
 use Rattle.locked_place.specs.declared.arrivals.Placed.TheVariants as placed
 use Rattle.locked_place.specs.Turns.{IsTurn, ArrivesIn, PlacesAs}
 use Rattle.place_rows.specs.Rows.{Known, TurnsOne}
-use Rattle.place_turns.specs.declared.arrivals.Came.{Came}
-use Rattle.place_turns.specs.declared.arrivals.Came.TheVariants.{GoesOn}
+use Rattle.packet_moves.specs.declared.came.Came.{Came}
+use Rattle.packet_moves.specs.declared.came.Came.TheVariants.{GoesOn}
+use Rattle.packet_moves.specs.OnTheWay.{IsTurned, WasToArrive}
 use Rattle.place_turns.specs.Trails.{Trail, MayLook}
 use Rattle.hook_chain.specs.Route.{next}
 use Rattle.place_turns.specs.Moving.{Carries, Settles, IsFed}
-use Rattle.place_turns.specs.OnTheWay.{CameTo, StandsAs, IsTurned, IsMoved, LooksFor, IsCarried, trail}
-use Rattle.place_turns.specs.OnTheWay.{WasToArrive, StepsTo}
+use Rattle.place_turns.specs.OnTheWay.{CameTo, StandsAs, StepsTo, IsMoved, LooksFor, IsCarried}
+use Rattle.place_turns.specs.OnTheWay.{trail}
 use Rattle.place_turns.proofs.Carrying.{look_at}
 
 -- what the law of queues says of what leaves at an arrival

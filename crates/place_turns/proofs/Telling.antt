@@ -1,5 +1,5 @@
 -- A row of passes that told another, or was told: its counts still stand.
-use Rattle.std.proofs.Common.{◌≡◌, ◌<◌, ℕ, zero, suc, List, [], ◌∷◌, length, refl, sym, ap, ◌∙◌}
+use Rattle.std.proofs.Common.{◌≡◌, ◌<◌, ℕ, zero, suc, List, [], ◌∷◌, length, refl, sym, ◌∙◌}
 use Rattle.std.proofs.Common.{subst, arith}
 use Rattle.std.specs.Prelude.{map, slice_get, Option, Some, None, IfSome}
 use Rattle.std.specs.BTreeMap.{BTreeMap}

@@ -1,22 +1,22 @@
--- Where a packet stands on its way, as the code has it, beside what the definitions say.
-use Rattle.std.specs.Prelude.{◌≡◌, ◌⊎◌, ◌<◌, ◌≤◌, ◌-◌, ◌+◌, ◌%◌, ℕ, suc, List, Some}
+-- Where a packet stands on its way, as the code has it, beside what the turns of a pass say.
+use Rattle.std.specs.Prelude.{◌≡◌, ◌<◌, ◌%◌, ℕ, suc, List, Some}
 use Rattle.packet_entry.specs.declared.packet.Card.{Card}
 use Rattle.packet_entry.specs.Numbers.{last_visit}
 use Rattle.hook_chain.specs.declared.chain.Next.{Next}
 use Rattle.hook_chain.specs.declared.chain.Next.TheVariants.{Released, To}
 use Rattle.queue_core.specs.Laws.{way_by}
-use Rattle.queue_core.specs.Step.{Way, Gone, Open, Decided}
+use Rattle.queue_core.specs.Step.{Open}
 use Rattle.histories.specs.declared.histories.Lost.{Lost}
 use Rattle.packet_moves.specs.declared.fed.Fed.{Fed}
 use Rattle.packet_moves.specs.declared.fed.Fed.TheVariants as fed
 use Rattle.packet_moves.specs.declared.setting.Setting.{Setting}
-use Rattle.packet_moves.specs.Moving.{route_after}
+use Rattle.packet_moves.specs.declared.came.Came.{Came}
+use Rattle.packet_moves.specs.declared.came.Came.TheVariants.{Ended, GoesOn}
+use Rattle.packet_moves.specs.OnTheWay.{IsTurned}
 use Rattle.locked_place.specs.declared.arrivals.Placed.{Placed}
 use Rattle.locked_place.specs.declared.arrivals.Placed.TheVariants as placed
 use Rattle.locked_place.specs.Turns.{LooksOn}
 use Rattle.place_rows.specs.Rows.{Known, TurnsOne}
-use Rattle.place_turns.specs.declared.arrivals.Came.{Came}
-use Rattle.place_turns.specs.declared.arrivals.Came.TheVariants.{Ended, GoesOn}
 use Rattle.place_turns.specs.Trails.{Trail}
 use Rattle.place_turns.specs.Moving.{Goes, Carries}
 
@@ -24,27 +24,6 @@ use Rattle.place_turns.specs.Moving.{Goes, Carries}
 abbrev pub CameTo : Goes → Trail → Came → Trail → Fed → Type 0
 CameTo on t (Ended ended) u f = (u ≡ t) × (f ≡ ended)
 CameTo on t (GoesOn card route) u f = on t card route u f
-
--- it can have one arrival more
-abbrev pub IsInTime : Came → Type 0
-IsInTime (Ended fed) = Unit {0}
-IsInTime (GoesOn card route) = card.visit < last_visit
-
--- where it goes on it has this visit
-abbrev pub HasVisit : ℕ → Came → Type 0
-HasVisit visit (Ended fed) = Unit {0}
-HasVisit visit (GoesOn card route) = card.visit ≡ visit
-
--- how many arrivals are left to it, and one more while it goes on; 0 once it ended
-abbrev pub arrivals_left : Came → ℕ
-arrivals_left (Ended fed) = 0
-arrivals_left (GoesOn card route) = suc (last_visit - card.visit)
-
--- where a packet stands that a queue didn't take
-abbrev pub IsTurned : Setting → Card → Way → Came → Type 0
-IsTurned s card Gone came = came ≡ Ended fed.Destroyed
-IsTurned s card Open came = came ≡ GoesOn card (route_after s (card, Open))
-IsTurned s card (Decided decision) came = ⊥
 
 -- where it stands after its arrival
 abbrev pub StandsAs : Setting → Placed → Came → Type 0
@@ -88,28 +67,3 @@ abbrev pub StepsTo : ℕ → Setting → Trail → Came → Trail → Came → T
 StepsTo places s old before new after =
     (memory : ℕ) (u : Trail) (f : Fed) → CameTo (Carries memory places s) new after u f →
     IsCarried places s old before u f
-
--- one more may be lost while it goes on; once it ended at most one more was
-abbrev pub KeepsRoom : ℕ → ℕ → Came → Type 0
-KeepsRoom old new (Ended fed) = old ≤ new + 1
-KeepsRoom old new (GoesOn card route) = new ≡ old
-
--- to go on it needs room for one that is lost
-abbrev pub NeedsRoom : Came → ℕ → Type 0
-NeedsRoom (Ended fed) room = Unit {0}
-NeedsRoom (GoesOn card route) room = 0 < room
-
--- and spends no more than that
-abbrev pub SpendsRoom : Came → ℕ → ℕ → Type 0
-SpendsRoom (Ended fed) old new = new ≡ old
-SpendsRoom (GoesOn card route) old new = old ≤ new + 1
-
--- the packet as it was to arrive by this route
-abbrev pub WasToArrive : Card → Next → Card → Type 0
-WasToArrive card Released back = ⊥
-WasToArrive card (To queue bypass table) back =
-    back ≡ record card { visit = card.visit + 1; table = table }
-
--- a packet that is handed back is as it was, or as it was to arrive
-abbrev pub HandsBack : Card → Next → Card → Type 0
-HandsBack card route back = (back ≡ card) ⊎ WasToArrive card route back

@@ -1,61 +1,25 @@
 //! Packets that move on, from queue to queue, each to its rest or its end.
 
-ghost use Rattle.std.specs.Prelude.{◌≡◌, ◌≤◌, ◌<◌, ◌-◌, ◌+◌, ◌++◌, ◌∷◌, [], ℕ, suc};
+ghost use Rattle.std.specs.Prelude.{◌≡◌, ◌<◌, ◌-◌, ℕ, suc};
 ghost use Rattle.std.specs.Prelude.{IfOk, IfErr, OnErr};
 ghost use Rattle.packet_entry.specs.Numbers.{last_visit};
-ghost use Rattle.queue_core.specs.Laws.{way_by};
-ghost use Rattle.queue_core.specs.Step.{Open};
-ghost use Rattle.packet_moves.specs.declared.fed.Fed.{Fed};
-ghost use Rattle.packet_moves.specs.declared.fed.Fed.TheVariants as fed;
+ghost use Rattle.packet_moves.specs.declared.came.Came.TheVariants.{GoesOn};
+ghost use Rattle.packet_moves.specs.OnTheWay.{IsInTime, HasVisit, arrivals_left, WasToArrive};
+ghost use Rattle.packet_moves.specs.OnTheWay.{KeepsRoom, NeedsRoom, SpendsRoom};
 ghost use Rattle.place_turns.specs.Passes.{AreOf};
 ghost use Rattle.place_turns.specs.Places.{places_of, setting_of};
-ghost use Rattle.place_turns.specs.Trails.{Trail};
-ghost use Rattle.place_turns.specs.Moving.{Carries};
-ghost use Rattle.place_turns.specs.OnTheWay.{IsTurned, IsInTime, HasVisit, arrivals_left, CameTo};
-ghost use Rattle.place_turns.specs.OnTheWay.{WasToArrive, StandsAs, GoesInTime, ComesWith, StepsTo};
-ghost use Rattle.place_turns.specs.OnTheWay.{LooksFor, IsCarried, KeepsRoom, NeedsRoom, SpendsRoom};
-ghost use Rattle.place_turns.specs.OnTheWay.{IsMoved};
-ghost use Rattle.place_turns.specs.declared.arrivals.Came.TheVariants.{Ended, GoesOn};
+ghost use Rattle.place_turns.specs.OnTheWay.{StandsAs, GoesInTime, ComesWith, StepsTo};
+ghost use Rattle.place_turns.specs.OnTheWay.{LooksFor, IsCarried, IsMoved};
 
 use crate::passes::Passes;
 use crate::places::Places;
-use histories::Lost;
-use hook_chain::{Decision, Next, onward};
+use hook_chain::Next;
 use locked_place::{Gate, Placed};
-use packet_entry::{Packet, Stock};
-use packet_moves::{Fed, Setting};
-use queue_core::{NoRoom, Outcome, an_arrival_leaves_as_its_outcome_says};
+use packet_entry::Packet;
+use packet_moves::{Came, Fed, Setting, lose, turned};
+use queue_core::{NoRoom, an_arrival_leaves_as_its_outcome_says};
 use std::alloc::Global;
 use std::sync::Wait;
-
-/// Where a packet stands on its way.
-pub(crate) enum Came {
-    /// It came to its rest or end.
-    Ended { fed: Fed },
-    /// It goes on by this route, and without one it is destroyed.
-    GoesOn { packet: Packet, route: Option<Next> },
-}
-
-/// Where a packet stands that a queue didn't take.
-fn turned(setting: &Setting, outcome: Outcome, packet: Packet) -> Came
-    requires { way_by outcome ≡ Open → packet.visit < last_visit }
-    ensures stands { IsTurned setting.now packet (way_by outcome) result }
-    ensures in_time { IsInTime result }
-    ensures visit { HasVisit packet.visit result }
-{
-    match outcome {
-        Outcome::Bypassed | Outcome::OverflowOpen | Outcome::UserFullOpen { .. } => {
-            let route = onward(&setting.tables, setting.key, &packet, &Decision::Accept);
-            Came::GoesOn { packet, route }
-        }
-        _ => {
-            packet.destroy();
-            Came::Ended {
-                fed: Fed::Destroyed,
-            }
-        }
-    }
-}
 
 /// Where a packet stands after its arrival.
 fn stands(setting: &Setting, placed: Placed) -> Came
@@ -110,22 +74,6 @@ pub(crate) fn attempt<R: Wait, G: Gate>(
             Ok(stands(&places.setting, placed))
         }
     }
-}
-
-/// A packet that finds no memory for its next arrival is lost. Takes no memory.
-fn lose(lost: &mut Stock<Lost>, packet: Packet) -> Came
-    requires { 0 < lost.old.room }
-    ensures lost { lost.new.items ≡ lost.old.items
-        ++ record { number = packet.number; visit = packet.visit } ∷ [] }
-    ensures room { lost.new.room + 1 ≡ lost.old.room }
-    ensures came { result ≡ Ended fed.Lost }
-{
-    lost.push(Lost {
-        number: packet.number(),
-        visit: packet.visit(),
-    });
-    packet.destroy();
-    Came::Ended { fed: Fed::Lost }
 }
 
 /// Moves a packet on by a route: to its next arrival, or to its end. A packet that finds no memory

@@ -1,6 +1,6 @@
 //! Requests, and the packets that they let go on.
 
-ghost use Rattle.std.specs.Prelude.{◌≡◌, ◌≤◌, length, IfOk, OnErr, IsSome};
+ghost use Rattle.std.specs.Prelude.{◌≤◌, length, IfOk, OnErr, IsSome};
 ghost use Rattle.std.specs.BTreeMap.{get};
 ghost use Rattle.std.specs.Ordering.{nat_cmp};
 ghost use Rattle.nfqa_msgs.specs.RequestReading.{PayloadFits};
@@ -10,13 +10,14 @@ ghost use Rattle.place_turns.specs.Places.{places_of, setting_of, outlets_of};
 ghost use Rattle.place_turns.specs.Trails.{MayLook};
 ghost use Rattle.place_turns.specs.Messages.{CarriesAll, IsAsked};
 
-use crate::arrivals::{Came, carry};
+use crate::arrivals::carry;
 use crate::passes::Passes;
 use crate::places::Places;
 use hook_chain::onward;
 use locked_place::Gate;
 use nfqa_msgs::Request;
 use packet_entry::NoMemory;
+use packet_moves::Came;
 use queue_core::Handed;
 use std::alloc::Global;
 use std::sync::Wait;

@@ -1,6 +1,6 @@
 //! Ports that close, and devices that go down.
 
-ghost use Rattle.std.specs.Prelude.{◌≡◌, ◌<◌, ◌≤◌, ℕ, List, IfOk, OnErr};
+ghost use Rattle.std.specs.Prelude.{◌≡◌, ◌<◌, List, IfOk, OnErr};
 ghost use Rattle.packet_entry.specs.declared.packet.Card.{Card};
 ghost use Rattle.histories.specs.declared.histories.Lost.{Lost};
 ghost use Rattle.packet_moves.specs.declared.setting.Setting.{Setting};
@@ -17,7 +17,7 @@ use std::sync::Wait;
 
 impl Passes {
     ghost use Rattle.place_turns.specs.Passes.{AreOf, Shuts};
-    ghost use Rattle.place_turns.specs.Trails.{Trail, parts_of};
+    ghost use Rattle.place_turns.specs.Trails.{parts_of};
 
     /// A port closes at one place. Takes no memory.
     fn close_port_at<R: Wait>(&mut self, places: &Places, rt: &R, port: u32, place: usize)

@@ -1,12 +1,12 @@
 //! Packets that are fed.
 
-ghost use Rattle.std.specs.Prelude.{◌≡◌, ◌<◌, ◌≤◌, ◌++◌, ◌∷◌, [], IfOk, OnOk, IfErr, OnErr};
+ghost use Rattle.std.specs.Prelude.{◌≡◌, ◌<◌, ◌++◌, ◌∷◌, [], IfOk, OnOk, IfErr, OnErr};
 ghost use Rattle.hook_chain.specs.Route.{next};
 ghost use Rattle.place_turns.specs.Passes.{AreOf};
 ghost use Rattle.place_turns.specs.Places.{places_of, setting_of};
 ghost use Rattle.place_turns.specs.Trails.{MayLook};
 ghost use Rattle.place_turns.specs.Moving.{IsFed};
-ghost use Rattle.place_turns.specs.OnTheWay.{HandsBack};
+ghost use Rattle.packet_moves.specs.OnTheWay.{HandsBack};
 
 use crate::arrivals::{attempt, carry};
 use crate::passes::Passes;

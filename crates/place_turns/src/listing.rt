@@ -1,6 +1,6 @@
 //! Lines of the queues of all places.
 
-ghost use Rattle.std.specs.Prelude.{◌≡◌, ◌<◌, ◌≤◌, ℕ, List, IfOk, OnOk};
+ghost use Rattle.std.specs.Prelude.{◌≡◌, ◌<◌, ℕ, List, IfOk, OnOk};
 ghost use Rattle.packet_entry.specs.declared.packet.Card.{Card};
 ghost use Rattle.histories.specs.declared.histories.Lost.{Lost};
 ghost use Rattle.packet_moves.specs.declared.setting.Setting.{Setting};

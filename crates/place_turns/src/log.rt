@@ -1,6 +1,6 @@
 //! What a port did.
 
-ghost use Rattle.std.specs.Prelude.{◌≡◌, ◌<◌, ◌≤◌, ◌++◌, ◌∷◌, [], IfOk, OnOk, OnErr};
+ghost use Rattle.std.specs.Prelude.{◌≡◌, ◌<◌, ◌≤◌, ◌++◌, ◌∷◌, [], IfOk, OnOk};
 ghost use Rattle.histories.specs.declared.log.Did.TheVariants.{Sent, Received, Closed};
 ghost use Rattle.packet_moves.specs.Calls.{sent_in};
 

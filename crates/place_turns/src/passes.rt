@@ -9,9 +9,9 @@ ghost use Rattle.turn_lock.specs.Passes.{view_of};
 ghost use Rattle.histories.specs.Happenings.{queue_of};
 ghost use Rattle.packet_moves.specs.HandedOn.{AreInTime};
 ghost use Rattle.locked_place.specs.Passes.{IsPassOf};
-ghost use Rattle.locked_place.specs.Turns.{ArrivesIn, AsksIn, LooksOn, GoesDownIn};
+ghost use Rattle.locked_place.specs.Turns.{ArrivesIn, AsksIn, LooksOn};
 ghost use Rattle.locked_place.specs.Views.{PlaceLabel, label_of, AreOutletsOf};
-ghost use Rattle.place_rows.specs.Rows.{TurnsOne, label_at};
+ghost use Rattle.place_rows.specs.Rows.{TurnsOne};
 ghost use Rattle.place_rows.specs.Shares.{sent_in};
 ghost use Rattle.place_turns.specs.Counts.{IsCounted, count_of};
 ghost use Rattle.place_turns.specs.Places.{places_of};
@@ -68,7 +68,6 @@ impl Model for Passes {
 
 impl Passes {
     ghost use Rattle.place_turns.specs.Passes.{AreOf};
-    ghost use Rattle.place_turns.specs.Trails.{Trail};
 
     /// A packet arrives at a queue, in a turn at the queue's place. When memory runs out it comes
     /// back, and nothing has happened.

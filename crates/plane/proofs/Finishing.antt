@@ -13,8 +13,6 @@ use Rattle.histories.specs.declared.log.PortLog.{PortLog}
 use Rattle.mailbox.specs.Roles.{AreDistinct, In}
 use Rattle.mailbox.specs.Views.{ReceiverView}
 use Rattle.packet_entry.specs.declared.no_memory.NoMemory.{NoMemory}
-use Rattle.packet_entry.specs.declared.packet.Card.{Card}
-use Rattle.packet_moves.specs.declared.setting.Setting.{Setting}
 use Rattle.turn_lock.specs.declared.storied.Storied.{Ghosts}
 use Rattle.turn_lock.specs.declared.pass.Pass.{Pass}
 use Rattle.turn_lock.specs.Parts.{Whole}
@@ -24,7 +22,7 @@ use Rattle.place_rows.specs.Lists.{Every}
 use Rattle.place_rows.specs.Rows.{Known}
 use Rattle.place_rows.specs.Joining.{AllJoined, AreWhole, RowJoined}
 use Rattle.place_rows.specs.Ended.{AreAllEntries}
-use Rattle.place_rows.specs.Ending.{Holder, all_fed, all_lost, rows_of, AreBalanced}
+use Rattle.place_rows.specs.Ending.{all_fed, all_lost, rows_of, AreBalanced}
 use Rattle.place_rows.specs.Hearing as row
 use Rattle.plane.specs.declared.finish.Remains.{Remains}
 use Rattle.plane.specs.declared.plane.Plane.{Plane}

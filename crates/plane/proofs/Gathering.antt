@@ -1,8 +1,8 @@
 -- Passes that meet: the feeder's hears the ports' one after the other, and then tells them.
 use Rattle.std.proofs.Common.{◌≡◌, ◌<◌, ◌+◌, ℕ, zero, suc, List, [], ◌∷◌, ◌++◌, length, refl}
 use Rattle.std.proofs.Common.{sym, ap}
-use Rattle.std.proofs.Common.{◌∙◌, subst, arith, append-nil, true}
-use Rattle.std.specs.Prelude.{map, slice_get, slice_set, option_map, Option, Some}
+use Rattle.std.proofs.Common.{◌∙◌, subst, arith, append-nil}
+use Rattle.std.specs.Prelude.{map, slice_get, slice_set, option_map, Some}
 use Rattle.std.specs.List.{AllZip}
 use Rattle.std.proofs.lemmas.List.{map-set, length-map, length-append}
 use Rattle.std.proofs.lemmas.Option.{slice_get-map, slice_get_within}
@@ -13,9 +13,9 @@ use Rattle.place_rows.specs.Meeting.{HasSpread, HaveMet}
 use Rattle.place_rows.specs.Rows.{Known, id_of}
 use Rattle.plane.specs.declared.plane.Plane.{Plane}
 use Rattle.plane.specs.Meetings.{KeepsAll, FeederKeepsAll, Meets, with_known}
-use Rattle.plane.specs.Opening.{all_rows, known_in}
+use Rattle.plane.specs.Opening.{known_in}
 use Rattle.plane.specs.Passes.{FeederView, PortView, IsFeederOf, IsPortOf}
-use Rattle.plane.specs.Planes.{locks_of, places_of}
+use Rattle.plane.specs.Planes.{places_of}
 use Rattle.place_turns.specs.Passes.{AreOf}
 use Rattle.place_turns.specs.Trails.{Trail}
 use Rattle.plane.proofs.Splitting.{some_same}

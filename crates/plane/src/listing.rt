@@ -1,6 +1,6 @@
 //! The listing of all queues.
 
-ghost use Rattle.std.specs.Prelude.{◌≡◌, ℕ, List, IfOk, OnOk, OnErr, flat_map};
+ghost use Rattle.std.specs.Prelude.{◌≡◌, ℕ, IfOk, OnOk, OnErr, flat_map};
 ghost use Rattle.histories.specs.States.{every_number};
 ghost use Rattle.place_history.specs.Lines.{text_at};
 ghost use Rattle.locked_place.specs.Turns.{LooksOn};

@@ -37,7 +37,7 @@ impl Plane {
     ghost use Rattle.place_turns.specs.Trails.{MayLook, parts_of};
     ghost use Rattle.place_turns.specs.Moving.{IsFed};
     ghost use Rattle.place_turns.specs.Messages.{Sends};
-    ghost use Rattle.place_turns.specs.OnTheWay.{HandsBack};
+    ghost use Rattle.packet_moves.specs.OnTheWay.{HandsBack};
     ghost use Rattle.plane.specs.Passes.{IsFeederOf, IsPortOf, Receives, Closes};
 
     /// Feeds a packet: it goes through the tables from the first on, and is moved on until it waits

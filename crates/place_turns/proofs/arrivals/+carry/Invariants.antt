@@ -1,4 +1,4 @@
-use Rattle.place_turns.specs.OnTheWay.{arrivals_left}
+use Rattle.packet_moves.specs.OnTheWay.{arrivals_left}
 use Rattle.place_turns.proofs.arrivals.+carry.Given as goal
 
 abbrev pub decreases-carry : goal.decreases-carry

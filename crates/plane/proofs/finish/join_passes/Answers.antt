@@ -1,5 +1,4 @@
-use Rattle.std.proofs.Common.{refl, ap}
-use Rattle.histories.specs.declared.histories.Lost.{Lost}
+use Rattle.std.proofs.Common.{ap}
 use Rattle.place_turns.specs.Passes.{PassesView}
 use Rattle.plane.proofs.finish.join_passes.Goals as goal
 

@@ -1,9 +1,8 @@
-use Rattle.std.proofs.Common.{◌≡◌, ◌∷◌, sym, ap, subst, rules, map, []}
-use Rattle.atomic_table.specs.Seated.{TableId}
+use Rattle.std.proofs.Common.{◌≡◌, rules, map, []}
 use Rattle.turn_lock.specs.Passes.{view_of}
 use Rattle.place_rows.specs.Rows.{id_of}
 use Rattle.plane.specs.Remaining.{IsRowOf}
-use Rattle.plane.proofs.Finishing.{Laws, none_so, one_so, all_so, at_hand, both_true, added_too}
+use Rattle.plane.proofs.Finishing.{Laws, none_so, one_so, all_so, at_hand, added_too}
 use Rattle.plane.proofs.finish.join_ports.Goals as goal
 
 pub loop-pass-init : goal.loop-pass-init

@@ -1,4 +1,4 @@
-use Rattle.std.proofs.Common.{◌≡◌, ◌<◌, ◌≤◌, ◌∙◌, sym, ap, refl, rules, length, List}
+use Rattle.std.proofs.Common.{◌≡◌, ◌<◌, ◌∙◌, ap, refl, rules, length, List}
 use Rattle.histories.specs.declared.log.PortLog.{PortLog}
 use Rattle.plane.specs.Remaining.{dids_in}
 use Rattle.plane.proofs.Finishing.{one_before, found_here, found_nowhere, others_kept}

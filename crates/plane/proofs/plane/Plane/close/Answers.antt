@@ -1,5 +1,5 @@
-use Rattle.std.proofs.Common.{◌≡◌, ◌≤◌, ◌∙◌, ◌++◌, ◌∷◌, [], ℕ, List, sym, ap, subst, refl, rules}
-use Rattle.std.proofs.Common.{arith, map}
+use Rattle.std.proofs.Common.{◌≤◌, ◌∙◌, ◌++◌, List, sym, ap, subst, rules}
+use Rattle.std.proofs.Common.{map}
 use Rattle.mailbox.specs.Roles.{AreDistinct}
 use Rattle.place_rows.specs.Hearing as row
 use Rattle.place_rows.specs.Lists.{Every}
