@@ -2,7 +2,7 @@
 use Rattle.std.proofs.Common.{◌≡◌, ◌<◌, ◌∙◌, List, ap, arith, length, refl, sym}
 use Rattle.std.proofs.lemmas.List.{length-map}
 use Rattle.atomic_table.specs.Seated.{TableId}
-use Rattle.script_lines.specs.AskLine.{id_of}
+use Rattle.place_rows.specs.Rows.{id_of}
 use Rattle.plane.specs.declared.plane.Plane.{Plane}
 use Rattle.plane.specs.Passes.{FeederView, IsFeederOf, IsPortOf, PortView}
 use Rattle.plane.specs.Planes.{places_of}
@@ -12,7 +12,7 @@ use Rattle.live_passes.specs.Views.{HaveSeenOwn}
 
 -- a plane has a place
 pub some_place : (plane : Plane) → 0 < places_of plane
-some_place plane = omega (arith, plane.some, plane.sized)
+some_place plane = omega (arith, plane.shared.some, plane.shared.sized)
 
 -- ---- ports
 
@@ -24,7 +24,7 @@ pub port_long : (plane : Plane) (p : PortView) → IsPortOf plane p →
     places_of plane ≡ length p.trail.known
 port_long plane p of =
     sym (of.of.as_many ∙ ap (λ (l : List TableId). length l) of.of.locks_are
-    ∙ length-map plane.locks.items id_of ∙ plane.sized)
+    ∙ length-map plane.shared.locks.items id_of ∙ plane.shared.sized)
 
 pub port_here : (plane : Plane) (p : PortView) → IsPortOf plane p → StaysPort plane p p
 port_here plane p of = record { of = of; port = refl; parts = refl }

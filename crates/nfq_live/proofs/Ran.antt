@@ -13,6 +13,7 @@ use Rattle.histories.specs.declared.entry.Entry.{Entry}
 use Rattle.histories.specs.declared.histories.Histories.{Histories}
 use Rattle.histories.specs.declared.histories.Lost.{Lost}
 use Rattle.histories.specs.Journeys.{AreSound}
+use Rattle.histories.specs.Lengths.{AreShort}
 use Rattle.histories.specs.Numbers.{queue_count}
 use Rattle.inspector_script.specs.Scripts.{ScriptValue}
 use Rattle.made_runs.specs.Feeder.{downs_in_effect}
@@ -233,6 +234,27 @@ closed_run law plane script s c h order setting mail crew closed short =
     (subst (λ (n : ℕ). IsClosedPlane (order_of plane) n (places_of plane) (passes_of c) h)
     (ap (λ (t : Setting). t.mail) setting ∙ mail)
     (law plane c.feeding.pass c.ports.items c.closed.items h crew.all closed short))
+
+-- the plane was closed with the crew's passes, which were lists of their own
+pub closed_by : (plane : Plane) (feeder : FeederView) (xs ps ys cs : List PortView)
+    (h : Histories) → xs ≡ ps → ys ≡ cs → IsClosed plane feeder (xs ++ ys) h →
+    IsClosed plane feeder (ps ++ cs) h
+closed_by plane feeder xs ps ys cs h open shut is =
+    subst (λ (l : List PortView). IsClosed plane feeder (l ++ cs) h) open
+    (subst (λ (l : List PortView). IsClosed plane feeder (xs ++ l) h) shut is)
+
+abbrev pub ShortLaw : Type 0
+ShortLaw = (workers : ℕ) (script : ScriptValue) (places mail : ℕ) (passes : ℕ → Pass)
+    (h : Histories) (notes : ℕ → List Note) (stands : ℕ → Stand) → 0 < places →
+    IsClosedPlane script.ports mail places passes h →
+    ArePorts workers script places passes notes stands → AreShort h.entries
+
+pub short_for : ShortLaw → (script : ScriptValue) (places frames : ℕ) (c : Crew)
+    (h : Histories) → 0 < places → IsAtMeeting script places frames (length script.ports) c →
+    IsClosedPlane script.ports script.mail places (passes_of c) h → AreShort h.entries
+short_for law script places frames c h some m closed =
+    law one_worker script places script.mail (passes_of c) h m.notes m.stands some closed
+    m.ended.meeting.are
 
 -- of a result that went well
 pub went_ok : {X E : Type 0} (r : Result X E) (x : X) (P : Type 0) → r ≡ Ok x → OnOk r P → P

@@ -1,8 +1,9 @@
 //! The run with threads.
 
-ghost use Rattle.std.specs.Prelude.{◌≡◌, ◌≤◌, ◌<◌, [], length, All, IfOk, OnOk};
+ghost use Rattle.std.specs.Prelude.{◌≡◌, ◌≤◌, ◌<◌, List, [], length, All, IfOk, OnOk};
 ghost use Rattle.packet_entry.specs.Numbers.{longest_packet};
 ghost use Rattle.histories.specs.declared.entry.Entry.{Entry};
+ghost use Rattle.histories.specs.Grouping.{IsGrouped};
 ghost use Rattle.histories.specs.History.{AreLegal};
 ghost use Rattle.histories.specs.Journeys.{AreSound};
 ghost use Rattle.histories.specs.Lengths.{AreShort};
@@ -102,6 +103,7 @@ pub fn run_workers<R: Threads + Wait + Sync, G: Gate>(
     ensures sound { IfOk result
         (λ h. AreSound (tables_of opened) script.now.key (cards capture.now) h.entries h.lost) }
     ensures short { IfOk result (λ h. AreShort h.entries) }
+    ensures grouped { IfOk result (λ h. (es : List Entry) × IsGrouped es h.entries) }
     ensures whole { IfOk result (λ h. h.lost ≡ []) }
 {
     let _ports = script.ports();
