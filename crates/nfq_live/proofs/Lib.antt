@@ -19,3 +19,4 @@ pub mod Ran
 pub mod Seated
 pub mod Staying
 pub mod Worked
+pub mod ForTests

@@ -16,6 +16,8 @@ use Rattle.nfq_live.specs.declared.mind.Mind.{Mind}
 use Rattle.nfq_live.specs.declared.workers.Inspector.{Inspector}
 use Rattle.nfq_live.specs.Minds.{IsMind}
 use Rattle.nfq_live.specs.Workers.{IsInspected, IsSeated, WentOn, minds_at, passes_at}
+use Rattle.nfq_live.proofs.Numbering.{zip_long}
+use Rattle.nfq_live.proofs.Together.{every_index}
 
 -- ---- lists
 
@@ -30,20 +32,6 @@ all_zip R (x ∷ xs) (y ∷ ys) same each = (
   each 0 x (omega arith),
   all_zip R xs ys (omega (arith, same)) (λ i d within. each (suc i) d (omega (arith, within))),
 )
-
-pub every_all : {X : Type 0} (P : X → Type 0) (xs : List X) → Every P xs → (k : ℕ) (d : X) →
-    k < length xs → P (slice_index_or xs k d)
-every_all P [] are i d within = absurd (omega (arith, within))
-every_all P (x ∷ xs) are zero d within = are.0
-every_all P (x ∷ xs) are (suc i) d within = every_all P xs are.1 i d (omega (arith, within))
-
-pub zip_length : {A B : Type 0} (R : A → B → Type 0) (xs : List A) (ys : List B) →
-    AllZip R xs ys → length ys ≡ length xs
-zip_length R [] [] are = omega arith
-zip_length R [] (y ∷ ys) are = absurd are
-zip_length R (x ∷ xs) [] are = absurd are
-zip_length R (x ∷ xs) (y ∷ ys) are =
-    let rest = zip_length R xs ys are.1 in omega (arith, rest)
 
 -- ---- who takes a seat
 
@@ -62,7 +50,8 @@ pub all_seated : (script : ScriptValue) (plane : Plane) (seats : List Inspector)
     Every (IsPortOf plane) (passes_at seats) →
     AllZip (IsMind script) (passes_at seats) (minds_at seats) → All (IsSeated script plane) seats
 all_seated script plane seats of minds =
-    every_all (IsSeated script plane) seats (every_seated script plane seats of minds)
+    λ i d less. every_index (IsSeated script plane) seats i d
+    (every_seated script plane seats of minds) less
 
 -- ---- what they did
 
@@ -140,7 +129,7 @@ as_many_seats script plane before after ports did are =
     ap (λ (l : List PortView). length l) are in
     omega (
       arith,
-      zip_length (IsInspected script plane) before after did,
+      zip_long (IsInspected script plane) before after did,
       all,
       length-map before (λ (i : Inspector). i.pass),
     )

@@ -1,13 +1,10 @@
 -- Where each pass stays its port's, with its parts of the locks, they stay all passes of the plane.
-use Rattle.std.proofs.Common.{◌≡◌, ◌+◌, ◌∙◌, ◌++◌, ◌∷◌, [], ℕ, List, ap, arith, false, map, refl}
+use Rattle.std.proofs.Common.{◌≡◌, ◌+◌, ◌∙◌, ◌++◌, ◌∷◌, [], ℕ, List, ap, false, map, refl}
 use Rattle.std.proofs.Common.{subst, sym, true}
 use Rattle.std.specs.List.{AllZip, list_any}
 use Rattle.std.specs.Prelude.{if◌then◌else◌, nat_eq}
-use Rattle.std.proofs.lemmas.List.Sums.{sum_by-cons}
 use Rattle.turn_lock.specs.Parts.{Tree}
-use Rattle.place_rows.specs.Joining.{AreWhole}
 use Rattle.place_rows.specs.Lists.{Every}
-use Rattle.place_rows.specs.Rows.{Known}
 use Rattle.plane.specs.declared.plane.Plane.{Plane}
 use Rattle.plane.specs.Opening.{all_rows, known_in}
 use Rattle.plane.specs.Passes.{FeederView, IsPortOf, PortView}
@@ -18,11 +15,8 @@ use Rattle.live_passes.specs.Numbered.{AreAll, StaysFeeder, StaysPort, numbers_o
 use Rattle.nfq_live.specs.declared.crew.Crew.{Crew}
 use Rattle.nfq_live.specs.Crews.{IsCrewOf}
 use Rattle.nfq_live.specs.Feeding.{IsFeedingOf}
-
--- rows whose parts stay have together what they had
-abbrev pub WholeLaw : Type 0
-WholeLaw = (places : ℕ) (olds news : List (List Known)) →
-    map parts_of news ≡ map parts_of olds → AreWhole places olds → AreWhole places news
+use Rattle.nfq_live.proofs.Going.{WholeLaw}
+use Rattle.nfq_live.proofs.Numbering.{is_once, times_more}
 
 pub numbers_stay : (plane : Plane) (old new : List PortView) → AllZip (StaysPort plane) old new →
     numbers_of new ≡ numbers_of old
@@ -40,9 +34,6 @@ every_stays plane [] (q ∷ qs) stay = absurd stay
 every_stays plane (p ∷ ps) [] stay = absurd stay
 every_stays plane (p ∷ ps) (q ∷ qs) stay = (stay.0.of, every_stays plane ps qs stay.1)
 
-abbrev is_once : ℕ → PortView → ℕ
-is_once port p = if nat_eq p.port port then 1 else 0
-
 times_stay : (plane : Plane) (port : ℕ) (old new closed : List PortView) →
     AllZip (StaysPort plane) old new →
     times_in port (new ++ closed) ≡ times_in port (old ++ closed)
@@ -52,12 +43,10 @@ times_stay plane port (p ∷ ps) [] closed stay = absurd stay
 times_stay plane port (p ∷ ps) (q ∷ qs) closed stay =
     let same : is_once port q ≡ is_once port p =
     ap (λ (n : ℕ). if nat_eq n port then 1 else 0) stay.0.port in
-    let now : times_in port (q ∷ (qs ++ closed)) ≡ is_once port q + times_in port (qs ++ closed) =
-    sum_by-cons (is_once port) q (qs ++ closed) in
-    let was : times_in port (p ∷ (ps ++ closed)) ≡ is_once port p + times_in port (ps ++ closed) =
-    sum_by-cons (is_once port) p (ps ++ closed) in
-    now ∙ ap (λ (n : ℕ). n + times_in port (qs ++ closed)) same
-    ∙ ap (λ (n : ℕ). is_once port p + n) (times_stay plane port ps qs closed stay.1) ∙ sym was
+    times_more port q (qs ++ closed)
+    ∙ ap (λ (n : ℕ). n + times_in port (qs ++ closed)) same
+    ∙ ap (λ (n : ℕ). is_once port p + n) (times_stay plane port ps qs closed stay.1)
+    ∙ sym (times_more port p (ps ++ closed))
 
 abbrev parts_in : PortView → List Tree
 parts_in p = parts_of (known_in p)

@@ -19,3 +19,6 @@ mod sending;
 mod workers;
 
 pub use run::run_workers;
+
+#[cfg(test)]
+mod tests;

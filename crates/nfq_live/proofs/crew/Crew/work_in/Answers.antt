@@ -1,9 +1,10 @@
 use Rattle.std.proofs.Common.{◌≡◌, ◌∙◌, List, ap, arith, length, map, refl, sym}
 use Rattle.nfq_live.specs.declared.crew.Crew.{Crew}
 use Rattle.nfq_live.specs.Minds.{IsMind}
+use Rattle.nfq_live.proofs.Numbering.{zip_long}
 use Rattle.nfq_live.proofs.Seated.{as_many_seats, both_true, is_not_true, minds_from_seats}
 use Rattle.nfq_live.proofs.Seated.{minds_taken, passes_taken, seated_from, stay_at_seats}
-use Rattle.nfq_live.proofs.Seated.{went_at_seats, went_back, zip_length}
+use Rattle.nfq_live.proofs.Seated.{went_at_seats, went_back}
 use Rattle.nfq_live.proofs.Staying.{crew_stays}
 use Rattle.nfq_live.proofs.crew.Crew.work_in.Goals as goal
 
@@ -13,7 +14,7 @@ seat_all-requires-clause-both g c =
     ap (λ v. length v.items) c.replace-open_ports.ensures.value in
     let minds : length c.replace-their_minds.result.items ≡ length c.args.self.now.minds.items =
     ap (λ v. length v.items) c.replace-their_minds.ensures.value in
-    minds ∙ zip_length (IsMind c.args.script.now) c.args.self.now.ports.items
+    minds ∙ zip_long (IsMind c.args.script.now) c.args.self.now.ports.items
     c.args.self.now.minds.items c.requires.minds ∙ sym ports
 
 pub work_at_seats-requires-clause-seated : goal.work_at_seats-requires-clause-seated
