@@ -17,7 +17,7 @@ use Rattle.made_runs.specs.Log.{Due, Note, Still}
 use Rattle.port_scripts.specs.Words.{AreWords, ClosesLast}
 use Rattle.live_runs.specs.Doing.{HasAsked, HasSent, IsCutting, IsDoing}
 use Rattle.live_runs.specs.Passes.{Pass}
-use Rattle.live_runs.specs.Stages.{MaySpeak, Stage}
+use Rattle.live_runs.specs.Stages.{Stage}
 use Rattle.live_runs.specs.Stands.{Side, cut_then, side}
 use Rattle.nfq_live.specs.Sending.{HasCut, Says, SaysTo}
 

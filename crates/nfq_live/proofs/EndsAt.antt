@@ -1,5 +1,6 @@
 -- A port that ends, by its index among the open ones.
-use Rattle.std.proofs.Common.{◌≡◌, ◌≢◌, ◌<◌, ◌≤◌, ◌-◌, ◌+◌, ◌∙◌, ◌++◌, ◌⊎◌, ℕ, suc, List, Bool, Option}
+use Rattle.std.proofs.Common.{◌≡◌, ◌≢◌, ◌<◌, ◌≤◌, ◌-◌, ◌+◌, ◌∙◌, ◌++◌, ◌⊎◌, ℕ, suc, List, Bool}
+use Rattle.std.proofs.Common.{Option}
 use Rattle.std.proofs.Common.{ap, arith, drop, false, inl, inr, length, refl, subst, sym, true}
 use Rattle.std.specs.Prelude.{◌==◌, All, nat_eq, slice_index, slice_index_or}
 use Rattle.std.specs.List.{list_any}

@@ -1,6 +1,7 @@
 -- While a port ends: what is known where it sends, where all ports look, and where its asks are
 -- taken up.
-use Rattle.std.proofs.Common.{◌≡◌, ◌≢◌, ◌<◌, ◌≤◌, ◌-◌, ◌+◌, ◌⊎◌, ◌∙◌, ◌++◌, ◌∷◌, [], ℕ, suc, List, Bool}
+use Rattle.std.proofs.Common.{◌≡◌, ◌≢◌, ◌<◌, ◌≤◌, ◌-◌, ◌+◌, ◌⊎◌, ◌∙◌, ◌++◌, ◌∷◌, [], ℕ, suc, List}
+use Rattle.std.proofs.Common.{Bool}
 use Rattle.std.proofs.Common.{Option, Some, None, true, false, ap, arith, drop, inl, inr, length}
 use Rattle.std.proofs.Common.{map, min, refl, subst, sym}
 use Rattle.std.specs.Prelude.{◌==◌, All, nat_eq}
@@ -12,14 +13,13 @@ use Rattle.netlink_codec.specs.Messages.{NetlinkMessage, first_message, has_mess
 use Rattle.netlink_codec.specs.Messages.{told_length, told_message}
 use Rattle.histories.specs.declared.log.AskWords.{AskWords}
 use Rattle.packet_moves.specs.Calls.{next_call}
-use Rattle.script_lines.specs.Limits.{IsWords}
 use Rattle.script_lines.specs.declared.ask.Ask.{Ask}
-use Rattle.script_lines.specs.declared.ask.Ask.TheVariants.{Close, Words}
+use Rattle.script_lines.specs.declared.ask.Ask.TheVariants.{Words}
 use Rattle.inspector_script.specs.Scripts.{ScriptValue, closing}
 use Rattle.made_runs.specs.Datagrams.{AsksWell, bytes_of, cut_in, messages_in, with_those_behind}
 use Rattle.made_runs.specs.Log.{Due, Message, Note, Still, all_due, is_some_due}
 use Rattle.made_runs.specs.Ports.{is_port, place_in}
-use Rattle.plane.specs.Passes.{FeederView, PortView}
+use Rattle.plane.specs.Passes.{PortView}
 use Rattle.live_runs.specs.Doing.{IsCutting, IsDoing}
 use Rattle.live_runs.specs.Passes.{Pass, Speaks, SpeaksFirst}
 use Rattle.live_runs.specs.Stages.{Ending, MaySpeak, Stage}

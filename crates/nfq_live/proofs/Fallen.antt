@@ -1,7 +1,7 @@
 -- What the feeder does, call by call: frames that are fed and lines that take effect.
 use Rattle.std.proofs.Common.{◌≡◌, ◌<◌, ◌≤◌, ◌+◌, ◌*◌, ◌∙◌, ◌++◌, ◌∷◌, [], ℕ, List}
 use Rattle.std.proofs.Common.{Option, Some, None, ap, append-nil, append_assoc, arith}
-use Rattle.std.proofs.Common.{refl, subst, sym}
+use Rattle.std.proofs.Common.{subst, sym}
 use Rattle.std.specs.BTreeMap.{BTreeMap, get}
 use Rattle.std.specs.Ordering.{nat_cmp}
 use Rattle.std.specs.Prelude.{All, filter, option_map, option_to_list, unwrap_or}
@@ -19,10 +19,10 @@ use Rattle.made_runs.specs.Entering.{card_at, card_of}
 use Rattle.made_runs.specs.Feeder.{downs_after, falling_time, feeding_time, is_after}
 use Rattle.port_scripts.specs.Downs.{AreDownsOf}
 use Rattle.live_runs.specs.Calls.{Feeds}
-use Rattle.live_runs.specs.Feeding.{TakesDown, TakesDownTo}
+use Rattle.live_runs.specs.Feeding.{TakesDown}
 use Rattle.live_runs.specs.Owners.{IsFeeders, IsFeeding}
 use Rattle.live_runs.specs.Seen.{Grows, Ours, OursAre, Seen, Shares, Theirs}
-use Rattle.nfq_live.specs.Feeding.{AreFeeding, FedOn}
+use Rattle.nfq_live.specs.Feeding.{FedOn}
 use Rattle.histories.specs.declared.entry.Entry.{Entry}
 
 -- ---- the laws

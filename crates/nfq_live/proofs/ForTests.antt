@@ -1,5 +1,5 @@
 -- For tests alone: a plane that was opened with a script's ports, mail and key is opened for it.
-use Rattle.std.proofs.Common.{◌≡◌, ℕ, ap, subst, sym}
+use Rattle.std.proofs.Common.{ℕ, ap, subst, sym}
 use Rattle.std.specs.Prelude.{Err, IfOk, Ok, Result}
 use Rattle.hook_chain.specs.Rules.{RuleTables}
 use Rattle.inspector_script.specs.Scripts.{ScriptValue}

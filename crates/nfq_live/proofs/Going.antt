@@ -24,7 +24,7 @@ use Rattle.live_passes.specs.Numbered.{passes_in}
 use Rattle.live_passes.specs.Views.{port_pass}
 use Rattle.nfq_live.specs.declared.mind.Mind.{Mind}
 use Rattle.nfq_live.specs.Minds.{IsMind}
-use Rattle.nfq_live.proofs.Numbering.{Parted, among_others, among_own, is_once, not_among, of_port}
+use Rattle.nfq_live.proofs.Numbering.{among_others, among_own, is_once, not_among, of_port}
 use Rattle.nfq_live.proofs.Numbering.{of_ports, others_stay, parted, there_once, times_apart}
 use Rattle.nfq_live.proofs.Numbering.{times_both, times_more, times_moved, times_own, times_put}
 use Rattle.nfq_live.proofs.Numbering.{zip_out}

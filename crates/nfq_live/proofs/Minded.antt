@@ -1,17 +1,15 @@
 -- What is kept of a port beside its pass stays its own, notice by notice.
-use Rattle.std.proofs.Common.{◌≡◌, ◌≢◌, ◌<◌, ◌+◌, ◌^◌, ◌-◌, ◌∙◌, ◌++◌, ◌∷◌, [], ℕ, zero, suc, List}
+use Rattle.std.proofs.Common.{◌≡◌, ◌<◌, ◌+◌, ◌^◌, ◌-◌, ◌∙◌, ◌++◌, ◌∷◌, [], ℕ, suc, List}
 use Rattle.std.proofs.Common.{Option, Some, None, Bool, true, false, ap, arith, cond, length, min}
-use Rattle.std.proofs.Common.{map, refl, subst, sym}
-use Rattle.std.specs.Prelude.{◌==◌, All, AllPairs, count_by, if◌then◌else◌, nat_eq}
-use Rattle.std.specs.List.{AllZip, list_any}
-use Rattle.std.proofs.lemmas.Bool.{cases_Bool}
+use Rattle.std.proofs.Common.{refl, subst, sym}
+use Rattle.std.specs.Prelude.{◌==◌, if◌then◌else◌, nat_eq}
+use Rattle.std.specs.List.{list_any}
 use Rattle.std.proofs.lemmas.List.{length-append}
 use Rattle.std.proofs.lemmas.List.Sums.{sum_by-append}
 use Rattle.mailbox.specs.Views.{ReceiverView}
 use Rattle.packet_entry.specs.declared.letter.Letter.{Letter}
 use Rattle.nfqa_msgs.specs.NoticeMeaning.{notice_of}
 use Rattle.nfqa_msgs.specs.NoticeWriting.{Told}
-use Rattle.queue_core.specs.Numbers.{largest_count}
 use Rattle.histories.specs.declared.log.Did.{Did}
 use Rattle.histories.specs.declared.log.Did.TheVariants.{Received}
 use Rattle.histories.specs.Logs.{is_received}
@@ -21,7 +19,7 @@ use Rattle.made_runs.specs.Log.{answer_to, received_count}
 use Rattle.made_runs.specs.NoticeTexts.{told_exactly}
 use Rattle.made_runs.specs.Ports.{is_port, place_in}
 use Rattle.made_runs.specs.Log.{asks_for}
-use Rattle.plane.specs.Passes.{PortView, Receives, did_receive}
+use Rattle.plane.specs.Passes.{PortView, Receives}
 use Rattle.nfq_live.specs.declared.mind.Mind.{Mind}
 use Rattle.nfq_live.specs.Minds.{HearsNothing, IsMind}
 use Rattle.nfq_live.specs.Numbers.{most_counted}

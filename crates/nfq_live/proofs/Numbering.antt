@@ -127,7 +127,8 @@ times_put port front x y rest same =
     ∙ sym (times_apart port front x rest)
 
 -- and wherever it stands
-pub times_moved : (port : ℕ) (front : List PortView) (x y : PortView) (back closed : List PortView) →
+pub times_moved : (port : ℕ) (front : List PortView) (x y : PortView)
+    (back closed : List PortView) →
     y.port ≡ x.port →
     times_in port ((front ++ back) ++ (closed ++ y ∷ []))
     ≡ times_in port ((front ++ x ∷ back) ++ closed)

@@ -1,8 +1,9 @@
 -- A crew goes on: one of its ports looks or sends, closes, or all its passes meet.
-use Rattle.std.proofs.Common.{◌≡◌, ◌≢◌, ◌<◌, ◌≤◌, ◌⊎◌, ◌∙◌, ◌++◌, ◌∷◌, [], ℕ, List, true, false, ap, arith}
+use Rattle.std.proofs.Common.{◌≡◌, ◌≢◌, ◌<◌, ◌≤◌, ◌⊎◌, ◌∙◌, ◌++◌, ◌∷◌, [], ℕ, List, true, false, ap}
+use Rattle.std.proofs.Common.{arith}
 use Rattle.std.proofs.Common.{inl, inr}
 use Rattle.std.proofs.Common.{length, refl, subst, sym}
-use Rattle.std.specs.Prelude.{◌==◌, nat_eq, slice_index, slice_index_or, slice_set}
+use Rattle.std.specs.Prelude.{◌==◌, nat_eq, slice_index, slice_index_or}
 use Rattle.std.specs.List.{list_any, remove}
 use Rattle.std.proofs.lemmas.Bool.{cases_Bool, eqb-false, eqb-true}
 use Rattle.std.proofs.lemmas.List.{length-map}
@@ -22,7 +23,7 @@ use Rattle.live_passes.specs.Numbered.{AreAll, StaysPort, numbers_of, passes_in}
 use Rattle.live_passes.specs.Views.{port_pass}
 use Rattle.nfq_live.specs.declared.crew.Crew.{Crew}
 use Rattle.nfq_live.specs.declared.feeding.Feeding.{Feeding}
-use Rattle.nfq_live.specs.Crews.{AllLookOn, AreReceived, HaveMinds, IsCrewOf, OnePass, OneShuts}
+use Rattle.nfq_live.specs.Crews.{AllLookOn, AreReceived, HaveMinds, IsCrewOf, OneShuts}
 use Rattle.nfq_live.specs.Crews.{PortsAlone, is_open_in, passes_of}
 use Rattle.nfq_live.specs.Feeding.{IsFeedingOf}
 use Rattle.nfq_live.specs.declared.mind.Mind.{Mind}

@@ -1,5 +1,5 @@
 -- The frames of a capture pass, one after the other.
-use Rattle.std.proofs.Common.{◌≡◌, ◌≤◌, ◌+◌, ◌∙◌, ◌++◌, ◌∷◌, [], ℕ, List, Option, Some, None, ap}
+use Rattle.std.proofs.Common.{◌≡◌, ◌≤◌, ◌+◌, ◌∙◌, ◌++◌, ◌∷◌, ℕ, List, Option, Some, None, ap}
 use Rattle.std.proofs.Common.{append_assoc, arith, length, subst, suc}
 use Rattle.std.specs.Prelude.{option_to_list}
 use Rattle.std.proofs.lemmas.List.{length-append}
@@ -10,7 +10,6 @@ use Rattle.inspector_script.specs.Scripts.{ScriptValue}
 use Rattle.made_runs.specs.Entering.{card_of, cards_from}
 use Rattle.made_runs.specs.Feeder.{downs_after, downs_from, falling_time, feeding_time}
 use Rattle.plane.specs.Passes.{FeederView}
-use Rattle.live_runs.specs.Seen.{Shares}
 use Rattle.nfq_live.specs.Feeding.{FedOn, FramesPass, shares_in}
 use Rattle.nfq_live.proofs.Fallen.{WaitsLaw, fed_both, fed_none}
 

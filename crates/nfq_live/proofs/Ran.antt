@@ -1,5 +1,6 @@
 -- A whole run: how it begins, and what the closed plane gives of it.
-use Rattle.std.proofs.Common.{◌≡◌, ◌≤◌, ◌<◌, ◌⊎◌, ◌∙◌, ◌++◌, ◌∷◌, [], ℕ, List, true, false, ap, append-nil}
+use Rattle.std.proofs.Common.{◌≡◌, ◌≤◌, ◌<◌, ◌⊎◌, ◌∙◌, ◌++◌, ◌∷◌, [], ℕ, List, true, false, ap}
+use Rattle.std.proofs.Common.{append-nil}
 use Rattle.std.proofs.Common.{arith, inl, inr, length, map, refl, subst, suc, sym, zero}
 use Rattle.std.specs.Prelude.{All, Err, Ok, OnOk, Result, nat_eq, slice_index}
 use Rattle.std.specs.List.{list_any}
@@ -18,10 +19,10 @@ use Rattle.histories.specs.Numbers.{queue_count}
 use Rattle.inspector_script.specs.Scripts.{ScriptValue}
 use Rattle.made_runs.specs.Feeder.{downs_in_effect}
 use Rattle.made_runs.specs.Log.{Note}
-use Rattle.made_runs.specs.Ports.{is_port, place_in}
+use Rattle.made_runs.specs.Ports.{is_port}
 use Rattle.made_runs.specs.Run.{IsMadeBy}
 use Rattle.packet_moves.specs.declared.setting.Setting.{Setting}
-use Rattle.place_rows.specs.Ending.{Holder, all_fed}
+use Rattle.place_rows.specs.Ending.{all_fed}
 use Rattle.plane.specs.declared.plane.Plane.{Plane}
 use Rattle.plane.specs.Closings.{IsClosed, all_holders, port_holds}
 use Rattle.plane.specs.Opening.{IsOpened}
@@ -38,7 +39,7 @@ use Rattle.live_runs.specs.Sums.{WasSent}
 use Rattle.live_passes.specs.Numbered.{AreAll, passes_in}
 use Rattle.nfq_live.specs.declared.crew.Crew.{Crew}
 use Rattle.nfq_live.specs.declared.feeding.Feeding.{Feeding}
-use Rattle.nfq_live.specs.Crews.{AreOpenFrom, AreReceived, IsCrewOf, is_open_in, passes_of}
+use Rattle.nfq_live.specs.Crews.{AreOpenFrom, AreReceived, IsCrewOf, passes_of}
 use Rattle.nfq_live.specs.Endings.{IsAtMeeting, stage_before}
 use Rattle.nfq_live.specs.Numbers.{one_worker}
 use Rattle.nfq_live.specs.Openings.{HaveOpened}

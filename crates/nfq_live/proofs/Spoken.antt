@@ -1,13 +1,12 @@
 -- A port sends messages by its pass: what is known after each of them.
 use Rattle.std.proofs.Common.{◌≡◌, ◌<◌, ◌≤◌, ◌-◌, ◌+◌, ◌∙◌, ◌++◌, ◌∷◌, [], ℕ, List, Option, Some}
-use Rattle.std.proofs.Common.{None, ap, arith, cond, drop, length, map, min, subst, sym}
-use Rattle.std.specs.Prelude.{Err, IfOk, Ok, OnErr, Result, count_by}
+use Rattle.std.proofs.Common.{None, ap, arith, cond, drop, map, subst, sym}
+use Rattle.std.specs.Prelude.{Err, IfOk, Ok, OnErr, Result}
 use Rattle.std.proofs.lemmas.List.Sums.{sum_by-append}
 use Rattle.mailbox.specs.declared.view.Post.{Post}
 use Rattle.mailbox.specs.Views.{ReceiverView}
 use Rattle.packet_entry.specs.declared.letter.Letter.{Letter}
 use Rattle.netlink_codec.specs.Messages.{NetlinkMessage, first_message}
-use Rattle.queue_core.specs.Numbers.{largest_count}
 use Rattle.histories.specs.declared.log.AskWords.{AskWords}
 use Rattle.histories.specs.declared.log.Did.{Did}
 use Rattle.histories.specs.declared.log.Did.TheVariants.{Sent}
@@ -18,7 +17,7 @@ use Rattle.made_runs.specs.Datagrams.{cut_in, messages_in}
 use Rattle.made_runs.specs.Log.{Due, Note, received_count}
 use Rattle.plane.specs.declared.plane.Plane.{Plane}
 use Rattle.place_turns.specs.Messages.{Sends}
-use Rattle.plane.specs.Passes.{IsPortOf, PortView}
+use Rattle.plane.specs.Passes.{PortView}
 use Rattle.plane.specs.Planes.{places_of, setting_of}
 use Rattle.place_turns.specs.Trails.{Trail}
 use Rattle.live_runs.specs.Doing.{IsCutting, IsDoing}

@@ -1,14 +1,14 @@
 -- Where each pass stays its port's, with its parts of the locks, they stay all passes of the plane.
-use Rattle.std.proofs.Common.{◌≡◌, ◌+◌, ◌∙◌, ◌++◌, ◌∷◌, [], ℕ, List, ap, false, map, refl}
-use Rattle.std.proofs.Common.{subst, sym, true}
-use Rattle.std.specs.List.{AllZip, list_any}
+use Rattle.std.proofs.Common.{◌≡◌, ◌+◌, ◌∙◌, ◌++◌, ◌∷◌, [], ℕ, List, ap, map, refl}
+use Rattle.std.proofs.Common.{subst, sym}
+use Rattle.std.specs.List.{AllZip}
 use Rattle.std.specs.Prelude.{if◌then◌else◌, nat_eq}
 use Rattle.turn_lock.specs.Parts.{Tree}
 use Rattle.place_rows.specs.Lists.{Every}
 use Rattle.plane.specs.declared.plane.Plane.{Plane}
 use Rattle.plane.specs.Opening.{all_rows, known_in}
 use Rattle.plane.specs.Passes.{FeederView, IsPortOf, PortView}
-use Rattle.plane.specs.Planes.{order_of, places_of}
+use Rattle.plane.specs.Planes.{places_of}
 use Rattle.plane.specs.Remaining.{times_in}
 use Rattle.place_turns.specs.Trails.{parts_of}
 use Rattle.live_passes.specs.Numbered.{AreAll, StaysFeeder, StaysPort, numbers_of}

@@ -1,11 +1,9 @@
 -- A port has ended, and all passes meet: what is known then, and how the next port begins its end.
-use Rattle.std.proofs.Common.{◌≡◌, ◌≢◌, ◌<◌, ◌≤◌, ◌+◌, ◌⊎◌, ◌∙◌, ◌++◌, ◌∷◌, [], ℕ, zero, suc, List, Bool}
+use Rattle.std.proofs.Common.{◌≡◌, ◌≢◌, ◌<◌, ◌≤◌, ◌+◌, ◌⊎◌, ◌∙◌, ◌++◌, ◌∷◌, [], ℕ, zero, suc, List}
 use Rattle.std.proofs.Common.{true, false, ap, arith, inl, inr, length, refl, subst, sym}
-use Rattle.std.specs.Prelude.{◌==◌, if◌then◌else◌}
+use Rattle.std.specs.Prelude.{◌==◌}
 use Rattle.std.proofs.lemmas.Bool.{cases_Bool, cases_lt, eqb-false, eqb-true}
 use Rattle.packet_entry.specs.declared.letter.Letter.{Letter}
-use Rattle.histories.specs.declared.entry.Entry.{Entry}
-use Rattle.histories.specs.declared.histories.Histories.{Histories}
 use Rattle.script_lines.specs.declared.ask.Ask.TheVariants.{Close}
 use Rattle.inspector_script.specs.Scripts.{ScriptValue, closing}
 use Rattle.made_runs.specs.Feeder.{downs_in_effect}
@@ -15,17 +13,16 @@ use Rattle.live_runs.specs.ClosedPlanes.{sent_at, sent_by_all}
 use Rattle.live_runs.specs.Doing.{HasHeard, IsAnswering, IsDoing}
 use Rattle.live_runs.specs.Meetings.{IsMeeting}
 use Rattle.live_runs.specs.Owners.{IsFeeding}
-use Rattle.live_runs.specs.Passes.{AreMet, Pass, Shuts, feeder_number, is_pass, seen_at}
+use Rattle.live_runs.specs.Passes.{AreMet, Pass, Shuts, feeder_number, seen_at}
 use Rattle.live_runs.specs.Ports.{IsPort}
 use Rattle.live_runs.specs.Seen.{Shares}
-use Rattle.live_runs.specs.Stages.{Ending, Follows, Stage, Went, WentFeeding, Working}
-use Rattle.live_runs.specs.Stands.{AtEnd, IsDone, Stand, idle, opened, shut_stand, side}
+use Rattle.live_runs.specs.Stages.{Ending, Follows, Stage, Went, WentFeeding}
+use Rattle.live_runs.specs.Stands.{AtEnd, IsDone, Stand, idle, shut_stand, side}
 use Rattle.live_runs.specs.Sums.{WasSent}
 use Rattle.nfq_live.specs.declared.crew.Crew.{Crew}
-use Rattle.nfq_live.specs.Crews.{IsReceived, OneShuts, OthersStay, is_open_in, passes_of}
+use Rattle.nfq_live.specs.Crews.{IsReceived, OneShuts, is_open_in, passes_of}
 use Rattle.nfq_live.specs.Endings.{EndsTo, HasEnded, HasStopped, HaveEnded, IsAtMeeting}
 use Rattle.nfq_live.specs.Endings.{stage_before}
-use Rattle.nfq_live.specs.Feeding.{AreFeeding}
 use Rattle.nfq_live.specs.Numbers.{one_worker}
 use Rattle.nfq_live.proofs.Onward.{ClosesNothingLaw, MeetsNothingLaw, SumLaw}
 use Rattle.nfq_live.proofs.Opened.{MeetsLaw, feeds_still}

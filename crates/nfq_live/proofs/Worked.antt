@@ -1,5 +1,5 @@
 -- The stage in which the workers work: all passes stand where they stood, and have met.
-use Rattle.std.proofs.Common.{◌≡◌, ◌<◌, ◌≤◌, ◌+◌, ◌∙◌, ◌++◌, ◌∷◌, [], ℕ, Bool, List, ap, arith}
+use Rattle.std.proofs.Common.{◌≡◌, ◌<◌, ◌+◌, ◌∙◌, ◌++◌, ◌∷◌, [], ℕ, Bool, List, ap, arith}
 use Rattle.std.proofs.Common.{false, length, refl, subst, sym, true}
 use Rattle.std.proofs.lemmas.Bool.{eqb-true}
 use Rattle.std.specs.List.{AllZip, list_any}
@@ -23,14 +23,14 @@ use Rattle.live_runs.specs.Ports.{IsPort}
 use Rattle.live_runs.specs.Seen.{Grows, Seen, Shares, all_theirs}
 use Rattle.live_runs.specs.Stages.{Follows, Stage, Went, WentFeeding, Working}
 use Rattle.live_runs.specs.Stands.{Stand, idle, opened}
-use Rattle.live_passes.specs.Numbered.{IsSetUp, numbers_of, pass_among, passes_in}
+use Rattle.live_passes.specs.Numbered.{numbers_of, pass_among, passes_in}
 use Rattle.live_passes.specs.Views.{feeder_pass, port_pass}
 use Rattle.nfq_live.specs.declared.crew.Crew.{Crew}
-use Rattle.nfq_live.specs.Crews.{IsCrewOf, all_ports, is_open_in, passes_of}
-use Rattle.nfq_live.specs.Endings.{HaveEnded, IsAtMeeting}
+use Rattle.nfq_live.specs.Crews.{IsCrewOf, all_ports, passes_of}
+use Rattle.nfq_live.specs.Endings.{IsAtMeeting}
 use Rattle.nfq_live.specs.Feeding.{AreFeeding, FedOn, FramesPass, shares_in}
 use Rattle.nfq_live.specs.Numbers.{one_worker}
-use Rattle.nfq_live.specs.Openings.{AreReady, HaveOpened}
+use Rattle.nfq_live.specs.Openings.{AreReady}
 use Rattle.nfq_live.specs.Workers.{HaveWorked, WentOn}
 use Rattle.nfq_live.proofs.Fallen.{fed_both}
 use Rattle.nfq_live.proofs.Kept.{some_place}

@@ -50,7 +50,8 @@ returns-clause-made g c =
         c.from_vec.result crew.closed.items h open shut c.in_ok-histories.ensures in
     let run = closed_run c.a_closed_plane_has_all_that_its_passes_did.ensures plane script
         (setting_for script (tables_of c.args.opened)) crew h c.requires.opened.order_is
-        c.requires.opened.setting refl c.go-outcome.ensures.crew closed c.queues_are_short.ensures in
+        c.requires.opened.setting refl c.go-outcome.ensures.crew closed
+        c.queues_are_short.ensures in
     live_run c.nothing_is_sent_to_a_closed_port.ensures.at_last
     c.a_run_with_threads_is_made_by_its_script.ensures.made script (places_of plane)
     c.args.capture.now crew h (some_place plane) c.in_ok-outcome.ensures.ended
@@ -84,7 +85,8 @@ returns-clause-short g c =
         c.from_vec.result crew.closed.items h open shut c.in_ok-histories.ensures in
     let run = closed_run c.a_closed_plane_has_all_that_its_passes_did.ensures plane script
         (setting_for script (tables_of c.args.opened)) crew h c.requires.opened.order_is
-        c.requires.opened.setting refl c.go-outcome.ensures.crew closed c.queues_are_short.ensures in
+        c.requires.opened.setting refl c.go-outcome.ensures.crew closed
+        c.queues_are_short.ensures in
     short_for c.a_run_with_threads_is_made_by_its_script.ensures.short script (places_of plane)
     (length c.args.capture.now.frames) crew h (some_place plane) c.in_ok-outcome.ensures.ended run
 

@@ -1,7 +1,6 @@
 use Rattle.std.proofs.Common.{◌≡◌, List, rules, subst, sym}
 use Rattle.place_rows.specs.Lists.{Every}
 use Rattle.plane.specs.Passes.{IsPortOf, PortView}
-use Rattle.plane.specs.Meetings.{Meets}
 use Rattle.plane.specs.Planes.{order_of, places_of}
 use Rattle.nfq_live.specs.declared.crew.Crew.{Crew}
 use Rattle.nfq_live.proofs.Asked.{ok_anyway}

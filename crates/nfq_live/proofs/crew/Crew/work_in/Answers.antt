@@ -1,4 +1,4 @@
-use Rattle.std.proofs.Common.{◌≡◌, ◌∙◌, List, ap, arith, length, map, refl, sym}
+use Rattle.std.proofs.Common.{◌≡◌, ◌∙◌, ap, arith, length, refl, sym}
 use Rattle.nfq_live.specs.declared.crew.Crew.{Crew}
 use Rattle.nfq_live.specs.Minds.{IsMind}
 use Rattle.nfq_live.proofs.Numbering.{zip_long}
