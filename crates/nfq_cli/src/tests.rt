@@ -1,6 +1,7 @@
 //! Runs of the commands over a machine in memory. What they expect was written out by hand, but for
 //! generated inputs. Inputs at the limits are played by the built program.
 
+mod faulted;
 mod migrated;
 mod tried;
 mod worked;
