@@ -1,11 +1,11 @@
 -- For tests: passes that go on, whichever of them act.
 use Rattle.std.proofs.Common.{◌≡◌, ◌<◌, ◌≤◌, ◌+◌, ◌⊎◌, ℕ, zero, suc, List, [], ◌∷◌, ◌++◌, refl}
 use Rattle.std.proofs.Common.{sym, ap, ◌∙◌, subst, arith, append-nil, append_assoc, inl, inr}
-use Rattle.std.specs.Prelude.{map, slice_get, slice_set, Option, Some, None, nat_eq}
-use Rattle.std.specs.Prelude.{if◌then◌else◌, Result, Ok, Err, IfOk, OnErr}
+use Rattle.std.specs.Prelude.{length, map, slice_get, slice_set, Option, Some, None, nat_eq}
+use Rattle.std.specs.Prelude.{if◌then◌else◌, Result, Ok, Err, IfOk, IfErr, OnErr}
 use Rattle.std.specs.List.{AllZip}
 use Rattle.std.proofs.lemmas.Bool.{cases_Bool, eqb-true, eqb-false}
-use Rattle.std.proofs.lemmas.List.{map-append}
+use Rattle.std.proofs.lemmas.List.{length-map, map-append}
 use Rattle.std.proofs.lemmas.List.Sums.{sum_by-cons}
 use Rattle.mailbox.specs.Roles.{AreDistinct, In}
 use Rattle.packet_entry.specs.declared.letter.Letter.{Letter}
@@ -231,6 +231,55 @@ all_close plane f g ps closed was same stay = (
       (all_same f g ps [] closed same stay.keep) was.whole,
 )
 
+keep_length : (ps qs : List PortView) → AllZip Keeps ps qs → length qs ≡ length ps
+keep_length [] [] zip = refl
+keep_length [] (q ∷ qs) zip = absurd zip
+keep_length (p ∷ ps) [] zip = absurd zip
+keep_length (p ∷ ps) (q ∷ qs) zip = ap suc (keep_length ps qs zip.1)
+
+pub stay_length : (plane : Plane) (ps qs : List PortView) → Stay plane ps qs →
+    length qs ≡ length ps
+stay_length plane ps qs stay = keep_length ps qs stay.keep
+
+-- what a port's pass is after a call that may have closed it
+abbrev IsStill : Plane → PortView → PortView → Type 0
+IsStill plane old new = IsPortOf plane new × Keeps old new
+
+pub closed_now : (plane : Plane) (old : PortView) (r : Result PortView PortView)
+    (p s t : PortView) → r ≡ Ok p → IfOk r (IsStill plane old) → IsPortOf plane s →
+    Closes (places_of plane) p s → parts_of s.trail.known ≡ parts_of p.trail.known → t ≡ s →
+    IsStill plane old t
+closed_now plane old r p s t is still of closes same at =
+    let was = subst (λ (x : Result PortView PortView). IfOk x (IsStill plane old)) is still in
+    subst (IsStill plane old) (sym at) (
+      of,
+      keeps_trans old p s was.1
+      (record { port = ap (λ (v : PortView). v.port) closes.others; parts = same }),
+    )
+
+pub closed_before : (plane : Plane) (old : PortView) (r : Result PortView PortView)
+    (s t : PortView) → r ≡ Err s → IfErr r (IsStill plane old) → t ≡ s → IsStill plane old t
+closed_before plane old r s t is still at =
+    subst (IsStill plane old) (sym at)
+    (subst (λ (x : Result PortView PortView). IfErr x (IsStill plane old)) is still)
+
+-- the two that there are closed
+pub two_close : (plane : Plane) (f g : FeederView) (ports left closed : List PortView)
+    (p q s e : PortView) → AreGoing plane f ports → ports ≡ p ∷ q ∷ [] →
+    parts_of g.trail.known ≡ parts_of f.trail.known → IsPortOf plane s × Keeps p s →
+    IsPortOf plane e × Keeps q e → left ≡ [] → closed ≡ s ∷ e ∷ [] →
+    ((port : ℕ) → times_in port (left ++ closed) ≤ 1)
+    × AreWhole (places_of plane) (all_rows g left closed)
+two_close plane f g ports left closed p q s e was are same one two none both =
+    subst
+    (λ (l : List PortView). ((port : ℕ) → times_in port (l ++ closed) ≤ 1)
+    × AreWhole (places_of plane) (all_rows g l closed))
+    (sym none)
+    (all_close plane f g ports closed was same
+    (subst (λ (l : List PortView). Stay plane ports l) (sym both)
+    (subst (λ (l : List PortView). Stay plane l (s ∷ e ∷ [])) (sym are)
+    (record { each = (one.0, (two.0, tt)); keep = (one.1, (two.1, tt)) }))))
+
 -- ---- passes that meet
 
 all_times : (port : ℕ) (ps qs : List PortView) → AllZip KeepsAll ps qs →
@@ -291,6 +340,11 @@ opened places order s o apart is = record {
   };
   looks = ap (λ (v : PassView). v.board) is.looks;
 }
+
+pub as_many : (places : ℕ) (order : List ℕ) (s : Setting) (o : Opened) →
+    IsOpened places order s o.plane o.feeder o.ports o.gauge → length o.ports ≡ length order
+as_many places order s o is =
+    sym (length-map o.ports (λ (p : PortView). p.port)) ∙ ap length is.ports_are
 
 -- ---- ports that close one after the other
 

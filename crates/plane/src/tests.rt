@@ -1,7 +1,7 @@
 //! What no contract says of a plane: that its calls succeed where there is memory, also through the
 //! passes of several ports; and worked examples, whose outcomes are the rules' own.
 
-ghost use Rattle.std.specs.Prelude.{◌≡◌, ◌≤◌, IfOk};
+ghost use Rattle.std.specs.Prelude.{◌≡◌, ◌≤◌, IfOk, length};
 ghost use Rattle.nfqa_msgs.specs.RequestReading.{PayloadFits};
 ghost use Rattle.mailbox.specs.Roles.{AreDistinct};
 ghost use Rattle.place_rows.specs.Lists.{Every};
@@ -12,6 +12,7 @@ ghost use Rattle.place_turns.specs.Trails.{parts_of};
 
 mod inside;
 mod memory;
+mod races;
 mod wide;
 mod worked;
 
@@ -19,7 +20,7 @@ use crate::{ClosedPort, Fed, FeederPass, Gate, Opened, Plane, PortPass, PortPass
 use glance::GlancePass;
 use histories::{Entries, Histories};
 use hook_chain::read_tables;
-use nfqa_msgs::{BIND, Head, PACKET, Params, Request, encode_request};
+use nfqa_msgs::{BIND, Head, PACKET, Params, Request, UNBIND, encode_request};
 use packet_entry::{IPV4, Letter, NoMemory, Packet, Sequence};
 use queue_core::{Event, Reply};
 use std::alloc::Global;
@@ -48,7 +49,8 @@ fn open(alloc: Global, places: u8, ports: &[u32], mail: u32, rules: &[u8]) -> Re
     requires places { (1 ≤ places) × (places ≤ 64) }
     requires apart { AreDistinct ports.now }
     requires mail { (1 ≤ mail) × (mail ≤ 65536) }
-    ensures { IfOk result IsGoing }
+    ensures going { IfOk result IsGoing }
+    ensures ports { IfOk result (λ o. length o.ports ≡ length ports.now) }
 {
     if rules.len() >= 1000 {
         return Err(Fail::new("long rules"));
@@ -73,7 +75,7 @@ fn close(alloc: Global, opened: Opened) -> Result<Histories, NoMemory>
     plane.close(alloc, feeder, ports, Sequence::new(alloc))
 }
 
-/// Feeds the packet with this number, from 10.0.0.1 to 10.0.0.number. No more than 1000 are fed.
+/// Feeds the TCP packet with this number, from 10.0.0.1 to 10.0.0.number. No more than 1000 are fed.
 fn feed<R: Wait, G: Gate>(
     rt: &R,
     alloc: Global,
@@ -86,11 +88,28 @@ fn feed<R: Wait, G: Gate>(
     ensures pass { IsFeederOf plane.now pass.new }
     ensures parts { parts_of pass.new.trail.known ≡ parts_of pass.old.trail.known }
 {
+    feed_as(rt, alloc, gate, plane, pass, number, 6)
+}
+
+/// The same of a packet with this protocol.
+fn feed_as<R: Wait, G: Gate>(
+    rt: &R,
+    alloc: Global,
+    gate: &G,
+    plane: &Plane,
+    pass: &mut FeederPass,
+    number: u8,
+    protocol: u8,
+) -> Result<Fed, NoMemory>
+    requires pass { IsFeederOf plane.now pass.old }
+    ensures pass { IsFeederOf plane.now pass.new }
+    ensures parts { parts_of pass.new.trail.known ≡ parts_of pass.old.trail.known }
+{
     if pass.fed() >= 1000 {
         return Err(NoMemory);
     }
     let bytes = [
-        0x45, 0, 0, 20, 0, 1, 0, 0, 0x40, 6, 0, 0, 10, 0, 0, 1, 10, 0, 0, number,
+        0x45, 0, 0, 20, 0, 1, 0, 0, 0x40, protocol, 0, 0, 10, 0, 0, 1, 10, 0, 0, number,
     ];
     let packet = Packet::new(alloc, u32::from(number.max(1)), 1, 0, IPV4, &[], &bytes)?;
     match plane.feed(rt, alloc, pass, gate, packet) {
@@ -112,6 +131,9 @@ enum Ask {
     Verdict(u32, u32),
     /// A verdict for this id, and the packet's new mark.
     Marking(u32, u32, u32),
+    /// A verdict for the ids up to this one.
+    Batch(u32, u32),
+    Unbind,
 }
 
 /// Its request.
@@ -127,6 +149,13 @@ fn request(queue: u16, ask: Ask) -> Request
         Ask::Whole => config(queue, None, Some(whole)),
         Ask::Verdict(verdict, id) => verdict_on(queue, Head { verdict, id }, None),
         Ask::Marking(verdict, id, mark) => verdict_on(queue, Head { verdict, id }, Some(mark)),
+        Ask::Batch(verdict, id) => Request::Batch {
+            queue,
+            head: Some(Head { verdict, id }),
+            mark: None,
+            priority: None,
+        },
+        Ask::Unbind => config(queue, Some(UNBIND), None),
     }
 }
 

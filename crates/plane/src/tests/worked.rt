@@ -253,6 +253,9 @@ const MARKED_AT_1: &[u8] = &[
 /// The verdict NF_QUEUE, to queue 1.
 pub(super) const TO_QUEUE_1: u32 = 0x1_0003;
 
+/// To queue 0.
+pub(super) const TO_QUEUE_0: u32 = 3;
+
 /// These steps on a plane with one rule, from its beginning to its end: what is looked at of the
 /// entries.
 fn played<R: Wait>(
