@@ -6,6 +6,7 @@ ghost use Rattle.nfqa_msgs.specs.RequestReading.{PayloadFits};
 ghost use Rattle.solo_plane.specs.Examples.{IsGoing};
 ghost use Rattle.solo_plane.specs.Numbers.{most_mail};
 
+mod cut;
 mod worked;
 
 use crate::{Fed, Refused, SoloPlane, only_feeding_feeds};

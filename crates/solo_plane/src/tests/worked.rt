@@ -87,7 +87,7 @@ fn happen_all(plane: &mut SoloPlane, alloc: Global, steps: &[Step]) -> Result<Ve
 }
 
 /// What is looked at of the entries.
-fn lines_of(alloc: Global, entries: &Entries) -> Result<Vec<Line>, NoMemory> {
+pub(super) fn lines_of(alloc: Global, entries: &Entries) -> Result<Vec<Line>, NoMemory> {
     let mut lines = Vec::new(alloc);
     for entry in entries {
         let who = match &entry.event {
