@@ -1,13 +1,16 @@
 -- Lists of passes by the numbers of their ports: how often a port is there, which pass is its own,
 -- and what stays where one pass is another's successor or is left out.
 use Rattle.std.proofs.Common.{◌≡◌, ◌≢◌, ◌<◌, ◌≤◌, ◌+◌, ◌∙◌, ◌++◌, ◌∷◌, ◌⊎◌, [], ℕ, zero, suc, List}
-use Rattle.std.proofs.Common.{true, false, ap, arith, inl, inr, length, refl, subst, sym}
+use Rattle.std.proofs.Common.{true, false, ap, arith, inl, inr, length, map, refl, subst, sym}
 use Rattle.std.specs.Prelude.{◌==◌, ◌||◌, if◌then◌else◌, nat_eq, slice_index, slice_index_or}
 use Rattle.std.specs.Prelude.{slice_set}
 use Rattle.std.specs.List.{AllZip, list_any, remove}
 use Rattle.std.proofs.lemmas.Bool.{cases_Bool, cases_lt, eq-eqb, eqb-false, eqb-true, ne_eqb}
-use Rattle.std.proofs.lemmas.List.{set-get_or}
+use Rattle.std.proofs.lemmas.List.{map-append, set-get_or}
 use Rattle.std.proofs.lemmas.List.Sums.{sum_by-append, sum_by-cons}
+use Rattle.place_rows.specs.declared.ending.PortReceiver.{PortReceiver}
+use Rattle.place_rows.specs.Hearing as row
+use Rattle.plane.specs.Closings.{receiver_of}
 use Rattle.plane.specs.Passes.{FeederView, PortView}
 use Rattle.plane.specs.Remaining.{times_in}
 use Rattle.live_runs.specs.Passes.{Pass, feeder_number}
@@ -97,16 +100,22 @@ module _ {X Y : Type 0} (R : X → Y → Type 0) where
 abbrev pub is_once : ℕ → PortView → ℕ
 is_once port p = if nat_eq p.port port then 1 else 0
 
+abbrev is_once_among : ℕ → PortReceiver → ℕ
+is_once_among port p = if nat_eq p.port port then 1 else 0
+
 pub times_more : (port : ℕ) (p : PortView) (ps : List PortView) →
     times_in port (p ∷ ps) ≡ is_once port p + times_in port ps
-times_more port p ps = sum_by-cons (is_once port) p ps
+times_more port p ps =
+    sum_by-cons (is_once_among port) (receiver_of p) (map receiver_of ps)
 
 pub times_own : (port : ℕ) (p : PortView) → p.port ≡ port → is_once port p ≡ 1
 times_own port p is = rw (eq-eqb p.port port is) refl
 
 pub times_both : (port : ℕ) (ps qs : List PortView) →
     times_in port (ps ++ qs) ≡ times_in port ps + times_in port qs
-times_both port ps qs = sum_by-append (is_once port) ps qs
+times_both port ps qs =
+    ap (λ (l : List PortReceiver). row.times_in port l) (map-append receiver_of ps qs)
+    ∙ sum_by-append (is_once_among port) (map receiver_of ps) (map receiver_of qs)
 
 pub times_apart : (port : ℕ) (front : List PortView) (x : PortView) (rest : List PortView) →
     times_in port (front ++ x ∷ rest) ≡ is_once port x + times_in port (front ++ rest)
@@ -128,8 +137,7 @@ times_put port front x y rest same =
 
 -- and wherever it stands
 pub times_moved : (port : ℕ) (front : List PortView) (x y : PortView)
-    (back closed : List PortView) →
-    y.port ≡ x.port →
+    (back closed : List PortView) → y.port ≡ x.port →
     times_in port ((front ++ back) ++ (closed ++ y ∷ []))
     ≡ times_in port ((front ++ x ∷ back) ++ closed)
 times_moved port front x y back closed same =

@@ -240,9 +240,9 @@ closed_run law plane script s c h order setting mail crew closed short =
 pub closed_by : (plane : Plane) (feeder : FeederView) (xs ps ys cs : List PortView)
     (h : Histories) → xs ≡ ps → ys ≡ cs → IsClosed plane feeder (xs ++ ys) h →
     IsClosed plane feeder (ps ++ cs) h
-closed_by plane feeder xs ps ys cs h open shut is =
-    subst (λ (l : List PortView). IsClosed plane feeder (l ++ cs) h) open
-    (subst (λ (l : List PortView). IsClosed plane feeder (xs ++ l) h) shut is)
+closed_by plane feeder xs ps ys cs h are_open are_shut is =
+    subst (λ (l : List PortView). IsClosed plane feeder (l ++ cs) h) are_open
+    (subst (λ (l : List PortView). IsClosed plane feeder (xs ++ l) h) are_shut is)
 
 abbrev pub ShortLaw : Type 0
 ShortLaw = (workers : ℕ) (script : ScriptValue) (places mail : ℕ) (passes : ℕ → Pass)

@@ -43,11 +43,11 @@ returns-clause-made g c =
     let plane = c.args.opened.plane in
     let crew = c.go-outcome.new.crew in
     let h = c.in_ok-histories.histories in
-    let open : c.from_vec-ports.result ≡ crew.ports.items = search rules in
-    let shut : c.from_vec.result ≡ crew.closed.items = search rules in
+    let are_open : c.from_vec-ports.result ≡ crew.ports.items = search rules in
+    let are_shut : c.from_vec.result ≡ crew.closed.items = search rules in
     let closed : IsClosed plane crew.feeding.pass (crew.ports.items ++ crew.closed.items) h =
         closed_by plane crew.feeding.pass c.from_vec-ports.result crew.ports.items
-        c.from_vec.result crew.closed.items h open shut c.in_ok-histories.ensures in
+        c.from_vec.result crew.closed.items h are_open are_shut c.in_ok-histories.ensures in
     let run = closed_run c.a_closed_plane_has_all_that_its_passes_did.ensures plane script
         (setting_for script (tables_of c.args.opened)) crew h c.requires.opened.order_is
         c.requires.opened.setting refl c.go-outcome.ensures.crew closed
@@ -63,11 +63,11 @@ returns-clause-sound g c =
     let plane = c.args.opened.plane in
     let crew = c.go-outcome.new.crew in
     let h = c.in_ok-histories.histories in
-    let open : c.from_vec-ports.result ≡ crew.ports.items = search rules in
-    let shut : c.from_vec.result ≡ crew.closed.items = search rules in
+    let are_open : c.from_vec-ports.result ≡ crew.ports.items = search rules in
+    let are_shut : c.from_vec.result ≡ crew.closed.items = search rules in
     let closed : IsClosed plane crew.feeding.pass (crew.ports.items ++ crew.closed.items) h =
         closed_by plane crew.feeding.pass c.from_vec-ports.result crew.ports.items
-        c.from_vec.result crew.closed.items h open shut c.in_ok-histories.ensures in
+        c.from_vec.result crew.closed.items h are_open are_shut c.in_ok-histories.ensures in
     sound_for plane (setting_for script (tables_of c.args.opened)) crew.feeding.pass
     (crew.ports.items ++ crew.closed.items) h (cards c.args.capture.now) closed
     c.requires.opened.setting c.in_ok-outcome.ensures.fed
@@ -78,11 +78,11 @@ returns-clause-short g c =
     let plane = c.args.opened.plane in
     let crew = c.go-outcome.new.crew in
     let h = c.in_ok-histories.histories in
-    let open : c.from_vec-ports.result ≡ crew.ports.items = search rules in
-    let shut : c.from_vec.result ≡ crew.closed.items = search rules in
+    let are_open : c.from_vec-ports.result ≡ crew.ports.items = search rules in
+    let are_shut : c.from_vec.result ≡ crew.closed.items = search rules in
     let closed : IsClosed plane crew.feeding.pass (crew.ports.items ++ crew.closed.items) h =
         closed_by plane crew.feeding.pass c.from_vec-ports.result crew.ports.items
-        c.from_vec.result crew.closed.items h open shut c.in_ok-histories.ensures in
+        c.from_vec.result crew.closed.items h are_open are_shut c.in_ok-histories.ensures in
     let run = closed_run c.a_closed_plane_has_all_that_its_passes_did.ensures plane script
         (setting_for script (tables_of c.args.opened)) crew h c.requires.opened.order_is
         c.requires.opened.setting refl c.go-outcome.ensures.crew closed
@@ -96,9 +96,9 @@ returns-clause-grouped g c =
     let plane = c.args.opened.plane in
     let crew = c.go-outcome.new.crew in
     let h = c.in_ok-histories.histories in
-    let open : c.from_vec-ports.result ≡ crew.ports.items = search rules in
-    let shut : c.from_vec.result ≡ crew.closed.items = search rules in
+    let are_open : c.from_vec-ports.result ≡ crew.ports.items = search rules in
+    let are_shut : c.from_vec.result ≡ crew.closed.items = search rules in
     let closed : IsClosed plane crew.feeding.pass (crew.ports.items ++ crew.closed.items) h =
         closed_by plane crew.feeding.pass c.from_vec-ports.result crew.ports.items
-        c.from_vec.result crew.closed.items h open shut c.in_ok-histories.ensures in
+        c.from_vec.result crew.closed.items h are_open are_shut c.in_ok-histories.ensures in
     (flat closed.entries.lists, closed.entries.grouped)
