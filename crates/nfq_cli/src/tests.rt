@@ -2,7 +2,9 @@
 //! generated inputs. Inputs at the limits are played by the built program.
 
 mod faulted;
+mod lived;
 mod migrated;
+mod raced;
 mod tried;
 mod worked;
 

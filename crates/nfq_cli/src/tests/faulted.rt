@@ -82,7 +82,11 @@ fn stand(rt: &impl Abort, host: &MemoryHost, whole: &MemoryHost, outputs: &[&str
     match status {
         0 => assert_eq!(rt; count, outputs.len()),
         2 => are_untouched(rt, host, outputs),
-        3 => are_untouched(rt, host, outputs.get(count.wrapping_add(1)..).unwrap_or(&[])),
+        3 => are_untouched(
+            rt,
+            host,
+            outputs.get(count.wrapping_add(1)..).unwrap_or(&[]),
+        ),
         _ => assert!(rt; false, "another status"),
     }
 }

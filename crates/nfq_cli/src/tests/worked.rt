@@ -386,9 +386,9 @@ pub(super) struct Run {
     input: Vec<u8>,
     /// The records of the capture.
     records: Vec<Vec<u8>>,
-    ledger: String,
-    output: Vec<u8>,
-    journal: Vec<String>,
+    pub(super) ledger: String,
+    pub(super) output: Vec<u8>,
+    pub(super) journal: Vec<String>,
     /// What `list` writes, where that is run.
     listing: Option<String>,
 }
@@ -521,7 +521,7 @@ fn has_line(journal: &[u8], wanted: &str) -> bool {
 }
 
 /// The journal has these lines.
-fn has_lines(rt: &impl Abort, journal: &[u8], lines: &[String]) {
+pub(super) fn has_lines(rt: &impl Abort, journal: &[u8], lines: &[String]) {
     for line in lines {
         assert!(rt; has_line(journal, line.as_str()));
     }
