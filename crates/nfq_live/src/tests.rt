@@ -140,7 +140,11 @@ on id 2 do verdict this drop this\non any do verdict this accept this\n",
             (402, 402),
         ),
         // One request, three arrivals, and the device that goes down.
-        (b"down 1 after 2\nport 7\nopen config 0 bind params packet 0\n", 3, (5, 4)),
+        (
+            b"down 1 after 2\nport 7\nopen config 0 bind params packet 0\n",
+            3,
+            (5, 4),
+        ),
         // Two requests, 32 visits with a verdict each, and the 33rd.
         (
             b"port 7\nopen config 0 bind\nopen config 0 params packet 0

@@ -254,7 +254,7 @@ closed_now plane old r p s t is still of closes same at =
     subst (IsStill plane old) (sym at) (
       of,
       keeps_trans old p s was.1
-      (record { port = ap (λ (v : PortView). v.port) closes.others; parts = same }),
+          (record { port = ap (λ (v : PortView). v.port) closes.others; parts = same }),
     )
 
 pub closed_before : (plane : Plane) (old : PortView) (r : Result PortView PortView)

@@ -253,7 +253,10 @@ fn both<R: Threads + Wait + Sync>(
     match order {
         Order::First => {
             let one = port_calls(rt, alloc, gate, plane, seven, race.first);
-            (one, other_calls(rt, alloc, gate, plane, others, race.second))
+            (
+                one,
+                other_calls(rt, alloc, gate, plane, others, race.second),
+            )
         }
         Order::Second => {
             let two = other_calls(rt, alloc, gate, plane, others, race.second);

@@ -11,7 +11,8 @@ use std::test::Fail;
 
 /// A verdict that accepts id 1 of queue 0.
 const ACCEPT: [u8; 32] = [
-    32, 0, 0, 0, 1, 3, 1, 0, 3, 0, 0, 0, 7, 0, 0, 0, 0, 0, 0, 0, 12, 0, 2, 0, 0, 0, 0, 1, 0, 0, 0, 1,
+    32, 0, 0, 0, 1, 3, 1, 0, 3, 0, 0, 0, 7, 0, 0, 0, 0, 0, 0, 0, 12, 0, 2, 0, 0, 0, 0, 1, 0, 0, 0,
+    1,
 ];
 
 /// Port 7 sends each front of it: nothing is used, and nothing answered.

@@ -46,12 +46,12 @@ returns-clause-made g c =
     let are_open : c.from_vec-ports.result ≡ crew.ports.items = search rules in
     let are_shut : c.from_vec.result ≡ crew.closed.items = search rules in
     let closed : IsClosed plane crew.feeding.pass (crew.ports.items ++ crew.closed.items) h =
-        closed_by plane crew.feeding.pass c.from_vec-ports.result crew.ports.items
-        c.from_vec.result crew.closed.items h are_open are_shut c.in_ok-histories.ensures in
+    closed_by plane crew.feeding.pass c.from_vec-ports.result crew.ports.items
+    c.from_vec.result crew.closed.items h are_open are_shut c.in_ok-histories.ensures in
     let run = closed_run c.a_closed_plane_has_all_that_its_passes_did.ensures plane script
-        (setting_for script (tables_of c.args.opened)) crew h c.requires.opened.order_is
-        c.requires.opened.setting refl c.go-outcome.ensures.crew closed
-        c.queues_are_short.ensures in
+    (setting_for script (tables_of c.args.opened)) crew h c.requires.opened.order_is
+    c.requires.opened.setting refl c.go-outcome.ensures.crew closed
+    c.queues_are_short.ensures in
     live_run c.nothing_is_sent_to_a_closed_port.ensures.at_last
     c.a_run_with_threads_is_made_by_its_script.ensures.made script (places_of plane)
     c.args.capture.now crew h (some_place plane) c.in_ok-outcome.ensures.ended
@@ -66,8 +66,8 @@ returns-clause-sound g c =
     let are_open : c.from_vec-ports.result ≡ crew.ports.items = search rules in
     let are_shut : c.from_vec.result ≡ crew.closed.items = search rules in
     let closed : IsClosed plane crew.feeding.pass (crew.ports.items ++ crew.closed.items) h =
-        closed_by plane crew.feeding.pass c.from_vec-ports.result crew.ports.items
-        c.from_vec.result crew.closed.items h are_open are_shut c.in_ok-histories.ensures in
+    closed_by plane crew.feeding.pass c.from_vec-ports.result crew.ports.items
+    c.from_vec.result crew.closed.items h are_open are_shut c.in_ok-histories.ensures in
     sound_for plane (setting_for script (tables_of c.args.opened)) crew.feeding.pass
     (crew.ports.items ++ crew.closed.items) h (cards c.args.capture.now) closed
     c.requires.opened.setting c.in_ok-outcome.ensures.fed
@@ -81,12 +81,12 @@ returns-clause-short g c =
     let are_open : c.from_vec-ports.result ≡ crew.ports.items = search rules in
     let are_shut : c.from_vec.result ≡ crew.closed.items = search rules in
     let closed : IsClosed plane crew.feeding.pass (crew.ports.items ++ crew.closed.items) h =
-        closed_by plane crew.feeding.pass c.from_vec-ports.result crew.ports.items
-        c.from_vec.result crew.closed.items h are_open are_shut c.in_ok-histories.ensures in
+    closed_by plane crew.feeding.pass c.from_vec-ports.result crew.ports.items
+    c.from_vec.result crew.closed.items h are_open are_shut c.in_ok-histories.ensures in
     let run = closed_run c.a_closed_plane_has_all_that_its_passes_did.ensures plane script
-        (setting_for script (tables_of c.args.opened)) crew h c.requires.opened.order_is
-        c.requires.opened.setting refl c.go-outcome.ensures.crew closed
-        c.queues_are_short.ensures in
+    (setting_for script (tables_of c.args.opened)) crew h c.requires.opened.order_is
+    c.requires.opened.setting refl c.go-outcome.ensures.crew closed
+    c.queues_are_short.ensures in
     short_for c.a_run_with_threads_is_made_by_its_script.ensures.short script (places_of plane)
     (length c.args.capture.now.frames) crew h (some_place plane) c.in_ok-outcome.ensures.ended run
 
@@ -99,6 +99,6 @@ returns-clause-grouped g c =
     let are_open : c.from_vec-ports.result ≡ crew.ports.items = search rules in
     let are_shut : c.from_vec.result ≡ crew.closed.items = search rules in
     let closed : IsClosed plane crew.feeding.pass (crew.ports.items ++ crew.closed.items) h =
-        closed_by plane crew.feeding.pass c.from_vec-ports.result crew.ports.items
-        c.from_vec.result crew.closed.items h are_open are_shut c.in_ok-histories.ensures in
+    closed_by plane crew.feeding.pass c.from_vec-ports.result crew.ports.items
+    c.from_vec.result crew.closed.items h are_open are_shut c.in_ok-histories.ensures in
     (flat closed.entries.lists, closed.entries.grouped)

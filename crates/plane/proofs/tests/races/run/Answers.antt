@@ -18,12 +18,11 @@ close-histories-requires-clause-apart g c =
       | in-Err w ↦ closed_before c.args.opened.plane c.apart-seven.result.0
           c.both-left.result.0.0 w.in-Err.closed c.match-left.seven w.in-Err.is
           c.both-left.ensures.closed w.seven-is
-    ])
-    (
+    ]) (
       c.close_port.ensures.pass,
       keeps_trans _ _ _ c.both-left.ensures.keeps
-      (closes_keep _ c.both-left.result.1.0.eight c.close_port.result c.close_port.ensures.closed
-      c.close_port.ensures.parts),
+          (closes_keep _ c.both-left.result.1.0.eight c.close_port.result c.close_port.ensures.closed
+          c.close_port.ensures.parts),
     )
     c.new-2.ensures
     (c.from_vec-closed.ensures ∙ c.push_reserved-2.ensures.items
@@ -44,12 +43,11 @@ close-histories-requires-clause-whole g c =
       | in-Err w ↦ closed_before c.args.opened.plane c.apart-seven.result.0
           c.both-left.result.0.0 w.in-Err.closed c.match-left.seven w.in-Err.is
           c.both-left.ensures.closed w.seven-is
-    ])
-    (
+    ]) (
       c.close_port.ensures.pass,
       keeps_trans _ _ _ c.both-left.ensures.keeps
-      (closes_keep _ c.both-left.result.1.0.eight c.close_port.result c.close_port.ensures.closed
-      c.close_port.ensures.parts),
+          (closes_keep _ c.both-left.result.1.0.eight c.close_port.result c.close_port.ensures.closed
+          c.close_port.ensures.parts),
     )
     c.new-2.ensures
     (c.from_vec-closed.ensures ∙ c.push_reserved-2.ensures.items
