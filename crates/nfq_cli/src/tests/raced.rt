@@ -38,13 +38,13 @@ fn word(line: &str, at: usize) -> &str {
 
 /// Lines of a journal: the arrivals, and the verdicts.
 #[derive(Drop)]
-struct Told<'a> {
+struct Lines<'a> {
     arrivals: Vec<&'a str>,
     verdicts: Vec<&'a str>,
 }
 
-fn told(alloc: Global, journal: &str) -> Result<Told<'_>, AllocError> {
-    let mut told = Told {
+fn read_journal(alloc: Global, journal: &str) -> Result<Lines<'_>, AllocError> {
+    let mut told = Lines {
         arrivals: Vec::new(alloc),
         verdicts: Vec::new(alloc),
     };
@@ -61,7 +61,7 @@ fn told(alloc: Global, journal: &str) -> Result<Told<'_>, AllocError> {
 
 /// The line of a packet's last arrival. Packets here go on to higher queues alone, so it is the
 /// last of their lines in the journal.
-fn last_arrival<'a>(told: &Told<'a>, number: &str) -> Option<&'a str> {
+fn last_arrival<'a>(told: &Lines<'a>, number: &str) -> Option<&'a str> {
     let mut last = None;
     for line in &told.arrivals {
         if word(line, 2) == number {
@@ -72,7 +72,7 @@ fn last_arrival<'a>(told: &Told<'a>, number: &str) -> Option<&'a str> {
 }
 
 /// What the verdict does that took the packet with this id out of this queue, if one did.
-fn verdict_on(told: &Told<'_>, queue: &str, id: &str) -> &'static str {
+fn verdict_on(told: &Lines<'_>, queue: &str, id: &str) -> &'static str {
     for line in &told.verdicts {
         if word(line, 1) == queue && word(line, 7) == id && word(line, 10) == "1" {
             return match word(line, 6) {
@@ -86,7 +86,7 @@ fn verdict_on(told: &Told<'_>, queue: &str, id: &str) -> &'static str {
 }
 
 /// What became of a packet, as its last arrival and the verdict on it say.
-fn fate_of(told: &Told<'_>, number: &str) -> &'static str {
+fn fate_of(told: &Lines<'_>, number: &str) -> &'static str {
     let Some(arrival) = last_arrival(told, number) else {
         return "unhooked";
     };
@@ -106,7 +106,7 @@ fn check_fates(
 ) -> Result<usize, Fail> {
     let ledger = str::from_utf8(host.get("l").ok_or("no ledger")?)?;
     let journal = str::from_utf8(host.get("j").ok_or("no journal")?)?;
-    let told = told(alloc, journal)?;
+    let told = read_journal(alloc, journal)?;
     let (_, lines) = ledger.split_once('\n').ok_or("no line")?;
     let mut output = Vec::from_slice(alloc, &HEADER)?;
     let mut records = input
