@@ -4,11 +4,15 @@
 
 use super::migrated::OLD_JOURNAL;
 use super::worked::{RUNS, Run, host_of, read};
-use super::{Fault, LIST, PLAY, done, lacks};
+use super::{Fault, LIST, PLAY, done, lacks, lived, words};
+use crate::live::live;
 use host_io::MemoryHost;
-use std::alloc::Global;
+use plane::OpenGate;
+use std::alloc::{AllocError, Global};
 use std::process::Abort;
+use std::sync::Wait;
 use std::test::Fail;
+use std::thread::Threads;
 
 /// What an output held before the command.
 const BEFORE: &[u8] = b"before";
@@ -24,6 +28,12 @@ struct Command {
 
 const PLAYED: Command = Command {
     words: PLAY,
+    outputs: &["o", "l", "j"],
+};
+
+/// Of runs whose outputs no thread can change.
+const LIVED: Command = Command {
+    words: &["live", "r", "s", "c", "o", "l", "j", "2"],
     outputs: &["o", "l", "j"],
 };
 
@@ -91,10 +101,24 @@ fn stand(rt: &impl Abort, host: &MemoryHost, whole: &MemoryHost, outputs: &[&str
     }
 }
 
+/// The status of a command.
+fn does<R: Threads + Wait + Sync>(
+    rt: &R,
+    alloc: Global,
+    host: &mut MemoryHost,
+    command: &[&str],
+) -> Result<u8, AllocError> {
+    if command.first() != Some(&"live") {
+        return done(alloc, host, command);
+    }
+    let words = words(alloc, command)?;
+    Ok(live(rt, alloc, &words, host, &OpenGate))
+}
+
 /// The status of a command whose n-th call of the host has this fault. Nothing is printed but what
 /// is an output, and the inputs stay.
-fn with_fault(
-    rt: &impl Abort,
+fn with_fault<R: Threads + Wait + Sync + Abort>(
+    rt: &R,
     alloc: Global,
     run: &Run,
     command: &Command,
@@ -106,7 +130,7 @@ fn with_fault(
         Fault::Fails => host.fail_call(n)?,
         Fault::TakesNothing => host.short_call(n)?,
     }
-    let status = done(alloc, &mut host, command.words)?;
+    let status = does(rt, alloc, &mut host, command.words)?;
     stand(rt, &host, whole, command.outputs, status);
     for name in ["r", "s", "c", "old"] {
         assert!(rt; host.get(name) == whole.get(name));
@@ -119,9 +143,14 @@ fn with_fault(
 
 /// Each call of the host fails in turn, up to the first number with which all is well: before that
 /// the status is 2 or 3. A call that takes nothing has a fault exactly where it is a write.
-fn check(rt: &impl Abort, alloc: Global, run: &Run, command: &Command) -> Result<(), Fail> {
+fn check<R: Threads + Wait + Sync + Abort>(
+    rt: &R,
+    alloc: Global,
+    run: &Run,
+    command: &Command,
+) -> Result<(), Fail> {
     let mut whole = filled(alloc, run, command.outputs)?;
-    assert_eq!(rt; done(alloc, &mut whole, command.words)?, 0);
+    assert_eq!(rt; does(rt, alloc, &mut whole, command.words)?, 0);
     // An empty text takes nothing in any case.
     let is_long = whole.get(command.outputs[0]) != Some(b"");
     let mut faults = 0u64;
@@ -147,6 +176,9 @@ fn a_fault_at_each_call_leaves_whole_and_untouched_outputs(rt: HostRuntime) -> R
         let run = read(alloc, text)?;
         check(&rt, alloc, &run, &PLAYED)?;
         check(&rt, alloc, &run, &LISTED)?;
+    }
+    for text in lived::RUNS.split("\n\n").step_by(2) {
+        check(&rt, alloc, &read(alloc, text)?, &LIVED)?;
     }
     let nothing = read(alloc, "port 7")?;
     for command in &[GENERATED, MIGRATED, TRIED] {

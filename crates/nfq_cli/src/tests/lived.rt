@@ -45,7 +45,7 @@ fn other_words_are_no_live_command(rt: HostRuntime) -> Result<(), Fail> {
 
 /// Runs in the form of the worked ones, in which no two threads can do two things in another order:
 /// one packet at a time is answered at a queue, or none is.
-const RUNS: &str = "\
+pub(super) const RUNS: &str = "\
 packets 1
 port 7
 opened
