@@ -88,6 +88,8 @@ RUNS = [
      ["unbind"] * 3),
     ("play: a device that goes down", "down 1 after 2\n" + OPENED, ["play"], (),
      ["devicedown", "devicedown", "waiting"]),
+    ("live: three packets answered, one place", ANSWERS, ["live", "1"], (1, 3), ["accept", "drop", "accept"]),
+    ("live: three packets answered, eight places", ANSWERS, ["live", "8"], (1, 3), ["accept", "drop", "accept"]),
 ]
 OLD = b"nfq-journal 1\nA 0 1 1 1 n y 0 1 0 2048 - 4500001400010000400600000a0000010a000002 noqueue\nend\n"
 NEW = b"nfq-journal 2\nA 0 1 1 1 n y 0 0 1 0 2048 - 4500001400010000400600000a0000010a000002 noqueue\nend\n"

@@ -2,7 +2,7 @@
 # A benchmark, not a test: plays captures that it makes itself, and prints for each shape the processor time and the
 # peak memory of `nfq play`, and their ratios to a floor, a program of baselines.c that reads the inputs and writes files
 # of the outputs' sizes; for three shapes also to two by hand, which write the same bytes without a proof, one of them
-# with each output kept whole until the last is made. Last come `gen`, `play` of what it writes, and `trial`, of 200,000
+# with each output kept whole until the last is made. Then comes `live` over 1, 2, 4 and 8 places beside `play`. Last come `gen`, `play` of what it writes, and `trial`, of 200,000
 # packets.
 set -eu
 top=$(cd "$(dirname "$0")/.." && pwd)
@@ -122,9 +122,18 @@ for name, frames, rules, script, capture, by_hand in SHAPES:
         print(f"  {who:10} {it[0]:.3f} s of processor time, {it[1]:.3f} s in all, {it[2]:.0f} MiB at the peak; "
               f"nfq play takes {play[0] / it[0]:.1f} times the time and {play[2] / it[2]:.1f} times the memory")
 
+print("flows over eight queues, as above: play, and live over so many places")
+write_inputs(*[it[2:5] for it in SHAPES if it[0] == "flows over eight queues"][0], 200_000)
+play = measured([sys.argv[1], "play", *INPUTS, *OUTPUTS])
+print(f"  {'play':10} {play[0]:.3f} s of processor time, {play[1]:.3f} s in all, {play[2]:.0f} MiB at the peak")
+for places in (1, 2, 4, 8):
+    it = measured([sys.argv[1], "live", *INPUTS, *OUTPUTS, str(places)])
+    print(f"  {'live ' + str(places):10} {it[0]:.3f} s of processor time, {it[1]:.3f} s in all, {it[2]:.0f} MiB at the peak; "
+          f"{it[0] / play[0]:.1f} times play's processor time, {it[1] / play[1]:.1f} times its time in all")
+
 print("generated from the number 7, 200,000 packets")
 for name, words in (("gen", ["gen", "7", "200000", *INPUTS]), ("play", ["play", *INPUTS, *OUTPUTS]),
-                    ("trial", ["trial", "7", "200000"])):
+                    ("live 8", ["live", *INPUTS, *OUTPUTS, "8"]), ("trial", ["trial", "7", "200000"])):
     it = measured([sys.argv[1], *words])
     print(f"  {name:10} {it[0]:.3f} s of processor time, {it[1]:.3f} s in all, {it[2]:.0f} MiB at the peak")
 PY

@@ -1,11 +1,12 @@
 -- The arguments of the command line: a command, its numbers, and the names of its files.
 --     play RULES SCRIPT IN OUT LEDGER JOURNAL
+--     live RULES SCRIPT IN OUT LEDGER JOURNAL PLACES
 --     list RULES SCRIPT IN OUT
 --     gen NUMBER COUNT RULES SCRIPT IN
 --     trial NUMBER COUNT
 --     migrate OLD NEW
 use Rattle.std.specs.Prelude.{◌≡◌, ◌≤◌, ℕ, ⊤, List, [], ◌∷◌, length, map, Option, Some, None, Bool}
-use Rattle.std.specs.Prelude.{true, not, ◌&&◌, ◌==◌, codes, if◌then◌else◌, option_map}
+use Rattle.std.specs.Prelude.{true, false, not, ◌&&◌, ◌==◌, codes, if◌then◌else◌, option_map}
 use Rattle.std.specs.Str.{bytes_eq}
 use Rattle.std.specs.Prelude.{String}
 use Rattle.std.specs.String.{string_bytes}
@@ -14,13 +15,14 @@ use Rattle.std.specs.Vec.Iter.{into_iter_items}
 use Rattle.std.specs.declared.vec.IntoIter.{IntoIter}
 use Rattle.std.specs.declared.alloc.Global.{Global}
 use Rattle.text_lines.specs.Words.{◌>>=◌}
-use Rattle.packet_entry.specs.Numbers.{most_frames as most_records}
-use Rattle.command_line.specs.Numerals.{count_of, number_of}
+use Rattle.packet_entry.specs.Numbers.{most_frames as most_records, most_places}
+use Rattle.command_line.specs.Numerals.{count_of, number_of, places_of}
 use Rattle.command_line.specs.declared.arguments.Command.{Command}
 use Rattle.command_line.specs.declared.arguments.Command.TheVariants as command
 use Rattle.command_line.specs.declared.arguments.Generation.{Generation}
 use Rattle.command_line.specs.declared.arguments.Inputs.{Inputs}
 use Rattle.command_line.specs.declared.arguments.Listing.{Listing}
+use Rattle.command_line.specs.declared.arguments.Live.{Live}
 use Rattle.command_line.specs.declared.arguments.Migration.{Migration}
 use Rattle.command_line.specs.declared.arguments.Play.{Play}
 use Rattle.command_line.specs.declared.arguments.Sample.{Sample as ASample}
@@ -39,6 +41,12 @@ pub record PlayFiles : Type 0 where
   pub output : List ℕ
   pub ledger : List ℕ
   pub journal : List ℕ
+
+-- the names of the files that a `live` command reads and writes, and how many places its queues
+-- have
+pub record LiveFiles : Type 0 where
+  pub files : PlayFiles
+  pub places : ℕ
 
 -- the names of the files that a `list` command reads and writes
 pub record ListFiles : Type 0 where
@@ -67,6 +75,7 @@ pub data Call : Type 0 where
   Generates : GenFiles → Call
   Tries : Sample → Call
   Migrates : MigrateFiles → Call
+  Lives : LiveFiles → Call
 
 -- what a command reads: the inputs of a run, or a journal
 pub data ReadFiles : Type 0 where
@@ -80,6 +89,7 @@ inputs (Lists f) = Some (RunInputs f.inputs)
 inputs (Generates g) = None
 inputs (Tries s) = None
 inputs (Migrates m) = Some (OneJournal m.source)
+inputs (Lives l) = Some (RunInputs l.files.inputs)
 
 -- the name of standard output
 abbrev pub standard_output : List ℕ
@@ -110,6 +120,7 @@ outputs (Lists f) = list_outputs f
 outputs (Generates g) = gen_outputs g
 outputs (Tries s) = trial_outputs
 outputs (Migrates m) = migrate_outputs m
+outputs (Lives l) = play_outputs l.files
 
 -- ---- as the code holds them
 
@@ -125,6 +136,9 @@ files_of p =
       ledger = p.ledger.now;
       journal = p.journal.now;
     }
+
+abbrev pub live_files_of : Live → LiveFiles
+live_files_of l = record { files = files_of l.files; places = l.places }
 
 abbrev pub list_files_of : Listing → ListFiles
 list_files_of l = record { inputs = inputs_of l.inputs; output = l.output.now }
@@ -178,6 +192,10 @@ IsSample s = (1 ≤ s.count) × (s.count ≤ most_records)
 abbrev pub IsGenAllowed : GenFiles → Type 0
 IsGenAllowed g = IsSample g.sample × (are_inputs_apart g.files ≡ true)
 
+abbrev pub IsLiveAllowed : LiveFiles → Type 0
+IsLiveAllowed l =
+    (are_outputs_apart l.files ≡ true) × (1 ≤ l.places) × (l.places ≤ most_places)
+
 -- what is known of the names and numbers of a command
 abbrev pub IsAllowed : Call → Type 0
 IsAllowed (Plays f) = are_outputs_apart f ≡ true
@@ -185,10 +203,11 @@ IsAllowed (Lists f) = ⊤
 IsAllowed (Generates g) = IsGenAllowed g
 IsAllowed (Tries s) = IsSample s
 IsAllowed (Migrates m) = ⊤
+IsAllowed (Lives l) = IsLiveAllowed l
 
--- the files of a `play` command, where the arguments are one
-abbrev pub play_of : List (List ℕ) → Option PlayFiles
-play_of (verb ∷ rules ∷ script ∷ capture ∷ output ∷ ledger ∷ journal ∷ []) =
+-- the files of a run that these six words name, where each of them may
+abbrev pub run_files_of : List ℕ → List ℕ → List ℕ → List ℕ → List ℕ → List ℕ → Option PlayFiles
+run_files_of rules script capture output ledger journal =
     let f : PlayFiles =
     record {
       inputs = record { rules = rules; script = script; capture = capture };
@@ -196,8 +215,33 @@ play_of (verb ∷ rules ∷ script ∷ capture ∷ output ∷ ledger ∷ journal
       ledger = ledger;
       journal = journal;
     } in
-    if bytes_eq verb (codes "play") && are_files f && are_outputs_apart f then Some f else None
+    if are_files f && are_outputs_apart f then Some f else None
+
+-- the files of a `play` command, where the arguments are one
+abbrev pub play_of : List (List ℕ) → Option PlayFiles
+play_of (verb ∷ rules ∷ script ∷ capture ∷ output ∷ ledger ∷ journal ∷ []) =
+    if bytes_eq verb (codes "play")
+    then run_files_of rules script capture output ledger journal else None
 play_of words = None
+
+-- the files of a run, if they are some, with the number of places that a word gives
+abbrev pub over_places : Option PlayFiles → List ℕ → Option LiveFiles
+over_places files word = do
+  f ← files
+  n ← places_of word
+  Some (record { files = f; places = n })
+
+-- the files of a run and a number of places, where these words are that
+abbrev pub live_files_in : List (List ℕ) → Option LiveFiles
+live_files_in (rules ∷ script ∷ capture ∷ output ∷ ledger ∷ journal ∷ places ∷ []) =
+    over_places (run_files_of rules script capture output ledger journal) places
+live_files_in words = None
+
+-- the files and the number of a `live` command, where the arguments are one
+abbrev pub live_of : List (List ℕ) → Option LiveFiles
+live_of [] = None
+live_of (verb ∷ words) =
+    if bytes_eq verb (codes "live") then live_files_in words else None
 
 -- the files of a `list` command
 abbrev pub list_of : List (List ℕ) → Option ListFiles
@@ -255,9 +299,26 @@ call words =
 abbrev pub call_of_words : List (String Global) → Option Call
 call_of_words words = call (map string_bytes words)
 
+-- the `live` command that the arguments are, if any
+abbrev pub live_call : List (List ℕ) → Option Call
+live_call words = option_map Lives (live_of words)
+
+abbrev pub live_call_of_words : List (String Global) → Option Call
+live_call_of_words words = live_call (map string_bytes words)
+
+-- the first word is `live`
+abbrev pub is_live : List (List ℕ) → Bool
+is_live [] = false
+is_live (verb ∷ words) = bytes_eq verb (codes "live")
+
+-- the command that the program's arguments are, without its name
+abbrev pub program_call : List (String Global) → Option Call
+program_call words =
+    if is_live (map string_bytes words) then live_call_of_words words else call_of_words words
+
 -- the same, of all arguments, the program's name first; where they can't be had they are no
 -- command
 abbrev pub call_of_arguments : {E : Type 0} → Result (IntoIter (String Global) Global) E →
     Option Call
-call_of_arguments (Ok arguments) = call_of_words (drop 1 (into_iter_items arguments))
+call_of_arguments (Ok arguments) = program_call (drop 1 (into_iter_items arguments))
 call_of_arguments (Err e) = None

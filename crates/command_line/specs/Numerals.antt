@@ -4,7 +4,7 @@ use Rattle.std.specs.Prelude.{◌∷◌, length, slice_index, Option, Some, None
 use Rattle.text_lines.specs.Digits.{below}
 use Rattle.text_lines.specs.Numbers.{decimal_radix}
 use Rattle.text_lines.specs.Words.{◌>>=◌, byte, is_digit}
-use Rattle.packet_entry.specs.Numbers.{most_frames as most_records}
+use Rattle.packet_entry.specs.Numbers.{most_frames as most_records, most_places}
 
 -- a number with one digit more at its end, where that is a digit and the number has 64 bits
 abbrev pub with_digit : ℕ → ℕ → Option ℕ
@@ -29,3 +29,9 @@ abbrev pub count_of : List ℕ → Option ℕ
 count_of word = do
   n ← number_of word
   if nat_le 1 n && nat_le n most_records then Some n else None
+
+-- how many places: 1 at least
+abbrev pub places_of : List ℕ → Option ℕ
+places_of word = do
+  n ← number_of word
+  if nat_le 1 n && nat_le n most_places then Some n else None

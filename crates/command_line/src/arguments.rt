@@ -1,10 +1,10 @@
 //! The arguments of the command line.
 
-ghost use Rattle.std.specs.Prelude.{◌≡◌, None, Some, map, MatchOption, IfSome, true};
+ghost use Rattle.std.specs.Prelude.{◌≡◌, None, Some, map, MatchOption, IfSome, option_map, true};
 ghost use Rattle.std.specs.String.{string_bytes};
 ghost use Rattle.command_line.specs.Arguments as named;
 
-use crate::numerals::{count_of, number_of};
+use crate::numerals::{count_of, number_of, places_of};
 
 /// The files that a run is made from, by the names that the arguments give them.
 #[derive(Clone, Copy, Debug, PartialEq, Eq)]
@@ -21,6 +21,14 @@ pub struct Play<'a> {
     pub output: &'a str,
     pub ledger: &'a str,
     pub journal: &'a str,
+}
+
+/// The files that `live` reads and writes, and over how many places.
+#[derive(Clone, Copy, Debug, PartialEq, Eq)]
+pub struct Live<'a> {
+    pub files: Play<'a>,
+    /// How many places the queues have: 1 to 64.
+    pub places: u8,
 }
 
 /// The files that `list` reads and writes.
@@ -85,6 +93,50 @@ pub fn command_of(words: &[String]) -> Option<Command<'_>>
     Some(Command::Migrate { files })
 }
 
+/// The files and the number of a `live` command; `None` where the arguments aren't one.
+pub fn live_of(words: &[String]) -> Option<Live<'_>>
+    ensures call { MatchOption result (named.live_call (map string_bytes words.now) ≡ None)
+        (λ l. named.live_call (map string_bytes words.now)
+        ≡ Some (named.Lives (named.live_files_of l))) }
+    ensures allowed { IfSome result (λ l. named.IsLiveAllowed (named.live_files_of l)) }
+{
+    let (verb, words) = words.split_first()?;
+    if verb.as_str() == "live" {
+        live_files_in(words)
+    } else {
+        None
+    }
+}
+
+/// The files of a run and the number of places that these words are.
+fn live_files_in(words: &[String]) -> Option<Live<'_>>
+    ensures call { MatchOption result (named.live_files_in (map string_bytes words.now) ≡ None)
+        (λ l. named.live_files_in (map string_bytes words.now) ≡ Some (named.live_files_of l)) }
+    ensures allowed { IfSome result (λ l. named.IsLiveAllowed (named.live_files_of l)) }
+{
+    let [rules, script, capture, output, ledger, journal, places] = words else {
+        return None;
+    };
+    over_places(
+        run_files_of(rules, script, capture, output, ledger, journal),
+        places.as_str(),
+    )
+}
+
+/// The files of a run, if they are some, with the number of places that a word gives.
+fn over_places<'a>(files: Option<Play<'a>>, word: &str) -> Option<Live<'a>>
+    ensures call { MatchOption result
+        (named.over_places (option_map named.files_of files.entry) word.now ≡ None)
+        (λ l. named.over_places (option_map named.files_of files.entry) word.now
+        ≡ Some (named.live_files_of l)) }
+    ensures allowed { IfSome files.entry (λ p. named.are_outputs_apart (named.files_of p) ≡ true) →
+        IfSome result (λ l. named.IsLiveAllowed (named.live_files_of l)) }
+{
+    let files = files?;
+    let places = places_of(word)?;
+    Some(Live { files, places })
+}
+
 /// The files of a `play` command; `None` where the arguments aren't one.
 fn play_of(words: &[String]) -> Option<Play<'_>>
     ensures files { MatchOption result (named.play_of (map string_bytes words.now) ≡ None)
@@ -94,7 +146,32 @@ fn play_of(words: &[String]) -> Option<Play<'_>>
     let [verb, rules, script, capture, output, ledger, journal] = words else {
         return None;
     };
-    let play = Play {
+    if verb.as_str() == "play" {
+        run_files_of(rules, script, capture, output, ledger, journal)
+    } else {
+        None
+    }
+}
+
+/// The files of a run that these words name, where each of them may.
+fn run_files_of<'a>(
+    rules: &'a String,
+    script: &'a String,
+    capture: &'a String,
+    output: &'a String,
+    ledger: &'a String,
+    journal: &'a String,
+) -> Option<Play<'a>>
+    ensures files { MatchOption result
+        (named.run_files_of (string_bytes rules.now) (string_bytes script.now)
+        (string_bytes capture.now) (string_bytes output.now) (string_bytes ledger.now)
+        (string_bytes journal.now) ≡ None)
+        (λ p. named.run_files_of (string_bytes rules.now) (string_bytes script.now)
+        (string_bytes capture.now) (string_bytes output.now) (string_bytes ledger.now)
+        (string_bytes journal.now) ≡ Some (named.files_of p)) }
+    ensures apart { IfSome result (λ p. named.are_outputs_apart (named.files_of p) ≡ true) }
+{
+    let files = Play {
         inputs: Inputs {
             rules: rules.as_str(),
             script: script.as_str(),
@@ -104,11 +181,8 @@ fn play_of(words: &[String]) -> Option<Play<'_>>
         ledger: ledger.as_str(),
         journal: journal.as_str(),
     };
-    if verb.as_str() == "play"
-        && are_files(&play)
-        && are_apart(play.output, play.ledger, play.journal)
-    {
-        Some(play)
+    if are_files(&files) && are_apart(files.output, files.ledger, files.journal) {
+        Some(files)
     } else {
         None
     }

@@ -1,13 +1,16 @@
 //! The command line of `nfq`: which command the arguments are, with the names of its files and its
 //! numbers.
 //!
-//! [`command_of`] reads the arguments. They are borrowed, and no memory is taken.
+//! [`command_of`] reads the arguments of every command but `live`, and [`live_of`] those of `live`.
+//! They are borrowed, and no memory is taken.
 #![tactic(auto)]
 
 mod arguments;
 mod numerals;
 
-pub use arguments::{Command, Generation, Inputs, Listing, Migration, Play, Sample, command_of};
+pub use arguments::{
+    Command, Generation, Inputs, Listing, Live, Migration, Play, Sample, command_of, live_of,
+};
 
 #[cfg(test)]
 mod tests;

@@ -1,7 +1,7 @@
 //! The numbers that arguments give.
 
 ghost use Rattle.std.specs.Prelude.{◌≡◌, ◌≤◌, IfSome};
-ghost use Rattle.packet_entry.specs.Numbers.{most_frames as most_records};
+ghost use Rattle.packet_entry.specs.Numbers.{most_frames as most_records, most_places};
 ghost use Rattle.command_line.specs.Numerals as numerals;
 
 /// The radix of numbers.
@@ -9,6 +9,9 @@ const DECIMAL: u64 = 10;
 
 /// The most records of a generated capture.
 const MAX_RECORDS: u64 = 200_000;
+
+/// The most places of a run with threads.
+const MAX_PLACES: u64 = 64;
 
 /// How many records a word asks for: 1 to 200,000.
 pub fn count_of(word: &str) -> Option<u32>
@@ -18,6 +21,19 @@ pub fn count_of(word: &str) -> Option<u32>
     let count = number_of(word)?;
     if 1 <= count && count <= MAX_RECORDS {
         Some(count as u32)
+    } else {
+        None
+    }
+}
+
+/// How many places a word asks for: 1 to 64.
+pub fn places_of(word: &str) -> Option<u8>
+    ensures value { result ≡ numerals.places_of word.now }
+    ensures bounds { IfSome result (λ n. (1 ≤ n) × (n ≤ most_places)) }
+{
+    let places = number_of(word)?;
+    if 1 <= places && places <= MAX_PLACES {
+        Some(places as u8)
     } else {
         None
     }

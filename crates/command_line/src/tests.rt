@@ -1,6 +1,8 @@
 //! Arguments that are a command, and arguments that aren't.
 
-use crate::{Command, Generation, Inputs, Listing, Migration, Play, Sample, command_of};
+use crate::{
+    Command, Generation, Inputs, Listing, Live, Migration, Play, Sample, command_of, live_of,
+};
 use std::alloc::{AllocError, Global};
 use std::process::Abort;
 use std::test::Fail;
@@ -150,7 +152,7 @@ fn other_arguments_are_no_command(rt: HostRuntime) -> Result<(), Fail> {
         &["trial", "18446744073709551616", "1"],
         &["trial", "7", "1", "1"],
         &["trial", "7"],
-        &["live", "7", "1"],
+        &["live", "r", "s", "c", "o", "l", "j", "1"],
         &["migrate", "o"],
         &["migrate", "o", "-"],
         &["migrate", "-", "n"],
@@ -161,6 +163,64 @@ fn other_arguments_are_no_command(rt: HostRuntime) -> Result<(), Fail> {
     let alloc = rt.alloc();
     for &arguments in &ROWS {
         check(&rt, alloc, arguments, None)?;
+    }
+    Ok(())
+}
+
+/// The files of a `live` command.
+const FILES: Play<'static> = Play {
+    inputs: INPUTS,
+    output: "o",
+    ledger: "l",
+    journal: "j",
+};
+
+/// Arguments are this `live` command, or none.
+fn check_live(
+    rt: &impl Abort,
+    alloc: Global,
+    arguments: &[&str],
+    wanted: Option<Live<'static>>,
+) -> Result<(), AllocError> {
+    let words = words(alloc, arguments)?;
+    assert!(rt; live_of(&words) == wanted);
+    Ok(())
+}
+
+#[test]
+fn live_is_read_with_its_places(rt: HostRuntime) -> Result<(), Fail> {
+    const ROWS: [(&[&str], Option<Live<'static>>); 15] = [
+        (
+            &["live", "r", "s", "c", "o", "l", "j", "1"],
+            Some(Live {
+                files: FILES,
+                places: 1,
+            }),
+        ),
+        (
+            &["live", "r", "s", "c", "o", "l", "j", "64"],
+            Some(Live {
+                files: FILES,
+                places: 64,
+            }),
+        ),
+        (&["live", "r", "s", "c", "o", "l", "j", "0"], None),
+        (&["live", "r", "s", "c", "o", "l", "j", "65"], None),
+        (&["live", "r", "s", "c", "o", "l", "j", "01"], None),
+        (&["live", "r", "s", "c", "o", "l", "j", "257"], None),
+        (&["live", "r", "s", "c", "o", "l", "j", ""], None),
+        (&["live", "r", "s", "c", "o", "l", "j", "1", "1"], None),
+        (&["live", "r", "s", "c", "o", "l", "j"], None),
+        (&["live", "r", "s", "c", "o", "l", "-", "1"], None),
+        (&["live", "r", "s", "c", "o", "l", "o", "1"], None),
+        (&["live", "r", "", "c", "o", "l", "j", "1"], None),
+        (&["play", "r", "s", "c", "o", "l", "j", "1"], None),
+        (&["live"], None),
+        (&[], None),
+    ];
+    let alloc = rt.alloc();
+    for &(arguments, command) in &ROWS {
+        check_live(&rt, alloc, arguments, command)?;
     }
     Ok(())
 }

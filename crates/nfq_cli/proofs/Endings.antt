@@ -1,18 +1,23 @@
 -- How a command ends: facts by cases on why it stopped, and over a longer time.
 use Rattle.std.proofs.Common.{◌≡◌, ◌≤◌, ◌⊎◌, ◌∙◌, ℕ, List, Option, Some, None, Result, Ok, Err}
 use Rattle.std.proofs.Common.{OnOk, OnErr, refl, sym, ap, subst, inl, inr, arith, [], ◌∷◌, map}
-use Rattle.std.specs.Prelude.{IfSome, IsErrAnd, IsSomeAnd}
-use Rattle.std.proofs.lemmas.Result.{IfErr-at_err}
+use Rattle.std.specs.Prelude.{IfErr, IfSome, IsErrAnd, IsSomeAnd}
+use Rattle.std.proofs.lemmas.Result.{IfErr-at_err, on_ok_weaker}
 use Rattle.host_io.specs.Host.{Rises, SameFiles}
 use Rattle.run_files.specs.declared.refusal.Refusal.{Refusal}
 use Rattle.run_files.specs.declared.refusal.Refusal.TheVariants as refusal
 use Rattle.run_files.specs.declared.stop.Stop.{Stop}
 use Rattle.run_files.specs.declared.stop.Stop.TheVariants as stop
 use Rattle.command_line.specs.Arguments.{Call, ReadFiles, inputs, PlayFiles}
-use Rattle.run_files.specs.Causes.{AreTaken, IsAnswered, IsRefused, IsTurnedDown}
-use Rattle.run_files.specs.Files.{Contents, Counts, IsPrinted, IsStoppedAfter, Stay, Text}
+use Rattle.run_files.specs.Causes.{AreRead, AreTaken, IsAnswered, IsRefused, IsTurnedDown}
+use Rattle.run_files.specs.Files.{AreWritten, Contents, Counts, IsPrinted, IsStoppedAfter, Stay}
+use Rattle.run_files.specs.Files.{Text}
 use Rattle.nfq_cli.specs.Ending.{IsEnded, Span}
-use Rattle.nfq_cli.specs.Headline.{texts_as}
+use Rattle.nfq_cli.specs.Headline.{Account, IsCutShort, IsWritten, run_texts, texts_as}
+use Rattle.hook_chain.specs.Rules.{RuleTables}
+use Rattle.inspector_script.specs.Scripts.{ScriptValue}
+use Rattle.pcap_io.specs.declared.capture.Capture.{Capture}
+use Rattle.histories.specs.declared.histories.Histories.{Histories}
 use Rattle.run_files.specs.Printed.{line_of}
 use Rattle.run_files.specs.Statuses.{IfRefused, IfStopRefuses, IsStopFor, status_of}
 use Rattle.run_files.specs.Statuses.{status_of_refusal, IsOfRefusal}
@@ -67,6 +72,12 @@ none_read None i is_i is_none = some_is_no_none i (sym is_i)
 
 -- ---- why it stopped
 
+-- what holds of a refusal holds of it where it is handed on
+pub refused_by : {T : Type 0} (P : Refusal → Type 0) (r : Result T Stop) (s : Stop) →
+    IsErrAnd r (λ e. e ≡ s) → IfStopRefuses s P → IfRefused r P
+refused_by P (Ok x) s is h = tt
+refused_by P (Err e) s is h = subst (λ (x : Stop). IfStopRefuses x P) (sym is) h
+
 -- a refusal is no other stop
 is_refusal : {T : Type 0} (w : Refusal) (s : Stop) → IfStopRefuses s (λ v. ⊥) →
     ◌≡◌ {A = Result T Stop} (Err (stop.Refused w)) (Err s) → ⊥
@@ -93,6 +104,50 @@ refused_still c before after why same_tells same_old ended =
       stopped = λ is. absurd (is_refusal why stop.WriteFault tt is);
       cut_short = λ is. absurd (is_refusal why stop.WriteFault tt is);
     }
+
+-- a call that fails in writing or for want of memory alone ..
+abbrev pub WritesOnly : {T : Type 0} → Result T Stop → Type 0
+WritesOnly r = OnErr r ((r ≡ Err stop.WriteFault) ⊎ (r ≡ Err stop.NoMemory))
+
+-- .. refuses nothing, whatever is asked of a refusal, ..
+pub writing_only_refuses_nothing : {T : Type 0} (P : Refusal → Type 0) (r : Result T Stop) →
+    WritesOnly r → IfRefused r P
+writing_only_refuses_nothing P (Ok x) only = tt
+writing_only_refuses_nothing P (Err stop.ReadFault) only = tt
+writing_only_refuses_nothing P (Err stop.WriteFault) only = tt
+writing_only_refuses_nothing P (Err (stop.Refused w)) (inl is) =
+    absurd (is_refusal w stop.WriteFault tt is)
+writing_only_refuses_nothing P (Err (stop.Refused w)) (inr is) =
+    absurd (is_refusal w stop.NoMemory tt is)
+writing_only_refuses_nothing P (Err stop.NoMemory) only = tt
+
+abbrev IfReads : Stop → Type 0
+IfReads stop.ReadFault = ⊥
+IfReads stop.WriteFault = Unit {0}
+IfReads (stop.Refused w) = Unit {0}
+IfReads stop.NoMemory = Unit {0}
+
+no_read : {T : Type 0} (s : Stop) → IfReads s →
+    ◌≡◌ {A = Result T Stop} (Err stop.ReadFault) (Err s) → ⊥
+no_read {T} s other is =
+    subst (λ (r : Result T Stop). IfErr r IfReads) (sym is) other
+
+-- .. has no fault in reading ..
+pub writing_only_reads_nothing : {T : Type 0} (r : Result T Stop) → WritesOnly r →
+    r ≡ Err stop.ReadFault → ⊥
+writing_only_reads_nothing (Ok x) only is = IfErr-at_err (λ _. ⊥) is tt
+writing_only_reads_nothing (Err stop.ReadFault) (inl is_w) is = no_read stop.WriteFault tt is_w
+writing_only_reads_nothing (Err stop.ReadFault) (inr is_n) is = no_read stop.NoMemory tt is_n
+writing_only_reads_nothing (Err stop.WriteFault) only is = no_read stop.WriteFault tt (sym is)
+writing_only_reads_nothing (Err (stop.Refused w)) only is = no_read (stop.Refused w) tt (sym is)
+writing_only_reads_nothing (Err stop.NoMemory) only is = no_read stop.NoMemory tt (sym is)
+
+-- .. and leaves the files as they were, if it did so for want of memory
+pub writing_only_leaves : {T : Type 0} (P : Type 0) (r : Result T Stop) → WritesOnly r →
+    (r ≡ Err stop.NoMemory → P) → OnErr r ((r ≡ Err stop.WriteFault → ⊥) → P)
+writing_only_leaves P (Ok x) only same = tt
+writing_only_leaves P (Err e) (inl is) same = λ other. absurd (other is)
+writing_only_leaves P (Err e) (inr is) same = λ other. same is
 
 -- a call that fails in writing alone refuses nothing, whatever is asked of a refusal
 pub writing_refuses_nothing : {T : Type 0} (P : Refusal → Type 0) (r : Result T Stop) →
@@ -193,13 +248,47 @@ since (t ∷ ts) c0 c1 c2 k0 k1 k2 early same (inl (rises, stay)) =
 since (t ∷ ts) c0 c1 c2 k0 k1 k2 early same (inr (whole, rest)) =
     inr (whole, since ts c0 c1 c2 k0 k1 k2 early same rest)
 
--- the writing began after the reading, and the texts are known by other names
-pub stopped_since : (ts us : List Text) (c0 c1 c2 : Counts) (k0 k1 k2 : Contents) → ts ≡ us →
+-- What a run gives is what its command says, where the reading of its inputs and its account are
+-- known ..
+pub written_of : {T E : Type 0} (Known : Account) (f : PlayFiles) (r : Result T E)
+    (Before Tells : Type 0) (old new : Contents) (tables : RuleTables) (script : ScriptValue)
+    (capture : Capture) (h : Histories) → (Before → Tells) →
+    (Before → AreRead f.inputs old tables script capture) → Known tables script capture h →
+    OnOk r (Tells → AreWritten (run_texts f capture h) new) →
+    OnOk r (Before → IsWritten Known f old new)
+written_of Known f r Before Tells old new tables script capture h tells inputs account written =
+    on_ok_weaker r
+    (λ w t.
+    let all = w (tells t) in
+    record {
+      tables = tables;
+      script = script;
+      capture = capture;
+      histories = h;
+      inputs = inputs t;
+      account = account;
+      output_is = all.0;
+      ledger_is = all.1.0;
+      journal_is = all.1.1.0;
+    })
+    written
+
+-- .. and where its writing stopped, which began after the reading
+pub cut_of : (Known : Account) (f : PlayFiles) (c0 c1 c2 : Counts) (k0 k1 k2 : Contents)
+    (tables : RuleTables) (script : ScriptValue) (capture : Capture) (h : Histories) →
+    AreRead f.inputs k0 tables script capture → Known tables script capture h →
     ((n : List ℕ) → c0 n ≤ c1 n) → SameFiles k0 k1 →
-    IsStoppedAfter ts c1 c2 k1 k2 → IsStoppedAfter us c0 c2 k0 k2
-stopped_since ts us c0 c1 c2 k0 k1 k2 is early same h =
-    since us c0 c1 c2 k0 k1 k2 early same
-    (subst (λ (xs : List Text). IsStoppedAfter xs c1 c2 k1 k2) is h)
+    IsStoppedAfter (run_texts f capture h) c1 c2 k1 k2 → IsCutShort Known f c0 c2 k0 k2
+cut_of Known f c0 c1 c2 k0 k1 k2 tables script capture h inputs account early same stopped =
+    record {
+      tables = tables;
+      script = script;
+      capture = capture;
+      histories = h;
+      inputs = inputs;
+      account = account;
+      stopped = since (run_texts f capture h) c0 c1 c2 k0 k1 k2 early same stopped;
+    }
 
 pub same_texts : (f : PlayFiles) (o l j p m k : List ℕ) → o ≡ p → l ≡ m → j ≡ k →
     texts_as f o l j ≡ texts_as f p m k

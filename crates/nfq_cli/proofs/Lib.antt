@@ -1,3 +1,5 @@
 mod Numbering
 mod Endings
 mod Forming
+mod Commands
+mod Opening

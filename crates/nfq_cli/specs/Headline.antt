@@ -12,8 +12,10 @@ use Rattle.script_runs.specs.Schedule.{before_ends}
 use Rattle.generated.specs.Captures.{generated_capture}
 use Rattle.generated.specs.Texts.{rules_text, script_text}
 use Rattle.command_line.specs.Arguments.{Call, Generates, GenFiles, InputFiles, Lists, ListFiles}
-use Rattle.command_line.specs.Arguments.{MigrateFiles, Migrates, PlayFiles, Plays, Sample, standard_output, Tries}
-use Rattle.nfq_cli.specs.Account.{IsAccounted}
+use Rattle.command_line.specs.Arguments.{LiveFiles, Lives, MigrateFiles, Migrates, PlayFiles, Plays}
+use Rattle.command_line.specs.Arguments.{Sample, standard_output, Tries}
+use Rattle.nfq_live.specs.Numbers.{one_feeder, one_worker}
+use Rattle.nfq_cli.specs.Account.{AreAccounted, IsAccounted}
 use Rattle.journals.specs.declared.version.Version.TheVariants.{Second}
 use Rattle.journal_reading.specs.JournalFile.{IsJournal}
 use Rattle.run_files.specs.Causes.{AreRead}
@@ -21,22 +23,34 @@ use Rattle.run_files.specs.Inputs.{JournalSays, Said}
 use Rattle.run_files.specs.Files.{AreWritten, Contents, Counts, IsStoppedAfter, Text}
 use Rattle.run_files.specs.Outputs.{output_text, ledger_text, journal_text, counts_text}
 
--- ---- play
+-- ---- play and live
 
--- The outputs are the texts of one run on what the three inputs say: the journal is its histories,
--- of which each queue's is legal; every packet that met a queue was released or destroyed exactly
--- once, by the event that its ledger line names, or still waits; and the written capture is exactly
--- the frames that were released, in input order, each as it was read or with its last payload.
-pub record IsPlayed (f : PlayFiles) (old new : Contents) : Type 0 where
+-- what is known of a run of a script over a capture, under its rules
+abbrev pub Account : Type 1
+Account = RuleTables → ScriptValue → Capture → Histories → Type 0
+
+-- The outputs are the texts of one run on what the three inputs say, of which this is known.
+pub record IsWritten (Known : Account) (f : PlayFiles) (old new : Contents) : Type 0 where
   pub tables : RuleTables
   pub script : ScriptValue
   pub capture : Capture
   pub histories : Histories
   pub inputs : AreRead f.inputs old tables script capture
-  pub account : IsAccounted tables script capture histories
+  pub account : Known tables script capture histories
   pub output_is : new f.output ≡ Some (output_text capture histories)
   pub ledger_is : new f.ledger ≡ Some (ledger_text capture histories)
   pub journal_is : new f.journal ≡ Some (journal_text histories)
+
+-- The journal is the histories of the one run that the schedule has on these inputs, of which each
+-- queue's is legal; every packet that met a queue was released or destroyed exactly once, by the
+-- event that its ledger line names, or still waits; and the written capture is exactly the frames
+-- that were released, in input order, each as it was read or with its last payload.
+abbrev pub IsPlayed : PlayFiles → Contents → Contents → Type 0
+IsPlayed f old new = IsWritten IsAccounted f old new
+
+-- The same of a run with threads, which is one of many: with one inspector a port and one feeder.
+abbrev pub IsLived : LiveFiles → Contents → Contents → Type 0
+IsLived l old new = IsWritten (AreAccounted one_worker one_feeder) l.files old new
 
 -- three texts, by the names of the files that they are for, in the order of their writing
 abbrev pub texts_as : PlayFiles → List ℕ → List ℕ → List ℕ → List Text
@@ -46,18 +60,22 @@ texts_as f output ledger journal =
     ∷ record { name = f.journal; text = journal }
     ∷ []
 
+-- those of a run
+abbrev pub run_texts : PlayFiles → Capture → Histories → List Text
+run_texts f capture h =
+    texts_as f (output_text capture h) (ledger_text capture h) (journal_text h)
+
 -- What stands where the writing of such a run stopped at a file that couldn't be written: what was
 -- written before it is whole.
-pub record IsCutShort (f : PlayFiles) (old_count new_count : Counts) (old new : Contents) : Type 0
-  where
-    pub tables : RuleTables
-    pub script : ScriptValue
-    pub capture : Capture
-    pub histories : Histories
-    pub inputs : AreRead f.inputs old tables script capture
-    pub account : IsAccounted tables script capture histories
-    pub stopped : IsStoppedAfter (texts_as f (output_text capture histories)
-        (ledger_text capture histories) (journal_text histories)) old_count new_count old new
+pub record IsCutShort (Known : Account) (f : PlayFiles) (old_count new_count : Counts)
+    (old new : Contents) : Type 0 where
+  pub tables : RuleTables
+  pub script : ScriptValue
+  pub capture : Capture
+  pub histories : Histories
+  pub inputs : AreRead f.inputs old tables script capture
+  pub account : Known tables script capture histories
+  pub stopped : IsStoppedAfter (run_texts f capture histories) old_count new_count old new
 
 -- ---- list
 
@@ -123,12 +141,16 @@ IsDone (Lists f) old new = IsListed f old new
 IsDone (Generates g) old new = IsGenerated g new
 IsDone (Tries s) old new = IsTried s new
 IsDone (Migrates m) old new = IsMigrated m old new
+IsDone (Lives l) old new = IsLived l old new
 
 -- what stands where its writing stopped, beside what `IsStopped` says
 abbrev pub IsCut : Call → Counts → Counts → Contents → Contents → Type 0
-IsCut (Plays f) old_count new_count old new = IsCutShort f old_count new_count old new
+IsCut (Plays f) old_count new_count old new =
+    IsCutShort IsAccounted f old_count new_count old new
 IsCut (Lists f) old_count new_count old new = ⊤
 IsCut (Generates g) old_count new_count old new =
     IsStoppedAfter (gen_texts g) old_count new_count old new
 IsCut (Tries s) old_count new_count old new = ⊤
 IsCut (Migrates m) old_count new_count old new = ⊤
+IsCut (Lives l) old_count new_count old new =
+    IsCutShort (AreAccounted one_worker one_feeder) l.files old_count new_count old new

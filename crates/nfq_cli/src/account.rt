@@ -65,10 +65,10 @@ pub fn histories_of(
     Ok(histories)
 }
 
-/// Each packet of a run is accounted for, over every script, rules and capture, however many workers
-/// and feeders made it: where its histories are legal and sound, stand by queue, lose nothing and fit
-/// their fields, and every notice was received.
-fn a_run_is_accounted_for()
+/// Each packet of a run is accounted for, over every script, rules and capture, however many
+/// workers and feeders made it: where its histories are legal and sound, stand by queue, lose
+/// nothing and fit their fields, and every notice was received.
+pub(crate) fn a_run_is_accounted_for()
     ensures { (workers feeders : ℕ) (tables : RuleTables) (script : ScriptValue) (c : ACapture)
         (h : AHistories) (notes : ℕ → List Note) (es : List AnEntry) → IsScript script → Fit h →
         h.lost ≡ [] → IsGrouped es h.entries → AreLegal h.entries →
@@ -88,7 +88,7 @@ fn a_run_is_accounted_for()
 
 /// What is written of a run of packets of a capture that the format can hold can be written again:
 /// the payloads of its fates, and the capture of what is released.
-fn released_frames_can_be_written()
+pub(crate) fn released_frames_can_be_written()
     ensures fit { (tables : RuleTables) (script : ScriptValue) (c : ACapture) (h : AHistories) →
         IsHeld c → AreShort h.entries → AreSound tables script.key (cards c) h.entries h.lost →
         All (λ l. length l.payload ≤ longest_packet) (fates_of c h) }

@@ -5,13 +5,15 @@ ghost use Rattle.std.specs.Prelude.{IsTrue, IfSome, IsSomeAnd, OnOk, OnErr, IsEr
 ghost use Rattle.host_io.specs.Host.{IsLater, SameFiles, ChangesOnly};
 ghost use Rattle.run_files.specs.declared.refusal.Refusal.{Refusal as ARefusal};
 ghost use Rattle.command_line.specs.Arguments.{Call, call_of, call_of_words, Generates, GenFiles};
-ghost use Rattle.command_line.specs.Arguments.{inputs, IsAllowed, Lists, ListFiles, MigrateFiles, Migrates, outputs};
-ghost use Rattle.command_line.specs.Arguments.{PlayFiles, Plays, ReadFiles, Sample, standard_output, Tries};
+ghost use Rattle.command_line.specs.Arguments.{inputs, IsAllowed, Lists, ListFiles};
+ghost use Rattle.command_line.specs.Arguments.{MigrateFiles, Migrates, outputs, PlayFiles, Plays};
+ghost use Rattle.command_line.specs.Arguments.{ReadFiles, Sample, standard_output, Tries};
 ghost use Rattle.run_files.specs.Causes.{AreTaken, IsAnswered, IsRefused, IsTurnedDown, IsUnread};
 ghost use Rattle.run_files.specs.Files.{IsPrinted, IsStopped, OthersStay};
 ghost use Rattle.run_files.specs.Files.{ReadFaultRose, WriteFaultRose};
 ghost use Rattle.nfq_cli.specs.Ending.{IsEnded, span};
-ghost use Rattle.nfq_cli.specs.Headline.{IsCut, IsGenerated, IsListed, IsMigrated, IsPlayed, IsTried};
+ghost use Rattle.nfq_cli.specs.Headline.{IsCut, IsGenerated, IsListed, IsMigrated, IsPlayed};
+ghost use Rattle.nfq_cli.specs.Headline.{IsTried};
 ghost use Rattle.run_files.specs.Printed.{line_of, usage_line};
 ghost use Rattle.run_files.specs.Statuses.{IfRefused, IsOfRefusal};
 
@@ -22,8 +24,9 @@ use crate::play::play_files;
 use crate::trial::try_out;
 use command_line::{Command, command_of};
 use host_io::Host;
+use packet_entry::NoMemory;
 use run_files::status::{DONE, USAGE};
-use run_files::{Stop, print, print_usage};
+use run_files::{Refusal, Stop, print, print_usage};
 use std::alloc::Global;
 
 /// Does the command that the arguments are, without the program's name, and answers its status.
@@ -56,8 +59,8 @@ pub fn play<H: Host>(alloc: Global, words: &[String], host: &mut H) -> u8
         IsCut c (H.write_faults host.old) (H.write_faults host.new) (H.content host.old)
         (H.content host.new) }
 
-    // 4, 5, 6, 7 and 10 come only where the order reaches an input that is refused, and the line that
-    // says why is printed ..
+    // 4, 5, 6, 7 and 10 come only where the order reaches an input that is refused, and the line
+    // that says why is printed ..
     ensures refused { IsOfRefusal result → (c : Call) → call_of_words words.now ≡ Some c →
         IsTrue (H.tells host.old) → IsSomeAnd (inputs c) (λ i.
         IsTurnedDown i result (H.write_faults host.old) (H.write_faults host.new)
@@ -141,8 +144,7 @@ fn carry_out<H: Host>(alloc: Global, command: &Command<'_>, host: &mut H) -> Res
 {
     match dispatch(alloc, command, host) {
         Err(Stop::Refused { why }) => {
-            let line = why.line(alloc)?;
-            print(host, &line);
+            print_refusal(alloc, why, host)?;
             Err(Stop::Refused { why })
         }
         Err(Stop::ReadFault) => Err(Stop::ReadFault),
@@ -150,6 +152,23 @@ fn carry_out<H: Host>(alloc: Global, command: &Command<'_>, host: &mut H) -> Res
         Err(Stop::NoMemory) => Err(Stop::NoMemory),
         Ok(()) => Ok(()),
     }
+}
+
+/// Prints why an input is refused. Without memory for the line nothing is printed.
+pub(crate) fn print_refusal<H: Host>(
+    alloc: Global,
+    why: Refusal,
+    host: &mut H,
+) -> Result<(), NoMemory>
+    ensures printed { OnOk result (IsTrue (H.tells host.old) → IsPrinted (line_of why)
+        (H.write_faults host.old) (H.write_faults host.new) (H.content host.new)) }
+    ensures files { ChangesOnly standard_output (H.content host.old) (H.content host.new) }
+    ensures quiet { OnErr result (SameFiles (H.content host.old) (H.content host.new)) }
+    ensures later { IsLater H.tells H.read_faults H.write_faults host.old host.new }
+{
+    let line = why.line(alloc)?;
+    print(host, &line);
+    Ok(())
 }
 
 /// Hands the command to the function that does it.

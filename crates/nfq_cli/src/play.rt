@@ -1,16 +1,24 @@
 //! The command `play`: three files are read, the run is made, and three files are written.
 
-ghost use Rattle.std.specs.Prelude.{◌≡◌, Some, IsTrue, OnOk, OnErr, IsErrOf, true};
+ghost use Rattle.std.specs.Prelude.{◌≡◌, ◌⊎◌, ◌≤◌, Some, true, length, All};
+ghost use Rattle.std.specs.Prelude.{IsTrue, OnOk, OnErr, IsErrOf};
 ghost use Rattle.host_io.specs.Host.{IsLater, SameFiles};
+ghost use Rattle.packet_entry.specs.Numbers.{longest_packet, most_frames};
+ghost use Rattle.pcap_io.specs.Text.{IsHeld};
+ghost use Rattle.histories.specs.History.{AreLegal};
+ghost use Rattle.fate_ledger.specs.Released.{released};
 ghost use Rattle.command_line.specs.Arguments.{are_outputs_apart, files_of, play_outputs, Plays};
 ghost use Rattle.run_files.specs.Files.{IsStopped, IsStoppedAfter, OthersStay};
-ghost use Rattle.run_files.specs.Files.{WriteFaultRose};
+ghost use Rattle.run_files.specs.Files.{AreWritten, WriteFaultRose};
+ghost use Rattle.run_files.specs.Outputs.{fates_of};
 ghost use Rattle.nfq_cli.specs.Ending.{IsEnded, span};
-ghost use Rattle.nfq_cli.specs.Headline.{texts_as};
+ghost use Rattle.nfq_cli.specs.Headline.{run_texts, texts_as};
 
 use crate::account::histories_of;
 use command_line::Play;
+use histories::Histories;
 use host_io::{Host, write_whole};
+use pcap_io::Capture;
 use run_files::{Made, Outputs, Stop, outputs_of, read_inputs};
 use std::alloc::Global;
 
@@ -32,7 +40,44 @@ pub fn play_files<H: Host>(alloc: Global, files: &Play<'_>, host: &mut H) -> Res
         capture,
     } = made;
     let histories = histories_of(alloc, &script, tables, &capture)?;
-    let outputs = outputs_of(alloc, &capture, histories)?;
+    write_run(alloc, files, &capture, histories, host)
+}
+
+/// Writes what came of a run, whichever way it was made.
+pub(crate) fn write_run<H: Host>(
+    alloc: Global,
+    files: &Play<'_>,
+    capture: &Capture,
+    histories: Histories,
+    host: &mut H,
+) -> Result<(), Stop>
+    requires apart { are_outputs_apart (files_of files.now) ≡ true }
+    requires frames { length capture.now.frames ≤ most_frames }
+    requires legal { AreLegal histories.entries }
+    requires payloads { All (λ l. length l.payload ≤ longest_packet)
+        (fates_of capture.now histories) }
+    requires held { IsHeld (released capture.now (fates_of capture.now histories)) }
+    ensures written { OnOk result (IsTrue (H.tells host.old) → AreWritten
+        (run_texts (files_of files.now) capture.now histories) (H.content host.new)) }
+    ensures other { OnErr result (IsErrOf result Stop.WriteFault ⊎ IsErrOf result Stop.NoMemory) }
+    ensures write_fault { IsErrOf result Stop.WriteFault →
+        WriteFaultRose (play_outputs (files_of files.now))
+        (H.write_faults host.old) (H.write_faults host.new) }
+    ensures stopped { IsErrOf result Stop.WriteFault →
+        IsStopped (play_outputs (files_of files.now))
+        (H.write_faults host.old) (H.write_faults host.new) (H.content host.old)
+        (H.content host.new) }
+    ensures cut_short { IsErrOf result Stop.WriteFault → IsTrue (H.tells host.old) →
+        IsStoppedAfter (run_texts (files_of files.now) capture.now histories)
+        (H.write_faults host.old) (H.write_faults host.new) (H.content host.old)
+        (H.content host.new) }
+    ensures untouched { IsErrOf result Stop.NoMemory →
+        SameFiles (H.content host.old) (H.content host.new) }
+    ensures others { OthersStay (play_outputs (files_of files.now))
+        (H.content host.old) (H.content host.new) }
+    ensures later { IsLater H.tells H.read_faults H.write_faults host.old host.new }
+{
+    let outputs = outputs_of(alloc, capture, histories)?;
     write_outputs(files, outputs, host)
 }
 

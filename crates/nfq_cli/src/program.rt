@@ -2,31 +2,46 @@
 //! status. `main` hands both on and does nothing else.
 
 ghost use Rattle.std.specs.Prelude.{◌≡◌, ◌≤◌, ◌⊎◌, ◌≢◌, None, Some, drop, IsTrue, IfOk};
-ghost use Rattle.std.specs.Prelude.{IfSome, IsErr, IsErrOf, IsOkAnd, IsSomeAnd};
+ghost use Rattle.std.specs.Prelude.{IfSome, IsErr, IsErrOf, IsOkAnd, IsSomeAnd, map};
+ghost use Rattle.std.specs.String.{string_bytes};
 ghost use Rattle.std.specs.Vec.Iter.{into_iter_items};
 ghost use Rattle.host_io.specs.Host.{IsLater, SameFiles, ChangesOnly};
 ghost use Rattle.run_files.specs.declared.refusal.Refusal.{Refusal};
 ghost use Rattle.command_line.specs.Arguments.{Call, call_of_arguments, Generates, GenFiles};
-ghost use Rattle.command_line.specs.Arguments.{inputs, Lists, ListFiles, MigrateFiles, Migrates, outputs};
-ghost use Rattle.command_line.specs.Arguments.{PlayFiles, Plays, ReadFiles, Sample, standard_output, Tries};
+ghost use Rattle.command_line.specs.Arguments as named;
+ghost use Rattle.command_line.specs.Arguments.{inputs, Lists, ListFiles, LiveFiles, Lives};
+ghost use Rattle.command_line.specs.Arguments.{MigrateFiles, Migrates, outputs};
+ghost use Rattle.command_line.specs.Arguments.{PlayFiles, Plays, ReadFiles, Sample};
+ghost use Rattle.command_line.specs.Arguments.{standard_output, Tries};
 ghost use Rattle.run_files.specs.Causes.{AreTaken, IsAnswered, IsRefused, IsTurnedDown, IsUnread};
 ghost use Rattle.run_files.specs.Files.{IsPrinted, IsStopped, OthersStay};
 ghost use Rattle.run_files.specs.Files.{ReadFaultRose, WriteFaultRose};
-ghost use Rattle.nfq_cli.specs.Headline.{IsCut, IsGenerated, IsListed, IsMigrated, IsPlayed, IsTried};
+ghost use Rattle.nfq_cli.specs.Headline.{IsCut, IsGenerated, IsListed, IsLived, IsMigrated};
+ghost use Rattle.nfq_cli.specs.Headline.{IsPlayed, IsTried};
 ghost use Rattle.run_files.specs.Printed.{usage_line};
 ghost use Rattle.run_files.specs.Statuses.{IsOfRefusal};
 
 use crate::command::play;
+use crate::live::live;
 use host_io::Host;
+use plane::OpenGate;
 use run_files::print_usage;
 use run_files::status::{NO_MEMORY, USAGE};
 use std::alloc::{AllocError, Global};
 use std::env::Args;
 use std::io::{Error, ErrorKind};
+use std::sync::Wait;
+use std::thread::Threads;
 
-/// Does the command that the arguments after the program's name are, and answers its status, with
-/// the clauses of [`play`]. Arguments that can't be had, since one is no text, are no command.
-pub fn program<H: Host>(alloc: Global, arguments: Result<Args, Error>, host: &mut H) -> u8
+/// Does the command that the arguments after the program's name are, and answers its status,
+/// with the clauses of [`live`] where the first one is `live`, and else with those of [`play`].
+/// Arguments that can't be had, since one is no text, are no command.
+pub fn program<R: Threads + Wait + Sync, H: Host>(
+    rt: &R,
+    alloc: Global,
+    arguments: Result<Args, Error>,
+    host: &mut H,
+) -> u8
     ensures statuses { (result ≤ 8) ⊎ (result ≡ 10) }
 
     // 1 comes only where the arguments aren't a command, and there 1 or 8 comes.
@@ -62,7 +77,11 @@ pub fn program<H: Host>(alloc: Global, arguments: Result<Args, Error>, host: &mu
         (H.content host.new) ⊎ (result ≡ 8) ⊎ ((result ≡ 2) × IsUnread i
         (H.read_faults host.old) (H.read_faults host.new) (H.content host.old)) }
 
-    // The headline.
+    // The headline, of both runs.
+    ensures lived { result ≡ 0 → (l : LiveFiles) →
+        call_of_arguments arguments ≡ Some (Lives l) →
+        IsTrue (H.tells host.old) →
+        IsLived l (H.content host.old) (H.content host.new) }
     ensures played { result ≡ 0 → (f : PlayFiles) →
         call_of_arguments arguments ≡ Some (Plays f) →
         IsTrue (H.tells host.old) →
@@ -98,12 +117,29 @@ pub fn program<H: Host>(alloc: Global, arguments: Result<Args, Error>, host: &mu
     ensures later { IsLater H.tells H.read_faults H.write_faults host.old host.new }
 {
     match words_of(alloc, arguments) {
-        Ok(words) => play(alloc, &words, host),
+        Ok(words) => {
+            let words = words.as_slice();
+            if is_live(words) {
+                live(rt, alloc, words, host, &OpenGate)
+            } else {
+                play(alloc, words, host)
+            }
+        }
         Err(NoWords::NoMemory) => NO_MEMORY,
         Err(NoWords::NoText) => {
             print_usage(host);
             USAGE
         }
+    }
+}
+
+/// Whether the command is `live`.
+fn is_live(words: &[String]) -> bool
+    ensures { result ≡ named.is_live (map string_bytes words.now) }
+{
+    match words.first() {
+        Some(verb) => verb.as_str() == "live",
+        None => false,
     }
 }
 

@@ -1,7 +1,10 @@
 //! Runs of the commands over a machine in memory. What they expect was written out by hand, but for
 //! generated inputs. Inputs at the limits are played by the built program.
 
+mod faulted;
+mod lived;
 mod migrated;
+mod raced;
 mod tried;
 mod worked;
 

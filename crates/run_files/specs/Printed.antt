@@ -7,8 +7,7 @@ use Rattle.run_files.specs.declared.refusal.Limit.TheVariants as limit
 use Rattle.run_files.specs.declared.refusal.Refusal.{Refusal}
 use Rattle.run_files.specs.declared.refusal.Refusal.TheVariants as refusal
 
--- where the arguments are no command: all commands with their arguments, and `live`, which is to
--- come
+-- where the arguments are no command: all commands with their arguments
 abbrev pub usage_line : List ℕ
 usage_line =
     codes "usage: play RULES SCRIPT IN OUT LEDGER JOURNAL"

@@ -11,7 +11,7 @@ use host_io::{Host, write_whole};
 /// The name of standard output.
 pub const STANDARD_OUTPUT: &str = "-";
 
-/// All commands with their arguments, and `live`, which is to come.
+/// All commands with their arguments.
 const USAGE_LINE: &str = "usage: play RULES SCRIPT IN OUT LEDGER JOURNAL \
     | live RULES SCRIPT IN OUT LEDGER JOURNAL PLACES | list RULES SCRIPT IN OUT \
     | gen NUMBER COUNT RULES SCRIPT IN | trial NUMBER COUNT | migrate OLD NEW\n";

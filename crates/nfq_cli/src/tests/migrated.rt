@@ -7,7 +7,7 @@ use std::process::Abort;
 use std::test::Fail;
 
 /// The journal of the run above in version 1, which tells no priorities.
-const OLD_JOURNAL: &str = "nfq-journal 1
+pub(super) const OLD_JOURNAL: &str = "nfq-journal 1
 M 0 7 1 config 0 cmd 1 = 0 0
 M 0 7 2 config 0 params 2 0 = 0 0
 A 0 1 1 1 n y 0 1 0 2048 - 4500001400010000400600000a0000010a000002 taken:1

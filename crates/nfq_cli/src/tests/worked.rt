@@ -15,7 +15,7 @@ use text_lines::hexadecimal_bytes;
 ///
 /// `=` is a line of the ledger, `>` the frames that are written as they were read, `write` one that
 /// is written with these bytes, `.` a line that the journal has, `|` a line of the listing.
-const RUNS: &str = "\
+pub(super) const RUNS: &str = "\
 packets 1 2 3
 pace 0
 port 7
@@ -380,15 +380,15 @@ port 7
 
 /// A run as it is written out above.
 #[derive(Drop)]
-struct Run {
+pub(super) struct Run {
     rules: String,
     script: String,
     input: Vec<u8>,
     /// The records of the capture.
     records: Vec<Vec<u8>>,
-    ledger: String,
-    output: Vec<u8>,
-    journal: Vec<String>,
+    pub(super) ledger: String,
+    pub(super) output: Vec<u8>,
+    pub(super) journal: Vec<String>,
     /// What `list` writes, where that is run.
     listing: Option<String>,
 }
@@ -494,8 +494,17 @@ fn take(alloc: Global, run: &mut Run, line: &str) -> Result<(), Fail> {
     Ok(())
 }
 
+/// A run from its lines.
+pub(super) fn read(alloc: Global, text: &str) -> Result<Run, Fail> {
+    let mut run = nothing(alloc)?;
+    for line in text.lines() {
+        take(alloc, &mut run, line)?;
+    }
+    Ok(run)
+}
+
 /// A host with the inputs of a run.
-fn host_of(alloc: Global, run: &Run) -> Result<MemoryHost, Fail> {
+pub(super) fn host_of(alloc: Global, run: &Run) -> Result<MemoryHost, Fail> {
     let rules = if run.rules.is_empty() {
         RULES
     } else {
@@ -512,7 +521,7 @@ fn has_line(journal: &[u8], wanted: &str) -> bool {
 }
 
 /// The journal has these lines.
-fn has_lines(rt: &impl Abort, journal: &[u8], lines: &[String]) {
+pub(super) fn has_lines(rt: &impl Abort, journal: &[u8], lines: &[String]) {
     for line in lines {
         assert!(rt; has_line(journal, line.as_str()));
     }
@@ -548,14 +557,8 @@ fn check(rt: &impl Abort, alloc: Global, run: &Run) -> Result<(), Fail> {
 #[test]
 fn worked_runs_end_as_they_are_written_out(rt: HostRuntime) -> Result<(), Fail> {
     let alloc = rt.alloc();
-    let mut run = nothing(alloc)?;
-    for line in RUNS.lines() {
-        if line.is_empty() {
-            check(&rt, alloc, &run)?;
-            run = nothing(alloc)?;
-        } else {
-            take(alloc, &mut run, line)?;
-        }
+    for text in RUNS.split("\n\n") {
+        check(&rt, alloc, &read(alloc, text)?)?;
     }
-    check(&rt, alloc, &run)
+    Ok(())
 }

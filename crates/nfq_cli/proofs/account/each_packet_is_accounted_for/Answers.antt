@@ -1,4 +1,4 @@
-use Rattle.std.specs.Prelude.{◌<◌, All, length}
+use Rattle.std.specs.Prelude.{◌<◌, All}
 use Rattle.histories.specs.Numbers.{queue_count}
 use Rattle.histories.specs.declared.entry.Entry.{Entry}
 use Rattle.nfq_cli.proofs.account.each_packet_is_accounted_for.Goals as goal

@@ -5,9 +5,9 @@ use Rattle.nfq_cli.specs.Ending.{IsEnded, span}
 use Rattle.nfq_cli.proofs.Endings.{refused_still}
 use Rattle.nfq_cli.proofs.command.carry_out.Goals as goal
 
-pub returns-in_ok-line-in-Err-Refused-clause-ended :
-    goal.returns-in_ok-line-in-Err-Refused-clause-ended
-returns-in_ok-line-in-Err-Refused-clause-ended g c =
+pub returns-in_ok-print_refusal-in-Err-Refused-clause-ended :
+    goal.returns-in_ok-print_refusal-in-Err-Refused-clause-ended
+returns-in_ok-print_refusal-in-Err-Refused-clause-ended g c =
     refused_still (call_of c.args.command.now)
     (span g.H.Host.tells g.H.Host.content g.H.Host.read_faults g.H.Host.write_faults
     c.args.host.now c.dispatch.new.host) _ c.in-Err-Refused.why refl refl

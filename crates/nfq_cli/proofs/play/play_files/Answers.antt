@@ -1,68 +1,46 @@
-use Rattle.std.proofs.Common.{ap, ◌∙◌, Some, List, ℕ, rules}
-use Rattle.std.proofs.lemmas.Result.{IfErr-at_err, on_ok_weaker}
-use Rattle.nfq_cli.proofs.Endings.{in_no_other_way, none_is_refused, on_ok_both, same_texts}
-use Rattle.nfq_cli.proofs.Endings.{stopped_since}
+use Rattle.std.proofs.Common.{◌∙◌, rules}
+use Rattle.nfq_cli.proofs.Endings.{cut_of, none_is_refused, writing_only_leaves, written_of}
+use Rattle.nfq_cli.proofs.Endings.{writing_only_reads_nothing, writing_only_refuses_nothing}
+use Rattle.nfq_cli.specs.Account.{IsAccounted}
 use Rattle.command_line.specs.Arguments.{files_of}
 use Rattle.nfq_cli.proofs.play.play_files.Goals as goal
 
 pub returns-clause-ended : goal.returns-clause-ended
 returns-clause-ended g c =
     record {
-      done =
-          on_ok_weaker c.write_outputs.result
-          (λ w t.
-          let tells = c.in_ok-made.ensures.later.tells_same ∙ t in
-          record {
-            tables = c.in_ok-made.made.tables;
-            script = c.in_ok-made.made.script;
-            capture = c.in_ok-made.made.capture;
-            histories = c.in_ok-histories.histories;
-            inputs = c.in_ok-made.ensures.read t;
-            account = c.in_ok-histories.ensures.account;
-            output_is =
-                w.0 tells ∙ ap (λ (xs : List ℕ). Some xs) c.in_ok-outputs.ensures.output;
-            ledger_is =
-                w.1.0 tells ∙ ap (λ (xs : List ℕ). Some xs) c.in_ok-outputs.ensures.ledger;
-            journal_is =
-                w.1.1 tells ∙ ap (λ (xs : List ℕ). Some xs) c.in_ok-outputs.ensures.journal;
-          })
-          (on_ok_both _ _ c.write_outputs.result c.write_outputs.ensures.output
-          (on_ok_both _ _ c.write_outputs.result c.write_outputs.ensures.ledger
-          c.write_outputs.ensures.journal));
-      refused = search rules;
+      done = written_of IsAccounted (files_of c.args.files.now) c.write_run.result _ _
+          (g.H.Host.content c.args.host.now) (g.H.Host.content c.write_run.new.host)
+          c.in_ok-made.made.tables c.in_ok-made.made.script c.in_ok-made.made.capture
+          c.in_ok-histories.histories (λ t. c.in_ok-made.ensures.later.tells_same ∙ t)
+          c.in_ok-made.ensures.read c.in_ok-histories.ensures.account c.write_run.ensures.written;
+      refused = writing_only_refuses_nothing _ c.write_run.result c.write_run.ensures.other;
       exact = λ i why is_i t refused.
           absurd (none_is_refused _ i (g.H.Host.content c.args.host.now) why is_i refused
           (λ same. c.in_ok-made.ensures.exact why t same));
-      only = search rules;
-      read_fault = search rules;
-      unread = search rules;
+      only = λ t taken.
+          writing_only_refuses_nothing _ c.write_run.result c.write_run.ensures.other;
+      read_fault = λ is.
+          absurd (writing_only_reads_nothing c.write_run.result c.write_run.ensures.other is);
+      unread = λ is.
+          absurd (writing_only_reads_nothing c.write_run.result c.write_run.ensures.other is);
       write_fault = search rules;
       stopped = search rules;
-      cut_short = λ stopped t.
-          let tells = c.in_ok-made.ensures.later.tells_same ∙ t in
-          record {
-            tables = c.in_ok-made.made.tables;
-            script = c.in_ok-made.made.script;
-            capture = c.in_ok-made.made.capture;
-            histories = c.in_ok-histories.histories;
-            inputs = c.in_ok-made.ensures.read t;
-            account = c.in_ok-histories.ensures.account;
-            stopped = stopped_since _ _ (g.H.Host.write_faults c.args.host.now)
-                (g.H.Host.write_faults c.read_inputs.new.host)
-                (g.H.Host.write_faults c.write_outputs.new.host)
-                (g.H.Host.content c.args.host.now) (g.H.Host.content c.read_inputs.new.host)
-                (g.H.Host.content c.write_outputs.new.host)
-                (same_texts (files_of c.args.files.now) _ _ _ _ _ _
-                c.in_ok-outputs.ensures.output c.in_ok-outputs.ensures.ledger
-                c.in_ok-outputs.ensures.journal)
-                c.in_ok-made.ensures.later.write_faults_stay c.in_ok-made.ensures.files
-                (IfErr-at_err _ stopped c.write_outputs.ensures.cut_short tells);
-          };
+      cut_short = λ is t.
+          cut_of IsAccounted (files_of c.args.files.now) (g.H.Host.write_faults c.args.host.now)
+          (g.H.Host.write_faults c.read_inputs.new.host)
+          (g.H.Host.write_faults c.write_run.new.host) (g.H.Host.content c.args.host.now)
+          (g.H.Host.content c.read_inputs.new.host) (g.H.Host.content c.write_run.new.host)
+          c.in_ok-made.made.tables c.in_ok-made.made.script c.in_ok-made.made.capture
+          c.in_ok-histories.histories (c.in_ok-made.ensures.read t)
+          c.in_ok-histories.ensures.account c.in_ok-made.ensures.later.write_faults_stay
+          c.in_ok-made.ensures.files
+          (c.write_run.ensures.cut_short is (c.in_ok-made.ensures.later.tells_same ∙ t));
     }
 
 pub returns-clause-untouched : goal.returns-clause-untouched
 returns-clause-untouched g c =
-    in_no_other_way _ c.write_outputs.result _ c.write_outputs.ensures.only
+    writing_only_leaves _ c.write_run.result c.write_run.ensures.other
+    (λ is name. c.write_run.ensures.untouched is name ∙ c.in_ok-made.ensures.files name)
 
 pub returns-in_err-made-clause-ended : goal.returns-in_err-made-clause-ended
 returns-in_err-made-clause-ended g c =

@@ -1,0 +1,67 @@
+use Rattle.std.proofs.Common.{◌≡◌, ◌+◌, ◌∙◌, ℕ, suc, List, ap, arith, length, subst}
+use Rattle.inspector_script.specs.Scripts.{closing}
+use Rattle.made_runs.specs.Log.{all_due}
+use Rattle.plane.specs.Planes.{places_of}
+use Rattle.nfq_live.specs.declared.feeding.Feeding.{Feeding}
+use Rattle.nfq_live.specs.Crews.{AreOpenFrom, AreReceived}
+use Rattle.nfq_live.specs.Endings.{IsAtMeeting}
+use Rattle.nfq_live.proofs.EndsOn.{ends_look}
+use Rattle.nfq_live.proofs.Onward.{still_open}
+use Rattle.nfq_live.proofs.Stopped.{ends_begin}
+use Rattle.nfq_live.proofs.crew.Crew.end_all.Goals as goal
+
+pub loop-place-init : goal.loop-place-init
+loop-place-init g c =
+    let places = places_of c.args.plane.now in
+    let on = c.in_ok-empty.ensures.on in
+    record {
+      crew = c.empty.ensures.crew;
+      minds = c.in_ok-empty.ensures.minds;
+      are_open = λ p least less. still_open c.args.self.now c.empty.new.self on.alone _
+          ∙ c.requires.are_open p least less;
+      received = subst (λ (l : List ℕ). AreReceived l places c.empty.new.self) c.requires.order
+          c.in_ok-empty.ensures.received;
+      fed = ap (λ (f : Feeding). f.pass.fed) on.alone.feeding;
+      ends = λ frames m. ends_look c.args.script.now places frames 0
+          (all_due (closing c.args.script.now 0)) c.args.self.now c.empty.new.self on
+          (ends_begin c.a_port_does_what_is_next.ensures.begins c.args.script.now places frames 0
+          c.args.self.now m);
+      met = λ frames m some. absurd (omega (arith, some));
+    }
+
+pub end_port-requires-clause-place : goal.end_port-requires-clause-place
+end_port-requires-clause-place g c κs within =
+    let all = ap (λ (l : List ℕ). length l) c.ports-place-end.ensures.value in
+    omega (arith, all, c.loop-place-test.true)
+
+pub loop-place-preserved : goal.loop-place-preserved
+loop-place-preserved g c =
+    let places = places_of c.args.plane.now in
+    let script = c.args.script.now in
+    let one : suc c.loop-place.place ≡ c.loop-place.place + 1 = omega arith in
+    record {
+      crew = c.end_port.ensures.crew;
+      minds = c.in_ok-end_port.ensures.minds;
+      are_open = subst (λ (k : ℕ). AreOpenFrom script k c.end_port.new.self) one
+          c.in_ok-end_port.ensures.are_open;
+      received = c.in_ok-end_port.ensures.received;
+      fed = c.in_ok-end_port.ensures.fed ∙ c.loop-place.invariant.fed;
+      ends = λ frames m.
+          ends_begin c.a_port_does_what_is_next.ensures.begins script places frames
+          (c.loop-place.place + 1) c.end_port.new.self
+          (subst (λ (k : ℕ). IsAtMeeting script places frames k c.end_port.new.self) one
+          (c.in_ok-end_port.ensures.ended frames (c.loop-place.invariant.ends frames m)));
+      met = λ frames m some.
+          subst (λ (k : ℕ). IsAtMeeting script places frames k c.end_port.new.self) one
+          (c.in_ok-end_port.ensures.ended frames (c.loop-place.invariant.ends frames m));
+    }
+
+pub returns-clause-ended : goal.returns-clause-ended
+returns-clause-ended g c = λ frames m.
+    let all = ap (λ (l : List ℕ). length l) c.ports-place-end.ensures.value in
+    let last : c.loop-place.place ≡ length c.args.script.now.ports =
+    omega (arith, all, c.loop-place-test.false, c.loop-place.auto.place-end) in
+    subst (λ (k : ℕ). IsAtMeeting c.args.script.now (places_of c.args.plane.now) frames k
+    c.loop-place.self) last
+    (c.loop-place.invariant.met frames m
+    (omega (arith, last, c.ports-place-end.ensures.facts.some_port)))

@@ -1,0 +1,29 @@
+use Rattle.plane.specs.Planes.{order_of, places_of}
+use Rattle.std.proofs.Common.{length}
+use Rattle.live_runs.specs.Passes.{AreMet}
+use Rattle.nfq_live.specs.Crews.{passes_of}
+use Rattle.nfq_live.specs.Endings.{IsAtMeeting}
+use Rattle.nfq_live.proofs.Asked.{on_ok}
+use Rattle.nfq_live.proofs.Worked.{worked}
+use Rattle.nfq_live.proofs.crew.Crew.work.Goals as goal
+
+pub returns-clause-met : goal.returns-clause-met
+returns-clause-met g c =
+    let script = c.args.script.now in
+    let plane = c.args.plane.now in
+    let capture = c.args.capture.now in
+    let mid = c.work_in.new.self in
+    let new = c.meet.new.self in
+    on_ok c.meet.result (AreMet (order_of plane) (passes_of mid) (passes_of new))
+    (IsAtMeeting script (places_of plane) (length capture.frames) 0 new)
+    (λ met. worked (record {
+      all = c.ports_open_one_after_the_other.ensures.all;
+      each = c.ports_open_one_after_the_other.ensures.each;
+      no_look = c.what_a_port_does_adds_up.ensures.no_look;
+      looks = c.what_a_port_does_adds_up.ensures.looks;
+      meeting = c.a_stage_ends_where_all_meet.ensures.meeting;
+      feeder = c.a_stage_ends_where_all_meet.ensures.feeds;
+      meets = c.the_feeder_keeps_its_time.ensures.meets;
+    }) script capture plane c.args.self.now mid new c.requires.order c.requires.crew
+    c.requires.ready (c.work_in.ensures.worked c.if-not-work_in.false) met
+    c.meet.ensures.numbers) c.meet.ensures.met

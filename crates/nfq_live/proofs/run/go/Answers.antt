@@ -1,0 +1,49 @@
+use Rattle.std.proofs.Common.{◌≡◌, ◌∙◌, ℕ, length}
+use Rattle.made_runs.specs.Entering.{cards}
+use Rattle.plane.specs.Planes.{places_of}
+use Rattle.nfq_live.specs.Endings.{IsAtMeeting}
+use Rattle.nfq_live.proofs.Asked.{on_ok}
+use Rattle.nfq_live.proofs.Ran.{all_open}
+use Rattle.nfq_live.proofs.run.go.Goals as goal
+
+pub make_ready-requires-clause-crew : goal.make_ready-requires-clause-crew
+make_ready-requires-clause-crew g c κs within =
+    record { all = c.requires.crew.all; looks = c.requires.crew.looks }
+
+pub make_ready-requires-clause-minds : goal.make_ready-requires-clause-minds
+make_ready-requires-clause-minds g c κs within =
+    c.in_ok-crew.ensures c.args.crew.now.ports.items c.requires.none.in_order c.requires.new
+
+pub make_ready-requires-clause-none : goal.make_ready-requires-clause-none
+make_ready-requires-clause-none g c κs within = record {
+  notes = c.requires.none.notes;
+  stands = c.requires.none.stands;
+  open_to = c.requires.none.open_to;
+  early = c.requires.none.early;
+  none_fed = c.requires.none.none_fed;
+  in_order = c.requires.none.in_order;
+  none_closed = c.requires.none.none_closed;
+}
+
+pub end_all-requires-clause-are_open : goal.end_all-requires-clause-are_open
+end_all-requires-clause-are_open g c κs within =
+    all_open c.args.script.now (places_of c.args.plane.now) (length c.args.capture.now.frames)
+    c.work.new.self c.in_ok-work.ensures.met
+
+pub returns-clause-ended : goal.returns-clause-ended
+returns-clause-ended g c =
+    let script = c.args.script.now in
+    let places = places_of c.args.plane.now in
+    let many = length c.args.capture.now.frames in
+    on_ok c.end_all.result
+    ((frames : ℕ) → IsAtMeeting script places frames 0 c.work.new.self →
+    IsAtMeeting script places frames (length script.ports) c.end_all.new.self)
+    (IsAtMeeting script places many (length script.ports) c.end_all.new.self)
+    (λ ended. ended many c.in_ok-work.ensures.met) c.end_all.ensures.ended
+
+pub returns-clause-fed : goal.returns-clause-fed
+returns-clause-fed g c =
+    on_ok c.end_all.result
+    (c.end_all.new.self.feeding.pass.fed ≡ c.work.new.self.feeding.pass.fed)
+    (c.end_all.new.self.feeding.pass.fed ≡ cards c.args.capture.now)
+    (λ same. same ∙ c.in_ok-work.ensures.fed) c.end_all.ensures.fed

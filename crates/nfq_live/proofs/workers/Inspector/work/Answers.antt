@@ -1,0 +1,16 @@
+use Rattle.plane.specs.Planes.{places_of}
+use Rattle.nfq_live.specs.Minds.{IsMind}
+use Rattle.nfq_live.specs.Workers.{LooksOn}
+use Rattle.nfq_live.proofs.Asked.{went_well}
+use Rattle.nfq_live.proofs.workers.Inspector.work.Goals as goal
+
+pub returns : goal.returns
+returns g c = record {
+  stays = c.inspect-outcome.ensures.stays;
+  mind = λ well. went_well c.inspect-outcome.result _
+      (IsMind c.args.script.now c.inspect-outcome.new.pass c.inspect-outcome.new.mind)
+      c.is_err-self.ensures.value well c.inspect-outcome.ensures.mind;
+  on = λ well. went_well c.inspect-outcome.result _
+      (LooksOn c.args.script.now (places_of c.args.plane.now) c.args.self.now.pass
+      c.inspect-outcome.new.pass) c.is_err-self.ensures.value well c.inspect-outcome.ensures.on;
+}

@@ -1,0 +1,9 @@
+pub mod Numbers
+pub mod Minds
+pub mod Sending
+pub mod Feeding
+pub mod Workers
+pub mod Crews
+pub mod Openings
+pub mod Endings
+pub mod Run

@@ -1,0 +1,109 @@
+//! Ports that open, in the script's order, before anything is fed.
+
+ghost use Rattle.std.specs.Prelude.{◌≡◌, ◌<◌, [], length, slice_index, OnOk};
+ghost use Rattle.inspector_script.specs.Scripts.{opening};
+ghost use Rattle.made_runs.specs.Ports.{place_in};
+ghost use Rattle.plane.specs.Planes.{order_of, places_of};
+ghost use Rattle.port_scripts.specs.Downs.{AreDownsOf};
+ghost use Rattle.nfq_live.specs.Crews.{HaveMinds, IsCrewOf, OnePass, passes_of};
+ghost use Rattle.nfq_live.specs.Openings.{AreReady, HaveOpened};
+ghost use Rattle.nfq_live.specs.Sending.{SaysTo};
+
+use crate::crew::Crew;
+use crate::feeding::take_down_after;
+use crate::sending::say_all;
+use inspector_script::Script;
+use live_runs::{ports_open_one_after_the_other, the_feeder_keeps_its_time};
+use made_runs::each_port_has_its_place;
+use packet_entry::NoMemory;
+use plane::{Gate, Plane, parts_stay_whole};
+use port_scripts::{DownsByFrame, ports_close_at_the_end};
+use std::alloc::Global;
+use std::sync::Wait;
+
+impl Crew {
+    /// The port at a place of the script, which is open as all are, sends its opening messages.
+    fn say_opening<R: Wait, G: Gate>(
+        &mut self,
+        rt: &R,
+        alloc: Global,
+        plane: &Plane,
+        gate: &G,
+        script: &Script,
+        place: usize,
+    ) -> Result<(), NoMemory>
+        requires crew { IsCrewOf plane.now self.old }
+        requires order { order_of plane.now ≡ script.now.ports }
+        requires minds { HaveMinds script.now self.old }
+        requires place { place < length script.now.ports }
+        requires opened { HaveOpened script.now (places_of plane.now) place self.old }
+        ensures crew { IsCrewOf plane.now self.new }
+        ensures minds { HaveMinds script.now self.new }
+        ensures said { OnOk result (SaysTo script.now (places_of plane.now)
+            (slice_index script.now.ports place)
+            (opening script.now (place_in (slice_index script.now.ports place) script.now.ports)) []
+            (passes_of self.old (slice_index script.now.ports place))
+            (passes_of self.new (slice_index script.now.ports place))) }
+        ensures others { OnePass (slice_index script.now.ports place) self.old self.new }
+    {
+        parts_stay_whole();
+        ports_close_at_the_end();
+        let pass = &mut self.ports[place];
+        let mind = &mut self.minds[place];
+        let asks = mind.machine.opening(alloc, script)?;
+        say_all(rt, alloc, plane, gate, script, pass, mind, asks)
+    }
+
+    /// The ports open, in the script's order, and behind each all passes meet.
+    pub(crate) fn open_all<R: Wait, G: Gate>(
+        &mut self,
+        rt: &R,
+        alloc: Global,
+        plane: &Plane,
+        gate: &G,
+        script: &Script,
+    ) -> Result<(), NoMemory>
+        requires crew { IsCrewOf plane.now self.old }
+        requires order { order_of plane.now ≡ script.now.ports }
+        requires minds { HaveMinds script.now self.old }
+        requires none { HaveOpened script.now (places_of plane.now) 0 self.old }
+        ensures crew { IsCrewOf plane.now self.new }
+        ensures minds { OnOk result (HaveMinds script.now self.new) }
+        ensures opened { OnOk result (HaveOpened script.now (places_of plane.now)
+            (length script.now.ports) self.new) }
+    {
+        each_port_has_its_place();
+        ports_open_one_after_the_other();
+        the_feeder_keeps_its_time();
+        for place in 0..script.ports().len() {
+            self.say_opening(rt, alloc, plane, gate, script, place)?;
+            self.meet(alloc, plane)?;
+        }
+        Ok(())
+    }
+
+    /// The ports open, and then the devices go down that do so before the first frame.
+    pub(crate) fn make_ready<R: Wait, G: Gate>(
+        &mut self,
+        rt: &R,
+        alloc: Global,
+        plane: &Plane,
+        gate: &G,
+        script: &Script,
+        downs: &DownsByFrame,
+    ) -> Result<(), NoMemory>
+        requires crew { IsCrewOf plane.now self.old }
+        requires order { order_of plane.now ≡ script.now.ports }
+        requires minds { HaveMinds script.now self.old }
+        requires downs { AreDownsOf script.now downs.now }
+        requires none { HaveOpened script.now (places_of plane.now) 0 self.old }
+        ensures crew { IsCrewOf plane.now self.new }
+        ensures minds { OnOk result (HaveMinds script.now self.new) }
+        ensures ready { OnOk result (AreReady script.now (places_of plane.now) self.new) }
+    {
+        parts_stay_whole();
+        self.open_all(rt, alloc, plane, gate, script)?;
+        take_down_after(rt, plane, script, &mut self.feeding.pass, downs, 0)?;
+        Ok(())
+    }
+}

@@ -1,0 +1,154 @@
+//! The run with threads.
+
+ghost use Rattle.std.specs.Prelude.{◌≡◌, ◌≤◌, ◌<◌, List, [], length, All, IfOk, OnOk};
+ghost use Rattle.packet_entry.specs.Numbers.{longest_packet};
+ghost use Rattle.histories.specs.declared.entry.Entry.{Entry};
+ghost use Rattle.histories.specs.Grouping.{IsGrouped};
+ghost use Rattle.histories.specs.History.{AreLegal};
+ghost use Rattle.histories.specs.Journeys.{AreSound};
+ghost use Rattle.histories.specs.Lengths.{AreShort};
+ghost use Rattle.histories.specs.Numbers.{queue_count};
+ghost use Rattle.made_runs.specs.Entering.{cards};
+ghost use Rattle.place_rows.specs.Lists.{Every};
+ghost use Rattle.plane.specs.Opening.{IsNew};
+ghost use Rattle.plane.specs.Planes.{order_of, places_of};
+ghost use Rattle.nfq_live.specs.Crews.{AreReceived, IsCrewOf};
+ghost use Rattle.nfq_live.specs.Endings.{IsAtMeeting};
+ghost use Rattle.nfq_live.specs.Numbers.{most_frames};
+ghost use Rattle.nfq_live.specs.Openings.{HaveOpened};
+ghost use Rattle.nfq_live.specs.Run.{IsLiveRun, IsOpenedFor, tables_of};
+
+use crate::crew::Crew;
+use crate::feeding::Feeding;
+use crate::mind::minds;
+use histories::{Entries, Histories};
+use inspector_script::Script;
+use live_passes::{a_closed_plane_has_all_that_its_passes_did, opened_passes_are_new};
+use live_runs::{
+    a_run_with_threads_is_made_by_its_script, nothing_is_sent_to_a_closed_port,
+    ports_open_one_after_the_other, the_feeder_keeps_its_time,
+};
+use packet_entry::{NoMemory, Sequence};
+use pcap_io::Capture;
+use plane::{Gate, Opened, Plane};
+use port_scripts::downs_by_frame;
+use std::alloc::Global;
+use std::sync::Wait;
+use std::thread::Threads;
+
+/// A queue's number has 16 bits.
+fn is_short(queue: u16)
+    ensures { queue < queue_count }
+{}
+
+/// So each entry's has.
+fn queues_are_short(entries: &Entries)
+    ensures { All (λ (e : Entry). e.queue < queue_count) entries.now }
+{
+    for entry in entries {
+        is_short(entry.queue);
+    }
+}
+
+/// All that happens between the opening of the plane and its closing: the ports open, the frames
+/// pass while the inspectors answer, the mailboxes are emptied, and the ports end.
+fn go<R: Threads + Wait + Sync, G: Gate>(
+    rt: &R,
+    alloc: Global,
+    plane: &Plane,
+    gate: &G,
+    script: &Script,
+    capture: &Capture,
+    crew: &mut Crew,
+) -> Result<(), NoMemory>
+    requires crew { IsCrewOf plane.now crew.old }
+    requires order { order_of plane.now ≡ script.now.ports }
+    requires frames { length capture.now.frames ≤ most_frames }
+    requires bytes { All (λ f. length f.bytes ≤ longest_packet) capture.now.frames }
+    requires none { HaveOpened script.now (places_of plane.now) 0 crew.old }
+    requires new { Every IsNew crew.old.ports.items }
+    ensures crew { IsCrewOf plane.now crew.new }
+    ensures ended { OnOk result (IsAtMeeting script.now (places_of plane.now)
+        (length capture.now.frames) (length script.now.ports) crew.new) }
+    ensures received { OnOk result
+        (AreReceived script.now.ports (places_of plane.now) crew.new) }
+    ensures fed { OnOk result (crew.new.feeding.pass.fed ≡ cards capture.now) }
+{
+    let downs = downs_by_frame(alloc, script)?;
+    crew.minds = minds(alloc, script)?;
+    crew.make_ready(rt, alloc, plane, gate, script, &downs)?;
+    crew.work(rt, alloc, plane, gate, script, capture, &downs)?;
+    crew.end_all(rt, alloc, plane, gate, script)
+}
+
+/// Runs a script over the packets of a capture, of at most 200,000 frames of at most 262,144 bytes
+/// each, on a plane that was just opened for the script's ports, mail and key: a feeder and an
+/// inspector for each port work beside each other, where threads can be made. What happened is a
+/// run of the script, in which every notice was received and no packet is lost. It is legal, and
+/// sound for the packets of the capture. `NoMemory` also where memory ran out between two queues,
+/// so that a packet was lost. The gate is told of each turn, and of the answer to each request.
+pub fn run_workers<R: Threads + Wait + Sync, G: Gate>(
+    rt: &R,
+    alloc: Global,
+    opened: Opened,
+    script: &Script,
+    capture: &Capture,
+    gate: &G,
+) -> Result<Histories, NoMemory>
+    requires opened { IsOpenedFor script.now opened }
+    requires frames { length capture.now.frames ≤ most_frames }
+    requires bytes { All (λ f. length f.bytes ≤ longest_packet) capture.now.frames }
+    ensures made { IfOk result (IsLiveRun script.now capture.now) }
+    ensures legal { IfOk result (λ h. AreLegal h.entries) }
+    ensures sound { IfOk result
+        (λ h. AreSound (tables_of opened) script.now.key (cards capture.now) h.entries h.lost) }
+    ensures short { IfOk result (λ h. AreShort h.entries) }
+    ensures grouped { IfOk result (λ h. (es : List Entry) × IsGrouped es h.entries) }
+    ensures whole { IfOk result (λ h. h.lost ≡ []) }
+{
+    let _ports = script.ports();
+    a_run_with_threads_is_made_by_its_script();
+    nothing_is_sent_to_a_closed_port();
+    ports_open_one_after_the_other();
+    the_feeder_keeps_its_time();
+    opened_passes_are_new();
+    a_closed_plane_has_all_that_its_passes_did();
+    let Opened {
+        plane,
+        feeder,
+        ports,
+        gauge,
+    } = opened;
+    let mut crew = Crew {
+        feeding: Feeding {
+            pass: feeder,
+            gauge,
+            failed: false,
+        },
+        ports: ports.into_vec(),
+        minds: Vec::new(alloc),
+        closed: Vec::new(alloc),
+    };
+    // Packets may wait in the plane: it is closed before anything is answered.
+    let outcome = go(rt, alloc, &plane, gate, script, capture, &mut crew);
+    let Crew {
+        feeding,
+        ports,
+        minds: _minds,
+        closed,
+    } = crew;
+    let Feeding {
+        pass: feeder,
+        gauge: _gauge,
+        failed: _failed,
+    } = feeding;
+    let ports = Sequence::from_vec(ports);
+    let histories = plane.close(alloc, feeder, ports, Sequence::from_vec(closed));
+    outcome?;
+    let histories = histories?;
+    queues_are_short(&histories.entries);
+    if !histories.lost.is_empty() {
+        return Err(NoMemory);
+    }
+    Ok(histories)
+}
