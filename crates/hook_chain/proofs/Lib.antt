@@ -14,3 +14,4 @@ pub mod Rotation
 pub mod RuleForm
 pub mod RuleLineForm
 pub mod TableLines
+mod Views

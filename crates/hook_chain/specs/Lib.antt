@@ -7,3 +7,4 @@ pub mod Route
 pub mod RuleLine
 pub mod Rules
 pub mod RulesFile
+pub mod Views

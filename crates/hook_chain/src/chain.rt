@@ -6,12 +6,13 @@ ghost use Rattle.hook_chain.specs.Rules.{IsPick};
 ghost use Rattle.hook_chain.specs.Route.{has_mark, has_protocol, matches, next, onward_of};
 ghost use Rattle.hook_chain.specs.Route.{queue_of};
 ghost use Rattle.hook_chain.specs.Balance.{fanned_out};
+ghost use Rattle.hook_chain.specs.Views.{Shows, next_seen, onward_seen};
 
 use crate::flow::balance;
 use crate::rule::{MarkTest, Pick, Rule};
 use crate::tables::Tables;
 use ip_fields::{IpFields, fields};
-use packet_entry::Packet;
+use packet_entry::{Card, Packet};
 
 /// Where a packet goes next.
 #[derive(Clone, Copy, Debug, PartialEq, Eq)]
@@ -42,6 +43,15 @@ pub enum Decision {
     Queue { number: u16, bypass: bool },
 }
 
+/// What tables and verdicts look at of a packet.
+#[derive(Clone, Copy)]
+struct View<'a> {
+    number: u32,
+    table: u16,
+    mark: u32,
+    bytes: &'a [u8],
+}
+
 /// What the rules look at.
 #[derive(Clone, Copy)]
 struct Look {
@@ -58,7 +68,14 @@ struct Look {
 pub fn route(tables: &Tables, key: u32, packet: &Packet, from: u16) -> Next
     ensures exact { result ≡ next tables.now key packet.now from }
 {
-    enter(tables, key, packet, first_table(from))
+    enter(tables, key, &View::of(packet), first_table(from))
+}
+
+/// The same of a packet of which only the card is there.
+pub fn route_card(tables: &Tables, key: u32, card: &Card, from: u16) -> Next
+    ensures exact { result ≡ next tables.now key card.now from }
+{
+    enter(tables, key, &View::of_card(card), first_table(from))
 }
 
 /// The tables count from 1, and 0 takes all of them as well.
@@ -72,14 +89,30 @@ fn first_table(from: u16) -> usize
 ///
 /// Accept goes on with the next table and Repeat with the same one; Stop releases. Queue sends it
 /// to that queue, in its table. `None` comes exactly for Drop.
+#[tactic(auto, using(crate::proofs::Views::onward_is))]
 pub fn onward(tables: &Tables, key: u32, packet: &Packet, decision: &Decision) -> Option<Next>
     ensures exact { result ≡ onward_of tables.now key packet.now decision.now }
 {
-    let table = packet.table();
+    go_on(tables, key, &View::of(packet), decision)
+}
+
+/// The same of a packet of which only the card is there.
+#[tactic(auto, using(crate::proofs::Views::onward_is))]
+pub fn onward_card(tables: &Tables, key: u32, card: &Card, decision: &Decision) -> Option<Next>
+    ensures exact { result ≡ onward_of tables.now key card.now decision.now }
+{
+    go_on(tables, key, &View::of_card(card), decision)
+}
+
+/// Where a packet goes after a decision.
+fn go_on(tables: &Tables, key: u32, seen: &View, decision: &Decision) -> Option<Next>
+    ensures { result ≡ onward_seen tables.now key seen.now decision.now }
+{
+    let table = seen.table;
     match *decision {
         Decision::Drop => None,
-        Decision::Accept => Some(enter(tables, key, packet, table as usize + 1)),
-        Decision::Repeat => Some(route(tables, key, packet, table)),
+        Decision::Accept => Some(enter(tables, key, seen, table as usize + 1)),
+        Decision::Repeat => Some(enter(tables, key, seen, first_table(table))),
         Decision::Stop => Some(Next::Released),
         Decision::Queue { number, bypass } => Some(Next::To {
             queue: number,
@@ -90,12 +123,12 @@ pub fn onward(tables: &Tables, key: u32, packet: &Packet, decision: &Decision) -
 }
 
 /// Goes through the tables from number `from` on.
-#[tactic(auto, unfolding(crate::specs::Route::next, crate::specs::Route::next_of))]
-fn enter(tables: &Tables, key: u32, packet: &Packet, from: usize) -> Next
+#[tactic(auto, unfolding(crate::specs::Views::next_seen, crate::specs::Route::next_of))]
+fn enter(tables: &Tables, key: u32, seen: &View, from: usize) -> Next
     requires { 1 ≤ from }
-    ensures { result ≡ next tables.now key packet.now from }
+    ensures { result ≡ next_seen tables.now key seen.now from }
 {
-    let look = Look::at(packet);
+    let look = Look::at(seen);
     let feeders = tables.feeders();
     let tables = tables.as_slice();
     for at in from - 1..tables.len() {
@@ -110,18 +143,41 @@ fn enter(tables: &Tables, key: u32, packet: &Packet, from: usize) -> Next
     Next::Released
 }
 
+impl<'a> View<'a> {
+    fn of(packet: &'a Packet) -> View<'a>
+        ensures { Shows result packet.now }
+    {
+        View {
+            number: packet.number(),
+            table: packet.table(),
+            mark: packet.mark(),
+            bytes: packet.bytes(),
+        }
+    }
+
+    fn of_card(card: &'a Card) -> View<'a>
+        ensures { Shows result card.now }
+    {
+        View {
+            number: card.number,
+            table: card.table,
+            mark: card.mark,
+            bytes: card.bytes.as_slice(),
+        }
+    }
+}
+
 impl Look {
-    fn at(packet: &Packet) -> Look
-        ensures number { result.number ≡ packet.now.number }
-        ensures counted { 1 ≤ result.number }
-        ensures mark { result.mark ≡ packet.now.mark }
-        ensures fields { result.fields ≡ fields_of packet.now.bytes }
+    fn at(seen: &View) -> Look
+        ensures number { result.number ≡ seen.now.number }
+        ensures mark { result.mark ≡ seen.now.mark }
+        ensures fields { result.fields ≡ fields_of seen.now.bytes.now }
         ensures addressed { IfSome result.fields IsAddressed }
     {
         Look {
-            number: packet.number(),
-            mark: packet.mark(),
-            fields: fields(packet.bytes()),
+            number: seen.number,
+            mark: seen.mark,
+            fields: fields(seen.bytes),
         }
     }
 
@@ -160,7 +216,6 @@ impl Look {
         requires pick { IsPick pick.now }
         requires addressed { IfSome self.now.fields IsAddressed }
         requires feeders { 1 ≤ feeders }
-        requires number { 1 ≤ self.now.number }
         ensures { result ≡ queue_of feeders key self.now.number self.now.fields pick.now fanout }
     {
         match *pick {
@@ -174,10 +229,9 @@ impl Look {
     fn fanned_out(&self, feeders: u32, first: u16, total: u32) -> u16
         requires total { (1 ≤ total) × (first + total ≤ 2 ^ 16) }
         requires feeders { 1 ≤ feeders }
-        requires number { 1 ≤ self.now.number }
         ensures { result ≡ fanned_out feeders self.now.number first total }
     {
-        let offset = (self.number - 1) % feeders % total;
+        let offset = self.number.saturating_sub(1) % feeders % total;
         first + offset as u16
     }
 }

@@ -1,10 +1,11 @@
-use Rattle.std.proofs.Common.{◌≡◌, max, arith}
-use Rattle.hook_chain.specs.Route.{next}
+use Rattle.std.proofs.Common.{◌∙◌}
+use Rattle.hook_chain.proofs.Views.{first_is, next_is}
 use Rattle.hook_chain.proofs.chain.route.Goals as goal
 
 pub returns : goal.returns
-unfolding next
-returns c =
-    let same : max c.first_table.result 1 ≡ max c.args.from 1 =
-    omega (arith, c.first_table.ensures) in
-    record { exact = rw same at c.enter.ensures }
+returns c = record {
+  exact = c.enter.ensures
+      ∙ first_is c.args.tables.now c.args.key c.of.result c.args.from c.first_table.result
+      c.first_table.ensures
+      ∙ next_is c.args.tables.now c.args.key c.of.result c.args.packet.now c.args.from c.of.ensures;
+}
