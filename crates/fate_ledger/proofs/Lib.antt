@@ -1,4 +1,5 @@
 pub mod Keeping
+pub mod Counted
 pub mod Indexed
 pub mod Leaving
 pub mod Tables

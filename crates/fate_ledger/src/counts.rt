@@ -1,6 +1,7 @@
 //! How many frames have each fate, as text.
 
-ghost use Rattle.std.specs.Prelude.{◌≡◌, ◌++◌, ◌+◌, OnOk, OnErr, count_by};
+ghost use Rattle.std.specs.Prelude.{◌≡◌, ◌<◌, ◌++◌, ◌+◌, ◌^◌, OnOk, OnErr, length};
+ghost use Rattle.std.specs.Prelude.{slice_index, slice_set};
 ghost use Rattle.fate_ledger.specs.Counts as text;
 
 use crate::{Fate, FateLines};
@@ -8,7 +9,7 @@ use journals::{append_number, append_text, append_word};
 use packet_entry::NoMemory;
 use std::alloc::{AllocError, Global};
 
-/// The fates, in the order of their counts.
+/// The fates, in the order of their counts, which is that of [`Fate`].
 const FATES: [Fate; 17] = [
     Fate::Unhooked,
     Fate::Accept,
@@ -36,16 +37,48 @@ pub fn counts_text(alloc: Global, lines: &FateLines, out: &mut Vec<u8>) -> Resul
     ensures err { OnErr result (out.new.items ≡ out.old.items) }
 {
     let mut counts = Vec::new(alloc);
-    push_counts(&FATES, lines, &mut counts)?;
+    push_counts(&FATES, &counted(lines), &mut counts)?;
     append_text(counts, out)
 }
 
-fn push_counts(fates: &[Fate], lines: &FateLines, out: &mut Vec<u8>) -> Result<(), AllocError>
-    ensures { OnOk result (out.new.items
-        ≡ out.old.items ++ text.counts_of fates.now lines.now) }
+/// How many lines have each fate, in the order of [`Fate`].
+fn counted(lines: &FateLines) -> [usize; 17]
+    ensures { result ≡ text.counted lines.now }
 {
-    for fate in fates {
-        push_count(*fate, count_of(*fate, lines), out)?;
+    // Fewer than 2^64, so that each count fits its number.
+    let _lines = lines.len();
+    let mut counts = [0; 17];
+    for line in lines {
+        count(&mut counts, line.fate);
+    }
+    counts
+}
+
+/// One more has this fate.
+fn count(counts: &mut [usize; 17], fate: Fate)
+    requires few { slice_index counts.old (text.place fate) + 1 < 2 ^ 64 }
+    ensures { counts.new ≡ slice_set counts.old (text.place fate)
+        (slice_index counts.old (text.place fate) + 1) }
+{
+    counts[place(fate)] += 1;
+}
+
+/// Where the count of a fate stands, from 0 on.
+fn place(fate: Fate) -> usize
+    ensures within { result < 17 }
+    ensures place { result ≡ text.place fate }
+{
+    fate as usize
+}
+
+/// Appends the lines of fates with their counts.
+fn push_counts(fates: &[Fate], counts: &[usize], out: &mut Vec<u8>) -> Result<(), AllocError>
+    requires { length counts.now ≡ length fates.now }
+    ensures { OnOk result (out.new.items
+        ≡ out.old.items ++ text.lines_of fates.now counts.now) }
+{
+    for place in 0..fates.len() {
+        push_count(fates[place], counts[place], out)?;
     }
     Ok(())
 }
@@ -60,14 +93,4 @@ fn push_count(fate: Fate, count: usize, out: &mut Vec<u8>) -> Result<(), AllocEr
     append_word(fate.name(), out)?;
     append_number(" ", count as u64, out)?;
     append_word("\n", out)
-}
-
-/// How many lines have this fate.
-fn count_of(fate: Fate, lines: &FateLines) -> usize
-    ensures { result ≡ text.count_of fate lines.now }
-{
-    lines
-        .iter()
-        .filter(|line| line.fate.name() == fate.name())
-        .count()
 }

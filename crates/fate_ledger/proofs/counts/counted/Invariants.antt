@@ -1,0 +1,5 @@
+use Rattle.fate_ledger.proofs.Counted.{IsCounted}
+use Rattle.fate_ledger.proofs.counts.counted.Given as goal
+
+abbrev pub invariant-loop-line : goal.invariant-loop-line
+invariant-loop-line l = IsCounted l.lines l.line-iterator l.counts
