@@ -2,6 +2,7 @@ mod Headers
 mod Lengths
 mod Outputs
 mod Records
+mod Rows
 mod RulesFile
 mod ScriptFile
 mod Sizes

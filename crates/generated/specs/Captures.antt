@@ -1,5 +1,5 @@
 -- A generated capture.
-use Rattle.std.specs.Prelude.{ℕ, false, List, length, map}
+use Rattle.std.specs.Prelude.{ℕ, zero, suc, ◌+◌, false, List, [], ◌++◌, length, map}
 use Rattle.std.specs.List.{range_with_len}
 use Rattle.packet_entry.specs.Numbers.{longest_packet}
 use Rattle.ip_fields.specs.Numbers.{link_raw}
@@ -24,6 +24,11 @@ record_of number i = captured i (packet (word number i))
 -- the records from 1 to this count
 abbrev pub records : ℕ → ℕ → List Frame
 records number count = map (record_of number) (range_with_len 1 count)
+
+-- the packets of so many words from the i-th on, one behind the other
+abbrev pub packets_from : ℕ → ℕ → ℕ → List ℕ
+packets_from number i zero = []
+packets_from number i (suc more) = packet (word number i) ++ packets_from number (i + 1) more
 
 -- a file of these records, in little-endian order, with microseconds, of packets without a link
 -- header

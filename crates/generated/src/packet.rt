@@ -13,18 +13,20 @@
 //! | 12 | 4 | source | 10.0.0.s, by bits 8 to 15 |
 //! | 16 | 4 | destination | 10.0.1.d, by bits 16 to 23 |
 
-ghost use Rattle.std.specs.Prelude.{◌≡◌, ◌<◌, ◌≤◌, length, IfOk};
-ghost use Rattle.generated.specs.Numbers.{longest_generated, payload_lengths};
+ghost use Rattle.std.specs.Prelude.{◌≡◌, ◌<◌, ◌++◌, OnOk};
+ghost use Rattle.generated.specs.Numbers.{payload_lengths};
 ghost use Rattle.generated.specs.Packets as packets;
 
-use packet_entry::{Bytes, NoMemory};
-use std::alloc::Global;
+use packet_entry::NoMemory;
 
 /// The bytes of a header without options.
 const HEADER_LENGTH: u8 = 20;
 
 /// How many lengths a payload has, in bytes: 0 to 63, by bits 24 to 29.
 const PAYLOAD_LENGTHS: u64 = 64;
+
+/// The longest payload.
+const ZEROS: [u8; 63] = [0; 63];
 
 /// Version 4, and a header of five words of 32 bits.
 const VERSION_AND_HEADER_LENGTH: u8 = 0x45;
@@ -38,16 +40,14 @@ const TCP: u8 = 6;
 /// The protocol number of UDP.
 const UDP: u8 = 17;
 
-/// The packet of a word, 20 to 83 bytes long.
-pub(crate) fn packet(alloc: Global, word: u64) -> Result<Bytes, NoMemory>
-    ensures bytes { IfOk result (λ bytes. bytes ≡ packets.packet word) }
-    ensures short { IfOk result (λ bytes. length bytes ≤ longest_generated) }
+/// Appends the packet of a word, which has 20 to 83 bytes. When memory runs out, a part of it may
+/// stand there.
+pub(crate) fn put_packet(word: u64, out: &mut Vec<u8>) -> Result<(), NoMemory>
+    ensures { OnOk result (out.new.items ≡ out.old.items ++ packets.packet word) }
 {
-    let length = usize::from(total_length(word));
-    let mut bytes = Vec::with_capacity(alloc, length)?;
-    bytes.extend_from_slice(&header(word))?;
-    bytes.resize(length, 0)?;
-    Ok(Bytes::from_vec(bytes)?)
+    out.extend_from_slice(&header(word))?;
+    out.extend_from_slice(&ZEROS[..usize::from(payload_length(word))])?;
+    Ok(())
 }
 
 #[tactic(auto, unfolding(crate::specs::Packets::header))]
@@ -80,7 +80,7 @@ fn header(word: u64) -> [u8; 20]
 }
 
 /// The bytes of the packet.
-fn total_length(word: u64) -> u8
+pub(crate) fn total_length(word: u64) -> u8
     ensures { result ≡ packets.packet_length word }
 {
     HEADER_LENGTH + payload_length(word)
