@@ -14,7 +14,7 @@ use Rattle.generated.specs.Texts.{rules_text, script_text}
 use Rattle.command_line.specs.Arguments.{Call, Generates, GenFiles, InputFiles, Lists, ListFiles}
 use Rattle.command_line.specs.Arguments.{LiveFiles, Lives, MigrateFiles, Migrates, PlayFiles, Plays}
 use Rattle.command_line.specs.Arguments.{Sample, standard_output, Tries}
-use Rattle.nfq_live.specs.Numbers.{one_feeder, one_worker}
+use Rattle.live_work.specs.Numbers.{one_feeder, one_worker}
 use Rattle.nfq_cli.specs.Account.{AreAccounted, IsAccounted}
 use Rattle.journals.specs.declared.version.Version.TheVariants.{Second}
 use Rattle.journal_reading.specs.JournalFile.{IsJournal}

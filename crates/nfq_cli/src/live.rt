@@ -19,7 +19,7 @@ ghost use Rattle.run_files.specs.Files.{ReadFaultRose, WriteFaultRose};
 ghost use Rattle.run_files.specs.Outputs.{fates_of};
 ghost use Rattle.run_files.specs.Printed.{line_of, usage_line};
 ghost use Rattle.run_files.specs.Statuses.{IfRefused, IsOfRefusal};
-ghost use Rattle.nfq_live.specs.Numbers.{one_feeder, one_worker};
+ghost use Rattle.live_work.specs.Numbers.{one_feeder, one_worker};
 ghost use Rattle.nfq_live.specs.Run.{IsOpenedFor, tables_of};
 ghost use Rattle.nfq_cli.specs.Account.{AreAccounted};
 ghost use Rattle.nfq_cli.specs.Ending.{IsEnded, span};

@@ -17,11 +17,11 @@ use Rattle.live_runs.specs.ClosedPlanes.{sent_by_all}
 use Rattle.live_runs.specs.Passes.{Pass}
 use Rattle.live_passes.specs.Numbered.{AreAll, passes_in, rows_in}
 use Rattle.nfq_live.specs.declared.crew.Crew.{Crew}
-use Rattle.nfq_live.specs.declared.mind.Mind.{Mind}
+use Rattle.live_work.specs.declared.mind.Mind.{Mind}
 use Rattle.nfq_live.specs.Crews.{AreReceived, HaveMinds, IsCrewOf, all_ports, all_sent}
 use Rattle.nfq_live.specs.Crews.{passes_of}
-use Rattle.nfq_live.specs.Minds.{IsMind}
-use Rattle.nfq_live.specs.Numbers.{most_counted}
+use Rattle.live_work.specs.Minds.{IsMind}
+use Rattle.live_work.specs.Numbers.{most_counted}
 use Rattle.nfq_live.proofs.Going.{pass_at}
 use Rattle.nfq_live.proofs.Numbering.{any_default, parted, stands_at, zip_at, zip_long}
 

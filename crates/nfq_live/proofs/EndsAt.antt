@@ -24,21 +24,21 @@ use Rattle.nfq_live.specs.Crews.{IsReceived, OnePass, OneShuts, OthersStay, Port
 use Rattle.nfq_live.specs.Crews.{passes_of}
 use Rattle.nfq_live.specs.Endings.{CutsEnd, CutsEndTo, EndsTo, HasStopped, SaysEndTo, SaysOfEnd}
 use Rattle.nfq_live.specs.Endings.{closing_left}
-use Rattle.nfq_live.specs.declared.mind.Mind.{Mind}
-use Rattle.nfq_live.specs.Minds.{IsMind}
-use Rattle.nfq_live.proofs.Asked.{TakesUpLaw}
+use Rattle.live_work.specs.declared.mind.Mind.{Mind}
+use Rattle.live_work.specs.Minds.{IsMind}
+use Rattle.live_work.proofs.Asked.{TakesUpLaw}
 use Rattle.nfq_live.proofs.EndsOn.{SendsOneLaw, cuts_all, cuts_last, cuts_on, received_same}
 use Rattle.nfq_live.proofs.EndsOn.{says_of_end, unsent}
 use Rattle.nfq_live.proofs.Going.{GoesOnAt, pass_at}
-use Rattle.nfq_live.proofs.Kept.{some_place}
-use Rattle.nfq_live.proofs.Minded.{mind_within}
+use Rattle.live_work.proofs.Kept.{some_place}
+use Rattle.live_work.proofs.Minded.{mind_within}
 use Rattle.nfq_live.proofs.Numbering.{any_default, found_at, parted, zip_at, zip_long}
 use Rattle.nfq_live.proofs.Onward.{ClosesNothingLaw, SumLaw, alone_none, as_many_still}
 use Rattle.nfq_live.proofs.Onward.{number_still, port_in_script, still_open}
 use Rattle.nfq_live.proofs.Opened.{placed_at, same_feeder}
 use Rattle.nfq_live.proofs.Stopped.{ClosedLaw, ClosesLaw, GoesLaw, closed_received, shuts_so}
 use Rattle.nfq_live.proofs.Stopped.{stops_so}
-use Rattle.nfq_live.proofs.Spoken.{EnoughLaw, NoneLaw}
+use Rattle.live_work.proofs.Spoken.{EnoughLaw, NoneLaw}
 
 -- the one pass that may have gone on didn't
 by_number : (c n : Crew) (port : ℕ) → OnePass port c n → passes_of n port ≡ passes_of c port →

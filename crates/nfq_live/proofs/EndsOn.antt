@@ -26,18 +26,18 @@ use Rattle.live_runs.specs.Stages.{Ending, MaySpeak, Stage}
 use Rattle.live_runs.specs.Stands.{AtEnd, Side, Stand, cut_side, cut_then, idle, side}
 use Rattle.live_passes.specs.Numbered.{passes_in}
 use Rattle.nfq_live.specs.declared.crew.Crew.{Crew}
-use Rattle.nfq_live.specs.declared.feeding.Feeding.{Feeding}
+use Rattle.live_work.specs.declared.feeding.Feeding.{Feeding}
 use Rattle.live_runs.specs.ClosedPlanes.{sent_by_all}
 use Rattle.nfq_live.specs.Crews.{AllLookOn, AreReceived, OnePass, PortsAlone, is_open_in}
 use Rattle.nfq_live.specs.Crews.{passes_of}
 use Rattle.nfq_live.specs.Endings.{CutsEnd, CutsEndTo, Ends, EndsCutting, HasEnded, HaveEnded}
 use Rattle.nfq_live.specs.Endings.{SaysEndTo, SaysOfEnd}
-use Rattle.nfq_live.specs.Numbers.{one_worker}
-use Rattle.nfq_live.proofs.Asked.{TakesUpLaw}
+use Rattle.live_work.specs.Numbers.{one_worker}
+use Rattle.live_work.proofs.Asked.{TakesUpLaw}
 use Rattle.nfq_live.proofs.Numbering.{among_closed, of_ports}
 use Rattle.nfq_live.proofs.Onward.{alone_none, still_open}
 use Rattle.nfq_live.proofs.Opened.{same_feeder}
-use Rattle.nfq_live.proofs.Spoken.{EnoughLaw, NoneLaw}
+use Rattle.live_work.proofs.Spoken.{EnoughLaw, NoneLaw}
 
 -- ---- the law of a message
 

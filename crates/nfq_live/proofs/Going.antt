@@ -22,8 +22,8 @@ use Rattle.live_runs.specs.Passes.{feeder_number}
 use Rattle.live_passes.specs.Numbered.{AreAll, StaysFeeder, StaysPort, numbers_of, pass_among}
 use Rattle.live_passes.specs.Numbered.{passes_in}
 use Rattle.live_passes.specs.Views.{port_pass}
-use Rattle.nfq_live.specs.declared.mind.Mind.{Mind}
-use Rattle.nfq_live.specs.Minds.{IsMind}
+use Rattle.live_work.specs.declared.mind.Mind.{Mind}
+use Rattle.live_work.specs.Minds.{IsMind}
 use Rattle.nfq_live.proofs.Numbering.{among_others, among_own, is_once, not_among, of_port}
 use Rattle.nfq_live.proofs.Numbering.{of_ports, others_stay, parted, there_once, times_apart}
 use Rattle.nfq_live.proofs.Numbering.{times_both, times_more, times_moved, times_own, times_put}

@@ -1,11 +1,3 @@
-pub mod Kept
-pub mod Spoken
-pub mod Asked
-pub mod Minded
-pub mod Looked
-pub mod Fallen
-pub mod Passed
-pub mod Fresh
 pub mod Numbering
 pub mod Together
 pub mod Going

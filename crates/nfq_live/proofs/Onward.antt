@@ -22,16 +22,16 @@ use Rattle.live_runs.specs.Seen.{Shares, all_theirs}
 use Rattle.live_passes.specs.Numbered.{AreAll, StaysPort, numbers_of, passes_in}
 use Rattle.live_passes.specs.Views.{port_pass}
 use Rattle.nfq_live.specs.declared.crew.Crew.{Crew}
-use Rattle.nfq_live.specs.declared.feeding.Feeding.{Feeding}
+use Rattle.live_work.specs.declared.feeding.Feeding.{Feeding}
 use Rattle.nfq_live.specs.Crews.{AllLookOn, AreReceived, HaveMinds, IsCrewOf, OneShuts}
 use Rattle.nfq_live.specs.Crews.{PortsAlone, is_open_in, passes_of}
-use Rattle.nfq_live.specs.Feeding.{IsFeedingOf}
-use Rattle.nfq_live.specs.declared.mind.Mind.{Mind}
-use Rattle.nfq_live.specs.Minds.{IsMind}
-use Rattle.nfq_live.specs.Numbers.{one_worker}
-use Rattle.nfq_live.specs.Workers.{LooksOn}
+use Rattle.live_work.specs.Feeding.{IsFeedingOf}
+use Rattle.live_work.specs.declared.mind.Mind.{Mind}
+use Rattle.live_work.specs.Minds.{IsMind}
+use Rattle.live_work.specs.Numbers.{one_worker}
+use Rattle.live_work.specs.Looking.{LooksOn}
 use Rattle.nfq_live.proofs.Going.{GoesOnAt, closes_at, in_order}
-use Rattle.nfq_live.proofs.Looked.{NextLookLaw, NoLookLaw}
+use Rattle.live_work.proofs.Looked.{NextLookLaw, NoLookLaw}
 use Rattle.nfq_live.proofs.Numbering.{its_number, number_at, zip_at}
 use Rattle.nfq_live.proofs.Together.{UnionLaws, every_index}
 

@@ -23,12 +23,12 @@ use Rattle.live_runs.specs.Stands.{Now, Stand, opened, unopened}
 use Rattle.live_passes.specs.Numbered.{AreAll, StaysFeeder, numbers_of, passes_in}
 use Rattle.live_passes.specs.Views.{feeder_pass, port_pass}
 use Rattle.nfq_live.specs.declared.crew.Crew.{Crew}
-use Rattle.nfq_live.specs.declared.feeding.Feeding.{Feeding}
+use Rattle.live_work.specs.declared.feeding.Feeding.{Feeding}
 use Rattle.nfq_live.specs.Crews.{IsCrewOf, OnePass, passes_of}
-use Rattle.nfq_live.specs.Feeding.{AreFeeding, FedOn}
-use Rattle.nfq_live.specs.Numbers.{one_worker}
+use Rattle.live_work.specs.Feeding.{AreFeeding, FedOn}
+use Rattle.live_work.specs.Numbers.{one_worker}
 use Rattle.nfq_live.specs.Openings.{HaveOpened}
-use Rattle.nfq_live.specs.Sending.{SaysTo}
+use Rattle.live_work.specs.Sending.{SaysTo}
 use Rattle.nfq_live.proofs.Going.{GoesOnAt, WholeLaw, feeder_goes_on}
 use Rattle.nfq_live.proofs.Numbering.{number_at}
 

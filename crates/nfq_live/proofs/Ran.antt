@@ -38,13 +38,13 @@ use Rattle.live_runs.specs.Stands.{IsDone, Stand, unopened}
 use Rattle.live_runs.specs.Sums.{WasSent}
 use Rattle.live_passes.specs.Numbered.{AreAll, passes_in}
 use Rattle.nfq_live.specs.declared.crew.Crew.{Crew}
-use Rattle.nfq_live.specs.declared.feeding.Feeding.{Feeding}
+use Rattle.live_work.specs.declared.feeding.Feeding.{Feeding}
 use Rattle.nfq_live.specs.Crews.{AreOpenFrom, AreReceived, IsCrewOf, passes_of}
 use Rattle.nfq_live.specs.Endings.{IsAtMeeting, stage_before}
-use Rattle.nfq_live.specs.Numbers.{one_worker}
+use Rattle.live_work.specs.Numbers.{one_worker}
 use Rattle.nfq_live.specs.Openings.{HaveOpened}
 use Rattle.nfq_live.specs.Run.{IsLiveRun}
-use Rattle.nfq_live.proofs.Minded.{within_ports}
+use Rattle.live_work.proofs.Minded.{within_ports}
 use Rattle.nfq_live.proofs.Onward.{IsMadeOf, crew_of, passes_made}
 use Rattle.nfq_live.proofs.Stopped.{all_done}
 

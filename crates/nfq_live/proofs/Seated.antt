@@ -12,9 +12,9 @@ use Rattle.plane.specs.declared.plane.Plane.{Plane}
 use Rattle.plane.specs.Passes.{IsPortOf, PortView}
 use Rattle.plane.specs.Planes.{places_of}
 use Rattle.live_passes.specs.Numbered.{StaysPort}
-use Rattle.nfq_live.specs.declared.mind.Mind.{Mind}
+use Rattle.live_work.specs.declared.mind.Mind.{Mind}
 use Rattle.nfq_live.specs.declared.workers.Inspector.{Inspector}
-use Rattle.nfq_live.specs.Minds.{IsMind}
+use Rattle.live_work.specs.Minds.{IsMind}
 use Rattle.nfq_live.specs.Workers.{IsInspected, IsSeated, WentOn, minds_at, passes_at}
 use Rattle.nfq_live.proofs.Numbering.{zip_long}
 use Rattle.nfq_live.proofs.Together.{every_index}

@@ -14,7 +14,7 @@ use Rattle.place_turns.specs.Trails.{parts_of}
 use Rattle.live_passes.specs.Numbered.{AreAll, StaysFeeder, StaysPort, numbers_of}
 use Rattle.nfq_live.specs.declared.crew.Crew.{Crew}
 use Rattle.nfq_live.specs.Crews.{IsCrewOf}
-use Rattle.nfq_live.specs.Feeding.{IsFeedingOf}
+use Rattle.live_work.specs.Feeding.{IsFeedingOf}
 use Rattle.nfq_live.proofs.Going.{WholeLaw}
 use Rattle.nfq_live.proofs.Numbering.{is_once, times_more}
 

@@ -23,7 +23,7 @@ use Rattle.nfq_live.specs.declared.crew.Crew.{Crew}
 use Rattle.nfq_live.specs.Crews.{IsReceived, OneShuts, is_open_in, passes_of}
 use Rattle.nfq_live.specs.Endings.{EndsTo, HasEnded, HasStopped, HaveEnded, IsAtMeeting}
 use Rattle.nfq_live.specs.Endings.{stage_before}
-use Rattle.nfq_live.specs.Numbers.{one_worker}
+use Rattle.live_work.specs.Numbers.{one_worker}
 use Rattle.nfq_live.proofs.Onward.{ClosesNothingLaw, MeetsNothingLaw, SumLaw}
 use Rattle.nfq_live.proofs.Opened.{MeetsLaw, feeds_still}
 use Rattle.nfq_live.proofs.EndsOn.{open_from, same_place}

@@ -28,13 +28,13 @@ use Rattle.live_passes.specs.Views.{feeder_pass, port_pass}
 use Rattle.nfq_live.specs.declared.crew.Crew.{Crew}
 use Rattle.nfq_live.specs.Crews.{IsCrewOf, all_ports, passes_of}
 use Rattle.nfq_live.specs.Endings.{IsAtMeeting}
-use Rattle.nfq_live.specs.Feeding.{AreFeeding, FedOn, FramesPass, shares_in}
-use Rattle.nfq_live.specs.Numbers.{one_worker}
+use Rattle.live_work.specs.Feeding.{AreFeeding, FedOn, FramesPass, shares_in}
+use Rattle.live_work.specs.Numbers.{one_worker}
 use Rattle.nfq_live.specs.Openings.{AreReady}
 use Rattle.nfq_live.specs.Workers.{HaveWorked, WentOn}
-use Rattle.nfq_live.proofs.Fallen.{fed_both}
-use Rattle.nfq_live.proofs.Kept.{some_place}
-use Rattle.nfq_live.proofs.Looked.{NoLookLaw}
+use Rattle.live_work.proofs.Fallen.{fed_both}
+use Rattle.live_work.proofs.Kept.{some_place}
+use Rattle.live_work.proofs.Looked.{NoLookLaw}
 
 -- ---- the laws
 

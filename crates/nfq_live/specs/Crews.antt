@@ -10,9 +10,9 @@ use Rattle.live_runs.specs.ClosedPlanes.{sent_by_all}
 use Rattle.live_runs.specs.Doing.{GoesOn}
 use Rattle.live_runs.specs.Passes.{Pass, Shuts}
 use Rattle.nfq_live.specs.declared.crew.Crew.{Crew}
-use Rattle.nfq_live.specs.Feeding.{IsFeedingOf}
-use Rattle.nfq_live.specs.Minds.{IsMind}
-use Rattle.nfq_live.specs.Numbers.{most_counted, one_worker}
+use Rattle.live_work.specs.Feeding.{IsFeedingOf}
+use Rattle.live_work.specs.Minds.{IsMind}
+use Rattle.live_work.specs.Numbers.{most_counted, one_worker}
 use Rattle.live_passes.specs.Numbered.{AreAll, numbers_of, passes_in, rows_in}
 
 -- ---- who is there

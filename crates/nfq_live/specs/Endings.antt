@@ -20,8 +20,8 @@ use Rattle.live_runs.specs.Stands.{AtEnd, Stand, cut_side, idle, opened, shut_st
 use Rattle.live_runs.specs.Sums.{WasSent}
 use Rattle.nfq_live.specs.declared.crew.Crew.{Crew}
 use Rattle.nfq_live.specs.Crews.{is_open_in, passes_of}
-use Rattle.nfq_live.specs.Feeding.{AreFeeding}
-use Rattle.nfq_live.specs.Numbers.{one_worker}
+use Rattle.live_work.specs.Feeding.{AreFeeding}
+use Rattle.live_work.specs.Numbers.{one_worker}
 
 -- the stage that the meeting ended before the port at this place ends
 abbrev pub stage_before : ℕ → Stage

@@ -1,7 +1,3 @@
-pub mod Numbers
-pub mod Minds
-pub mod Sending
-pub mod Feeding
 pub mod Workers
 pub mod Crews
 pub mod Openings

@@ -8,8 +8,8 @@ use Rattle.live_runs.specs.Passes.{feeder_number, seen_at}
 use Rattle.live_runs.specs.Stands.{Stand}
 use Rattle.nfq_live.specs.declared.crew.Crew.{Crew}
 use Rattle.nfq_live.specs.Crews.{passes_of}
-use Rattle.nfq_live.specs.Feeding.{AreFeeding, FedOn, shares_in}
-use Rattle.nfq_live.specs.Numbers.{one_worker}
+use Rattle.live_work.specs.Feeding.{AreFeeding, FedOn, shares_in}
+use Rattle.live_work.specs.Numbers.{one_worker}
 use Rattle.live_passes.specs.Numbered.{numbers_of}
 
 -- The ports before this place of the script have opened, all passes have met, and nothing was fed.

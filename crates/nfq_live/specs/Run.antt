@@ -10,7 +10,7 @@ use Rattle.packet_moves.specs.declared.setting.Setting.{Setting}
 use Rattle.plane.specs.declared.opened.Opened.{Opened}
 use Rattle.plane.specs.Opening.{IsOpened}
 use Rattle.plane.specs.Planes.{places_of, setting_of}
-use Rattle.nfq_live.specs.Numbers.{one_feeder, one_worker}
+use Rattle.live_work.specs.Numbers.{one_feeder, one_worker}
 
 -- what a plane for this script is opened with, beside these tables
 abbrev pub setting_for : ScriptValue → RuleTables → Setting

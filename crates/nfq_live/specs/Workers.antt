@@ -7,20 +7,14 @@ use Rattle.made_runs.specs.Entering.{cards}
 use Rattle.plane.specs.declared.plane.Plane.{Plane}
 use Rattle.plane.specs.Passes.{PortView, IsPortOf}
 use Rattle.plane.specs.Planes.{places_of}
-use Rattle.live_runs.specs.Doing.{GoesOn}
-use Rattle.live_passes.specs.Views.{port_pass}
 use Rattle.nfq_live.specs.declared.crew.Crew.{Crew}
-use Rattle.nfq_live.specs.declared.mind.Mind.{Mind}
+use Rattle.live_work.specs.declared.mind.Mind.{Mind}
 use Rattle.nfq_live.specs.declared.workers.Inspector.{Inspector}
 use Rattle.nfq_live.specs.declared.workers.Room.{Room}
-use Rattle.nfq_live.specs.Feeding.{FramesPass}
-use Rattle.nfq_live.specs.Minds.{IsMind}
-use Rattle.nfq_live.specs.Numbers.{one_worker}
+use Rattle.live_work.specs.Feeding.{FramesPass}
+use Rattle.live_work.specs.Looking.{LooksOn}
+use Rattle.live_work.specs.Minds.{IsMind}
 use Rattle.live_passes.specs.Numbered.{StaysPort}
-
--- A port went on answering its notices: it owed nothing, and owes nothing now.
-pub record LooksOn (script : ScriptValue) (places : ℕ) (old new : PortView) : Type 0 where
-  pub on : GoesOn one_worker script places old.port (port_pass old) (port_pass new)
 
 -- a worker at its port
 pub record IsSeated (script : ScriptValue) (plane : Plane) (i : Inspector) : Type 0 where

@@ -11,12 +11,11 @@ ghost use Rattle.nfq_live.specs.Crews.{AreReceived, HaveMinds, IsCrewOf, OneShut
 ghost use Rattle.nfq_live.specs.Crews.{is_open_in, passes_of};
 ghost use Rattle.live_passes.specs.Numbered.{numbers_of};
 
-use crate::feeding::Feeding;
-use crate::mind::Mind;
 use live_passes::{
     counts_say_what_was_sent, passes_that_meet_are_met, ports_speak_by_their_passes,
 };
 use live_runs::meetings_and_closings_send_nothing;
+use live_work::{Feeding, Mind};
 use packet_entry::{NoMemory, Sequence};
 use plane::{ClosedPort, Plane, PortPass};
 use std::alloc::Global;

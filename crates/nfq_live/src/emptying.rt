@@ -5,9 +5,9 @@ ghost use Rattle.plane.specs.Planes.{order_of, places_of};
 ghost use Rattle.nfq_live.specs.Crews.{AllLookOn, AreReceived, HaveMinds, IsCrewOf};
 
 use crate::crew::Crew;
-use crate::looking::look;
 use inspector_script::Script;
 use live_runs::what_a_port_does_adds_up;
+use live_work::look;
 use packet_entry::NoMemory;
 use plane::{Gate, Plane, parts_stay_whole};
 use std::alloc::Global;

@@ -10,12 +10,8 @@
 mod crew;
 mod emptying;
 mod ending;
-mod feeding;
-mod looking;
-mod mind;
 mod opening;
 mod run;
-mod sending;
 mod workers;
 
 pub use run::run_workers;

@@ -7,13 +7,12 @@ ghost use Rattle.plane.specs.Planes.{order_of, places_of};
 ghost use Rattle.port_scripts.specs.Downs.{AreDownsOf};
 ghost use Rattle.nfq_live.specs.Crews.{HaveMinds, IsCrewOf, OnePass, passes_of};
 ghost use Rattle.nfq_live.specs.Openings.{AreReady, HaveOpened};
-ghost use Rattle.nfq_live.specs.Sending.{SaysTo};
+ghost use Rattle.live_work.specs.Sending.{SaysTo};
 
 use crate::crew::Crew;
-use crate::feeding::take_down_after;
-use crate::sending::say_all;
 use inspector_script::Script;
 use live_runs::{ports_open_one_after_the_other, the_feeder_keeps_its_time};
+use live_work::{say_all, take_down_after};
 use made_runs::each_port_has_its_place;
 use packet_entry::NoMemory;
 use plane::{Gate, Plane, parts_stay_whole};

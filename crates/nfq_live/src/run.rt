@@ -14,13 +14,11 @@ ghost use Rattle.plane.specs.Opening.{IsNew};
 ghost use Rattle.plane.specs.Planes.{order_of, places_of};
 ghost use Rattle.nfq_live.specs.Crews.{AreReceived, IsCrewOf};
 ghost use Rattle.nfq_live.specs.Endings.{IsAtMeeting};
-ghost use Rattle.nfq_live.specs.Numbers.{most_frames};
+ghost use Rattle.live_work.specs.Numbers.{most_frames};
 ghost use Rattle.nfq_live.specs.Openings.{HaveOpened};
 ghost use Rattle.nfq_live.specs.Run.{IsLiveRun, IsOpenedFor, tables_of};
 
 use crate::crew::Crew;
-use crate::feeding::Feeding;
-use crate::mind::minds;
 use histories::{Entries, Histories};
 use inspector_script::Script;
 use live_passes::{a_closed_plane_has_all_that_its_passes_did, opened_passes_are_new};
@@ -28,6 +26,7 @@ use live_runs::{
     a_run_with_threads_is_made_by_its_script, nothing_is_sent_to_a_closed_port,
     ports_open_one_after_the_other, the_feeder_keeps_its_time,
 };
+use live_work::{Feeding, minds};
 use packet_entry::{NoMemory, Sequence};
 use pcap_io::Capture;
 use plane::{Gate, Opened, Plane};

@@ -11,21 +11,19 @@ ghost use Rattle.plane.specs.Planes.{order_of, places_of};
 ghost use Rattle.port_scripts.specs.Downs.{AreDownsOf};
 ghost use Rattle.nfq_live.specs.Crews.{HaveMinds, IsCrewOf};
 ghost use Rattle.nfq_live.specs.Endings.{IsAtMeeting};
-ghost use Rattle.nfq_live.specs.Feeding.{HasFed, IsFeedingOf};
-ghost use Rattle.nfq_live.specs.Numbers.{most_frames};
+ghost use Rattle.live_work.specs.Feeding.{HasFed, IsFeedingOf};
+ghost use Rattle.live_work.specs.Numbers.{most_frames};
 ghost use Rattle.nfq_live.specs.Openings.{AreReady};
 ghost use Rattle.nfq_live.specs.Workers.{HasRoom, HaveWorked, IsInspected, IsSeated};
 ghost use Rattle.nfq_live.specs.Workers.{minds_at, passes_at};
 
 use crate::crew::Crew;
-use crate::feeding::Feeding;
-use crate::looking::inspect;
-use crate::mind::Mind;
 use inspector_script::Script;
 use live_runs::{
     a_stage_ends_where_all_meet, ports_open_one_after_the_other, the_feeder_keeps_its_time,
     what_a_port_does_adds_up,
 };
+use live_work::{Feeding, Mind, inspect};
 use packet_entry::NoMemory;
 use pcap_io::Capture;
 use plane::{Gate, Plane, PortPass, parts_stay_whole};

@@ -3,7 +3,7 @@ use Rattle.nfq_cli.proofs.Endings.{cut_of, none_is_refused, refused_by}
 use Rattle.nfq_cli.proofs.Endings.{writing_only_leaves, written_of}
 use Rattle.nfq_cli.proofs.Endings.{writing_only_reads_nothing, writing_only_refuses_nothing}
 use Rattle.nfq_cli.specs.Account.{AreAccounted}
-use Rattle.nfq_live.specs.Numbers.{one_feeder, one_worker}
+use Rattle.live_work.specs.Numbers.{one_feeder, one_worker}
 use Rattle.command_line.specs.Arguments.{files_of}
 use Rattle.nfq_cli.proofs.live.live_files.Goals as goal
 

@@ -2,7 +2,7 @@ use Rattle.std.proofs.Common.{subst}
 use Rattle.hook_chain.specs.Rules.{RuleTables}
 use Rattle.histories.specs.Journeys.{AreSound}
 use Rattle.made_runs.specs.Entering.{cards}
-use Rattle.nfq_live.specs.Numbers.{one_feeder, one_worker}
+use Rattle.live_work.specs.Numbers.{one_feeder, one_worker}
 use Rattle.nfq_cli.proofs.live.run_of.Goals as goal
 
 pub returns-clause-account : goal.returns-clause-account

@@ -2,7 +2,7 @@ use Rattle.std.proofs.Common.{◌≡◌, ◌∙◌, ℕ, length}
 use Rattle.made_runs.specs.Entering.{cards}
 use Rattle.plane.specs.Planes.{places_of}
 use Rattle.nfq_live.specs.Endings.{IsAtMeeting}
-use Rattle.nfq_live.proofs.Asked.{on_ok}
+use Rattle.live_work.proofs.Asked.{on_ok}
 use Rattle.nfq_live.proofs.Ran.{all_open}
 use Rattle.nfq_live.proofs.run.go.Goals as goal
 

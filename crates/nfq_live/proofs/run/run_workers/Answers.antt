@@ -4,7 +4,7 @@ use Rattle.place_rows.specs.Lists.{flat}
 use Rattle.plane.specs.Closings.{IsClosed}
 use Rattle.plane.specs.Planes.{places_of}
 use Rattle.nfq_live.specs.Run.{setting_for, tables_of}
-use Rattle.nfq_live.proofs.Kept.{some_place}
+use Rattle.live_work.proofs.Kept.{some_place}
 use Rattle.nfq_live.proofs.Ran.{closed_by, closed_run, live_run, no_zero, none_opened, opened_crew}
 use Rattle.nfq_live.proofs.Ran.{short_for, sound_for}
 use Rattle.nfq_live.proofs.run.run_workers.Goals as goal

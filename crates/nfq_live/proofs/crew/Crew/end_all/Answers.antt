@@ -2,7 +2,7 @@ use Rattle.std.proofs.Common.{◌≡◌, ◌+◌, ◌∙◌, ℕ, suc, List, ap,
 use Rattle.inspector_script.specs.Scripts.{closing}
 use Rattle.made_runs.specs.Log.{all_due}
 use Rattle.plane.specs.Planes.{places_of}
-use Rattle.nfq_live.specs.declared.feeding.Feeding.{Feeding}
+use Rattle.live_work.specs.declared.feeding.Feeding.{Feeding}
 use Rattle.nfq_live.specs.Crews.{AreOpenFrom, AreReceived}
 use Rattle.nfq_live.specs.Endings.{IsAtMeeting}
 use Rattle.nfq_live.proofs.EndsOn.{ends_look}

@@ -4,7 +4,7 @@ use Rattle.plane.specs.Passes.{PortView}
 use Rattle.plane.specs.Planes.{order_of, places_of}
 use Rattle.nfq_live.specs.Crews.{AreReceived, HaveMinds, IsReceived, OneShuts, OthersStay}
 use Rattle.nfq_live.specs.Endings.{EndsTo, HasStopped}
-use Rattle.nfq_live.proofs.Asked.{ok_anyway, on_ok}
+use Rattle.live_work.proofs.Asked.{ok_anyway, on_ok}
 use Rattle.nfq_live.proofs.EndsAt.{a_port, both_long, end_shuts, end_stops, its_still, others_here}
 use Rattle.nfq_live.proofs.EndsAt.{others_shut, received_here, received_shut_here, still_within}
 use Rattle.nfq_live.proofs.crew.Crew.end_at.Goals as goal

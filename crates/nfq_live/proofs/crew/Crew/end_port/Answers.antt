@@ -6,13 +6,13 @@ use Rattle.inspector_script.specs.Scripts.{closing}
 use Rattle.plane.specs.Planes.{order_of, places_of}
 use Rattle.port_scripts.specs.Words.{ClosesLast}
 use Rattle.live_runs.specs.Passes.{AreMet}
-use Rattle.nfq_live.specs.declared.feeding.Feeding.{Feeding}
+use Rattle.live_work.specs.declared.feeding.Feeding.{Feeding}
 use Rattle.nfq_live.specs.Crews.{AreOpenFrom, AreReceived, HaveMinds, passes_of}
 use Rattle.nfq_live.specs.Endings.{EndsTo, IsAtMeeting}
-use Rattle.nfq_live.proofs.Asked.{ok_anyway, on_ok}
+use Rattle.live_work.proofs.Asked.{ok_anyway, on_ok}
 use Rattle.nfq_live.proofs.EndsAt.{a_port, both_long, found_place, machine_place, machine_within}
 use Rattle.nfq_live.proofs.EndsAt.{next_open}
-use Rattle.nfq_live.proofs.Kept.{some_place}
+use Rattle.live_work.proofs.Kept.{some_place}
 use Rattle.nfq_live.proofs.Stopped.{at_meeting, still_received}
 use Rattle.nfq_live.proofs.crew.Crew.end_port.Goals as goal
 

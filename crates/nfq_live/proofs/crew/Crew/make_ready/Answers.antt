@@ -1,7 +1,7 @@
 use Rattle.std.proofs.Common.{arith, refl}
 use Rattle.made_runs.specs.Feeder.{downs_after, falling_time}
 use Rattle.plane.specs.Planes.{places_of}
-use Rattle.nfq_live.specs.Feeding.{shares_in}
+use Rattle.live_work.specs.Feeding.{shares_in}
 use Rattle.nfq_live.proofs.Opened.{earlier, feeder_crew}
 use Rattle.nfq_live.proofs.crew.Crew.make_ready.Goals as goal
 

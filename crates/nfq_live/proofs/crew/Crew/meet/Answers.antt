@@ -3,7 +3,7 @@ use Rattle.place_rows.specs.Lists.{Every}
 use Rattle.plane.specs.Passes.{IsPortOf, PortView}
 use Rattle.plane.specs.Planes.{order_of, places_of}
 use Rattle.nfq_live.specs.declared.crew.Crew.{Crew}
-use Rattle.nfq_live.proofs.Asked.{ok_anyway}
+use Rattle.live_work.proofs.Asked.{ok_anyway}
 use Rattle.nfq_live.proofs.Going.{all_meet, meets_of, minds_kept, numbers_kept}
 use Rattle.nfq_live.proofs.Onward.{received_met}
 use Rattle.nfq_live.proofs.crew.Crew.meet.Goals as goal

@@ -5,7 +5,7 @@ use Rattle.plane.specs.Planes.{places_of}
 use Rattle.live_runs.specs.Passes.{AreMet}
 use Rattle.nfq_live.specs.Crews.{passes_of}
 use Rattle.nfq_live.specs.Openings.{HaveOpened}
-use Rattle.nfq_live.proofs.Kept.{some_place}
+use Rattle.live_work.proofs.Kept.{some_place}
 use Rattle.nfq_live.proofs.Opened.{opens_next, placed_at}
 use Rattle.nfq_live.proofs.crew.Crew.open_all.Goals as goal
 

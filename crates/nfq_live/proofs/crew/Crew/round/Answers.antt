@@ -2,7 +2,7 @@ use Rattle.std.proofs.Common.{◌∙◌, arith, refl}
 use Rattle.std.proofs.lemmas.List.{length-set}
 use Rattle.std.specs.Prelude.{slice_set}
 use Rattle.plane.specs.Planes.{places_of}
-use Rattle.nfq_live.specs.Minds.{IsMind}
+use Rattle.live_work.specs.Minds.{IsMind}
 use Rattle.nfq_live.proofs.Going.{goes_on_at}
 use Rattle.nfq_live.proofs.Numbering.{zip_long, zip_put}
 use Rattle.nfq_live.proofs.Onward.{list_looks, mind_there, none_look, port_there}

@@ -8,11 +8,11 @@ use Rattle.port_scripts.specs.Words.{AreWords}
 use Rattle.plane.specs.Passes.{PortView}
 use Rattle.live_passes.specs.Numbered.{numbers_of, passes_in}
 use Rattle.live_passes.specs.Views.{port_pass}
-use Rattle.nfq_live.specs.Minds.{IsMind}
-use Rattle.nfq_live.specs.Sending.{SaysTo}
-use Rattle.nfq_live.proofs.Asked.{on_ok}
+use Rattle.live_work.specs.Minds.{IsMind}
+use Rattle.live_work.specs.Sending.{SaysTo}
+use Rattle.live_work.proofs.Asked.{on_ok}
 use Rattle.nfq_live.proofs.Going.{goes_on_at}
-use Rattle.nfq_live.proofs.Minded.{mind_stays, mind_within}
+use Rattle.live_work.proofs.Minded.{mind_stays, mind_within}
 use Rattle.nfq_live.proofs.Numbering.{put_back, zip_long, zip_put}
 use Rattle.nfq_live.proofs.Onward.{mind_there, port_there}
 use Rattle.nfq_live.proofs.Opened.{as_long, opening_port, says_opening}

@@ -5,14 +5,14 @@ use Rattle.plane.specs.Passes.{PortView}
 use Rattle.plane.specs.Planes.{places_of, setting_of}
 use Rattle.live_passes.specs.Numbered.{passes_in}
 use Rattle.live_runs.specs.Passes.{SpeaksFirst}
-use Rattle.nfq_live.specs.Minds.{IsMind}
+use Rattle.live_work.specs.Minds.{IsMind}
 use Rattle.nfq_live.proofs.EndsAt.{says_first}
 use Rattle.nfq_live.proofs.Going.{goes_on_at}
-use Rattle.nfq_live.proofs.Kept.{port_here}
-use Rattle.nfq_live.proofs.Minded.{mind_stays}
+use Rattle.live_work.proofs.Kept.{port_here}
+use Rattle.live_work.proofs.Minded.{mind_stays}
 use Rattle.nfq_live.proofs.Numbering.{its_number, zip_put}
 use Rattle.nfq_live.proofs.Onward.{mind_there, port_there}
-use Rattle.nfq_live.proofs.Spoken.{counted_either, if_sent, speaks}
+use Rattle.live_work.proofs.Spoken.{counted_either, if_sent, speaks}
 use Rattle.nfq_live.proofs.crew.Crew.send_first.Goals as goal
 
 pub message-requires-clause-pass : goal.message-requires-clause-pass

@@ -1,6 +1,6 @@
 use Rattle.std.proofs.Common.{◌≡◌, ◌≤◌, ◌+◌, drop, min}
 use Rattle.nfq_live.specs.Crews.{all_sent}
-use Rattle.nfq_live.specs.Numbers.{most_counted}
+use Rattle.live_work.specs.Numbers.{most_counted}
 use Rattle.nfq_live.proofs.Counted.{sent_by}
 use Rattle.nfq_live.proofs.crew.Crew.sent.Given as goal
 

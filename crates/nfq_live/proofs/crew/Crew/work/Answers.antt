@@ -3,7 +3,7 @@ use Rattle.std.proofs.Common.{length}
 use Rattle.live_runs.specs.Passes.{AreMet}
 use Rattle.nfq_live.specs.Crews.{passes_of}
 use Rattle.nfq_live.specs.Endings.{IsAtMeeting}
-use Rattle.nfq_live.proofs.Asked.{on_ok}
+use Rattle.live_work.proofs.Asked.{on_ok}
 use Rattle.nfq_live.proofs.Worked.{worked}
 use Rattle.nfq_live.proofs.crew.Crew.work.Goals as goal
 

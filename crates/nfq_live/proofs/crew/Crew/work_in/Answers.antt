@@ -1,6 +1,6 @@
 use Rattle.std.proofs.Common.{◌≡◌, ◌∙◌, ap, arith, length, refl, sym}
 use Rattle.nfq_live.specs.declared.crew.Crew.{Crew}
-use Rattle.nfq_live.specs.Minds.{IsMind}
+use Rattle.live_work.specs.Minds.{IsMind}
 use Rattle.nfq_live.proofs.Numbering.{zip_long}
 use Rattle.nfq_live.proofs.Seated.{as_many_seats, both_true, is_not_true, minds_from_seats}
 use Rattle.nfq_live.proofs.Seated.{minds_taken, passes_taken, seated_from, stay_at_seats}

@@ -1,0 +1,7 @@
+use Rattle.std.proofs.Common.{◌≡◌}
+use Rattle.live_work.proofs.feeding.hold_back.Given as goal
+
+abbrev pub invariant-loop-glance : goal.invariant-loop-glance
+invariant-loop-glance l = record {
+  looks : l.gauge.board ≡ l.initial.gauge.board;
+}

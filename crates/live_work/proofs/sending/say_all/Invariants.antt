@@ -1,0 +1,22 @@
+use Rattle.std.proofs.Common.{◌≡◌}
+use Rattle.std.specs.Prelude.{All}
+use Rattle.script_lines.specs.Limits.{IsAsk}
+use Rattle.plane.specs.Planes.{places_of}
+use Rattle.live_passes.specs.Views.{port_pass}
+use Rattle.live_work.specs.Minds.{HearsNothing}
+use Rattle.live_passes.specs.Numbered.{StaysPort}
+use Rattle.live_work.specs.Sending.{SaysTo}
+use Rattle.port_scripts.specs.Words.{AreWords}
+use Rattle.live_work.proofs.sending.say_all.Given as goal
+
+abbrev pub invariant-loop-ask : goal.invariant-loop-ask
+invariant-loop-ask g l = record {
+  fit : All IsAsk l.ask-iterator;
+  words : AreWords l.ask-iterator;
+  stays : StaysPort l.plane l.initial.pass l.pass;
+  hears : HearsNothing l.initial.pass l.pass;
+  machine : l.mind.machine ≡ l.initial.mind.machine;
+  received : l.mind.received ≡ l.initial.mind.received;
+  sent : SaysTo l.script (places_of l.plane) l.initial.pass.port l.fn.asks l.ask-iterator
+      (port_pass l.initial.pass) (port_pass l.pass);
+}

@@ -1,0 +1,5 @@
+pub mod Numbers
+pub mod Minds
+pub mod Sending
+pub mod Feeding
+pub mod Looking

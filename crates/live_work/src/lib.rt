@@ -1,0 +1,17 @@
+//! What each thread of a run does by its own pass: a feeder feeds frames and lets devices go down,
+//! an inspector receives notices and answers them.
+//!
+//! [`Feeding::work`] is the feeder's work, [`inspect`] an inspector's. [`look`], [`say_all`] and
+//! [`take_down_after`] are steps of them, for who does both alone. Each says what its pass did,
+//! whatever others do beside it.
+#![tactic(auto)]
+
+mod feeding;
+mod looking;
+mod mind;
+mod sending;
+
+pub use feeding::{Feeding, take_down_after};
+pub use looking::{inspect, look};
+pub use mind::{Mind, minds};
+pub use sending::say_all;

@@ -1,0 +1,88 @@
+//! How a port looks into its mailbox and answers its notices.
+
+ghost use Rattle.std.specs.Prelude.{OnOk};
+ghost use Rattle.plane.specs.Passes.{IsPortOf};
+ghost use Rattle.plane.specs.Planes.{places_of};
+ghost use Rattle.live_work.specs.Minds.{IsMind};
+ghost use Rattle.live_passes.specs.Numbered.{StaysPort};
+ghost use Rattle.live_work.specs.Looking.{LooksOn};
+
+use crate::mind::Mind;
+use crate::sending::say_all;
+use crossbeam_utils::Backoff;
+use inspector_script::Script;
+use live_passes::ports_speak_by_their_passes;
+use live_runs::what_a_port_does_adds_up;
+use packet_entry::NoMemory;
+use plane::{Gate, Plane, PortPass};
+use port_scripts::ports_close_at_the_end;
+use std::alloc::Global;
+use std::sync::Wait;
+
+/// How many looks in a row find nothing before an inspector ends.
+const LAST_LOOK: u32 = 100_000;
+
+/// A port looks into its mailbox: a notice that it finds is received and answered. Whether there
+/// was one. `NoMemory` leaves a part of its answer sent.
+pub fn look<R: Wait, G: Gate>(
+    rt: &R,
+    alloc: Global,
+    plane: &Plane,
+    gate: &G,
+    script: &Script,
+    pass: &mut PortPass,
+    mind: &mut Mind,
+) -> Result<bool, NoMemory>
+    requires pass { IsPortOf plane.now pass.old }
+    requires mind { IsMind script.now pass.old mind.old }
+    ensures stays { StaysPort plane.now pass.old pass.new }
+    ensures mind { OnOk result (IsMind script.now pass.new mind.new) }
+    ensures on { OnOk result (LooksOn script.now (places_of plane.now) pass.old pass.new) }
+{
+    ports_speak_by_their_passes();
+    what_a_port_does_adds_up();
+    ports_close_at_the_end();
+    match plane.receive(rt, pass)? {
+        Some(letter) => {
+            let asks = mind.answer(alloc, script, &letter)?;
+            say_all(rt, alloc, plane, gate, script, pass, mind, asks)?;
+            Ok(true)
+        }
+        None => Ok(false),
+    }
+}
+
+/// A port looks until its 100,000th look in a row finds nothing. After one that does it pauses, so
+/// that others come to work. `NoMemory` leaves a part of an answer sent.
+pub fn inspect<R: Wait, G: Gate>(
+    rt: &R,
+    alloc: Global,
+    plane: &Plane,
+    gate: &G,
+    script: &Script,
+    pass: &mut PortPass,
+    mind: &mut Mind,
+) -> Result<(), NoMemory>
+    requires pass { IsPortOf plane.now pass.old }
+    requires mind { IsMind script.now pass.old mind.old }
+    ensures stays { StaysPort plane.now pass.old pass.new }
+    ensures mind { OnOk result (IsMind script.now pass.new mind.new) }
+    ensures on { OnOk result (LooksOn script.now (places_of plane.now) pass.old pass.new) }
+{
+    what_a_port_does_adds_up();
+    let backoff = Backoff::new();
+    let mut empty = 0;
+    for _ in rt.forever() {
+        if empty >= LAST_LOOK {
+            return Ok(());
+        }
+        if look(rt, alloc, plane, gate, script, pass, mind)? {
+            backoff.reset();
+            empty = 0;
+        } else {
+            backoff.snooze();
+            empty += 1;
+        }
+    }
+    unreachable!()
+}

@@ -1,7 +1,0 @@
-use Rattle.std.proofs.Common.{◌≡◌}
-use Rattle.nfq_live.proofs.feeding.hold_back.Given as goal
-
-abbrev pub invariant-loop-glance : goal.invariant-loop-glance
-invariant-loop-glance l = record {
-  looks : l.gauge.board ≡ l.initial.gauge.board;
-}

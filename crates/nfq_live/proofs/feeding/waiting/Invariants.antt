@@ -1,7 +1,0 @@
-use Rattle.std.proofs.Common.{◌≡◌}
-use Rattle.nfq_live.proofs.feeding.waiting.Given as goal
-
-abbrev pub invariant-loop-place : goal.invariant-loop-place
-invariant-loop-place l = record {
-  looks : l.gauge.board ≡ l.initial.gauge.board;
-}

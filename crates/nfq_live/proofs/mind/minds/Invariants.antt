@@ -1,9 +1,0 @@
-use Rattle.std.proofs.Common.{◌≡◌, length}
-use Rattle.nfq_live.proofs.Fresh.{AreFresh}
-use Rattle.nfq_live.proofs.mind.minds.Given as goal
-
-abbrev pub invariant-loop-place : goal.invariant-loop-place
-invariant-loop-place l = record {
-  long : length l.minds.items ≡ l.place;
-  fresh : AreFresh 0 l.minds.items;
-}
