@@ -225,9 +225,11 @@ fn as_many_ports_as_may_be_work(rt: HostRuntime) -> Result<(), Fail> {
         input.extend_from_slice(&record)?;
     }
     rules.push_str("COMMIT\n")?;
-    let mut host = host(alloc, &rules, &script, &input)?;
-    assert_eq!(rt; lived(&rt, alloc, &mut host, &OpenGate, "64")?, 0);
-    has(&rt, &host, "l", ledger.as_bytes());
-    has(&rt, &host, "o", &input);
+    for places in ["1", "2", "8", "64"] {
+        let mut host = host(alloc, &rules, &script, &input)?;
+        assert_eq!(rt; lived(&rt, alloc, &mut host, &OpenGate, places)?, 0);
+        has(&rt, &host, "l", ledger.as_bytes());
+        has(&rt, &host, "o", &input);
+    }
     Ok(())
 }
