@@ -177,12 +177,16 @@ fn a_fault_at_each_call_leaves_whole_and_untouched_outputs(rt: HostRuntime) -> R
         check(&rt, alloc, &run, &PLAYED)?;
         check(&rt, alloc, &run, &LISTED)?;
     }
-    for text in lived::RUNS.split("\n\n").take(2) {
-        check(&rt, alloc, &read(alloc, text)?, &LIVED)?;
-    }
     let nothing = read(alloc, "port 7")?;
     for command in &[GENERATED, MIGRATED, TRIED] {
         check(&rt, alloc, &nothing, command)?;
     }
     Ok(())
+}
+
+#[test]
+fn a_fault_at_each_call_of_a_run_with_threads_does_so(rt: HostRuntime) -> Result<(), Fail> {
+    let alloc = rt.alloc();
+    let text = lived::RUNS.split("\n\n").next().unwrap_or("");
+    check(&rt, alloc, &read(alloc, text)?, &LIVED)
 }

@@ -182,31 +182,44 @@ fn check_lived<R: Threads + Wait + Sync + Abort>(
     Ok(())
 }
 
-/// The same over few places and over many.
-fn check_over_places<R: Threads + Wait + Sync + Abort>(
+/// The same of each of these runs.
+fn check_all<R: Threads + Wait + Sync + Abort>(
     rt: &R,
     alloc: Global,
-    run: &Run,
+    places: &str,
 ) -> Result<(), Fail> {
-    for places in ["1", "2", "8", "64"] {
-        check_lived(rt, alloc, run, places)?;
+    for text in RUNS.split("\n\n") {
+        check_lived(rt, alloc, &read(alloc, text)?, places)?;
     }
     Ok(())
 }
 
 #[test]
-fn what_no_thread_can_change_is_as_it_is_written_out(rt: HostRuntime) -> Result<(), Fail> {
-    let alloc = rt.alloc();
-    for text in RUNS.split("\n\n") {
-        check_over_places(&rt, alloc, &read(alloc, text)?)?;
-    }
-    Ok(())
+fn at_one_place_what_no_thread_can_change_is_as_written(rt: HostRuntime) -> Result<(), Fail> {
+    check_all(&rt, rt.alloc(), "1")
+}
+
+#[test]
+fn at_two_places_what_no_thread_can_change_is_as_written(rt: HostRuntime) -> Result<(), Fail> {
+    check_all(&rt, rt.alloc(), "2")
+}
+
+#[test]
+fn at_eight_places_what_no_thread_can_change_is_as_written(rt: HostRuntime) -> Result<(), Fail> {
+    check_all(&rt, rt.alloc(), "8")
+}
+
+#[test]
+fn at_64_places_what_no_thread_can_change_is_as_written(rt: HostRuntime) -> Result<(), Fail> {
+    check_all(&rt, rt.alloc(), "64")
 }
 
 /// 32 ports, each with a queue of its own that gets one packet.
-#[test]
-fn as_many_ports_as_may_be_work(rt: HostRuntime) -> Result<(), Fail> {
-    let alloc = rt.alloc();
+fn check_many_ports<R: Threads + Wait + Sync + Abort>(
+    rt: &R,
+    alloc: Global,
+    places: &str,
+) -> Result<(), Fail> {
     let mut rules = String::from_str(alloc, "*filter\n")?;
     let mut script = String::new(alloc);
     let mut ledger = String::from_str(alloc, "record fate queue at mark priority bytes\n")?;
@@ -225,11 +238,29 @@ fn as_many_ports_as_may_be_work(rt: HostRuntime) -> Result<(), Fail> {
         input.extend_from_slice(&record)?;
     }
     rules.push_str("COMMIT\n")?;
-    for places in ["1", "2", "8", "64"] {
-        let mut host = host(alloc, &rules, &script, &input)?;
-        assert_eq!(rt; lived(&rt, alloc, &mut host, &OpenGate, places)?, 0);
-        has(&rt, &host, "l", ledger.as_bytes());
-        has(&rt, &host, "o", &input);
-    }
+    let mut host = host(alloc, &rules, &script, &input)?;
+    assert_eq!(rt; lived(rt, alloc, &mut host, &OpenGate, places)?, 0);
+    has(rt, &host, "l", ledger.as_bytes());
+    has(rt, &host, "o", &input);
     Ok(())
+}
+
+#[test]
+fn as_many_ports_as_may_be_work_at_one_place(rt: HostRuntime) -> Result<(), Fail> {
+    check_many_ports(&rt, rt.alloc(), "1")
+}
+
+#[test]
+fn as_many_ports_as_may_be_work_at_two_places(rt: HostRuntime) -> Result<(), Fail> {
+    check_many_ports(&rt, rt.alloc(), "2")
+}
+
+#[test]
+fn as_many_ports_as_may_be_work_at_eight_places(rt: HostRuntime) -> Result<(), Fail> {
+    check_many_ports(&rt, rt.alloc(), "8")
+}
+
+#[test]
+fn as_many_ports_as_may_be_work_at_64_places(rt: HostRuntime) -> Result<(), Fail> {
+    check_many_ports(&rt, rt.alloc(), "64")
 }

@@ -157,7 +157,7 @@ impl Gate for Pauses {
     fn answered(&self, _place: u8) {}
 }
 
-/// Fifty runs over so many places. Port 7 sends what is TCP on to queue 1, where port 8 drops the
+/// Twenty-five runs over so many places. Port 7 sends what is TCP on to queue 1, where port 8 drops the
 /// packet that comes second, which one that is.
 fn check_paused<R: Threads + Wait + Sync + Abort>(
     rt: &R,
@@ -170,7 +170,7 @@ fn check_paused<R: Threads + Wait + Sync + Abort>(
         port 8\nopen config 1 bind params packet 0\n\
         on id 2 do verdict this drop this\non any do verdict this accept this\n";
     let input = capture_of(alloc, &[6, 17, 6, 17, 6, 17])?;
-    for run in 0..50u64 {
+    for run in 0..25u64 {
         let mut host = host(alloc, TWO_QUEUES, PORTS, &input)?;
         let gate = Pauses {
             turns: AtomicU64::new(run.wrapping_mul(1_000)),
@@ -184,22 +184,42 @@ fn check_paused<R: Threads + Wait + Sync + Abort>(
 }
 
 #[test]
-fn runs_at_one_place_are_right(rt: HostRuntime) -> Result<(), Fail> {
+fn runs_at_one_place_without_a_pause_are_right(rt: HostRuntime) -> Result<(), Fail> {
+    check_paused(&rt, rt.alloc(), "1", 9)
+}
+
+#[test]
+fn runs_at_one_place_with_pauses_are_right(rt: HostRuntime) -> Result<(), Fail> {
     check_paused(&rt, rt.alloc(), "1", 4)
 }
 
 #[test]
-fn runs_without_a_pause_are_right(rt: HostRuntime) -> Result<(), Fail> {
+fn runs_at_two_places_without_a_pause_are_right(rt: HostRuntime) -> Result<(), Fail> {
     check_paused(&rt, rt.alloc(), "2", 9)
 }
 
 #[test]
-fn runs_with_short_pauses_are_right(rt: HostRuntime) -> Result<(), Fail> {
+fn runs_at_two_places_with_short_pauses_are_right(rt: HostRuntime) -> Result<(), Fail> {
     check_paused(&rt, rt.alloc(), "2", 5)
 }
 
 #[test]
-fn runs_with_long_pauses_are_right(rt: HostRuntime) -> Result<(), Fail> {
+fn runs_at_two_places_with_long_pauses_are_right(rt: HostRuntime) -> Result<(), Fail> {
+    check_paused(&rt, rt.alloc(), "2", 0)
+}
+
+#[test]
+fn runs_at_eight_places_without_a_pause_are_right(rt: HostRuntime) -> Result<(), Fail> {
+    check_paused(&rt, rt.alloc(), "8", 9)
+}
+
+#[test]
+fn runs_at_eight_places_with_short_pauses_are_right(rt: HostRuntime) -> Result<(), Fail> {
+    check_paused(&rt, rt.alloc(), "8", 4)
+}
+
+#[test]
+fn runs_at_eight_places_with_long_pauses_are_right(rt: HostRuntime) -> Result<(), Fail> {
     check_paused(&rt, rt.alloc(), "8", 0)
 }
 
