@@ -2,8 +2,8 @@
 # A benchmark, not a test: plays captures that it makes itself, and prints for each shape the processor time and the
 # peak memory of `nfq play`, and their ratios to a floor, a program of baselines.c that reads the inputs and writes files
 # of the outputs' sizes; for three shapes also to two by hand, which write the same bytes without a proof, one of them
-# with each output kept whole until the last is made. Then comes `live` over 1, 2, 4 and 8 places beside `play`. Last come `gen`, `play` of what it writes, and `trial`, of 200,000
-# packets.
+# with each output kept whole until the last is made. Then comes `live` over 1, 2, 4 and 8 places beside `play`. Last
+# come `gen`, `play` of what it writes, and `trial`, of 200,000 packets.
 set -eu
 top=$(cd "$(dirname "$0")/.." && pwd)
 # As ./nfq has it, so that each program takes its memory alike.
