@@ -6,21 +6,23 @@ use Rattle.live_work.proofs.Fresh.{AreFresh, all_fresh, as_many, fresh_push}
 use Rattle.live_work.proofs.mind.minds.Goals as goal
 
 pub returns : goal.returns
-returns c = λ ports numbers new.
-    all_fresh c.args.script.now 0 ports c.loop-place.minds.items
-    (subst (λ (l : List ℕ). ArePlaced c.args.script.now
-    (λ p. place_in p c.args.script.now.ports) 0 l) (sym numbers)
-    (c.each_port_has_its_place.ensures c.args.script.now
-    c.ports-place-end.ensures.facts.ports_differ).placed)
-    c.loop-place.invariant.fresh
-    (as_many c.args.script.now ports c.loop-place.minds.items numbers
-    (omega (
-      arith,
-      c.loop-place.invariant.long,
-      c.loop-place-test.false,
-      c.loop-place.auto.place-end,
-      ap length c.ports-place-end.ensures.value,
-    ))) new
+returns c = record {
+  minds = λ ports numbers new.
+      all_fresh c.args.script.now 0 ports c.loop-place.minds.items
+      (subst (λ (l : List ℕ). ArePlaced c.args.script.now
+      (λ p. place_in p c.args.script.now.ports) 0 l) (sym numbers)
+      (c.each_port_has_its_place.ensures c.args.script.now
+      c.ports-place-end.ensures.facts.ports_differ).placed)
+      c.loop-place.invariant.fresh
+      (as_many c.args.script.now ports c.loop-place.minds.items numbers
+      (omega (
+        arith,
+        c.loop-place.invariant.long,
+        c.loop-place-test.false,
+        c.loop-place.auto.place-end,
+        ap length c.ports-place-end.ensures.value,
+      ))) new;
+}
 
 pub loop-place-preserved : goal.loop-place-preserved
 loop-place-preserved c =

@@ -12,7 +12,7 @@ make_ready-requires-clause-crew g c κs within =
 
 pub make_ready-requires-clause-minds : goal.make_ready-requires-clause-minds
 make_ready-requires-clause-minds g c κs within =
-    c.in_ok-crew.ensures c.args.crew.now.ports.items c.requires.none.in_order c.requires.new
+    c.in_ok-crew.ensures.minds c.args.crew.now.ports.items c.requires.none.in_order c.requires.new
 
 pub make_ready-requires-clause-none : goal.make_ready-requires-clause-none
 make_ready-requires-clause-none g c κs within = record {
