@@ -21,8 +21,8 @@ use Rattle.std.specs.BTreeSet.{IsKeyRangeOf, IsKeyInRange}
 use Rattle.std.specs.declared.ops.Bound.TheVariants.{Included, Unbounded}
 use Rattle.packet_entry.specs.declared.packet.Card.{Card}
 use Rattle.queue_core.specs.Ids.{is_id}
-use Rattle.fate_ledger.specs.WaitingList.{pair_cmp, is_under, IsIndexed, IsAhead, IsFirstPlace}
-use Rattle.fate_ledger.specs.WaitingList.{HasNoPlace, IsFirstFrom}
+use Rattle.fate_ledger.specs.IndexedList.{pair_cmp, is_under, IsIndexed, IsAhead, IsFirstPlace}
+use Rattle.fate_ledger.specs.IndexedList.{HasNoPlace, IsFirstFrom}
 
 -- what waits, by place
 abbrev pub Entries : Type 0

@@ -1,5 +1,7 @@
 pub mod Keeping
 pub mod Counted
+pub mod Places
+pub mod Queues
 pub mod Indexed
 pub mod Leaving
 pub mod Tables

@@ -3,14 +3,8 @@ use Rattle.std.proofs.Common.{◌≡◌, ℕ, ◌+◌, ◌<◌, ◌^◌, List, [
 use Rattle.std.proofs.Common.{None, true, false, cond, refl, sym, ap, ◌∙◌, subst, arith, inl, inr}
 use Rattle.std.proofs.Common.{append_assoc}
 use Rattle.std.specs.Prelude.{◌==◌}
-use Rattle.std.specs.BTreeMap.{get, is_at}
-use Rattle.std.specs.Ordering.{nat_cmp, is_eq}
-use Rattle.std.specs.Cmp.{nat_cmp_is}
-use Rattle.std.specs.declared.cmp.Ordering.{Ordering}
-use Rattle.std.specs.declared.cmp.Ordering.TheVariants.{Less, Equal, Greater}
-use Rattle.std.proofs.lemmas.Bool.{cases_Bool, eq-eqb, ne_eqb}
+use Rattle.std.proofs.lemmas.Bool.{cases_Bool, eq-eqb, eqb-true}
 use Rattle.std.proofs.lemmas.List.{length-append, append-nil}
-use Rattle.std.proofs.lemmas.Map.Lookups.{exact_unsigned}
 use Rattle.queue_core.specs.State.{Bound}
 use Rattle.queue_core.specs.Step.{step}
 use Rattle.histories.specs.declared.entry.Entry.{Entry}
@@ -18,7 +12,8 @@ use Rattle.histories.specs.History.{replay, replay_from, history, is_of, IsStep,
 use Rattle.histories.specs.History.{IsLegalFrom, AreLegal}
 use Rattle.fate_ledger.specs.declared.happening.Happening.{Happening}
 use Rattle.fate_ledger.specs.Fates.{happens_after, happenings_after, happenings}
-use Rattle.fate_ledger.specs.Following.{FollowedQueues, Follows, IsFollowed, AreFollowed, told_by}
+use Rattle.fate_ledger.specs.declared.followed_queues.FollowedQueues.{FollowedQueues}
+use Rattle.fate_ledger.specs.Following.{followed, AreNew, Follows, IsFollowed, AreFollowed, told_by}
 use Rattle.fate_ledger.specs.Following.{lasts, noted_all, at_in, waiting_in, waiting_of}
 use Rattle.fate_ledger.specs.Following.{place_after}
 use Rattle.fate_ledger.specs.Following.{told, waiting_after}
@@ -83,25 +78,6 @@ pub happenings_on : (es : List Entry) (e : Entry) →
     happenings (es ++ e ∷ []) ≡ happenings es ++ happens_after es e
 happenings_on es e = happenings_on_after [] es e
 
--- ---- numbers of queues
-
-at_own : (k q : ℕ) → is_at (nat_cmp k) q ≡ true → k ≡ q
-at_own k q h = exact_unsigned k q (equal (nat_cmp k q) h)
-  where
-    equal : (o : Ordering) → is_eq o ≡ true → o ≡ Equal
-    equal Less h = absurd (cc)
-    equal Equal h = refl
-    equal Greater h = absurd (cc)
-
-at_itself : (k : ℕ) → is_at (nat_cmp k) k ≡ true
-at_itself k = ap is_eq (sym (nat_cmp_is k k Equal refl))
-
-not_of : (k q : ℕ) → is_at (nat_cmp k) q ≡ false → (k == q) ≡ false
-not_of k q h = ne_eqb k q (λ same.
-    let at : is_at (nat_cmp k) q ≡ true =
-    subst (λ n. is_at (nat_cmp k) n ≡ true) same (at_itself k) in
-    let wrong : true ≡ false = sym at ∙ h in cc)
-
 -- ---- one entry more
 
 -- so many entries are followed, and these are still to come
@@ -115,7 +91,7 @@ pub record IsUnderway (entries rest : List Entry) (queues : FollowedQueues)
 -- the place of the next entry
 place_is : (before : List Entry) (queues : FollowedQueues) (e : Entry) →
     length (history e.queue before) + 1 < 2 ^ 64 → AreFollowed before queues →
-    place_after (at_in (get nat_cmp queues e.queue)) ≡ length (history e.queue before) + 1
+    place_after (at_in (followed queues e.queue)) ≡ length (history e.queue before) + 1
 place_is before queues e few are =
     ap place_after (are e.queue).at ∙ (let small : place_after (length (history e.queue before))
     ≡ length (history e.queue before) + 1 = omega (arith, few) in small)
@@ -124,16 +100,17 @@ followed_on : (before : List Entry) (old new : FollowedQueues) (e : Entry) →
     length (history e.queue before) + 1 < 2 ^ 64 → AreFollowed before old → Follows old new e →
     IsStep (replay (history e.queue before)) e → AreFollowed (before ++ e ∷ []) new
 followed_on before old new e few are follows is queue =
-    elim (cases_Bool (is_at (nat_cmp e.queue) queue)) [
-      | inl own ↦ (let same : e.queue ≡ queue = at_own e.queue queue own in
-          subst (λ q. IsFollowed (history q (before ++ e ∷ [])) (get nat_cmp new q)) same own_is)
+    elim (cases_Bool (e.queue == queue)) [
+      | inl own ↦ (let same : e.queue ≡ queue = eqb-true e.queue queue own in
+          subst (λ q. IsFollowed (history q (before ++ e ∷ [])) (followed new q)) same own_is)
       | inr other ↦ (let here : history queue (before ++ e ∷ []) ≡ history queue before =
           history_on queue before (e ∷ [])
           ∙ ap (λ gs. history queue before ++ gs)
-          (other_on queue e [] (not_of e.queue queue other)) ∙ append-nil (history queue before) in
-          subst (λ gs. IsFollowed gs (get nat_cmp new queue)) (sym here)
-          (subst (IsFollowed (history queue before)) (sym (follows.others queue other))
-          (are queue)))
+          (other_on queue e [] other) ∙ append-nil (history queue before) in
+          subst (λ gs. IsFollowed gs (followed new queue)) (sym here) (record {
+            at = (follows.others queue other).at ∙ (are queue).at;
+            waiting = (follows.others queue other).waiting ∙ (are queue).waiting;
+          }))
     ]
   where
     one_more : history e.queue (before ++ e ∷ []) ≡ history e.queue before ++ e ∷ []
@@ -142,7 +119,7 @@ followed_on before old new e few are follows is queue =
         ∙ ap (λ gs. history e.queue before ++ gs)
         (own_on e.queue e [] (eq-eqb e.queue e.queue refl))
 
-    own_is : IsFollowed (history e.queue (before ++ e ∷ [])) (get nat_cmp new e.queue)
+    own_is : IsFollowed (history e.queue (before ++ e ∷ [])) (followed new e.queue)
     own_is = record {
       at = follows.at ∙ place_is before old e few are
           ∙ sym (ap length one_more ∙ length-append (history e.queue before) (e ∷ []));
@@ -157,7 +134,7 @@ told_is : (before : List Entry) (queues : FollowedQueues) (e : Entry) →
     length (history e.queue before) + 1 < 2 ^ 64 → AreFollowed before queues →
     IsStep (replay (history e.queue before)) e → told_by queues e ≡ happens_after before e
 told_is before queues e few are is =
-    ap (λ at. told e.queue at e.event e.reply (waiting_in (get nat_cmp queues e.queue)))
+    ap (λ at. told e.queue at e.event e.reply (waiting_in (followed queues e.queue)))
     (place_is before queues e few are)
     ∙ ap (told e.queue (length (history e.queue before) + 1) e.event e.reply)
     (are e.queue).waiting
@@ -171,6 +148,17 @@ no_longer queue (e ∷ es) =
       | true ↦ omega (arith, no_longer queue es)
       | false ↦ omega (arith, no_longer queue es)
     ]
+
+-- nothing is followed yet
+pub underway_first : (entries rest : List Entry) (queues : FollowedQueues)
+    (kept : List (Option Happening)) (count : ℕ) → rest ≡ entries → AreNew queues →
+    kept ≡ lasts [] 1 count → IsUnderway entries rest queues kept count
+underway_first entries rest queues kept count all new none = record {
+  before = [];
+  split = sym all;
+  followed = λ queue. record { at = (new queue).at; waiting = (new queue).waiting };
+  noted = none;
+}
 
 pub underway_on : (entries rest after : List Entry) (e : Entry) (old new : FollowedQueues)
     (kept more : List (Option Happening)) (count : ℕ) → length entries < 2 ^ 64 →

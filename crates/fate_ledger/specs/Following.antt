@@ -4,7 +4,7 @@ use Rattle.std.specs.Prelude.{◌≡◌, ℕ, ◌+◌, ◌-◌, suc, zero, List,
 use Rattle.std.specs.Prelude.{drop, Option, Some, None, ◌==◌, if◌then◌else◌, slice_get, slice_set}
 use Rattle.std.specs.Prelude.{◌%◌, ◌^◌, Bool, false}
 use Rattle.std.specs.Map.{lookup, remove_entry}
-use Rattle.std.specs.BTreeMap.{BTreeMap, get, is_at}
+use Rattle.std.specs.BTreeMap.{get}
 use Rattle.std.specs.Ordering.{nat_cmp}
 use Rattle.packet_entry.specs.declared.packet.Card.{Card}
 use Rattle.packet_entry.specs.Card.{edited}
@@ -26,6 +26,7 @@ use Rattle.histories.specs.History.{history, replay}
 use Rattle.fate_ledger.specs.declared.happening.Happening.{Happening}
 use Rattle.fate_ledger.specs.declared.happening.How.{How}
 use Rattle.fate_ledger.specs.declared.following.Followed.{Followed}
+use Rattle.fate_ledger.specs.declared.followed_queues.FollowedQueues.{FollowedQueues}
 use Rattle.fate_ledger.specs.declared.fate.Fate.{Fate}
 use Rattle.fate_ledger.specs.declared.fate.Fate.TheVariants as fate
 use Rattle.fate_ledger.specs.declared.fate.FateLine.{FateLine}
@@ -138,8 +139,10 @@ waiting_after event reply ws = ws
 
 -- ---- all queues
 
-abbrev pub FollowedQueues : Type 0
-FollowedQueues = BTreeMap ℕ Followed
+-- what is known of a queue; nothing of one that isn't kept
+abbrev pub followed : FollowedQueues → ℕ → Option Followed
+followed queues q =
+    if queues.number == q then Some queues.at_hand else get nat_cmp queues.others q
 
 -- how many entries a queue's history has, and what waits; nothing of a queue that isn't kept
 abbrev pub at_in : Option Followed → ℕ
@@ -154,19 +157,33 @@ waiting_in (Some f) = f.waiting
 abbrev pub place_after : ℕ → ℕ
 place_after at = (at + 1) % 2 ^ 64
 
+-- as much is known of a queue
+pub record IsSameQueue (old new : Option Followed) : Type 0 where
+  pub at : at_in new ≡ at_in old
+  pub waiting : waiting_in new ≡ waiting_in old
+
+-- nothing is known yet
+abbrev pub AreNew : FollowedQueues → Type 0
+AreNew queues = (q : ℕ) → IsSameQueue None (followed queues q)
+
+-- the queue with this number is at hand, and nothing else changes
+pub record TurnsTo (old new : FollowedQueues) (queue : ℕ) : Type 0 where
+  pub number : new.number ≡ queue
+  pub same : (q : ℕ) → IsSameQueue (followed old q) (followed new q)
+
 -- this entry is followed, and the other queues stay as they were
 pub record Follows (old new : FollowedQueues) (e : Entry) : Type 0 where
-  pub at : at_in (get nat_cmp new e.queue) ≡ place_after (at_in (get nat_cmp old e.queue))
-  pub waiting : waiting_in (get nat_cmp new e.queue)
-      ≡ waiting_after e.event e.reply (waiting_in (get nat_cmp old e.queue))
-  pub others : (q : ℕ) → is_at (nat_cmp e.queue) q ≡ false →
-      get nat_cmp new q ≡ get nat_cmp old q
+  pub at : at_in (followed new e.queue) ≡ place_after (at_in (followed old e.queue))
+  pub waiting : waiting_in (followed new e.queue)
+      ≡ waiting_after e.event e.reply (waiting_in (followed old e.queue))
+  pub others : (q : ℕ) → (e.queue == q) ≡ false →
+      IsSameQueue (followed old q) (followed new q)
 
 -- the events of an entry that is followed
 abbrev pub told_by : FollowedQueues → Entry → List Happening
 told_by queues e =
-    told e.queue (place_after (at_in (get nat_cmp queues e.queue))) e.event e.reply
-    (waiting_in (get nat_cmp queues e.queue))
+    told e.queue (place_after (at_in (followed queues e.queue))) e.event e.reply
+    (waiting_in (followed queues e.queue))
 
 -- a queue is followed to the end of this history
 pub record IsFollowed (so_far : List Entry) (f : Option Followed) : Type 0 where
@@ -176,7 +193,7 @@ pub record IsFollowed (so_far : List Entry) (f : Option Followed) : Type 0 where
 -- each queue is
 abbrev pub AreFollowed : List Entry → FollowedQueues → Type 0
 AreFollowed before queues = (queue : ℕ) →
-    IsFollowed (history queue before) (get nat_cmp queues queue)
+    IsFollowed (history queue before) (followed queues queue)
 
 -- ---- lines
 

@@ -1,8 +1,9 @@
-pub mod Ledger
 pub mod Counts
-pub mod Released
 pub mod Fates
-pub mod WaitingList
 pub mod Following
+pub mod IndexedList
 pub mod Laws
+pub mod Ledger
 pub mod Payloads
+pub mod Released
+pub mod WaitingList

@@ -8,14 +8,14 @@ ghost use Rattle.histories.specs.History.{AreLegal};
 ghost use Rattle.fate_ledger.specs.Fates as fates;
 ghost use Rattle.fate_ledger.specs.Following as following;
 
-use crate::following::Followed;
+use crate::followed_queues::FollowedQueues;
 use crate::happening::{Happening, Lasts};
 use crate::{Fate, FateLine, FateLines};
-use histories::{Entries, Entry, Histories, Losts};
+use histories::{Entries, Histories, Losts};
 use packet_entry::NoMemory;
 use pcap_io::{Capture, Frame, Frames};
 use std::alloc::Global;
-use std::collections::{BTreeMap, BTreeSet};
+use std::collections::BTreeSet;
 
 /// Numbers of packets.
 type Numbers = BTreeSet<u32>;
@@ -37,7 +37,7 @@ pub fn fates(alloc: Global, capture: &Capture, histories: &Histories) -> Result<
 }
 
 /// The last event of each packet, up to this number.
-fn last_events(alloc: Global, entries: &Entries, count: usize) -> Result<Lasts, NoMemory>
+fn last_events<'a>(alloc: Global, entries: &'a Entries, count: usize) -> Result<Lasts<'a>, NoMemory>
     requires { AreLegal entries.now }
     ensures { IfOk result (λ lasts. lasts.items
         ≡ following.lasts (fates.happenings entries.now) 1 count) }
@@ -45,15 +45,15 @@ fn last_events(alloc: Global, entries: &Entries, count: usize) -> Result<Lasts, 
     // Fewer than 2^64, so that each place in a history fits its number.
     let _places = entries.len();
     let mut lasts = no_events(alloc, count)?;
-    let mut queues = BTreeMap::new(alloc);
+    let mut queues = FollowedQueues::new(alloc);
     for entry in entries {
-        follow(alloc, entry, &mut queues, &mut lasts)?;
+        queues.follow(alloc, entry, &mut lasts)?;
     }
     Ok(lasts)
 }
 
 /// No event of any packet yet.
-fn no_events(alloc: Global, count: usize) -> Result<Lasts, NoMemory>
+fn no_events<'a>(alloc: Global, count: usize) -> Result<Lasts<'a>, NoMemory>
     ensures { IfOk result (λ lasts. lasts.items ≡ following.lasts [] 1 count) }
 {
     let mut lasts = Lasts::with_capacity(alloc, count)?;
@@ -61,26 +61,6 @@ fn no_events(alloc: Global, count: usize) -> Result<Lasts, NoMemory>
         lasts.push(None)?;
     }
     Ok(lasts)
-}
-
-/// Follows the next entry, which is a step of its queue.
-fn follow(
-    alloc: Global,
-    entry: &Entry,
-    queues: &mut BTreeMap<u16, Followed>,
-    lasts: &mut Lasts,
-) -> Result<(), NoMemory>
-    ensures queues { OnOk result (following.Follows queues.old queues.new entry.now) }
-    ensures lasts { OnOk result (lasts.new.items
-        ≡ following.noted_all (following.told_by queues.old entry.now) lasts.old.items) }
-{
-    if !queues.contains_key(&entry.queue) {
-        queues.insert(entry.queue, Followed::new(alloc))?;
-    }
-    let Some(followed) = queues.get_mut(&entry.queue) else {
-        unreachable!()
-    };
-    followed.follow(entry, lasts)
 }
 
 /// The numbers of the packets that were lost.
@@ -99,13 +79,13 @@ fn lost_numbers(alloc: Global, losts: &Losts) -> Result<Numbers, NoMemory>
 fn lines_with(
     alloc: Global,
     frames: &Frames,
-    lasts: Lasts,
+    lasts: Lasts<'_>,
     lost: &Numbers,
 ) -> Result<FateLines, NoMemory>
     requires few { length frames.now + 1 < 2 ^ 32 }
     requires lasts { length lasts.items ≡ length frames.now }
     ensures { IfOk result (λ lines.
-        lines ≡ following.lines_with (contains nat_cmp lost.now) 1 frames.now lasts.items) }
+        lines ≡ following.lines_with (contains nat_cmp lost.now) 1 frames.now lasts.entry.items) }
 {
     let mut lines = Vec::with_capacity(alloc, frames.len())?;
     let mut rest = frames.iter();
@@ -125,10 +105,10 @@ fn line(
     lost: &Numbers,
     number: u32,
     frame: &Frame,
-    last: Option<Happening>,
+    last: Option<Happening<'_>>,
 ) -> Result<FateLine, NoMemory>
     ensures { IfOk result (λ line. line
-        ≡ fates.fate_line (contains nat_cmp lost.now number) number frame.now last) }
+        ≡ fates.fate_line (contains nat_cmp lost.now number) number frame.now last.entry) }
 {
     match last {
         Some(
@@ -143,9 +123,9 @@ fn line(
             fate: fate_unless_lost(lost, number, fate),
             queue,
             at,
-            mark: card.mark,
-            priority: card.priority,
-            payload: card.bytes,
+            mark: card.mark(),
+            priority: card.priority(),
+            payload: card.share_bytes()?,
         }),
         None => Ok(FateLine {
             number,

@@ -1,14 +1,14 @@
 //! Entries of one queue, followed by their replies.
 
-ghost use Rattle.std.specs.Prelude.{◌≡◌, [], OnOk, IfOk, None, drop};
+ghost use Rattle.std.specs.Prelude.{◌≡◌, [], OnOk, drop};
 ghost use Rattle.std.specs.Map.{lookup, remove_entry};
-ghost use Rattle.packet_entry.specs.Card.{edited};
 ghost use Rattle.queue_core.specs.Ids.{is_id};
 ghost use Rattle.fate_ledger.specs.Fates as fates;
 ghost use Rattle.fate_ledger.specs.Following as following;
 
 use crate::Fate;
-use crate::happening::{Happening, How, Lasts, note};
+use crate::card_view::CardView;
+use crate::happening::{How, Lasts, note};
 use crate::waiting_list::WaitingList;
 use histories::{Entry, Event, Reply};
 use nfqa_msgs::{Head, Request};
@@ -18,16 +18,16 @@ use std::alloc::Global;
 
 /// A queue whose history was followed so far.
 #[derive(Debug, Drop)]
-pub(crate) struct Followed {
+pub(crate) struct Followed<'a> {
     /// How many entries its history has so far, which is fewer than 2^64.
     pub at: u64,
     /// What waits.
-    pub waiting: WaitingList,
+    pub waiting: WaitingList<'a>,
 }
 
-impl Followed {
+impl<'a> Followed<'a> {
     /// A queue without an entry.
-    pub fn new(alloc: Global) -> Followed
+    pub fn new(alloc: Global) -> Followed<'a>
         ensures at { result.at ≡ 0 }
         ensures waiting { result.waiting ≡ [] }
     {
@@ -39,7 +39,7 @@ impl Followed {
 
     /// Follows the queue's next entry, and notes it for each packet that it is an event of, where
     /// it is the last one so far. When memory runs out, some of it may have been noted.
-    pub fn follow(&mut self, entry: &Entry, lasts: &mut Lasts) -> Result<(), NoMemory>
+    pub fn follow(&mut self, entry: &'a Entry, lasts: &mut Lasts<'a>) -> Result<(), NoMemory>
         ensures at { OnOk result (self.new.at ≡ following.place_after self.old.at) }
         ensures waiting { OnOk result (self.new.waiting
             ≡ following.waiting_after entry.now.event entry.now.reply self.old.waiting) }
@@ -57,7 +57,8 @@ impl Followed {
                 arrive(queue, at, card, outcome, waiting, lasts)
             }
             (Event::Ask { request, .. }, Reply::Answer { taken, .. }) => {
-                ask(queue, at, request, taken, waiting, lasts)
+                ask(queue, at, request, taken, waiting, lasts);
+                Ok(())
             }
             (Event::PortClosed { .. }, Reply::Flushed { taken }) => {
                 let fate = Fate::PortClosed;
@@ -75,13 +76,13 @@ impl Followed {
 }
 
 /// A packet arrives; it waits where it is taken.
-fn arrive(
+fn arrive<'a>(
     queue: u16,
     at: u64,
-    card: &Card,
+    card: &'a Card,
     outcome: Outcome,
-    waiting: &mut WaitingList,
-    lasts: &mut Lasts,
+    waiting: &mut WaitingList<'a>,
+    lasts: &mut Lasts<'a>,
 ) -> Result<(), NoMemory>
     ensures waiting { OnOk result (waiting.new
         ≡ following.waiting_after_arrival card.now outcome waiting.old) }
@@ -90,33 +91,35 @@ fn arrive(
         (following.how_at queue at (fates.fate_at_arrival outcome)) card.now) lasts.old.items) }
 {
     let fate = fate_at_arrival(outcome);
-    note(How { queue, at, fate }.happening(card.share()?), lasts);
+    note(
+        How { queue, at, fate }.happening(CardView::new(card)),
+        lasts,
+    );
     if let Outcome::Taken { id } = outcome {
-        waiting.push(id, card.share()?)?;
+        waiting.push(id, CardView::new(card))?;
     }
     Ok(())
 }
 
 /// A request after which so many packets left.
-fn ask(
+fn ask<'a>(
     queue: u16,
     at: u64,
-    request: &Request,
+    request: &'a Request,
     taken: u32,
-    waiting: &mut WaitingList,
-    lasts: &mut Lasts,
-) -> Result<(), NoMemory>
-    ensures waiting { OnOk result (waiting.new
-        ≡ following.waiting_after_ask request.now taken waiting.old) }
-    ensures lasts { OnOk result (lasts.new.items
+    waiting: &mut WaitingList<'a>,
+    lasts: &mut Lasts<'a>,
+)
+    ensures waiting { waiting.new
+        ≡ following.waiting_after_ask request.now taken waiting.old }
+    ensures lasts { lasts.new.items
         ≡ following.noted_all (following.asked queue at request.now taken waiting.old)
-        lasts.old.items) }
+        lasts.old.items }
 {
     match request {
         Request::Config { .. } => {
             let fate = Fate::Unbind;
             first_leave(How { queue, at, fate }, None, None, taken, waiting, lasts);
-            Ok(())
         }
         Request::Verdict {
             head: Some(Head { verdict, id }),
@@ -126,11 +129,11 @@ fn ask(
             ..
         } => {
             if taken == 0 {
-                return Ok(());
+                return;
             }
             let fate = fate_of(*verdict);
             let how = How { queue, at, fate };
-            one_leaves(how, *id, *mark, payload, *priority, waiting, lasts)
+            one_leaves(how, *id, *mark, payload, *priority, waiting, lasts);
         }
         Request::Batch {
             head: Some(Head { verdict, .. }),
@@ -147,20 +150,19 @@ fn ask(
                 waiting,
                 lasts,
             );
-            Ok(())
         }
-        _ => Ok(()),
+        _ => {}
     }
 }
 
 /// So many of the oldest leave, each with the mark and the priority that are given.
-fn first_leave(
+fn first_leave<'a>(
     how: How,
     mark: Option<u32>,
     priority: Option<u32>,
     count: u32,
-    waiting: &mut WaitingList,
-    lasts: &mut Lasts,
+    waiting: &mut WaitingList<'a>,
+    lasts: &mut Lasts<'a>,
 )
     ensures waiting { waiting.new ≡ drop count waiting.old }
     ensures lasts { lasts.new.items
@@ -171,55 +173,29 @@ fn first_leave(
         let Some(card) = waiting.pop_front() else {
             return;
         };
-        note(how.happening(changed(card, mark, priority)), lasts);
+        note(how.happening(card.changed(mark, priority)), lasts);
     }
-}
-
-/// The packet with the mark and the priority that are given.
-fn changed(mut card: Card, mark: Option<u32>, priority: Option<u32>) -> Card
-    ensures { result ≡ edited card mark None priority }
-{
-    if let Some(given) = mark {
-        card.mark = given;
-    }
-    if let Some(given) = priority {
-        card.priority = given;
-    }
-    card
 }
 
 /// What waits under an id leaves, with the mark, the bytes and the priority that are given.
-fn one_leaves(
+fn one_leaves<'a>(
     how: How,
     id: u32,
     mark: Option<u32>,
-    payload: &Option<Bytes>,
+    payload: &'a Option<Bytes>,
     priority: Option<u32>,
-    waiting: &mut WaitingList,
-    lasts: &mut Lasts,
-) -> Result<(), NoMemory>
-    ensures waiting { OnOk result (waiting.new
-        ≡ remove_entry (is_id id) waiting.old) }
-    ensures lasts { OnOk result (lasts.new.items
+    waiting: &mut WaitingList<'a>,
+    lasts: &mut Lasts<'a>,
+)
+    ensures waiting { waiting.new ≡ remove_entry (is_id id) waiting.old }
+    ensures lasts { lasts.new.items
         ≡ following.noted_all (following.one_leaves how mark payload.now priority
-        (lookup (is_id id) waiting.old)) lasts.old.items) }
+        (lookup (is_id id) waiting.old)) lasts.old.items }
 {
-    let Some(card) = waiting.take(id) else {
-        return Ok(());
-    };
-    let card = changed(card, mark, priority);
-    note(how.happening(replaced(card, payload)?), lasts);
-    Ok(())
-}
-
-/// The packet with the bytes that are given.
-fn replaced(mut card: Card, payload: &Option<Bytes>) -> Result<Card, NoMemory>
-    ensures { IfOk result (λ after. after ≡ edited card None payload.now None) }
-{
-    if let Some(given) = payload {
-        card.bytes = given.share()?;
+    if let Some(card) = waiting.take(id) {
+        let card = card.changed(mark, priority).replaced(payload);
+        note(how.happening(card), lasts);
     }
-    Ok(card)
 }
 
 /// An arrival's fate: what is taken waits.

@@ -5,11 +5,11 @@ ghost use Rattle.fate_ledger.specs.Fates as fates;
 ghost use Rattle.fate_ledger.specs.Following as following;
 
 use crate::Fate;
-use packet_entry::Card;
+use crate::card_view::CardView;
 
 /// An event of a packet.
 #[derive(Debug, Drop)]
-pub struct Happening {
+pub struct Happening<'a> {
     /// The queue where it happened.
     pub queue: u16,
     /// The place of its entry in the queue's history, counted from 1.
@@ -17,11 +17,11 @@ pub struct Happening {
     /// What became of the packet, if this is its last event and it wasn't lost.
     pub fate: Fate,
     /// The packet there, after its edits.
-    pub card: Card,
+    pub card: CardView<'a>,
 }
 
 /// The last event of each packet so far; that of the packet with number 1 stands first.
-pub(crate) type Lasts = Vec<Option<Happening>>;
+pub(crate) type Lasts<'a> = Vec<Option<Happening<'a>>>;
 
 /// What an entry makes of the packets that it is an event of.
 #[derive(Clone, Copy, Debug)]
@@ -33,8 +33,8 @@ pub(crate) struct How {
 
 impl How {
     /// The event of this packet.
-    pub fn happening(self, card: Card) -> Happening
-        ensures { result ≡ following.happening self card }
+    pub fn happening<'a>(self, card: CardView<'a>) -> Happening<'a>
+        ensures { result ≡ following.happening self card.entry }
     {
         Happening {
             queue: self.queue,
@@ -46,10 +46,10 @@ impl How {
 }
 
 /// Keeps an event where it is the last of its packet so far.
-pub(crate) fn note(happening: Happening, lasts: &mut Lasts)
-    ensures { lasts.new.items ≡ following.noted happening lasts.old.items }
+pub(crate) fn note<'a>(happening: Happening<'a>, lasts: &mut Lasts<'a>)
+    ensures { lasts.new.items ≡ following.noted happening.entry lasts.old.items }
 {
-    let number = happening.card.number as usize;
+    let number = happening.card.number() as usize;
     if number == 0 || number > lasts.len() {
         return;
     }
@@ -59,11 +59,11 @@ pub(crate) fn note(happening: Happening, lasts: &mut Lasts)
 }
 
 /// Whether an event is no earlier than what is kept: visits count up.
-fn is_later(kept: &Option<Happening>, happening: &Happening) -> bool
+fn is_later(kept: &Option<Happening<'_>>, happening: &Happening<'_>) -> bool
     ensures { result ≡ fates.is_later kept.now happening.now }
 {
     match kept {
-        Some(kept) => kept.card.visit <= happening.card.visit,
+        Some(kept) => kept.card.visit() <= happening.card.visit(),
         None => true,
     }
 }

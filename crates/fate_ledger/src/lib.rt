@@ -7,16 +7,20 @@
 //! [`read_old_journal`] reads a text of the format's version 1.
 #![tactic(auto)]
 
+mod card_view;
 mod counts;
 mod fate;
 mod fate_lines;
+mod followed_queues;
 mod following;
 mod happening;
+mod indexed_list;
 mod laws;
 mod ledger;
 mod released;
 mod waiting_list;
 
+pub use card_view::CardView;
 pub use counts::counts_text;
 pub use fate::{Fate, FateLine, FateLines};
 pub use fate_lines::fates;

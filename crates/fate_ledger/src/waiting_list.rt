@@ -1,141 +1,106 @@
 //! What waits at a queue, oldest first, and found by id.
 
-ghost use Rattle.std.specs.Prelude.{◌≡◌, ◌++◌, ◌∷◌, [], ℕ, OnOk, OnErr, MatchOption, None, ◌+◌};
-ghost use Rattle.std.specs.Map.{lookup, remove_entry, values_of};
+ghost use Rattle.std.specs.Prelude.{◌≡◌, ◌++◌, ◌∷◌, [], ℕ, OnOk, MatchOption, None};
+ghost use Rattle.std.specs.Map.{lookup, remove_entry};
 ghost use Rattle.queue_core.specs.Ids.{is_id};
-ghost use Rattle.fate_ledger.specs.WaitingList.{IsIndexed, IsAhead, IsFirstPlace};
-ghost use Rattle.fate_ledger.specs.WaitingList.{HasNoPlace, IsFirstFrom};
+ghost use Rattle.fate_ledger.specs.WaitingList.{IsPlace};
 
-use packet_entry::{Card, NoMemory};
+use crate::card_view::CardView;
+use crate::indexed_list::IndexedList;
+use packet_entry::NoMemory;
 use std::alloc::Global;
-use std::collections::{BTreeMap, BTreeSet};
+use std::collections::VecDeque;
 use std::marker::Model;
 
-/// What waits, by its place: places count up.
-type ByPlace = BTreeMap<u64, (u32, Card)>;
+/// How many are looked through for an id: an index takes longer to keep.
+const FEW: usize = 16;
 
-/// The places of each id.
-type Places = BTreeSet<(u32, u64)>;
+/// A few packets that wait, oldest first, each under its id.
+type Few<'a> = VecDeque<(u32, CardView<'a>)>;
 
 /// What waits, oldest first, each under its id. The oldest and what is found under an id leave in
 /// time that grows with the logarithm of how many wait.
 #[derive(Debug, Drop)]
-pub(crate) struct WaitingList {
-    by_place: ByPlace,
-    places: Places,
-    /// The place of the next that comes.
-    next: u64,
+pub(crate) struct WaitingList<'a> {
+    /// The oldest, without an index.
+    few: Few<'a>,
+    /// What came after those.
+    many: IndexedList<'a>,
 }
 
-impl Model for WaitingList {
-    ghost use Rattle.std.specs.Prelude.{ℕ, List};
-    ghost use Rattle.std.specs.Map.{values_of};
-    ghost use Rattle.fate_ledger.specs.WaitingList.{IsIndexed, IsAhead};
+impl<'a> Model for WaitingList<'a> {
+    ghost use Rattle.std.specs.Prelude.{ℕ, List, ◌++◌};
     ghost use Rattle.packet_entry.specs.declared.packet.Card.{Card};
 
     ghost Value = { List (ℕ × Card) };
 
-    ghost view = { λ w. values_of w.by_place.entries };
-
-    ghost invariant = { λ w. IsIndexed w.by_place w.places × IsAhead w.by_place w.next };
+    ghost view = { λ w. w.few.items ++ w.many };
 }
 
-impl WaitingList {
+impl<'a> WaitingList<'a> {
     /// Nothing waits.
-    pub fn new(alloc: Global) -> WaitingList
+    pub fn new(alloc: Global) -> WaitingList<'a>
         ensures { result ≡ [] }
     {
         WaitingList {
-            by_place: BTreeMap::new(alloc),
-            places: BTreeSet::new(alloc),
-            next: 0,
+            few: VecDeque::new(alloc),
+            many: IndexedList::new(alloc),
         }
     }
 
     /// One more waits, the youngest. No more than 2^64 ever come.
-    pub fn push(&mut self, id: u32, card: Card) -> Result<(), NoMemory>
-        ensures { OnOk result (self.new ≡ self.old ++ (id, card) ∷ []) }
+    pub fn push(&mut self, id: u32, card: CardView<'a>) -> Result<(), NoMemory>
+        ensures { OnOk result (self.new ≡ self.old ++ (id, card.entry) ∷ []) }
     {
-        let place = self.next;
-        let next = place.checked_add(1).ok_or(NoMemory)?;
-        put(place, id, card, &mut self.by_place, &mut self.places)?;
-        self.next = next;
-        Ok(())
+        if self.many.is_empty() && self.few.len() < FEW {
+            match self.few.push_back((id, card)) {
+                Ok(()) => Ok(()),
+                Err(_) => Err(NoMemory),
+            }
+        } else {
+            self.many.push(id, card)
+        }
     }
 
     /// Takes out the oldest.
-    pub fn pop_front(&mut self) -> Option<Card>
+    pub fn pop_front(&mut self) -> Option<CardView<'a>>
         ensures { MatchOption result ((self.old ≡ []) × (self.new ≡ []))
             (λ card. (id : ℕ) × (self.old ≡ (id, card) ∷ self.new)) }
     {
-        let (place, (id, card)) = self.by_place.pop_first()?;
-        self.places.remove(&(id, place));
-        Some(card)
+        match self.few.pop_front() {
+            Some((_, card)) => Some(card),
+            None => self.many.pop_front(),
+        }
     }
 
     /// Takes out the oldest under an id, if anything waits under it.
-    pub fn take(&mut self, id: u32) -> Option<Card>
+    pub fn take(&mut self, id: u32) -> Option<CardView<'a>>
         ensures found { result ≡ lookup (is_id id) self.old }
         ensures others { self.new ≡ remove_entry (is_id id) self.old }
     {
-        let place = place_of(&self.by_place, &self.places, id)?;
-        let (_, card) = self.by_place.remove(&place)?;
-        self.places.remove(&(id, place));
-        Some(card)
-    }
-}
-
-/// Puts in what comes last. Out of memory nothing has changed.
-fn put(
-    place: u64,
-    id: u32,
-    card: Card,
-    by_place: &mut ByPlace,
-    places: &mut Places,
-) -> Result<(), NoMemory>
-    requires indexed { IsIndexed by_place.old places.old }
-    requires ahead { IsAhead by_place.old place }
-    ensures ok { OnOk result (by_place.new.entries
-        ≡ by_place.old.entries ++ (place, (id, card)) ∷ []) }
-    ensures err { OnErr result (by_place.new.entries ≡ by_place.old.entries) }
-    ensures indexed { IsIndexed by_place.new places.new }
-    ensures ahead { IsAhead by_place.new (place + 1) }
-{
-    let Ok(_) = places.insert((id, place)) else {
-        return Err(NoMemory);
-    };
-    match by_place.insert(place, (id, card)) {
-        Ok(_) => Ok(()),
-        Err(_) => {
-            places.remove(&(id, place));
-            Err(NoMemory)
+        match place_of(&self.few, id) {
+            Some(place) => {
+                let Some((_, card)) = self.few.remove(place) else {
+                    unreachable!()
+                };
+                Some(card)
+            }
+            None => self.many.take(id),
         }
     }
 }
 
-/// The place of the oldest under an id. Mostly that is the oldest of all.
-fn place_of(by_place: &ByPlace, places: &Places, id: u32) -> Option<u64>
-    requires { IsIndexed by_place.now places.now }
-    ensures { MatchOption result (lookup (is_id id) (values_of by_place.now.entries) ≡ None)
-        (IsFirstPlace by_place.now id) }
+/// Where the oldest stands that waits under the id.
+fn place_of(few: &Few<'_>, id: u32) -> Option<usize>
+    ensures { MatchOption result (lookup (is_id id) few.now.items ≡ None)
+        (IsPlace few.now.items id) }
 {
-    if let Some((place, (oldest, _))) = by_place.first_key_value() {
-        if *oldest == id {
-            return Some(*place);
+    for place in 0..few.len() {
+        if let Some(w) = few.get(place) {
+            if w.0 == id {
+                return Some(place);
+            }
         }
     }
-    match first_from(places, id) {
-        Some((found, place)) => if found == id { Some(place) } else { None },
-        None => None,
-    }
-}
-
-/// The first id with its place from this id on.
-fn first_from(places: &Places, id: u32) -> Option<(u32, u64)>
-    ensures { MatchOption result (HasNoPlace places.now id) (IsFirstFrom places.now id) }
-{
-    match places.range((id, 0)..).next() {
-        Some(first) => Some(*first),
-        None => None,
-    }
+    None
 }

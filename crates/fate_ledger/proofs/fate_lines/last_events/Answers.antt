@@ -1,6 +1,11 @@
 use Rattle.std.proofs.Common.{arith}
-use Rattle.fate_ledger.proofs.Underway.{underway_on}
+use Rattle.fate_ledger.proofs.Underway.{underway_first, underway_on}
 use Rattle.fate_ledger.proofs.fate_lines.last_events.Goals as goal
+
+pub loop-entry-init : goal.loop-entry-init
+loop-entry-init c =
+    underway_first c.args.entries.now c.into_iter-entry-iterator.result c.new-queues.result _ _
+    c.into_iter-entry-iterator.ensures.into_iter_gives c.new-queues.ensures c.in_ok-lasts.ensures
 
 pub loop-entry-preserved : goal.loop-entry-preserved
 loop-entry-preserved c =

@@ -1,18 +1,29 @@
-use Rattle.std.proofs.Common.{sym}
-use Rattle.std.specs.Map.{values_of}
-use Rattle.fate_ledger.proofs.Indexed.{indexed_out, none_leaves, none_ahead}
+use Rattle.std.proofs.Common.{◌++◌, ◌∙◌, sym, ap}
+use Rattle.fate_ledger.specs.Following.{Waiting}
+use Rattle.fate_ledger.proofs.Places.{taken_older, taken_younger}
 use Rattle.fate_ledger.proofs.waiting_list.WaitingList.take.Goals as goal
 
-pub returns-in_err-place-clause-others : goal.returns-in_err-place-clause-others
-returns-in_err-place-clause-others c =
-    rw (sym c.self.view_is) (none_leaves (values_of c.self.inside.by_place.entries) c.args.id
-    c.in_err-place.ensures)
+pub returns-in-Some-remove-clause-found : goal.returns-in-Some-remove-clause-found
+returns-in-Some-remove-clause-found c =
+    rw (sym c.self.view_is) (taken_older c.args.id c.in-Some.place c.self.inside.few.items
+    c.remove.new.self.items c.self.inside.many
+    (c.in-Some-remove.field-0-0, c.in-Some-remove.card) c.in-Some.ensures
+    c.in-Some-remove.ensures.value c.in-Some-remove.ensures.items).0
 
-pub invariant_of-self-2 : goal.invariant_of-self-2
-invariant_of-self-2 c = (
-  indexed_out _ _ _ _ c.args.id c.in_ok-place.place c.self.invariant.0
-      c.in_ok-place.ensures.card c.in_ok-place.ensures.there c.remove.ensures.ordered
-      c.remove.ensures.updates.0 c.remove-2.ensures.updates.0,
-  none_ahead c.self.inside.by_place c.remove.new.self c.in_ok-place.place c.self.inside.next
-      c.remove.ensures.updates.0 c.self.invariant.1,
-)
+pub returns-in-Some-remove-clause-others : goal.returns-in-Some-remove-clause-others
+returns-in-Some-remove-clause-others c =
+    rw (sym c.self.view_is) (taken_older c.args.id c.in-Some.place c.self.inside.few.items
+    c.remove.new.self.items c.self.inside.many
+    (c.in-Some-remove.field-0-0, c.in-Some-remove.card) c.in-Some.ensures
+    c.in-Some-remove.ensures.value c.in-Some-remove.ensures.items).1
+
+pub returns-in-None-clause-found : goal.returns-in-None-clause-found
+returns-in-None-clause-found c =
+    rw (sym c.self.view_is) (c.take.ensures.found
+    ∙ (taken_younger c.args.id c.self.inside.few.items c.self.inside.many c.in-None.ensures).0)
+
+pub returns-in-None-clause-others : goal.returns-in-None-clause-others
+returns-in-None-clause-others c =
+    rw (sym c.self.view_is) (ap (λ (zs : Waiting). c.self.inside.few.items ++ zs)
+    c.take.ensures.others
+    ∙ (taken_younger c.args.id c.self.inside.few.items c.self.inside.many c.in-None.ensures).1)

@@ -1,5 +1,5 @@
 use Rattle.fate_ledger.proofs.Indexed.{none_from, found_from}
-use Rattle.fate_ledger.proofs.waiting_list.first_from.Goals as goal
+use Rattle.fate_ledger.proofs.indexed_list.first_from.Goals as goal
 
 pub returns-in-Some : goal.returns-in-Some
 returns-in-Some c =

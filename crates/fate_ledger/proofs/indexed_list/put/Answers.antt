@@ -1,6 +1,6 @@
 use Rattle.std.proofs.Common.{◌∙◌, arith}
 use Rattle.fate_ledger.proofs.Indexed.{indexed_in, undone, one_ahead, comes_last}
-use Rattle.fate_ledger.proofs.waiting_list.put.Goals as goal
+use Rattle.fate_ledger.proofs.indexed_list.put.Goals as goal
 
 pub returns-in-Ok-insert-clause-ok : goal.returns-in-Ok-insert-clause-ok
 returns-in-Ok-insert-clause-ok c =
@@ -13,8 +13,8 @@ returns-in-Ok-insert-clause-indexed c =
     (c.requires.ahead c.args.place (omega arith)) c.in-Ok-insert.ensures.ordered
     c.in-Ok-insert.ensures.updates.0 c.in-Ok.ensures.updates.0
 
-pub returns-clause-indexed : goal.returns-clause-indexed
-returns-clause-indexed c =
+pub returns-in-Err-clause-indexed : goal.returns-in-Err-clause-indexed
+returns-in-Err-clause-indexed c =
     undone _ _ _ _ c.args.id c.args.place c.requires.indexed _
     (c.requires.ahead c.args.place (omega arith)) c.in-Err.ensures.err c.in-Err.ensures.ordered
     c.in-Ok.ensures.updates.0 c.remove.ensures.updates.0

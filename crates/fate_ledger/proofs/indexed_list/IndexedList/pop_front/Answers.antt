@@ -1,5 +1,5 @@
 use Rattle.fate_ledger.proofs.Indexed.{indexed_out, none_ahead}
-use Rattle.fate_ledger.proofs.waiting_list.WaitingList.pop_front.Goals as goal
+use Rattle.fate_ledger.proofs.indexed_list.IndexedList.pop_front.Goals as goal
 
 pub invariant_of-self-2 : goal.invariant_of-self-2
 invariant_of-self-2 c = (

@@ -1,0 +1,106 @@
+-- What waits, where it is looked for from the oldest on.
+use Rattle.std.proofs.Common.{◌≡◌, ◌<◌, ℕ, suc, List, [], ◌∷◌, ◌++◌, length, get_or, take, drop}
+use Rattle.std.proofs.Common.{Option, Some, None, Bool, true, false, cond, refl, sym, ap, ◌∙◌, inl, inr}
+use Rattle.std.proofs.Math.Seq.{drop-cons}
+use Rattle.std.proofs.lemmas.Option.{slice_get-get_or}
+use Rattle.std.proofs.lemmas.Bool.{eq-eqb, cases_Bool}
+use Rattle.std.specs.Map.{lookup, remove_entry}
+use Rattle.std.specs.Prelude.{slice_get, option_map, remove}
+use Rattle.packet_entry.specs.declared.packet.Card.{Card}
+use Rattle.queue_core.specs.Ids.{is_id}
+use Rattle.fate_ledger.specs.WaitingList.{IsPlace}
+use Rattle.fate_ledger.specs.Following.{Waiting}
+
+-- the first under the id, where what stands before it has other ids
+pub place_found : (xs : Waiting) (id place : ℕ) (w : ℕ × Card) → place < length xs →
+    w ≡ get_or xs place w → w.0 ≡ id
+    → lookup (is_id id) xs ≡ lookup (is_id id) (drop place xs)
+    → remove_entry (is_id id) xs ≡ take place xs ++ remove_entry (is_id id) (drop place xs)
+    → IsPlace xs id place
+place_found xs id place w within at_place same passed_lookup passed_remove = record {
+  within = within;
+  found = passed_lookup ∙ ap (lookup (is_id id)) front
+      ∙ ap (λ b. cond b (Some w.1) (lookup (is_id id) (drop (suc place) xs))) test
+      ∙ ap (option_map (λ (v : ℕ × Card). v.1)) (sym there);
+  others = passed_remove ∙ ap (λ ys. take place xs ++ remove_entry (is_id id) ys) front
+      ∙ ap (λ b. take place xs ++ cond b (drop (suc place) xs)
+      (w ∷ remove_entry (is_id id) (drop (suc place) xs))) test;
+}
+  where
+    front : drop place xs ≡ w ∷ drop (suc place) xs
+    front = drop-cons xs place w within ∙ ap (λ v. v ∷ drop (suc place) xs) (sym at_place)
+
+    test : is_id id w.0 ≡ true
+    test = eq-eqb id w.0 (sym same)
+
+    there : slice_get xs place ≡ Some w
+    there = slice_get-get_or xs place w within ∙ ap Some (sym at_place)
+
+-- ---- what waits in two parts, the older ones first
+
+-- what is found among the older ones is found, and leaves them
+lookup_older : (t : ℕ → Bool) (xs ys : Waiting) (card : Card) → lookup t xs ≡ Some card →
+    lookup t (xs ++ ys) ≡ Some card
+lookup_older t [] ys card = λ h. absurd (cc)
+lookup_older t (x ∷ xs) ys card =
+    elim (t x.0) as (λ b. cond b (Some x.1) (lookup t xs) ≡ Some card →
+    cond b (Some x.1) (lookup t (xs ++ ys)) ≡ Some card) [
+      | true ↦ λ h. h
+      | false ↦ lookup_older t xs ys card
+    ]
+
+remove_older : (t : ℕ → Bool) (xs ys : Waiting) (card : Card) → lookup t xs ≡ Some card →
+    remove_entry t (xs ++ ys) ≡ remove_entry t xs ++ ys
+remove_older t [] ys card = λ h. absurd (cc)
+remove_older t (x ∷ xs) ys card =
+    elim (t x.0) as (λ b. cond b (Some x.1) (lookup t xs) ≡ Some card →
+    cond b (xs ++ ys) (x ∷ remove_entry t (xs ++ ys))
+    ≡ cond b xs (x ∷ remove_entry t xs) ++ ys) [
+      | true ↦ λ h. refl
+      | false ↦ λ h. ap (λ (zs : Waiting). x ∷ zs) (remove_older t xs ys card h)
+    ]
+
+-- what isn't among them is looked for among the others
+lookup_younger : (t : ℕ → Bool) (xs ys : Waiting) → lookup t xs ≡ None →
+    lookup t (xs ++ ys) ≡ lookup t ys
+lookup_younger t [] ys = λ h. refl
+lookup_younger t (x ∷ xs) ys =
+    elim (t x.0) as (λ b. cond b (Some x.1) (lookup t xs) ≡ None →
+    cond b (Some x.1) (lookup t (xs ++ ys)) ≡ lookup t ys) [
+      | true ↦ λ h. absurd (cc)
+      | false ↦ lookup_younger t xs ys
+    ]
+
+remove_younger : (t : ℕ → Bool) (xs ys : Waiting) → lookup t xs ≡ None →
+    remove_entry t (xs ++ ys) ≡ xs ++ remove_entry t ys
+remove_younger t [] ys = λ h. refl
+remove_younger t (x ∷ xs) ys =
+    elim (t x.0) as (λ b. cond b (Some x.1) (lookup t xs) ≡ None →
+    cond b (xs ++ ys) (x ∷ remove_entry t (xs ++ ys)) ≡ x ∷ xs ++ remove_entry t ys) [
+      | true ↦ λ h. absurd (cc)
+      | false ↦ λ h. ap (λ (zs : Waiting). x ∷ zs) (remove_younger t xs ys h)
+    ]
+
+-- the first under the id leaves the older ones
+pub taken_older : (id place : ℕ) (xs left ys : Waiting) (w : ℕ × Card) → IsPlace xs id place →
+    w ≡ get_or xs place w → left ≡ remove xs place →
+    (Some w.1 ≡ lookup (is_id id) (xs ++ ys))
+    × (left ++ ys ≡ remove_entry (is_id id) (xs ++ ys))
+taken_older id place xs left ys w at_place there gone = (
+  sym (lookup_older (is_id id) xs ys w.1 found),
+  ap (λ (zs : Waiting). zs ++ ys) (gone ∙ sym at_place.others)
+      ∙ sym (remove_older (is_id id) xs ys w.1 found),
+)
+  where
+    found : lookup (is_id id) xs ≡ Some w.1
+    found = at_place.found ∙ ap (option_map (λ (v : ℕ × Card). v.1))
+        (slice_get-get_or xs place w at_place.within ∙ ap Some (sym there))
+
+-- what isn't among them leaves the others
+pub taken_younger : (id : ℕ) (xs ys : Waiting) → lookup (is_id id) xs ≡ None →
+    (lookup (is_id id) ys ≡ lookup (is_id id) (xs ++ ys))
+    × (xs ++ remove_entry (is_id id) ys ≡ remove_entry (is_id id) (xs ++ ys))
+taken_younger id xs ys none = (
+  sym (lookup_younger (is_id id) xs ys none),
+  sym (remove_younger (is_id id) xs ys none),
+)

@@ -1,0 +1,15 @@
+use Rattle.std.proofs.Common.{refl, ap, ◌∙◌}
+use Rattle.fate_ledger.specs.Following.{noted_all}
+use Rattle.fate_ledger.proofs.Queues.{followed_by, told_is}
+use Rattle.fate_ledger.proofs.followed_queues.FollowedQueues.follow.Goals as goal
+
+pub returns-clause-queues : goal.returns-clause-queues
+returns-clause-queues c =
+    followed_by c.args.self.now c.turn_to.new.self c.args.entry.now c.in_ok-turn_to.ensures _ refl
+    refl c.in_ok-follow.ensures.at c.in_ok-follow.ensures.waiting
+
+pub returns-clause-lasts : goal.returns-clause-lasts
+returns-clause-lasts c =
+    c.in_ok-follow.ensures.lasts
+    ∙ ap (λ hs. noted_all hs c.args.lasts.now.items)
+    (told_is c.args.self.now c.turn_to.new.self c.args.entry.now c.in_ok-turn_to.ensures)
