@@ -1,3 +1,2 @@
 pub mod Illegal
 pub mod Watching
-pub mod Waiting

@@ -4,12 +4,7 @@
 //! where one isn't legal.
 #![tactic(auto)]
 
-mod arrivals;
 mod first_illegal;
-mod requests;
-mod standing;
-mod step;
-mod waiting_list;
 mod watched;
 
 pub use first_illegal::{Place1, check_histories};

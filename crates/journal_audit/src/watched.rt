@@ -6,10 +6,9 @@ ghost use Rattle.std.specs.Ordering.{nat_cmp};
 ghost use Rattle.histories.specs.declared.entry.Entry.{Entry};
 ghost use Rattle.journal_audit.specs.Watching as watching;
 
-use crate::standing::Standing;
-use crate::step::is_step;
 use histories::Entry;
 use packet_entry::NoMemory;
+use queue_replay::{Standing, is_step};
 use std::alloc::Global;
 use std::collections::BTreeMap;
 

@@ -1,0 +1,5 @@
+pub mod Cards
+pub mod Ids
+pub mod Requesting
+pub mod Telling
+pub mod Pushing
