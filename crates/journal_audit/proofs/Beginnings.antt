@@ -1,6 +1,6 @@
 -- The shortest beginning of a history that isn't legal.
-use Rattle.std.proofs.Common.{◌≡◌, ◌≤◌, ◌<◌, ℕ, ◌+◌, List, [], ◌∷◌, ◌++◌, length, take, drop}
-use Rattle.std.proofs.Common.{Option, Some, None, true, false, refl, sym, subst, arith, ap, ◌∙◌}
+use Rattle.std.proofs.Common.{◌≡◌, ◌≤◌, ℕ, ◌+◌, List, [], ◌∷◌, ◌++◌, length, take, drop}
+use Rattle.std.proofs.Common.{Option, Some, None, true, refl, sym, subst, arith}
 use Rattle.std.proofs.Common.{take_all, take-append-drop, length-append, inl, inr}
 use Rattle.std.proofs.lemmas.Bool.{cases_Bool, eq-eqb, eqb-true, ne_eqb, leb-true, leb-false}
 use Rattle.std.proofs.lemmas.List.{take-append-le}
@@ -12,7 +12,7 @@ use Rattle.histories.specs.History.{replay, replay_from, history, is_of, IsStep,
 use Rattle.histories.specs.History.{IsLegalFrom, AreLegal}
 use Rattle.histories.proofs.Legal.{front, own_on, others_on}
 use Rattle.journal_audit.specs.declared.first_illegal.Place1.{Place1}
-use Rattle.journal_audit.specs.Illegal.{IsFirstIllegal, IsFirstPlace, IsFirstOf, sooner}
+use Rattle.journal_audit.specs.Illegal.{IsFirstIllegal, IsFirstOf, sooner}
 use Rattle.journal_audit.specs.Watching.{IsFound}
 
 -- ---- one history

@@ -1,5 +1,5 @@
 -- Histories that are watched entry by entry.
-use Rattle.std.proofs.Common.{◌≡◌, ℕ, ◌+◌, List, [], ◌∷◌, ◌++◌, length, Option, Some, None, true}
+use Rattle.std.proofs.Common.{◌≡◌, ℕ, List, [], ◌∷◌, ◌++◌, Option, None, true}
 use Rattle.std.proofs.Common.{false, refl, sym, ap, ◌∙◌, subst, inl, inr, append_assoc}
 use Rattle.std.specs.Prelude.{◌==◌}
 use Rattle.std.specs.BTreeMap.{get, is_at}

@@ -1,6 +1,6 @@
 -- One history that is watched, one entry more.
-use Rattle.std.proofs.Common.{◌≡◌, ℕ, ◌+◌, List, [], ◌∷◌, ◌++◌, length, Option, Some, None, Bool}
-use Rattle.std.proofs.Common.{true, false, refl, sym, ap, ◌∙◌, subst, arith, length-append}
+use Rattle.std.proofs.Common.{◌≡◌, ◌+◌, List, [], ◌∷◌, ◌++◌, length, Option}
+use Rattle.std.proofs.Common.{true, false, sym, ap, ◌∙◌, subst, arith, length-append}
 use Rattle.queue_core.specs.State.{Bound}
 use Rattle.queue_core.specs.Step.{step}
 use Rattle.histories.specs.declared.entry.Entry.{Entry}
@@ -8,7 +8,7 @@ use Rattle.histories.specs.History.{replay, IsStep, IsLegal}
 use Rattle.histories.proofs.Legal.{legal_on, state_on}
 use Rattle.journal_audit.specs.declared.watched.Watched.{Watched}
 use Rattle.journal_audit.specs.Illegal.{IsFirstIllegal}
-use Rattle.journal_audit.specs.Watching.{IsWatched, IsFound}
+use Rattle.journal_audit.specs.Watching.{IsWatched}
 use Rattle.journal_audit.proofs.Beginnings.{stays_illegal, ends_here, first_here}
 
 pub true_is_not_false : true ≡ false → ⊥

@@ -1,4 +1,4 @@
-use Rattle.std.proofs.Common.{true, false, refl, sym, ◌∙◌}
+use Rattle.std.proofs.Common.{false, refl, sym, ◌∙◌}
 use Rattle.journal_audit.proofs.Watching.{still_illegal, goes_on, none_goes_on, ends, found_here}
 use Rattle.journal_audit.proofs.Watching.{true_is_not_false}
 use Rattle.journal_audit.proofs.watched.Watched.watch.Goals as goal
