@@ -38,7 +38,7 @@ fn answer(alloc: Global, lines: &[&str]) -> Result<Option<(u16, u64)>, Fail> {
 }
 
 /// The journal with these lines.
-fn journal(alloc: Global, lines: &[&str]) -> Result<String, NoMemory> {
+pub(crate) fn journal(alloc: Global, lines: &[&str]) -> Result<String, NoMemory> {
     let mut text = String::new(alloc);
     text.push_str("nfq-journal 2\n")?;
     for line in lines {

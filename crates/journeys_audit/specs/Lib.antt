@@ -1,0 +1,4 @@
+pub mod Unmet
+pub mod Comparing
+pub mod Tallying
+pub mod Following
