@@ -127,7 +127,7 @@ fn ask(
     Ok(())
 }
 
-/// The visit after this one.
+/// The visit after this one, which is there: visits of legal histories are 33 at most.
 fn next_visit(visit: u32) -> Result<u32, NoMemory>
     ensures { IfOk result (λ next. next ≡ visit + 1) }
 {
