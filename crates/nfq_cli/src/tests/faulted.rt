@@ -101,6 +101,11 @@ fn stand(rt: &impl Abort, host: &MemoryHost, whole: &MemoryHost, outputs: &[&str
     }
 }
 
+/// What a whole run writes first.
+fn whole_of_first<'a>(whole: &'a MemoryHost, command: &Command) -> Option<&'a [u8]> {
+    whole.get(command.outputs.first()?)
+}
+
 /// The status of a command.
 fn does<R: Threads + Wait + Sync>(
     rt: &R,
@@ -135,7 +140,7 @@ fn with_fault<R: Threads + Wait + Sync + Abort>(
     for name in ["r", "s", "c", "old"] {
         assert!(rt; host.get(name) == whole.get(name));
     }
-    if command.outputs[0] != "-" {
+    if command.outputs.first() != Some(&"-") {
         lacks(rt, &host, &["-"]);
     }
     Ok(status)
@@ -152,7 +157,7 @@ fn check<R: Threads + Wait + Sync + Abort>(
     let mut whole = filled(alloc, run, command.outputs)?;
     assert_eq!(rt; does(rt, alloc, &mut whole, command.words)?, 0);
     // An empty text takes nothing in any case.
-    let is_long = whole.get(command.outputs[0]) != Some(b"");
+    let is_long = whole_of_first(&whole, command) != Some(b"");
     let mut faults = 0u64;
     for n in 1..CALLS {
         let failed = with_fault(rt, alloc, run, command, &whole, (Fault::Fails, n))?;
