@@ -174,11 +174,30 @@ fn check<R: Threads + Wait + Sync + Abort>(
     Ok(())
 }
 
+/// Three packets are answered, one of them by a drop.
+const ANSWERED: &str = "packets 1 2 3\nport 7\nopened\n\
+    on id 2 do verdict this drop this\non any do verdict this accept this";
+
+/// Of the worked runs: a full queue, a queue that is unbound, a device that goes down, packets behind
+/// link headers, and a port that closes.
+const WORKED: [usize; 5] = [0, 13, 14, 20, 21];
+
+/// Of those with threads: one packet, and a port that closes; and an unbound queue.
+const THREADED: [usize; 3] = [0, 1, 8];
+
+/// The run at this place of some.
+fn run_at(alloc: Global, runs: &str, at: usize) -> Result<Run, Fail> {
+    read(alloc, runs.split("\n\n").nth(at).ok_or("no such run")?)
+}
+
 #[test]
 fn a_fault_at_each_call_leaves_whole_and_untouched_outputs(rt: HostRuntime) -> Result<(), Fail> {
     let alloc = rt.alloc();
-    for text in RUNS.split("\n\n").step_by(4) {
-        let run = read(alloc, text)?;
+    let answered = read(alloc, ANSWERED)?;
+    check(&rt, alloc, &answered, &PLAYED)?;
+    check(&rt, alloc, &answered, &LISTED)?;
+    for &at in &WORKED {
+        let run = run_at(alloc, RUNS, at)?;
         check(&rt, alloc, &run, &PLAYED)?;
         check(&rt, alloc, &run, &LISTED)?;
     }
@@ -192,6 +211,8 @@ fn a_fault_at_each_call_leaves_whole_and_untouched_outputs(rt: HostRuntime) -> R
 #[test]
 fn a_fault_at_each_call_of_a_run_with_threads_does_so(rt: HostRuntime) -> Result<(), Fail> {
     let alloc = rt.alloc();
-    let text = lived::RUNS.split("\n\n").next().unwrap_or("");
-    check(&rt, alloc, &read(alloc, text)?, &LIVED)
+    for &at in &THREADED {
+        check(&rt, alloc, &run_at(alloc, lived::RUNS, at)?, &LIVED)?;
+    }
+    Ok(())
 }
