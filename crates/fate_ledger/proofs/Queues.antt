@@ -1,5 +1,5 @@
 -- Queues that are followed, of which one is at hand.
-use Rattle.std.proofs.Common.{◌≡◌, ℕ, [], List, Some, None, Bool, true, false, cond, refl, sym, ap}
+use Rattle.std.proofs.Common.{◌≡◌, ℕ, [], Some, None, Bool, true, false, cond, refl, sym, ap}
 use Rattle.std.proofs.Common.{◌∙◌, subst, Option, inl, inr}
 use Rattle.std.specs.Prelude.{◌==◌}
 use Rattle.std.specs.BTreeMap.{BTreeMap, get, is_at}

@@ -1,6 +1,6 @@
-//! What no contract says: that journeys are checked where there is memory, with each kind of leaving.
-//! The rows are lines of journals over three packets and two tables, and the number that is
-//! answered.
+//! What no contract says: that journeys are checked where there is memory, with each kind of
+//! leaving. The rows are lines of journals over three packets and two tables, and the number that
+//! is answered.
 
 use crate::tests::journal;
 use crate::{check_histories, check_journeys};

@@ -81,8 +81,8 @@ module _ (tables : RuleTables) (key : ℕ) where
 
 -- ---- one entry more
 
-replayed_on : (laws : Laws) (before : List Entry) (old new : QueueMap) (e : Entry) → AreReplayed before old →
-    Replays old new e → AreReplayed (before ++ e ∷ []) new
+replayed_on : (laws : Laws) (before : List Entry) (old new : QueueMap) (e : Entry) →
+    AreReplayed before old → Replays old new e → AreReplayed (before ++ e ∷ []) new
 replayed_on laws before old new e are replays queue =
     elim (cases_Bool (is_at (nat_cmp e.queue) queue)) [
       | inl own ↦ subst (λ q. queue_in (get nat_cmp new q) ≡ replay (history q (before ++ e ∷ [])))
@@ -125,8 +125,8 @@ module _ (tables : RuleTables) (key : ℕ) (entries rest others : List Entry) (e
       subst (λ (q : Option Bound). IsStep q e) (sym (u.replayed e.queue))
       (step_at u.before others e (subst AreLegal there legal))
 
-  pub underway_on : (laws : Laws) (new : QueueMap) (noted next : TallyMap) (leavers : List (Card × Decision)) →
-      Replays queues new e →
+  pub underway_on : (laws : Laws) (new : QueueMap) (noted next : TallyMap)
+      (leavers : List (Card × Decision)) → Replays queues new e →
       leavers ≡ all_going (step (queue_in (get nat_cmp queues e.queue)) e.event).left →
       Grows now noted (came (move_after u.before e)) [] →
       Grows noted next [] (flat_map (asked_after tables key) leavers) →

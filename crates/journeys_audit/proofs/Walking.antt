@@ -1,5 +1,6 @@
 -- Tallies are gone over by their numbers, up to the first that isn't even.
-use Rattle.std.proofs.Common.{◌≡◌, ◌<◌, ℕ, List, [], ◌∷◌, ◌++◌, Option, Some, None, Bool, true, false}
+use Rattle.std.proofs.Common.{◌≡◌, ◌<◌, ℕ, List, [], ◌∷◌, ◌++◌, Option, Some, None, Bool, true}
+use Rattle.std.proofs.Common.{false}
 use Rattle.std.specs.Prelude.{⊤}
 use Rattle.std.proofs.Common.{cond, sym, ap, ◌∙◌, subst, inl, inr, append_assoc}
 use Rattle.std.specs.BTreeMap.{is_at}

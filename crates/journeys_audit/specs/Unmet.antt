@@ -1,5 +1,5 @@
--- Journeys that are judged number by number: whether just the arrivals came that were asked for, each
--- as often as it was.
+-- Journeys that are judged number by number: whether just the arrivals came that were asked for,
+-- each as often as it was.
 use Rattle.std.specs.Prelude.{◌≡◌, ◌<◌, ℕ, List, ◌++◌, Option, Bool, ◌==◌, count_by, flat_map, filter}
 use Rattle.std.specs.Prelude.{[], MatchOption}
 use Rattle.packet_entry.specs.declared.packet.Card.{Card}
@@ -28,8 +28,8 @@ has_number number a = a.card.number == number
 abbrev pub of_number : ℕ → List Arrival → List Arrival
 of_number number xs = filter (has_number number) xs
 
--- Just those arrivals of the packet with this number came that were asked for, each as often. Nothing
--- is lost.
+-- Just those arrivals of the packet with this number came that were asked for, each as often.
+-- Nothing is lost.
 abbrev pub IsMet : RuleTables → ℕ → List Card → List Entry → ℕ → Type 0
 IsMet tables key entered es number =
     AreAsMany (of_number number (all_came es))
@@ -41,8 +41,8 @@ pub record IsLeastUnmet (tables : RuleTables) (key : ℕ) (entered : List Card) 
   pub unmet : IsMet tables key entered es number → ⊥
   pub before : (n : ℕ) → n < number → IsMet tables key entered es n
 
--- what is answered of these entries: nothing where they are sound for the packets that entered, with
--- nothing lost, and else that number
+-- what is answered of these entries: nothing where they are sound for the packets that entered,
+-- with nothing lost, and else that number
 abbrev pub IsLeastOf : RuleTables → ℕ → List Card → List Entry → Option ℕ → Type 0
 IsLeastOf tables key entered es number =
     MatchOption number (AreSound tables key entered es []) (IsLeastUnmet tables key entered es)

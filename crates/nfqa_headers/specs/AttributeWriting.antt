@@ -1,6 +1,8 @@
 -- Attributes as they are written.
-use Rattle.std.specs.Prelude.{ℕ, List, [], ◌∷◌, Option, Some, None, option_map}
+use Rattle.std.specs.Prelude.{ℕ, ◌+◌, List, [], ◌∷◌, Option, Some, None, option_map}
 use Rattle.netlink_codec.specs.Attributes.{Attribute}
+use Rattle.netlink_codec.specs.Messages.{pad}
+use Rattle.netlink_codec.specs.Numbers.{attribute_header_length}
 use Rattle.nfqa_headers.specs.declared.verdict_header.Head.{Head}
 use Rattle.nfqa_headers.specs.Numbers.{verdict_header_kind}
 use Rattle.nfqa_headers.specs.Headers.{head_content, value_content}
@@ -9,6 +11,10 @@ use Rattle.nfqa_headers.specs.Headers.{head_content, value_content}
 abbrev pub part : ℕ → Option (List ℕ) → List Attribute
 part kind None = []
 part kind (Some content) = record { kind = kind; content = content } ∷ []
+
+-- the bytes of an attribute whose content has so many
+abbrev pub part_length : ℕ → ℕ
+part_length content = pad (attribute_header_length + content)
 
 -- an attribute of this kind that is one number, where there is one
 abbrev pub value_part : ℕ → Option ℕ → List Attribute

@@ -117,3 +117,11 @@ ipv6_family = 10
 -- the bytes of a hardware address
 abbrev pub hardware_address_length : ℕ
 hardware_address_length = 6
+
+-- ---- parts
+
+-- the most bytes of a notice before the packet's own: the header (4), one attribute each of packet
+-- header (12), two devices (16), mark (8), priority (8), address (16), time (20) and full length
+-- (8), and the header of the packet's attribute (4)
+abbrev pub parts_room : ℕ
+parts_room = 96

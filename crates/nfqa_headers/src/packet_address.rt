@@ -8,18 +8,19 @@
 //! | 4 | 6 | address |
 //! | 10 | 2 | filler, 0 |
 
-ghost use Rattle.std.specs.Prelude.{◌≡◌, ◌++◌, length, option_map, OnOk, IfSome};
+ghost use Rattle.std.specs.Prelude.{◌≡◌, ◌++◌, length, option_map, IfSome, ◌≤◌, ◌+◌};
+ghost use Rattle.arrayvec.specs.ArrayVec.{array_vec_len};
 ghost use Rattle.netlink_codec.specs.Attributes.{attributes_text};
 ghost use Rattle.nfqa_headers.specs.Numbers.{hardware_address_kind, hardware_address_length};
-ghost use Rattle.nfqa_headers.specs.Headers.{address_content};
+ghost use Rattle.nfqa_headers.specs.Numbers.{parts_room};
+ghost use Rattle.nfqa_headers.specs.Headers.{packet_address_length, address_content};
 ghost use Rattle.nfqa_headers.specs.AttributeReading as read;
-ghost use Rattle.nfqa_headers.specs.AttributeWriting.{part};
+ghost use Rattle.nfqa_headers.specs.AttributeWriting.{part, part_length};
 
 use crate::attribute_reading::at_least;
-use crate::attribute_writing::put_part;
+use crate::attribute_writing::{Parts, put_part};
 use crate::kinds::HARDWARE_ADDRESS;
 use byteorder::{BigEndian, ByteOrder};
-use std::alloc::AllocError;
 
 /// The content's bytes.
 pub const PACKET_ADDRESS_LENGTH: usize = 12;
@@ -44,15 +45,17 @@ pub fn read_address(content: Option<&[u8]>) -> Option<&[u8]>
 }
 
 /// Appends the address, where there is one.
-pub fn put_address(body: &mut Vec<u8>, source: Option<&[u8]>) -> Result<(), AllocError>
-    requires { IfSome source (λ source. length source.now ≡ hardware_address_length) }
-    ensures { OnOk result (body.new.items ≡ body.old.items
+pub fn put_address(parts: &mut Parts, source: Option<&[u8]>)
+    requires length { IfSome source (λ source. length source.now ≡ hardware_address_length) }
+    requires room { array_vec_len parts.old + part_length packet_address_length ≤ parts_room }
+    ensures text { parts.new.items ≡ parts.old.items
         ++ attributes_text (part hardware_address_kind
-        (option_map address_content (option_map (λ source. source.now) source.entry)))) }
+        (option_map address_content (option_map (λ source. source.now) source.entry))) }
+    ensures length { array_vec_len parts.new
+        ≤ array_vec_len parts.old + part_length packet_address_length }
 {
-    match source {
-        None => Ok(()),
-        Some(source) => put_part(body, HARDWARE_ADDRESS, &address_of(source)),
+    if let Some(source) = source {
+        put_part(parts, HARDWARE_ADDRESS, &address_of(source));
     }
 }
 

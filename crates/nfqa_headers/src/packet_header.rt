@@ -6,21 +6,21 @@
 //! | 4 | 2 | Ethernet type |
 //! | 6 | 1 | hook, FORWARD |
 
-ghost use Rattle.std.specs.Prelude.{◌≡◌, ◌++◌, Some, OnOk, option_map};
+ghost use Rattle.std.specs.Prelude.{◌≡◌, ◌++◌, Some, option_map, ◌≤◌, ◌+◌};
+ghost use Rattle.arrayvec.specs.ArrayVec.{array_vec_len};
 ghost use Rattle.packet_entry.specs.Fields.{IsProtocol};
 ghost use Rattle.netlink_codec.specs.Attributes.{attributes_text};
-ghost use Rattle.nfqa_headers.specs.Numbers.{packet_header_kind};
+ghost use Rattle.nfqa_headers.specs.Numbers.{packet_header_kind, parts_room};
 ghost use Rattle.nfqa_headers.specs.Headers.{packet_head_content, packet_header_length};
 ghost use Rattle.nfqa_headers.specs.Headers.{packet_id_field, packet_protocol_field};
 ghost use Rattle.nfqa_headers.specs.AttributeReading as read;
-ghost use Rattle.nfqa_headers.specs.AttributeWriting.{part};
+ghost use Rattle.nfqa_headers.specs.AttributeWriting.{part, part_length};
 
 use crate::attribute_reading::{at_least, value_of};
-use crate::attribute_writing::put_part;
+use crate::attribute_writing::{Parts, put_part};
 use crate::kinds::PACKET_HEADER;
 use byteorder::{BigEndian, ByteOrder};
 use packet_entry::{IPV4, IPV6};
-use std::alloc::AllocError;
 
 /// The content's bytes.
 pub const PACKET_HEADER_LENGTH: usize = 7;
@@ -63,13 +63,16 @@ fn nearest_protocol(protocol: u16) -> u16
 }
 
 /// Appends id, Ethernet type and hook.
-pub fn put_packet_header(body: &mut Vec<u8>, id: u32, protocol: u16) -> Result<(), AllocError>
-    ensures { OnOk result (body.new.items ≡ body.old.items ++
-        attributes_text (part packet_header_kind (Some (packet_head_content id protocol)))) }
+pub fn put_packet_header(parts: &mut Parts, id: u32, protocol: u16)
+    requires room { array_vec_len parts.old + part_length packet_header_length ≤ parts_room }
+    ensures text { parts.new.items ≡ parts.old.items ++
+        attributes_text (part packet_header_kind (Some (packet_head_content id protocol))) }
+    ensures length { array_vec_len parts.new
+        ≤ array_vec_len parts.old + part_length packet_header_length }
 {
     let mut content = [0; PACKET_HEADER_LENGTH];
     BigEndian::write_u32(&mut content[ID_AT..], id);
     BigEndian::write_u16(&mut content[PROTOCOL_AT..], protocol);
     content[HOOK_AT] = FORWARD;
-    put_part(body, PACKET_HEADER, &content)
+    put_part(parts, PACKET_HEADER, &content);
 }

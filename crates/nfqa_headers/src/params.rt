@@ -5,16 +5,16 @@
 //! | 0 | 4 | range, in bytes |
 //! | 4 | 1 | mode |
 
-ghost use Rattle.std.specs.Prelude.{◌≡◌, ◌≤◌, ◌++◌, length, option_map, OnOk};
+ghost use Rattle.std.specs.Prelude.{◌≡◌, ◌≤◌, ◌++◌, length, option_map, ◌+◌};
+ghost use Rattle.arrayvec.specs.ArrayVec.{array_vec_len};
 ghost use Rattle.netlink_codec.specs.Attributes.{attributes_text};
-ghost use Rattle.nfqa_headers.specs.Numbers.{params_kind};
+ghost use Rattle.nfqa_headers.specs.Numbers.{params_kind, parts_room};
 ghost use Rattle.nfqa_headers.specs.Headers.{params_in, params_content, params_length};
-ghost use Rattle.nfqa_headers.specs.AttributeWriting.{part};
+ghost use Rattle.nfqa_headers.specs.AttributeWriting.{part, part_length};
 
-use crate::attribute_writing::put_part;
+use crate::attribute_writing::{Parts, put_part};
 use crate::kinds::PARAMS;
 use byteorder::{BigEndian, ByteOrder};
-use std::alloc::AllocError;
 
 /// What of a packet is copied into its notice.
 #[derive(Clone, Copy, Debug, PartialEq, Eq)]
@@ -44,17 +44,17 @@ pub fn read_params(content: &[u8]) -> Params
 }
 
 /// Appends range and mode, where they are there.
-pub fn put_params(body: &mut Vec<u8>, params: Option<Params>) -> Result<(), AllocError>
-    ensures { OnOk result (body.new.items ≡ body.old.items ++
-        attributes_text (part params_kind (option_map params_content params))) }
+pub fn put_params(parts: &mut Parts, params: Option<Params>)
+    requires room { array_vec_len parts.old + part_length params_length ≤ parts_room }
+    ensures text { parts.new.items ≡ parts.old.items ++
+        attributes_text (part params_kind (option_map params_content params)) }
+    ensures length { array_vec_len parts.new
+        ≤ array_vec_len parts.old + part_length params_length }
 {
-    match params {
-        None => Ok(()),
-        Some(params) => {
-            let mut content = [0; PARAMS_LENGTH];
-            BigEndian::write_u32(&mut content[RANGE_AT..], params.range);
-            content[MODE_AT] = params.mode;
-            put_part(body, PARAMS, &content)
-        }
+    if let Some(params) = params {
+        let mut content = [0; PARAMS_LENGTH];
+        BigEndian::write_u32(&mut content[RANGE_AT..], params.range);
+        content[MODE_AT] = params.mode;
+        put_part(parts, PARAMS, &content);
     }
 }

@@ -6,11 +6,12 @@
 //! | 1 | 1 | version, 0; a request's is ignored |
 //! | 2 | 2 | number of the queue |
 
-ghost use Rattle.std.specs.Prelude.{◌≡◌, ◌≤◌, ◌<◌, ◌^◌, length, IfOk};
+ghost use Rattle.std.specs.Prelude.{◌≡◌, ◌≤◌, length};
+ghost use Rattle.arrayvec.specs.ArrayVec.{array_vec_len};
 ghost use Rattle.nfqa_headers.specs.Headers.{queue_header, queue_in, queue_header_length};
 
+use crate::attribute_writing::{Parts, put_bytes};
 use byteorder::{BigEndian, ByteOrder};
-use std::alloc::{AllocError, Global};
 
 /// The header's bytes.
 pub const QUEUE_HEADER_LENGTH: usize = 4;
@@ -34,15 +35,15 @@ pub fn read_queue(body: &[u8]) -> u16
     BigEndian::read_u16(&body[QUEUE_AT..])
 }
 
-/// A body that has its header alone, and room for so many bytes more.
-pub fn begin_body(alloc: Global, family: u8, queue: u16, room: usize) -> Result<Vec<u8>, AllocError>
-    requires { room < 2 ^ 32 }
-    ensures { IfOk result (λ body. body.items ≡ queue_header family queue) }
+/// The parts of a body that has its header alone.
+pub fn begin_body(family: u8, queue: u16) -> Parts
+    ensures text { result.items ≡ queue_header family queue }
+    ensures length { array_vec_len result ≡ queue_header_length }
 {
     let mut header = [0; QUEUE_HEADER_LENGTH];
     header[FAMILY_AT] = family;
     BigEndian::write_u16(&mut header[QUEUE_AT..], queue);
-    let mut body = Vec::with_capacity(alloc, QUEUE_HEADER_LENGTH + room)?;
-    body.extend_from_slice(&header)?;
-    Ok(body)
+    let mut parts = Parts::new();
+    put_bytes(&mut parts, &header);
+    parts
 }

@@ -5,19 +5,19 @@
 //! | 0 | 8 | seconds since 1970 |
 //! | 8 | 8 | microseconds of that second |
 
-ghost use Rattle.std.specs.Prelude.{◌≡◌, ◌++◌, Some, OnOk, option_map};
+ghost use Rattle.std.specs.Prelude.{◌≡◌, ◌++◌, Some, option_map, ◌≤◌, ◌+◌};
+ghost use Rattle.arrayvec.specs.ArrayVec.{array_vec_len};
 ghost use Rattle.netlink_codec.specs.Attributes.{attributes_text};
-ghost use Rattle.nfqa_headers.specs.Numbers.{timestamp_kind};
+ghost use Rattle.nfqa_headers.specs.Numbers.{timestamp_kind, parts_room};
 ghost use Rattle.nfqa_headers.specs.Headers.{stamp_content, timestamp_length, low_half};
 ghost use Rattle.nfqa_headers.specs.Headers.{seconds_field, micros_field};
 ghost use Rattle.nfqa_headers.specs.AttributeReading.{value_of};
-ghost use Rattle.nfqa_headers.specs.AttributeWriting.{part};
+ghost use Rattle.nfqa_headers.specs.AttributeWriting.{part, part_length};
 
 use crate::attribute_reading;
-use crate::attribute_writing::put_part;
+use crate::attribute_writing::{Parts, put_part};
 use crate::kinds::TIMESTAMP;
 use byteorder::{BigEndian, ByteOrder};
-use std::alloc::AllocError;
 
 /// The content's bytes.
 pub const TIMESTAMP_LENGTH: usize = 16;
@@ -45,11 +45,14 @@ pub fn read_micros(content: Option<&[u8]>) -> u32
 }
 
 /// Appends the time of capture.
-pub fn put_stamp(body: &mut Vec<u8>, seconds: u32, micros: u32) -> Result<(), AllocError>
-    ensures { OnOk result (body.new.items ≡ body.old.items ++
-        attributes_text (part timestamp_kind (Some (stamp_content seconds micros)))) }
+pub fn put_stamp(parts: &mut Parts, seconds: u32, micros: u32)
+    requires room { array_vec_len parts.old + part_length timestamp_length ≤ parts_room }
+    ensures text { parts.new.items ≡ parts.old.items ++
+        attributes_text (part timestamp_kind (Some (stamp_content seconds micros))) }
+    ensures length { array_vec_len parts.new
+        ≤ array_vec_len parts.old + part_length timestamp_length }
 {
-    put_part(body, TIMESTAMP, &stamp_of(seconds, micros))
+    put_part(parts, TIMESTAMP, &stamp_of(seconds, micros));
 }
 
 fn stamp_of(seconds: u32, micros: u32) -> [u8; TIMESTAMP_LENGTH]

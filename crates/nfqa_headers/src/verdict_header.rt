@@ -5,15 +5,16 @@
 //! | 0 | 4 | verdict |
 //! | 4 | 4 | id of the packet; in a batch the greatest id |
 
-ghost use Rattle.std.specs.Prelude.{◌≡◌, ◌≤◌, ◌++◌, length, OnOk};
+ghost use Rattle.std.specs.Prelude.{◌≡◌, ◌≤◌, ◌++◌, length, ◌+◌};
+ghost use Rattle.arrayvec.specs.ArrayVec.{array_vec_len};
 ghost use Rattle.netlink_codec.specs.Attributes.{attributes_text};
+ghost use Rattle.nfqa_headers.specs.Numbers.{parts_room};
 ghost use Rattle.nfqa_headers.specs.Headers.{head_in, verdict_header_length};
-ghost use Rattle.nfqa_headers.specs.AttributeWriting.{head_part};
+ghost use Rattle.nfqa_headers.specs.AttributeWriting.{head_part, part_length};
 
-use crate::attribute_writing::put_part;
+use crate::attribute_writing::{Parts, put_part};
 use crate::kinds::VERDICT_HEADER;
 use byteorder::{BigEndian, ByteOrder};
-use std::alloc::AllocError;
 
 /// The verdict and the id that a verdict message names.
 #[derive(Clone, Copy, Debug, PartialEq, Eq)]
@@ -43,16 +44,16 @@ pub fn read_head(content: &[u8]) -> Head
 }
 
 /// Appends verdict and id, where they are there.
-pub fn put_head(body: &mut Vec<u8>, head: Option<Head>) -> Result<(), AllocError>
-    ensures { OnOk result (body.new.items ≡ body.old.items ++ attributes_text (head_part head)) }
+pub fn put_head(parts: &mut Parts, head: Option<Head>)
+    requires room { array_vec_len parts.old + part_length verdict_header_length ≤ parts_room }
+    ensures text { parts.new.items ≡ parts.old.items ++ attributes_text (head_part head) }
+    ensures length { array_vec_len parts.new
+        ≤ array_vec_len parts.old + part_length verdict_header_length }
 {
-    match head {
-        None => Ok(()),
-        Some(head) => {
-            let mut content = [0; VERDICT_HEADER_LENGTH];
-            BigEndian::write_u32(&mut content[VERDICT_AT..], head.verdict);
-            BigEndian::write_u32(&mut content[ID_AT..], head.id);
-            put_part(body, VERDICT_HEADER, &content)
-        }
+    if let Some(head) = head {
+        let mut content = [0; VERDICT_HEADER_LENGTH];
+        BigEndian::write_u32(&mut content[VERDICT_AT..], head.verdict);
+        BigEndian::write_u32(&mut content[ID_AT..], head.id);
+        put_part(parts, VERDICT_HEADER, &content);
     }
 }

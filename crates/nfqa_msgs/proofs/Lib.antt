@@ -2,5 +2,6 @@ mod Found
 pub mod Lengths
 pub mod RequestsBack
 pub mod NoticesBack
+mod Standing
 mod NoticeSpelling
 pub mod PacketNotices

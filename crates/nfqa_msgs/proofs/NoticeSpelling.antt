@@ -1,52 +1,22 @@
 -- The text of a notice, part after part.
-use Rattle.std.proofs.Common.{◌≡◌, ℕ, ◌+◌, ◌-◌, ◌≤◌, List, [], ◌∷◌, ◌++◌, length, min, take}
+use Rattle.std.proofs.Common.{◌≡◌, ℕ, ◌+◌, ◌-◌, ◌≤◌, List, [], ◌∷◌, ◌++◌, length, take}
 use Rattle.std.proofs.Common.{drop, refl, sym, ap, ap₂, ◌∙◌, arith, append-nil, append_assoc}
-use Rattle.std.proofs.Common.{length-append, Option, Some}
+use Rattle.std.proofs.Common.{length-append, Some}
 use Rattle.std.specs.Prelude.{slice_range, nat_eq, false}
 use Rattle.std.proofs.Math.Dec.{eqb-suc-zero}
 use Rattle.std.proofs.Math.Seq.{drop-append_seam, take-append_seam}
-use Rattle.std.proofs.lemmas.Option.{same_Some}
 use Rattle.std.proofs.lemmas.List.Concat.{flat_map-append}
-use Rattle.netlink_codec.specs.Messages.{NetlinkMessage, FitsHeader, Front, message_with}
-use Rattle.netlink_codec.specs.Messages.{message_text, header_text, pad}
+use Rattle.netlink_codec.specs.Messages.{message_text, header_text}
 use Rattle.netlink_codec.specs.Numbers.{attribute_header_length, message_header_length}
 use Rattle.netlink_codec.specs.Attributes.{attribute_text, attributes_text, attribute_header_text}
 use Rattle.netlink_codec.specs.Attributes.{zero_padding}
 use Rattle.nfqa_headers.specs.Numbers.{notice_number, payload_kind}
 use Rattle.nfqa_headers.specs.Kinds.{queue_kind}
 use Rattle.nfqa_headers.specs.Headers.{queue_header}
+use Rattle.nfqa_headers.specs.AttributeWriting.{part}
 use Rattle.nfqa_msgs.specs.NoticeWriting.{Told, family_of, front_parts, payload_part, notice_front}
 use Rattle.nfqa_msgs.specs.NoticeWriting.{notice_body, notice_text, padded_payload}
-
-abbrev pub framed : NetlinkMessage → ℕ → Option (NetlinkMessage × ℕ)
-framed message used = Some (message, used)
-
-same-message : (message other : NetlinkMessage) (used more : ℕ) →
-    framed message used ≡ framed other more → message ≡ other
-same-message message other used more same =
-    ap (λ (f : NetlinkMessage × ℕ). f.0) (same_Some (message, used) (other, more) same)
-
--- the text of a message stands in front of itself
-pub stands_alone : (bytes body : List ℕ) →
-    FitsHeader (message_with (queue_kind notice_number) 0 0 0 body) →
-    bytes ≡ message_text (queue_kind notice_number) 0 0 0 body →
-    Front bytes (message_with (queue_kind notice_number) 0 0 0 body)
-    (min (pad (length (message_text (queue_kind notice_number) 0 0 0 body))) (length bytes))
-stands_alone bytes body fits is = record {
-  fits = fits;
-  text = refl;
-  behind = ([], is ∙ sym (append-nil (message_text (queue_kind notice_number) 0 0 0 body)));
-  uses = refl;
-}
-
--- so it is the message that is read
-pub is_read : (bytes body : List ℕ) (message : NetlinkMessage) (used : ℕ) →
-    ((m : NetlinkMessage) (n : ℕ) → Front bytes m n → framed message used ≡ framed m n) →
-    FitsHeader (message_with (queue_kind notice_number) 0 0 0 body) →
-    bytes ≡ message_text (queue_kind notice_number) 0 0 0 body →
-    message ≡ message_with (queue_kind notice_number) 0 0 0 body
-is_read bytes body message used only fits is =
-    same-message message _ used _ (only _ _ (stands_alone bytes body fits is))
+use Rattle.nfqa_msgs.specs.NoticeWriting.{payload_padding}
 
 abbrev pub payload_header : List ℕ → List ℕ
 payload_header payload =
@@ -81,6 +51,29 @@ body_with_payload told some =
     ∙ ap (λ xs. notice_front told ++ xs) (payload_text told.payload some)
     ∙ sym (append_assoc (notice_front told) (payload_header told.payload)
     (padded_payload told.payload))
+
+-- front, payload and padding are the body
+pub in_pieces : (front parts payload padding body : List ℕ) → front ≡ parts →
+    padding ≡ payload_padding payload → body ≡ parts ++ padded_payload payload →
+    front ++ payload ++ padding ≡ body
+in_pieces front parts payload padding body same zeros whole =
+    append_assoc front payload padding
+    ∙ ap₂ (λ (a b : List ℕ). a ++ (payload ++ b)) same zeros ∙ sym whole
+
+-- what stands around a payload, and the payload, are its attribute
+pub attribute_around : (old content before middle after : List ℕ) →
+    before ≡ old ++ payload_header content → middle ≡ content →
+    after ≡ zero_padding (attribute_header_length + length content) →
+    before ++ middle ++ after ≡ old ++ attributes_text (part payload_kind (Some content))
+unfolding attribute_text
+attribute_around old content before middle after b m a =
+    let h : List ℕ = payload_header content in
+    let z : List ℕ = zero_padding (attribute_header_length + length content) in
+    ap₂ (λ (x y : List ℕ). x ++ y) (ap₂ (λ (x y : List ℕ). x ++ y) b m) a
+    ∙ append_assoc (old ++ h) content z
+    ∙ append_assoc old h (content ++ z)
+    ∙ ap (λ (xs : List ℕ). old ++ xs)
+    (sym (append-nil (attribute_text (record { kind = payload_kind; content = content }))))
 
 -- ---- where the payload stands
 

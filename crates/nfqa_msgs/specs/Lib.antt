@@ -5,3 +5,4 @@ pub mod NoticeWriting
 pub mod Telling
 pub mod NoticeReading
 pub mod NoticeMeaning
+mod Pieces

@@ -7,6 +7,7 @@
 //! contents big-endian.
 #![tactic(auto)]
 
+mod comparing;
 mod fields;
 mod laws;
 mod notice;
@@ -16,7 +17,9 @@ mod notice_writing;
 mod numbers;
 mod queue_flags;
 mod request;
+mod request_pieces;
 mod request_reading;
+mod request_spelling;
 mod request_writing;
 
 pub use laws::{
@@ -33,6 +36,7 @@ pub use numbers::{
 pub use queue_flags::QueueFlags;
 pub use request::{Decoded, Request, share_payload};
 pub use request_reading::decode_request;
+pub use request_spelling::is_spelling;
 pub use request_writing::encode_request;
 
 #[cfg(test)]

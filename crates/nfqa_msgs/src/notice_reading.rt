@@ -37,7 +37,7 @@ pub fn decode_notice(alloc: Global, bytes: &[u8]) -> Result<Option<Notice>, NoMe
     ensures none { IfOk result (λ answer. IsNone answer ↔ IsNoNotice bytes.now) }
     ensures no_memory { read.told_by bytes.now ≡ None → IsOk result }
 {
-    match told_exactly(alloc, bytes)? {
+    match told_exactly(bytes) {
         None => Ok(None),
         Some(told) => {
             let payload = Bytes::copy(alloc, told.payload)?;
@@ -48,7 +48,7 @@ pub fn decode_notice(alloc: Global, bytes: &[u8]) -> Result<Option<Notice>, NoMe
 
 /// As [`decode_notice`], of shared bytes: the notice's payload is a part of their buffer, and none
 /// of its bytes is copied.
-pub fn decode_shared_notice(alloc: Global, bytes: &Bytes) -> Result<Option<Notice>, NoMemory>
+pub fn decode_shared_notice(bytes: &Bytes) -> Result<Option<Notice>, NoMemory>
     ensures found { IfOk result (λ answer. IfSome answer (λ notice.
         (told : Told) × FitsTold told × (bytes.now ≡ notice_text told)
         × (notice ≡ notice_of told))) }
@@ -57,7 +57,7 @@ pub fn decode_shared_notice(alloc: Global, bytes: &Bytes) -> Result<Option<Notic
     ensures none { IfOk result (λ answer. IsNone answer ↔ IsNoNotice bytes.now) }
     ensures no_memory { read.told_by bytes.now ≡ None → IsOk result }
 {
-    match told_exactly(alloc, bytes.as_slice())? {
+    match told_exactly(bytes.as_slice()) {
         None => Ok(None),
         Some(told) => {
             let payload = payload_in(bytes, &told)?;
@@ -98,22 +98,22 @@ fn notice_with(told: &Telling<'_>, payload: Bytes) -> Notice
 }
 
 /// What the bytes tell, where they are exactly the notice that tells it.
-fn told_exactly(alloc: Global, bytes: &[u8]) -> Result<Option<Telling<'_>>, NoMemory>
-    ensures found { IfOk result (λ answer. IfSome answer (λ told.
-        FitsTold (telling told) × (bytes.now ≡ notice_text (telling told)))) }
+fn told_exactly(bytes: &[u8]) -> Option<Telling<'_>>
+    ensures found { IfSome result (λ told.
+        FitsTold (telling told) × (bytes.now ≡ notice_text (telling told))) }
     ensures only { (told : Told) → FitsTold told → bytes.now ≡ notice_text told →
-        IfOk result (λ answer. option_map telling answer ≡ Some told) }
-    ensures nothing { read.told_by bytes.now ≡ None → result ≡ Ok None }
+        option_map telling result ≡ Some told }
+    ensures nothing { read.told_by bytes.now ≡ None → result ≡ None }
 {
     // By this law what a notice tells is what is read from its text.
     notices_are_told_apart();
     match told_by(bytes) {
-        None => Ok(None),
+        None => None,
         Some(told) => {
-            if is_notice_of(alloc, bytes, &told)? {
-                Ok(Some(told))
+            if is_notice_of(bytes, &told) {
+                Some(told)
             } else {
-                Ok(None)
+                None
             }
         }
     }

@@ -1,24 +1,26 @@
 //! Notices, written as messages.
 
 ghost use Rattle.std.specs.Prelude.{◌≡◌, ◌≤◌, ◌<◌, ◌^◌, ◌++◌, ◌||◌, ◌==◌, length, option_map, OnOk};
-ghost use Rattle.std.specs.Prelude.{OnErr, IfSome, IfOk, IsTrue};
-ghost use Rattle.packet_entry.specs.Numbers.{longest_packet, longest_payload};
+ghost use Rattle.std.specs.Prelude.{◌+◌, OnErr, IfSome, IsTrue};
+ghost use Rattle.arrayvec.specs.ArrayVec.{array_vec_len};
+ghost use Rattle.packet_entry.specs.Numbers.{longest_packet};
 ghost use Rattle.packet_entry.specs.Fields.{IsLinkLength};
 ghost use Rattle.netlink_codec.specs.Attributes.{attributes_text};
 ghost use Rattle.nfqa_msgs.specs.Numbers.{copy_meta, copy_packet, longest_range};
-ghost use Rattle.netlink_codec.specs.Numbers.{kind_limit};
-ghost use Rattle.nfqa_headers.specs.Numbers.{hardware_address_length};
-ghost use Rattle.nfqa_headers.specs.AttributeWriting.{part};
+ghost use Rattle.netlink_codec.specs.Numbers.{attribute_header_length, kind_limit};
+ghost use Rattle.nfqa_headers.specs.Numbers.{hardware_address_length, parts_room};
+ghost use Rattle.nfqa_headers.specs.Headers.{value_length};
+ghost use Rattle.nfqa_headers.specs.AttributeWriting.{part, part_length};
 ghost use Rattle.nfqa_msgs.specs.NoticeWriting.{FitsTold, notice, notice_text, notice_body};
 ghost use Rattle.nfqa_msgs.specs.NoticeWriting.{notice_front, told_of, source_in, cut_of};
 ghost use Rattle.nfqa_msgs.specs.NoticeWriting.{told_bytes, family_of, nonzero_content};
-ghost use Rattle.nfqa_msgs.specs.NoticeWriting.{padded_payload, payload_padding};
+ghost use Rattle.nfqa_msgs.specs.NoticeWriting.{padded_payload};
 ghost use Rattle.nfqa_msgs.specs.Telling.{telling};
 
 use crate::PACKET;
 use crate::notice::Telling;
-use netlink_codec::{attr_header, attr_padding, put_split_message, written_attributes_are_walked};
-use nfqa_headers::attribute_writing::put_value;
+use netlink_codec::{attr_header, put_split_message};
+use nfqa_headers::attribute_writing::{Parts, put_bytes, put_value, zeros_behind};
 use nfqa_headers::kinds::{
     FULL_LENGTH, INPUT_DEVICE, MARK, NOTICE, NUMBERS, OUTPUT_DEVICE, PAYLOAD, PRIORITY,
     QUEUE_SUBSYSTEM,
@@ -28,17 +30,12 @@ use nfqa_headers::packet_header::put_packet_header;
 use nfqa_headers::queue_header::{IPV4_FAMILY, IPV6_FAMILY, begin_body};
 use nfqa_headers::timestamp::put_stamp;
 use packet_entry::{IPV4, NoMemory, Packet};
-use std::alloc::{AllocError, Global};
+use std::alloc::AllocError;
 
 /// The index of the device by which every packet comes in.
 const INPUT: u32 = 1;
 /// The index of the device by which every packet goes out.
 const OUTPUT: u32 = 2;
-
-/// Bytes that hold the attributes before the packet's bytes, and the header of these.
-const FRONT_ROOM: usize = 92;
-/// At most so many zeros follow an attribute's content, up to the next multiple of 4.
-const MOST_PADDING: usize = 3;
 
 /// Where the source address begins in an Ethernet header, after the destination's 6 bytes.
 const LINK_SOURCE_AT: usize = 6;
@@ -132,59 +129,48 @@ pub(crate) fn put_notice(out: &mut Vec<u8>, told: &Telling<'_>) -> Result<(), Al
     ensures ok { OnOk result (out.new.items ≡ out.old.items ++ notice_text (telling told.now)) }
     ensures err { OnErr result (out.new.items ≡ out.old.items) }
 {
-    // By the codec's law the body is short enough for a message.
-    written_attributes_are_walked();
-    let front = front_of(*out.allocator(), told)?;
-    let padding = padding_behind(told.payload);
+    let front = front_of(told);
     put_split_message(
         out,
         QUEUE_SUBSYSTEM * NUMBERS + NOTICE,
         0,
         0,
         0,
-        &front,
+        front.as_slice(),
         told.payload,
-        padding,
+        zeros_behind(told.payload),
     )
 }
 
 /// What stands between the message's header and the packet's bytes.
-pub(crate) fn front_of(alloc: Global, told: &Telling<'_>) -> Result<Vec<u8>, AllocError>
+pub(crate) fn front_of(told: &Telling<'_>) -> Parts
     requires { FitsTold (telling told.now) }
-    ensures { IfOk result (λ front.
-        notice_body (telling told.now) ≡ front.items ++ padded_payload told.now.payload.now) }
+    ensures { notice_body (telling told.now) ≡ result.items ++ padded_payload told.now.payload.now }
 {
-    let mut front = parts_before(alloc, told)?;
+    let mut front = parts_before(told);
     if told.payload.is_empty() {
-        return Ok(front);
+        return front;
     }
-    front.extend_from_slice(&attr_header(PAYLOAD, told.payload.len()))?;
-    Ok(front)
-}
-
-/// The zeros behind the packet's bytes.
-pub(crate) fn padding_behind(payload: &[u8]) -> &[u8]
-    requires { length payload.now ≤ longest_payload }
-    ensures { result.now ≡ payload_padding payload.now }
-{
-    &[0; MOST_PADDING][..attr_padding(payload.len())]
+    put_bytes(&mut front, &attr_header(PAYLOAD, told.payload.len()));
+    front
 }
 
 /// What stands before the attribute of the packet's bytes.
-fn parts_before(alloc: Global, told: &Telling<'_>) -> Result<Vec<u8>, AllocError>
+fn parts_before(told: &Telling<'_>) -> Parts
     requires { FitsTold (telling told.now) }
-    ensures { IfOk result (λ front. front.items ≡ notice_front (telling told.now)) }
+    ensures text { result.items ≡ notice_front (telling told.now) }
+    ensures length { array_vec_len result + attribute_header_length ≤ parts_room }
 {
-    let mut body = begin_body(alloc, family(told.protocol), told.queue, FRONT_ROOM)?;
-    put_packet_header(&mut body, told.id, told.protocol)?;
-    put_value(&mut body, INPUT_DEVICE, Some(INPUT))?;
-    put_value(&mut body, OUTPUT_DEVICE, Some(OUTPUT))?;
-    put_nonzero(&mut body, MARK, told.mark)?;
-    put_nonzero(&mut body, PRIORITY, told.priority)?;
-    put_address(&mut body, told.source)?;
-    put_stamp(&mut body, told.seconds, told.micros)?;
-    put_value(&mut body, FULL_LENGTH, told.cut_from)?;
-    Ok(body)
+    let mut parts = begin_body(family(told.protocol), told.queue);
+    put_packet_header(&mut parts, told.id, told.protocol);
+    put_value(&mut parts, INPUT_DEVICE, Some(INPUT));
+    put_value(&mut parts, OUTPUT_DEVICE, Some(OUTPUT));
+    put_nonzero(&mut parts, MARK, told.mark);
+    put_nonzero(&mut parts, PRIORITY, told.priority);
+    put_address(&mut parts, told.source);
+    put_stamp(&mut parts, told.seconds, told.micros);
+    put_value(&mut parts, FULL_LENGTH, told.cut_from);
+    parts
 }
 
 fn family(protocol: u16) -> u8
@@ -197,14 +183,15 @@ fn family(protocol: u16) -> u8
     }
 }
 
-/// Appends an attribute that is one number, unless it is 0.
-fn put_nonzero(body: &mut Vec<u8>, kind: u16, value: u32) -> Result<(), AllocError>
-    requires { kind < kind_limit }
-    ensures { OnOk result (body.new.items ≡ body.old.items
-        ++ attributes_text (part kind (nonzero_content value))) }
+/// Appends an attribute that is one number, unless it is 0. There is room for it.
+fn put_nonzero(parts: &mut Parts, kind: u16, value: u32)
+    requires kind { kind < kind_limit }
+    requires room { array_vec_len parts.old + part_length value_length ≤ parts_room }
+    ensures text { parts.new.items ≡ parts.old.items
+        ++ attributes_text (part kind (nonzero_content value)) }
+    ensures length { array_vec_len parts.new ≤ array_vec_len parts.old + part_length value_length }
 {
-    if value == 0 {
-        return Ok(());
+    if value != 0 {
+        put_value(parts, kind, Some(value));
     }
-    put_value(body, kind, Some(value))
 }

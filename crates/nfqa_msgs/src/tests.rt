@@ -465,7 +465,7 @@ fn a_shared_notice_is_read_as_any_other(rt: HostRuntime) -> Result<(), Fail> {
     ];
     for &(text, length, packet, told) in &ROWS {
         let bytes = Bytes::copy(rt.alloc(), text)?;
-        let notice = decode_shared_notice(rt.alloc(), &bytes)?.ok_or("no notice")?;
+        let notice = decode_shared_notice(&bytes)?.ok_or("no notice")?;
         assert_eq!(rt; (notice.queue, notice.id, notice.length), (0, 1, length));
         assert_eq!(rt; Some(notice.payload.as_slice()), packet.get(..told));
     }
@@ -475,9 +475,9 @@ fn a_shared_notice_is_read_as_any_other(rt: HostRuntime) -> Result<(), Fail> {
 #[test]
 fn a_shared_text_that_is_no_notice_is_none(rt: HostRuntime) -> Result<(), Fail> {
     let cut = Bytes::copy(rt.alloc(), &NOTICE[..91])?;
-    assert!(rt; decode_shared_notice(rt.alloc(), &cut)?.is_none());
+    assert!(rt; decode_shared_notice(&cut)?.is_none());
     let verdict = Bytes::copy(rt.alloc(), ACCEPT)?;
-    assert!(rt; decode_shared_notice(rt.alloc(), &verdict)?.is_none());
+    assert!(rt; decode_shared_notice(&verdict)?.is_none());
     Ok(())
 }
 

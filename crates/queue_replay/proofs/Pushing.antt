@@ -22,7 +22,8 @@ module _ (verdict : ℕ) (mark priority : Option ℕ) where
       ∙ append_assoc before (going_by verdict (edited w.1 mark None priority))
       (each_going verdict mark priority (take less rest))
       ∙ sym (ap (λ n. before ++ each_going verdict mark priority (take n ws)) count
-      ∙ ap (λ (vs : Waiting). before ++ each_going verdict mark priority (take (suc less) vs)) front)
+      ∙ ap (λ (vs : Waiting). before ++ each_going verdict mark priority (take (suc less) vs))
+      front)
       ∙ so_far
 
   -- no more are asked for

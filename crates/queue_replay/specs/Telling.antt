@@ -1,5 +1,5 @@
--- For proofs alone: what goes on in an entry that is a step, as its reply tells it. A reply says how
--- many packets left, so no table of rules is asked.
+-- For proofs alone: what goes on in an entry that is a step, as its reply tells it. A reply says
+-- how many packets left, so no table of rules is asked.
 use Rattle.std.specs.Prelude.{ℕ, List, [], ◌∷◌, ◌++◌, take, Option, Some, None, ◌==◌, Bool}
 use Rattle.std.specs.Prelude.{true, false, if◌then◌else◌}
 use Rattle.std.specs.Map.{lookup}

@@ -7,10 +7,9 @@ use Rattle.nfqa_msgs.proofs.notice_writing.front_of.Goals as goal
 pub returns : goal.returns
 returns c =
     let told : Told = telling c.args.told.now in
-    let written : c.extend_from_slice.new.self.items
-    ≡ notice_front told ++ payload_header told.payload =
-    c.in_ok-extend_from_slice.ensures.items
-    ∙ ap (λ (xs : List ℕ). xs ++ c.attr_header.result) c.in_ok-front.ensures
+    let written : c.put_bytes.new.parts.items ≡ notice_front told ++ payload_header told.payload =
+    c.put_bytes.ensures.text
+    ∙ ap (λ (xs : List ℕ). xs ++ c.attr_header.result) c.parts_before-front.ensures.text
     ∙ ap (λ (xs : List ℕ). notice_front told ++ xs) c.attr_header.ensures in
     body_with_payload told (sym c.is_empty.ensures ∙ c.if-is_empty.false)
     ∙ ap (λ (xs : List ℕ). xs ++ padded_payload told.payload) (sym written)

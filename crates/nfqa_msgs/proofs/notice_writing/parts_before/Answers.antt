@@ -14,8 +14,8 @@ use Rattle.nfqa_msgs.proofs.Lengths.{row-goes-on}
 use Rattle.nfqa_msgs.proofs.notice_writing.parts_before.Goals as goal
 
 -- each call appends one more part to the row
-pub returns : goal.returns
-returns c =
+pub returns-clause-text : goal.returns-clause-text
+returns-clause-text c =
     let told : Told = telling c.args.told.now in
     let head : List ℕ = queue_header (family_of told.protocol) told.queue in
     let a : List Attribute =
@@ -27,25 +27,25 @@ returns c =
     let g : List Attribute = part hardware_address_kind (option_map address_content told.source) in
     let h : List Attribute = part timestamp_kind (Some (stamp_content told.seconds told.micros)) in
     let i : List Attribute = value_part full_length_kind told.cut_from in
-    let start : c.in_ok-body.body.items ≡ head =
-    c.in_ok-body.ensures ∙ ap (λ (family : ℕ). queue_header family told.queue) c.family.ensures in
-    let one : c.put_packet_header.new.body.items ≡ head ++ attributes_text a =
-    c.in_ok-put_packet_header.ensures ∙ ap (λ (xs : List ℕ). xs ++ attributes_text a) start in
-    let two = row-goes-on head _ c.put_value.new.body.items a b one c.in_ok-put_value.ensures in
+    let start : c.begin_body-parts.result.items ≡ head =
+    c.begin_body-parts.ensures.text ∙ ap (λ (family : ℕ). queue_header family told.queue) c.family.ensures in
+    let one : c.put_packet_header.new.parts.items ≡ head ++ attributes_text a =
+    c.put_packet_header.ensures.text ∙ ap (λ (xs : List ℕ). xs ++ attributes_text a) start in
+    let two = row-goes-on head _ c.put_value.new.parts.items a b one c.put_value.ensures.text in
     let three =
-    row-goes-on head _ c.put_value-2.new.body.items (a ++ b) d two
-    c.in_ok-put_value-2.ensures in
+    row-goes-on head _ c.put_value-2.new.parts.items (a ++ b) d two
+    c.put_value-2.ensures.text in
     let four =
-    row-goes-on head _ c.put_nonzero.new.body.items (a ++ b ++ d) e three
-    c.in_ok-put_nonzero.ensures in
+    row-goes-on head _ c.put_nonzero.new.parts.items (a ++ b ++ d) e three
+    c.put_nonzero.ensures.text in
     let five =
-    row-goes-on head _ c.put_nonzero-2.new.body.items (a ++ b ++ d ++ e) f four
-    c.in_ok-put_nonzero-2.ensures in
+    row-goes-on head _ c.put_nonzero-2.new.parts.items (a ++ b ++ d ++ e) f four
+    c.put_nonzero-2.ensures.text in
     let six =
-    row-goes-on head _ c.put_address.new.body.items (a ++ b ++ d ++ e ++ f) g five
-    c.in_ok-put_address.ensures in
+    row-goes-on head _ c.put_address.new.parts.items (a ++ b ++ d ++ e ++ f) g five
+    c.put_address.ensures.text in
     let seven =
-    row-goes-on head _ c.put_stamp.new.body.items (a ++ b ++ d ++ e ++ f ++ g) h six
-    c.in_ok-put_stamp.ensures in
-    row-goes-on head _ c.put_value-3.new.body.items (a ++ b ++ d ++ e ++ f ++ g ++ h) i seven
-    c.in_ok-put_value-3.ensures
+    row-goes-on head _ c.put_stamp.new.parts.items (a ++ b ++ d ++ e ++ f ++ g) h six
+    c.put_stamp.ensures.text in
+    row-goes-on head _ c.put_value-3.new.parts.items (a ++ b ++ d ++ e ++ f ++ g ++ h) i seven
+    c.put_value-3.ensures.text

@@ -1,6 +1,6 @@
 use Rattle.std.proofs.lemmas.Bool.Decides.{Decides-eqb}
 use Rattle.std.proofs.lemmas.Slice.Eq.{strip_prefix_is}
-use Rattle.nfqa_msgs.proofs.notice_spelling.behind.Goals as goal
+use Rattle.nfqa_msgs.proofs.comparing.behind.Goals as goal
 
 pub returns : goal.returns
 returns c =
