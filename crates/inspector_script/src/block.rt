@@ -1,6 +1,6 @@
 //! What a script says of one port.
 
-ghost use Rattle.std.specs.Prelude.{◌≡◌, ◌++◌, map, option_copied, None, IfOk, IsOk};
+ghost use Rattle.std.specs.Prelude.{◌≡◌, [], ◌++◌, map, option_copied, None, IfOk, IsOk};
 ghost use Rattle.inspector_script.specs.Blocks.{answer, closing, line_for, opening};
 
 use histories::AskWords;
@@ -44,10 +44,11 @@ impl Block {
         Ok(Asks::from_vec(asks))
     }
 
-    /// What is asked for in answer to this notice, up to which the port has received so many.
+    /// What is asked for in answer to this notice, up to which the port has received so many. The
+    /// list is made in `room`, whose items go.
     pub(crate) fn answer(
         &self,
-        alloc: Global,
+        room: Vec<Ask>,
         received: u32,
         notice: &Notice,
     ) -> Result<Asks, NoMemory>
@@ -55,8 +56,8 @@ impl Block {
         ensures unanswered { line_for received notice.now self.now.lines ≡ None → IsOk result }
     {
         match self.line_for(received, notice) {
-            None => Ok(Asks::new(alloc)),
-            Some(line) => line.answer(alloc, notice),
+            None => Ok(nothing_in(room)),
+            Some(line) => line.answer(room, notice),
         }
     }
 
@@ -66,4 +67,13 @@ impl Block {
     {
         self.lines.iter().find(|line| line.holds(received, notice))
     }
+}
+
+/// No asks, in a list with the memory of `room`.
+fn nothing_in(room: Vec<Ask>) -> Asks
+    ensures { result ≡ [] }
+{
+    let mut none = room;
+    none.clear();
+    Asks::from_vec(none)
 }

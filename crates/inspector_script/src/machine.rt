@@ -8,7 +8,7 @@ ghost use Rattle.inspector_script.specs.Scripts.{count_after, next_count, openin
 use crate::script::Script;
 use nfqa_msgs::Notice;
 use packet_entry::NoMemory;
-use script_lines::Asks;
+use script_lines::{Ask, Asks};
 use std::alloc::Global;
 use std::marker::Model;
 
@@ -98,7 +98,9 @@ impl PortMachine {
         // Where no line answers, no memory is taken.
         ensures unanswered { IsUnansweredAs script.now self.now.place n notice.now → IsOk result }
     {
-        script.block(self.place).answer(alloc, n, notice)
+        script
+            .block(self.place)
+            .answer(Vec::new(alloc), n, notice)
     }
 
     /// Counts the notice, and says what it asks for in answer: what `answer_as` says of it with the
@@ -119,8 +121,30 @@ impl PortMachine {
             (self.new ≡ record self.old { received = next_count self.old.received }) }
         ensures err { OnErr result (self.new ≡ self.old) }
     {
+        self.answer_in(Vec::new(alloc), script, notice)
+    }
+
+    /// As [`answer`](PortMachine::answer) does. The list is made in `room`, whose items go, so that
+    /// memory is taken only for what is longer.
+    #[tactic(auto, using(crate::proofs::Fitting::answer_fits))]
+    pub fn answer_in(
+        &mut self,
+        room: Vec<Ask>,
+        script: &Script,
+        notice: &Notice,
+    ) -> Result<Asks, NoMemory>
+        requires has_port { self.old.place < length script.now.ports }
+        ensures asks { IfOk result (λ asks.
+            asks ≡ answer script.now self.old.place (next_count self.old.received) notice.now) }
+        ensures fit { IfOk result (All IsAsk) }
+        // Where no line answers, no memory is taken.
+        ensures unanswered { IsUnanswered script.now self.old notice.now → IsOk result }
+        ensures counted { OnOk result
+            (self.new ≡ record self.old { received = next_count self.old.received }) }
+        ensures err { OnErr result (self.new ≡ self.old) }
+    {
         let received = self.received.saturating_add(1);
-        let asks = self.answer_as(alloc, script, received, notice)?;
+        let asks = script.block(self.place).answer(room, received, notice)?;
         self.received = received;
         Ok(asks)
     }

@@ -16,7 +16,9 @@ use inspector_script::{Asks, PortMachine, Script};
 use made_runs::each_port_has_its_place;
 use packet_entry::{Letter, NoMemory};
 use port_scripts::answered;
+use script_lines::Ask;
 use std::alloc::Global;
+use std::mem;
 
 /// What is kept of a port beside its pass.
 #[derive(Drop)]
@@ -29,6 +31,8 @@ pub struct Mind {
     pub text: Vec<u8>,
     /// The acknowledgement of one message, where it has one. The plane's logs have what it says.
     pub replies: Vec<u8>,
+    /// The memory of one answer. While it is being given, it isn't here.
+    pub room: Vec<Ask>,
 }
 
 impl Mind {
@@ -47,7 +51,8 @@ impl Mind {
         ensures counted { OnOk result ((old new : PortView) → IsMind script.now old self.old →
             Receives old new (Some letter.now) → IsMind script.now new self.new) }
     {
-        let asks = answered(&mut self.machine, alloc, script, letter)?;
+        let room = mem::replace(&mut self.room, Vec::new(alloc));
+        let asks = answered(&mut self.machine, room, script, letter)?;
         self.received = self.received.saturating_add(1);
         Ok(asks)
     }
@@ -67,6 +72,7 @@ pub fn minds(alloc: Global, script: &Script) -> Result<Vec<Mind>, NoMemory>
             received: 0,
             text: Vec::new(alloc),
             replies: Vec::new(alloc),
+            room: Vec::new(alloc),
         })?;
     }
     Ok(minds)

@@ -126,7 +126,8 @@ pub fn say_all<R: Wait, G: Gate>(
         (port_pass pass.old) (port_pass pass.new)) }
 {
     what_a_port_does_adds_up();
-    for ask in asks {
+    let mut left = asks;
+    while let Some(ask) = left.take_first() {
         match ask {
             Ask::Words { words } => {
                 send_words(rt, alloc, plane, gate, script, pass, mind, words)?;
@@ -134,5 +135,7 @@ pub fn say_all<R: Wait, G: Gate>(
             Ask::Close => unreachable!(),
         }
     }
+    // The next answer takes the memory of this one.
+    mind.room = left.into_vec();
     Ok(())
 }

@@ -7,4 +7,3 @@ pub mod Flushing
 pub mod Calling
 pub mod Entering
 pub mod Wording
-pub mod Answering

@@ -83,3 +83,8 @@ abbrev pub Sends : Setting → ℕ → Option (NetlinkMessage × ℕ) → World 
 Sends s port None old new before after used = (used ≡ 0) × (new ≡ old) × (after ≡ before)
 Sends s port (Some (m, n)) old new before after used =
     (used ≡ n) × IsSent s port m old new before after
+
+-- the same, where nobody reads what is replied
+abbrev pub SendsUnread : Setting → ℕ → Option (NetlinkMessage × ℕ) → World → World → ℕ → Type 0
+SendsUnread s port first old new used =
+    (before : List ℕ) → (after : List ℕ) × Sends s port first old new before after used

@@ -10,7 +10,7 @@ mod laws;
 mod setting;
 mod words;
 
-pub use answers::{acknowledge, make_answer_room};
+pub use answers::{acknowledge, due, make_answer_room};
 pub use came::{Came, lose, turned};
 pub use fed::{Fed, Refused};
 pub use laws::{

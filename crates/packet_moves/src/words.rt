@@ -1,18 +1,18 @@
 //! How messages are logged.
 
-ghost use Rattle.std.specs.Prelude.{◌≡◌, IfOk, IsTrue, ◌==◌};
+ghost use Rattle.std.specs.Prelude.{◌≡◌, IfOk};
 ghost use Rattle.std.specs.Str.{bytes_eq};
 ghost use Rattle.nfqa_msgs.specs.RequestReading.{AskedFits, PayloadFits};
 ghost use Rattle.nfqa_msgs.specs.RequestWriting.{spelling};
 ghost use Rattle.packet_moves.specs.Messages.{words_of};
 
 use histories::AskWords;
-use nfqa_msgs::{Decoded, Request, encode_request};
+use nfqa_msgs::{Decoded, Request, is_spelling};
 use packet_entry::{Bytes, NoMemory};
 use std::alloc::Global;
 
 /// A message as it is logged: in words where it is the one spelling of what it asks, and else as
-/// its own bytes.
+/// its own bytes. Memory is taken for these bytes alone.
 pub fn words_of(
     alloc: Global,
     port: u32,
@@ -24,7 +24,7 @@ pub fn words_of(
     ensures { IfOk result (λ words. words ≡ words_of port call whole.now decoded.now) }
 {
     if let Decoded::Asked { request } = decoded {
-        if is_spelling(alloc, port, call, whole, request)? {
+        if is_plain(port, call, whole, request) {
             return Ok(AskWords::Plain {
                 request: request.share()?,
             });
@@ -36,17 +36,9 @@ pub fn words_of(
 }
 
 /// Whether these bytes are the one spelling of a request.
-fn is_spelling(
-    alloc: Global,
-    port: u32,
-    call: u32,
-    whole: &[u8],
-    request: &Request,
-) -> Result<bool, NoMemory>
+fn is_plain(port: u32, call: u32, whole: &[u8], request: &Request) -> bool
     requires { PayloadFits request.now }
-    ensures { IfOk result (λ is. is ≡ bytes_eq whole.now (spelling port call request.now)) }
+    ensures { result ≡ bytes_eq whole.now (spelling port call request.now) }
 {
-    let mut text = Vec::new(alloc);
-    encode_request(port, call, request, &mut text)?;
-    Ok(whole == text.as_slice())
+    is_spelling(port, call, request, whole)
 }

@@ -9,14 +9,15 @@ ghost use Rattle.made_runs.specs.NoticeTexts.{told_exactly};
 
 use inspector_script::{Asks, PortMachine, Script};
 use nfqa_msgs::{Notice, decode_shared_notice, notices_are_told_apart};
-use packet_entry::{Bytes, Letter, NoMemory, Sequence};
-use std::alloc::Global;
+use packet_entry::{Bytes, Letter, NoMemory};
+use script_lines::Ask;
 
 /// What the inspector of a port asks for in answer to a notice, which it counts. A notice that
-/// can't be read is counted too, and nothing is asked for.
+/// can't be read is counted too, and nothing is asked for. The list is made in `room`, whose items
+/// go.
 pub fn answered(
     machine: &mut PortMachine,
-    alloc: Global,
+    room: Vec<Ask>,
     script: &Script,
     letter: &Letter,
 ) -> Result<Asks, NoMemory>
@@ -27,20 +28,22 @@ pub fn answered(
     ensures counted { OnOk result
         (machine.new ≡ record machine.old { received = next_count machine.old.received }) }
 {
-    match notice_in(alloc, &letter.bytes)? {
-        Some(notice) => machine.answer(alloc, script, &notice),
+    match notice_in(&letter.bytes)? {
+        Some(notice) => machine.answer_in(room, script, &notice),
         None => {
             machine.pass_over();
-            Ok(Sequence::new(alloc))
+            let mut none = room;
+            none.clear();
+            Ok(Asks::from_vec(none))
         }
     }
 }
 
 /// The notice whose text these bytes are. Its payload is a part of them: nothing is copied.
-fn notice_in(alloc: Global, bytes: &Bytes) -> Result<Option<Notice>, NoMemory>
+fn notice_in(bytes: &Bytes) -> Result<Option<Notice>, NoMemory>
     ensures { IfOk result
         (λ notice. notice ≡ option_map notice_of (told_exactly bytes.now)) }
 {
     notices_are_told_apart();
-    decode_shared_notice(alloc, bytes)
+    decode_shared_notice(bytes)
 }

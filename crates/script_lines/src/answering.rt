@@ -3,12 +3,11 @@
 ghost use Rattle.std.specs.Prelude.{◌≡◌, map, IfOk};
 ghost use Rattle.script_lines.specs.Answering.{asks_of, holds_all};
 
-use crate::ask::Asks;
+use crate::ask::{Ask, Asks};
 use crate::condition::Condition;
 use crate::template::Template;
 use nfqa_msgs::Notice;
 use packet_entry::{NoMemory, Sequence};
-use std::alloc::Global;
 
 /// An `on` line.
 #[derive(Debug, Drop)]
@@ -30,11 +29,12 @@ impl OnLine {
             .all(|condition| condition.holds(received, notice))
     }
 
-    /// What it asks for in answer to this notice.
-    pub fn answer(&self, alloc: Global, notice: &Notice) -> Result<Asks, NoMemory>
+    /// What it asks for in answer to this notice. The list is made in `room`, whose items go.
+    pub fn answer(&self, room: Vec<Ask>, notice: &Notice) -> Result<Asks, NoMemory>
         ensures { IfOk result (λ asks. asks ≡ asks_of notice.now self.now) }
     {
-        let mut filled = Vec::new(alloc);
+        let mut filled = room;
+        filled.clear();
         for template in &self.asks {
             filled.push(template.ask(notice)?)?;
         }

@@ -1,14 +1,15 @@
 //! Messages of a port.
 
-ghost use Rattle.std.specs.Prelude.{◌≡◌, ◌^◌, ◌<◌, ◌≤◌, ◌+◌, ◌++◌, ℕ, length, IfOk, OnOk};
+ghost use Rattle.std.specs.Prelude.{◌≡◌, ◌^◌, ◌<◌, ◌++◌, ℕ, List, length, IfOk, OnOk};
 ghost use Rattle.std.specs.Prelude.{OnErr, IsSome};
 ghost use Rattle.std.specs.BTreeMap.{get};
 ghost use Rattle.std.specs.Ordering.{nat_cmp};
+ghost use Rattle.netlink_codec.specs.Acknowledgements.{answer};
 ghost use Rattle.netlink_codec.specs.Messages.{message_of, first_message};
 ghost use Rattle.nfqa_msgs.specs.RequestReading.{AskedFits};
 ghost use Rattle.packet_moves.specs.World.{closed_ports};
 ghost use Rattle.solo_plane.specs.PortView.{world_of, logs_of, IsReady};
-ghost use Rattle.packet_moves.specs.Messages.{CarriesOut, IsSent, Sends};
+ghost use Rattle.packet_moves.specs.Messages.{CarriesOut, IsSent, Sends, SendsUnread};
 ghost use Rattle.packet_moves.specs.HandedOn.{WaitInTime};
 
 use crate::asking::ask;
@@ -17,7 +18,7 @@ use crate::ports;
 use netlink_codec::{Message, next_message};
 use nfqa_msgs::{Decoded, decode_request};
 use packet_entry::NoMemory;
-use packet_moves::{Setting, acknowledge, make_answer_room, words_of};
+use packet_moves::{Setting, acknowledge, due, make_answer_room, words_of};
 use std::alloc::Global;
 
 /// Carries out what a message is decoded to: its errno. `NoMemory` leaves all as it was; a packet
@@ -77,6 +78,34 @@ pub(crate) fn message(
     }
 }
 
+/// As [`message`] does, where nobody reads the replies: none is made.
+pub(crate) fn message_unread(
+    held: &mut Held,
+    alloc: Global,
+    setting: &Setting,
+    port: u32,
+    datagram: &[u8],
+) -> Result<u32, NoMemory>
+    requires short { length datagram.now < 2 ^ 31 }
+    requires ready { IsReady held.old.place }
+    requires port { IsSome (get nat_cmp held.old.ports port) }
+    requires in_time { WaitInTime held.old.place.entries }
+    ensures ready { IsReady held.new.place }
+    ensures sent { IfOk result (SendsUnread setting.now port (first_message datagram.now)
+        (world_of held.old) (world_of held.new)) }
+    ensures ports { (p : ℕ) → closed_ports (world_of held.new) p
+        ≡ closed_ports (world_of held.old) p }
+    ensures err { OnErr result (world_of held.new ≡ world_of held.old) }
+{
+    match next_message(datagram) {
+        Some((message, used)) => {
+            let _errno = send_unread(held, alloc, setting, port, &message)?;
+            Ok(used as u32)
+        }
+        None => Ok(0),
+    }
+}
+
 /// A port sends a message: it is carried out, logged, and acknowledged where that is due.
 /// `NoMemory` leaves all as it was; a packet whose next arrival finds no memory is lost.
 fn send(
@@ -99,13 +128,36 @@ fn send(
     ensures err { OnErr result (world_of held.new ≡ world_of held.old) }
     ensures none_answered { OnErr result (replies.new.items ≡ replies.old.items) }
 {
+    make_answer_room(message, replies)?;
+    let errno = send_unread(held, alloc, setting, port, message)?;
+    acknowledge(message, errno, replies);
+    Ok(())
+}
+
+/// A port sends a message: it is carried out and logged. This is its errno.
+fn send_unread(
+    held: &mut Held,
+    alloc: Global,
+    setting: &Setting,
+    port: u32,
+    message: &Message<'_>,
+) -> Result<u16, NoMemory>
+    requires ready { IsReady held.old.place }
+    requires port { IsSome (get nat_cmp held.old.ports port) }
+    requires in_time { WaitInTime held.old.place.entries }
+    ensures ready { IsReady held.new.place }
+    ensures sent { IfOk result (λ errno. (before : List ℕ) →
+        IsSent setting.now port (message_of message.now) (world_of held.old) (world_of held.new)
+        before (before ++ answer (message_of message.now) errno)) }
+    ensures ports { (p : ℕ) → closed_ports (world_of held.new) p
+        ≡ closed_ports (world_of held.old) p }
+    ensures err { OnErr result (world_of held.new ≡ world_of held.old) }
+{
     let decoded = decode_request(alloc, message)?;
     let call = ports::next_call(&held.ports, port);
     let words = words_of(alloc, port, call, message.whole, &decoded)?;
     ports::make_log_room(&mut held.ports, port)?;
-    make_answer_room(message, replies)?;
     let errno = carry_out(held, alloc, setting, port, call, decoded)?;
-    let answer = acknowledge(message, errno, replies);
-    ports::send(&mut held.ports, port, words, answer);
-    Ok(())
+    ports::send(&mut held.ports, port, words, due(message, errno));
+    Ok(errno)
 }

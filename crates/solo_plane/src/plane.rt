@@ -37,7 +37,7 @@ pub struct SoloPlane {
 impl SoloPlane {
     ghost use Rattle.packet_moves.specs.World.{at_port, received, first_of, closed_ports};
     ghost use Rattle.packet_moves.specs.OnTheWay.{HandsBack};
-    ghost use Rattle.packet_moves.specs.Messages.{Sends};
+    ghost use Rattle.packet_moves.specs.Messages.{Sends, SendsUnread};
     ghost use Rattle.packet_moves.specs.Planes.{IsFed, beginning, with_closed, without_device};
     ghost use Rattle.histories.specs.Grouping.{IsGrouped};
     ghost use Rattle.packet_moves.specs.Logs.{logs_in};
@@ -128,6 +128,28 @@ impl SoloPlane {
             datagram,
             replies,
         )
+    }
+
+    /// As [`message`](SoloPlane::message) does, where nobody reads the replies: none is made, and
+    /// no memory is taken for it.
+    pub fn message_unread(
+        &mut self,
+        alloc: Global,
+        port: u32,
+        datagram: &[u8],
+    ) -> Result<u32, NoMemory>
+        requires short { length datagram.now < 2 ^ 31 }
+        requires port { IsSomeAnd ((world_in self.old).ports port) (λ p. p.is_closed ≡ false) }
+        ensures sent { IfOk result (SendsUnread (setting_of self.old) port
+            (first_message datagram.now) (world_in self.old) (world_in self.new)) }
+        ensures made_with { IsWith self.old self.new }
+        ensures ports { (p : ℕ) → closed_ports (world_in self.new) p
+            ≡ closed_ports (world_in self.old) p }
+        ensures err { OnErr result (world_in self.new ≡ world_in self.old) }
+    {
+        legal_at(&self.held.place);
+        histories_stay_sound();
+        messages::message_unread(&mut self.held, alloc, &self.setting, port, datagram)
     }
 
     /// A port receives its first notice, which its log notes; `None` exactly where its mailbox is

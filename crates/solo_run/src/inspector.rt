@@ -14,6 +14,7 @@ ghost use Rattle.solo_run.specs.declared.inspector.Inspector.{Inspector};
 use inspector_script::{Asks, PortMachine, Script};
 use packet_entry::{Letter, NoMemory};
 use port_scripts::answered;
+use script_lines::Ask;
 use std::alloc::Global;
 
 /// The inspector behind one port.
@@ -71,10 +72,11 @@ pub(crate) fn count_closing(all: &mut Vec<Inspector>, place: usize)
     all[place].is_open = false;
 }
 
-/// What the inspector of a port asks for in answer to a notice, which it counts.
+/// What the inspector of a port asks for in answer to a notice, which it counts. The list is made
+/// in `room`, whose items go.
 pub(crate) fn asked(
     all: &mut Vec<Inspector>,
-    alloc: Global,
+    room: Vec<Ask>,
     script: &Script,
     place: u32,
     letter: &Letter,
@@ -93,5 +95,5 @@ pub(crate) fn asked(
         ≡ one_notice (slice_index_or all.old.items place d)) }
 {
     let machine = &mut all[place as usize].machine;
-    answered(machine, alloc, script, letter)
+    answered(machine, room, script, letter)
 }

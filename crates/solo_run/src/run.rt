@@ -21,17 +21,19 @@ use hook_chain::Tables;
 use inspector_script::{Asks, Script};
 use packet_entry::{NoMemory, Packet};
 use packet_moves::{Refused, histories_stay_sound, what_goes_on_is_in_time};
+use script_lines::Ask;
 use solo_plane::SoloPlane;
 use std::alloc::Global;
+use std::mem;
 
 /// A run: the plane, and an inspector for each port of the script, in the script's order.
 pub(crate) struct Run {
     pub(crate) plane: SoloPlane,
     pub(crate) inspectors: Vec<Inspector>,
-    /// The acknowledgement of one message, where it has one. The plane's logs have what it says.
-    pub(crate) replies: Vec<u8>,
     /// The text of one request. While it is being sent, the buffer isn't here.
     pub(crate) text: Vec<u8>,
+    /// The memory of one answer. While it is being given, it isn't here.
+    pub(crate) room: Vec<Ask>,
 }
 
 impl Run {
@@ -53,8 +55,8 @@ impl Run {
         Ok(Run {
             plane,
             inspectors,
-            replies: Vec::new(alloc),
             text: Vec::new(alloc),
+            room: Vec::new(alloc),
         })
     }
 
@@ -99,10 +101,8 @@ impl Run {
     {
         histories_stay_sound();
         what_goes_on_is_in_time();
-        self.replies.clear();
-        let used = self
-            .plane
-            .message(alloc, port, datagram, &mut self.replies)?;
+        // Nobody reads the replies: the plane's logs have what they would say.
+        let used = self.plane.message_unread(alloc, port, datagram)?;
         if self.plane.lost() > 0 {
             return Err(NoMemory);
         }
@@ -244,7 +244,8 @@ impl Run {
             Some(letter) => {
                 // What happened so far is sound.
                 let _lost = self.plane.lost();
-                let asks = asked(&mut self.inspectors, alloc, script, place, &letter)?;
+                let room = mem::replace(&mut self.room, Vec::new(alloc));
+                let asks = asked(&mut self.inspectors, room, script, place, &letter)?;
                 Ok(Some(asks))
             }
             None => Ok(None),
@@ -263,8 +264,8 @@ impl Run {
         let Run {
             plane,
             inspectors: _inspectors,
-            replies: _replies,
             text: _text,
+            room: _room,
         } = self;
         plane.close(alloc)
     }

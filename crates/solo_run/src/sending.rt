@@ -170,8 +170,11 @@ pub(crate) fn do_all<B: Between>(
         (KeepsBut (port_at script.now place) (world_of run.old) (world_of run.new)) }
     ensures keeps { AreWords asks → OnOk result (Keeps (world_of run.old) (world_of run.new)) }
 {
-    for ask in asks {
+    let mut left = asks;
+    while let Some(ask) = left.take_first() {
         do_one(run, alloc, script, place, ask, between)?;
     }
+    // The next answer takes the memory of this one.
+    run.room = left.into_vec();
     Ok(())
 }

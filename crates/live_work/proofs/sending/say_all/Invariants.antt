@@ -1,5 +1,5 @@
 use Rattle.std.proofs.Common.{◌≡◌}
-use Rattle.std.specs.Prelude.{All}
+use Rattle.std.specs.Prelude.{All, length}
 use Rattle.script_lines.specs.Limits.{IsAsk}
 use Rattle.plane.specs.Planes.{places_of}
 use Rattle.live_passes.specs.Views.{port_pass}
@@ -11,12 +11,15 @@ use Rattle.live_work.proofs.sending.say_all.Given as goal
 
 abbrev pub invariant-loop-ask : goal.invariant-loop-ask
 invariant-loop-ask g l = record {
-  fit : All IsAsk l.ask-iterator;
-  words : AreWords l.ask-iterator;
+  fit : All IsAsk l.left;
+  words : AreWords l.left;
   stays : StaysPort l.plane l.initial.pass l.pass;
   hears : HearsNothing l.initial.pass l.pass;
   machine : l.mind.machine ≡ l.initial.mind.machine;
   received : l.mind.received ≡ l.initial.mind.received;
-  sent : SaysTo l.script (places_of l.plane) l.initial.pass.port l.fn.asks l.ask-iterator
+  sent : SaysTo l.script (places_of l.plane) l.initial.pass.port l.fn.asks l.left
       (port_pass l.initial.pass) (port_pass l.pass);
 }
+
+abbrev pub decreases-loop-ask : goal.decreases-loop-ask
+decreases-loop-ask g l = length l.left

@@ -1,55 +1,17 @@
-use Rattle.std.proofs.Common.{◌≡◌, ℕ, Option, ap, refl, ◌∙◌}
-use Rattle.netlink_codec.specs.Messages.{message_of}
-use Rattle.packet_moves.specs.World.{World, Port}
-use Rattle.solo_plane.specs.PortView.{world_of, ports_of}
-use Rattle.solo_plane.proofs.Logging.{room_stays, call_stays, open_stays, open_same, open_changed}
-use Rattle.solo_plane.proofs.Sending.{sent_so}
+use Rattle.std.proofs.Common.{ℕ, List, ◌++◌, ap, subst, sym, ◌∙◌}
+use Rattle.netlink_codec.specs.Acknowledgements.{answer}
+use Rattle.netlink_codec.specs.Messages.{NetlinkMessage, message_of}
+use Rattle.packet_moves.specs.Messages.{IsSent}
+use Rattle.solo_plane.specs.PortView.{world_of}
 use Rattle.solo_plane.proofs.messages.send.Goals as goal
-
-pub send-requires : goal.send-requires
-send-requires c =
-    room_stays c.make_log_room.new.ports c.carry_out.new.held.ports c.args.port
-    c.in_ok-errno.ensures.logs c.in_ok-make_log_room.ensures.ok
 
 pub returns-clause-sent : goal.returns-clause-sent
 returns-clause-sent c =
-    let old = world_of c.args.held.now in
-    let mid : World = record old { ports = ports_of c.make_log_room.new.ports } in
-    let mid_is : mid ≡ old =
-    ap (λ (ports : ℕ → Option Port). record old { ports = ports })
-    c.in_ok-make_log_room.ensures.same in
-    sent_so c.args.setting.now c.args.port (message_of c.args.message.now) old mid
-    (world_of c.carry_out.new.held) _ _ _ c.in_ok-errno.errno c.next_call-call.result
-    c.in_ok-decoded.decoded c.in_ok-words.words c.acknowledge-answer.result mid_is
-    c.next_call-call.ensures c.in_ok-decoded.ensures.value c.in_ok-words.ensures
-    c.acknowledge-answer.ensures.errno
-    (call_stays c.make_log_room.new.ports c.carry_out.new.held.ports c.args.port
-    c.in_ok-errno.ensures.logs)
-    c.in_ok-errno.ensures.carried_out
-    (ap (λ (ports : ℕ → Option Port). record (world_of c.carry_out.new.held) { ports = ports })
-    c.send.ensures)
-    (rw c.in_ok-make_answer_room.ensures.same at c.acknowledge-answer.ensures.replies)
-
-pub returns-in_err-make_log_room-clause-ports : goal.returns-in_err-make_log_room-clause-ports
-returns-in_err-make_log_room-clause-ports c =
-    open_same (ports_of c.args.held.now.ports) (ports_of c.make_log_room.new.ports)
-    c.make_log_room.ensures.same
-
-pub returns-in_err-make_answer_room-clause-ports : goal.returns-in_err-make_answer_room-clause-ports
-returns-in_err-make_answer_room-clause-ports c =
-    open_same (ports_of c.args.held.now.ports) (ports_of c.make_log_room.new.ports)
-    c.make_log_room.ensures.same
-
-pub returns-in_err-errno-clause-ports : goal.returns-in_err-errno-clause-ports
-returns-in_err-errno-clause-ports c p =
-    open_stays c.make_log_room.new.ports c.carry_out.new.held.ports c.carry_out.ensures.logs p
-    ∙ open_same (ports_of c.args.held.now.ports) (ports_of c.make_log_room.new.ports)
-    c.make_log_room.ensures.same p
-
-pub returns-clause-ports : goal.returns-clause-ports
-returns-clause-ports c p =
-    open_changed _ (λ x. refl) c.args.port (ports_of c.carry_out.new.held.ports)
-    (ports_of c.send.new.ports) c.send.ensures p
-    ∙ open_stays c.make_log_room.new.ports c.carry_out.new.held.ports c.carry_out.ensures.logs p
-    ∙ open_same (ports_of c.args.held.now.ports) (ports_of c.make_log_room.new.ports)
-    c.make_log_room.ensures.same p
+    let m : NetlinkMessage = message_of c.args.message.now in
+    let old : List ℕ = c.args.replies.now.items in
+    let text : List ℕ = answer m c.in_ok-errno.errno in
+    subst (λ (after : List ℕ). IsSent c.args.setting.now c.args.port m (world_of c.args.held.now)
+    (world_of c.send_unread.new.held) old after)
+    (sym (c.acknowledge.ensures
+    ∙ ap (λ (xs : List ℕ). xs ++ text) c.in_ok-make_answer_room.ensures.same))
+    (c.in_ok-errno.ensures.sent old)

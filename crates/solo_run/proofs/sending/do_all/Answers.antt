@@ -11,8 +11,8 @@ use Rattle.solo_run.proofs.sending.do_all.Goals as goal
 
 pub do_one-requires-clause-fits : goal.do_one-requires-clause-fits
 do_one-requires-clause-fits g c =
-    All-head IsAsk c.in-Some.ask c.next.new.self
-    (rw c.in-Some.ensures.steps at c.loop-ask.invariant.fit)
+    All-head IsAsk c.in-Some.ask c.take_first.new.self
+    (rw c.in-Some.ensures.first at c.loop-ask.invariant.fit)
 
 pub loop-ask-preserved : goal.loop-ask-preserved
 loop-ask-preserved g c =
@@ -26,15 +26,15 @@ loop-ask-preserved g c =
       going = c.in_ok-do_one.ensures.going;
       made_with = with_both c.args.run.now c.loop-ask.run c.do_one.new.run
           c.loop-ask.invariant.made_with c.in_ok-do_one.ensures.made_with;
-      fit = All-tail IsAsk c.in-Some.ask c.next.new.self
-          (rw c.in-Some.ensures.steps at c.loop-ask.invariant.fit);
+      fit = All-tail IsAsk c.in-Some.ask c.take_first.new.self
+          (rw c.in-Some.ensures.first at c.loop-ask.invariant.fit);
       doing = does_next (g.B.Between.then c.args.between.now s c.args.script.now) s port
           c.args.asks (world_of c.args.run.now) (world_of c.loop-ask.run)
-          (world_of c.do_one.new.run) c.in-Some.ask c.next.new.self
+          (world_of c.do_one.new.run) c.in-Some.ask c.take_first.new.self
           (subst (λ (left : List Ask).
           IsDoing (g.B.Between.then c.args.between.now s c.args.script.now) s port c.args.asks
           (world_of c.args.run.now) left (world_of c.loop-ask.run))
-          c.in-Some.ensures.steps c.loop-ask.invariant.doing)
+          c.in-Some.ensures.first c.loop-ask.invariant.doing)
           c.in_ok-do_one.ensures.leaves
           (subst Does c.loop-ask.invariant.made_with.setting c.in_ok-do_one.ensures.done);
     }
