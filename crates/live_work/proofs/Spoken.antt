@@ -16,7 +16,7 @@ use Rattle.inspector_script.specs.Scripts.{ScriptValue}
 use Rattle.made_runs.specs.Datagrams.{cut_in, messages_in}
 use Rattle.made_runs.specs.Log.{Due, Note, received_count}
 use Rattle.plane.specs.declared.plane.Plane.{Plane}
-use Rattle.place_turns.specs.Messages.{Sends}
+use Rattle.place_turns.specs.Messages.{Sends, SendsUnread}
 use Rattle.plane.specs.Passes.{PortView}
 use Rattle.plane.specs.Planes.{places_of, setting_of}
 use Rattle.place_turns.specs.Trails.{Trail}
@@ -77,25 +77,25 @@ count_sent places s port (Some (m, n)) dids logged old new before after used sen
     ap (λ (l : List Did). received_count l) sent.1.noted ∙ sent_count dids _ _ _
 
 -- also where memory ran out, so that nothing was sent
-pub counted_either : {E : Type 0} (places : ℕ) (s : Setting) (port : ℕ)
+pub counted_unread : {E : Type 0} (places : ℕ) (s : Setting) (port : ℕ)
     (front : Option (NetlinkMessage × ℕ)) (dids logged : List Did) (old new : Trail)
-    (before after : List ℕ) (r : Result ℕ E) →
-    IfOk r (λ used. Sends places s port front dids logged old new before after used) →
+    (r : Result ℕ E) → IfOk r (SendsUnread places s port front dids logged old new) →
     OnErr r (logged ≡ dids) → received_count logged ≡ received_count dids
-counted_either places s port front dids logged old new before after (Ok used) sent none =
-    count_sent places s port front dids logged old new before after used sent
-counted_either places s port front dids logged old new before after (Err e) sent none =
+counted_unread places s port front dids logged old new (Ok used) sent none =
+    count_sent places s port front dids logged old new [] (sent []).0 used (sent []).1
+counted_unread places s port front dids logged old new (Err e) sent none =
     ap (λ (l : List Did). received_count l) none
 
 -- where it was sent
-pub if_sent : {E : Type 0} (places : ℕ) (s : Setting) (port : ℕ)
+pub if_unread : {E : Type 0} (places : ℕ) (s : Setting) (port : ℕ)
     (front : Option (NetlinkMessage × ℕ)) (dids logged : List Did) (old new : Trail)
-    (before after : List ℕ) (r : Result ℕ E) (Q : ℕ → Type 0) →
-    ((used : ℕ) → Sends places s port front dids logged old new before after used → Q used) →
-    IfOk r (λ used. Sends places s port front dids logged old new before after used) →
-    IfOk r Q
-if_sent places s port front dids logged old new before after (Ok used) Q so sent = so used sent
-if_sent places s port front dids logged old new before after (Err e) Q so sent = tt
+    (r : Result ℕ E) (Q : ℕ → Type 0) →
+    ((used : ℕ) (after : List ℕ) →
+    Sends places s port front dids logged old new [] after used → Q used) →
+    IfOk r (SendsUnread places s port front dids logged old new) → IfOk r Q
+if_unread places s port front dids logged old new (Ok used) Q so sent =
+    so used (sent []).0 (sent []).1
+if_unread places s port front dids logged old new (Err e) Q so sent = tt
 
 pub hears_on : (a b c : PortView) → HearsNothing a b → c.receiver ≡ b.receiver →
     received_count c.dids ≡ received_count b.dids → HearsNothing a c

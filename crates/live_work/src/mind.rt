@@ -29,8 +29,6 @@ pub struct Mind {
     pub received: u128,
     /// The text of one request.
     pub text: Vec<u8>,
-    /// The acknowledgement of one message, where it has one. The plane's logs have what it says.
-    pub replies: Vec<u8>,
     /// The memory of one answer. While it is being given, it isn't here.
     pub room: Vec<Ask>,
 }
@@ -71,7 +69,6 @@ pub fn minds(alloc: Global, script: &Script) -> Result<Vec<Mind>, NoMemory>
             machine: PortMachine::new(place as u32),
             received: 0,
             text: Vec::new(alloc),
-            replies: Vec::new(alloc),
             room: Vec::new(alloc),
         })?;
     }

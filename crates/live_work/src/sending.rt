@@ -33,7 +33,6 @@ fn send_all<R: Wait, G: Gate>(
     script: &Script,
     pass: &mut PortPass,
     datagram: &[u8],
-    replies: &mut Vec<u8>,
 ) -> Result<(), NoMemory>
     requires short { length datagram.now < 2 ^ 31 }
     requires pass { IsPortOf plane.now pass.old }
@@ -47,8 +46,8 @@ fn send_all<R: Wait, G: Gate>(
     let mut rest = datagram;
     // Each message uses a byte at least.
     for _look in 0..datagram.len() {
-        replies.clear();
-        let used = plane.message(rt, alloc, pass, gate, rest, replies)?;
+        // Nobody reads the replies: the pass's log has what they would say.
+        let used = plane.message_unread(rt, alloc, pass, gate, rest)?;
         if used == 0 {
             return Ok(());
         }
@@ -80,25 +79,15 @@ fn send_words<R: Wait, G: Gate>(
     a_port_does_what_is_next();
     messages_are_sent_one_by_one();
     datagrams_are_short();
-    let replies = &mut mind.replies;
     match words {
         AskWords::Plain { request } => {
             let call = pass.calls().wrapping_add(1);
             put_text(&mut mind.text, pass.port(), call, &request)?;
             let text = mind.text.as_slice();
-            send_all(rt, alloc, plane, gate, script, pass, text, replies)
+            send_all(rt, alloc, plane, gate, script, pass, text)
         }
         AskWords::Raw { bytes } => {
-            send_all(
-                rt,
-                alloc,
-                plane,
-                gate,
-                script,
-                pass,
-                bytes.as_slice(),
-                replies,
-            )
+            send_all(rt, alloc, plane, gate, script, pass, bytes.as_slice())
         }
     }
 }

@@ -71,6 +71,15 @@ module _ {X Y : Type 0} (R : X → Y → Type 0) where
   zip_put (a ∷ xs) (b ∷ ys) zero x y all is = (is, all.1)
   zip_put (a ∷ xs) (b ∷ ys) (suc i) x y all is = (all.0, zip_put xs ys i x y all.1 is)
 
+  -- where only the first of a pair changes
+  pub zip_keep : (xs : List X) (ys : List Y) (i : ℕ) (d x : X) → AllZip R xs ys →
+      ((y : Y) → R (slice_index_or xs i d) y → R x y) → AllZip R (slice_set xs i x) ys
+  zip_keep [] [] i d x all on = tt
+  zip_keep [] (b ∷ ys) i d x all on = absurd all
+  zip_keep (a ∷ xs) [] i d x all on = absurd all
+  zip_keep (a ∷ xs) (b ∷ ys) zero d x all on = (on b all.0, all.1)
+  zip_keep (a ∷ xs) (b ∷ ys) (suc i) d x all on = (all.0, zip_keep xs ys i d x all.1 on)
+
   pub zip_out : (xs : List X) (ys : List Y) (i : ℕ) → AllZip R xs ys →
       AllZip R (remove xs i) (remove ys i)
   zip_out [] [] zero all = tt

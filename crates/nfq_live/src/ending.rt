@@ -61,9 +61,7 @@ impl Crew {
         parts_stay_whole();
         ports_speak_by_their_passes();
         let pass = &mut self.ports[at];
-        let replies = &mut self.minds[at].replies;
-        replies.clear();
-        plane.message(rt, alloc, pass, gate, datagram, replies)
+        plane.message_unread(rt, alloc, pass, gate, datagram)
     }
 
     /// The port at a place of the script, which ends, sends the messages of some bytes. After each

@@ -75,3 +75,10 @@ Sends places s port None dids logged old new before after used =
     (used ≡ 0) × (new ≡ old) × (logged ≡ dids) × (after ≡ before)
 Sends places s port (Some (m, n)) dids logged old new before after used =
     (used ≡ n) × IsSent places s port m dids logged old new before after
+
+-- the same, where nobody reads what is replied
+abbrev pub SendsUnread : ℕ → Setting → ℕ → Option (NetlinkMessage × ℕ) → List Did → List Did →
+    Trail → Trail → ℕ → Type 0
+SendsUnread places s port first dids logged old new used =
+    (before : List ℕ) → (after : List ℕ)
+    × Sends places s port first dids logged old new before after used

@@ -17,6 +17,6 @@ mod places;
 pub use feeding::feed;
 pub use laws::{passes_keep_their_parts, passes_stay_balanced};
 pub use log::Log;
-pub use messages::message;
+pub use messages::{message, message_unread};
 pub use passes::{Counts, Passes};
 pub use places::Places;

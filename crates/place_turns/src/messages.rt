@@ -1,15 +1,16 @@
 //! Messages of a port.
 
-ghost use Rattle.std.specs.Prelude.{◌≡◌, ◌^◌, ◌<◌, length, IsSome};
+ghost use Rattle.std.specs.Prelude.{◌≡◌, ◌^◌, ◌<◌, ◌++◌, ℕ, List, length, IsSome};
 ghost use Rattle.std.specs.Prelude.{IfOk, OnOk, OnErr};
 ghost use Rattle.std.specs.BTreeMap.{get};
 ghost use Rattle.std.specs.Ordering.{nat_cmp};
+ghost use Rattle.netlink_codec.specs.Acknowledgements.{answer};
 ghost use Rattle.netlink_codec.specs.Messages.{message_of, first_message};
 ghost use Rattle.nfqa_msgs.specs.RequestReading.{AskedFits};
 ghost use Rattle.place_turns.specs.Passes.{AreOf};
 ghost use Rattle.place_turns.specs.Places.{places_of, setting_of, outlets_of};
 ghost use Rattle.place_turns.specs.Trails.{MayLook};
-ghost use Rattle.place_turns.specs.Messages.{CarriesOut, IsSent, Sends};
+ghost use Rattle.place_turns.specs.Messages.{CarriesOut, IsSent, Sends, SendsUnread};
 
 use crate::asking::ask;
 use crate::log::Log;
@@ -20,7 +21,7 @@ use locked_place::Gate;
 use netlink_codec::{Message, next_message};
 use nfqa_msgs::{Decoded, decode_request};
 use packet_entry::NoMemory;
-use packet_moves::{acknowledge, make_answer_room, words_of};
+use packet_moves::{acknowledge, due, make_answer_room, words_of};
 use std::alloc::Global;
 use std::sync::Wait;
 
@@ -88,6 +89,38 @@ pub fn message<R: Wait, G: Gate>(
     }
 }
 
+/// As [`message`] does, where nobody reads the replies: none is made.
+pub fn message_unread<R: Wait, G: Gate>(
+    places: &Places,
+    rt: &R,
+    alloc: Global,
+    gate: &G,
+    passes: &mut Passes,
+    log: &mut Log,
+    port: u32,
+    datagram: &[u8],
+) -> Result<u32, NoMemory>
+    requires short { length datagram.now < 2 ^ 31 }
+    requires port { IsSome (get nat_cmp (outlets_of places.now).mailboxes port) }
+    requires room { 0 < log.old.dids.room }
+    requires of { AreOf places.now passes.old.locks passes.old.trail.known }
+    ensures of { AreOf places.now passes.new.locks passes.new.trail.known }
+    ensures room { 0 < log.new.dids.room }
+    ensures sent { IfOk result (SendsUnread (places_of places.now) (setting_of places.now) port
+        (first_message datagram.now) log.old.dids.items log.new.dids.items
+        passes.old.trail passes.new.trail) }
+    ensures looked { OnErr result (MayLook passes.old.trail passes.new.trail) }
+    ensures same { OnErr result (log.new.dids.items ≡ log.old.dids.items) }
+{
+    match next_message(datagram) {
+        Some((message, used)) => {
+            let _errno = send_unread(places, rt, alloc, gate, passes, log, port, &message)?;
+            Ok(used as u32)
+        }
+        None => Ok(0),
+    }
+}
+
 /// The place of the queue that a message asks something of.
 fn asked_place(places: &Places, decoded: &Decoded) -> Option<u8> {
     match decoded {
@@ -122,17 +155,44 @@ fn send<R: Wait, G: Gate>(
     ensures same { OnErr result (log.new.dids.items ≡ log.old.dids.items) }
     ensures none_answered { OnErr result (replies.new.items ≡ replies.old.items) }
 {
+    make_answer_room(message, replies)?;
+    let errno = send_unread(places, rt, alloc, gate, passes, log, port, message)?;
+    acknowledge(message, errno, replies);
+    Ok(())
+}
+
+/// A port sends a message: it is carried out and logged. This is its errno.
+fn send_unread<R: Wait, G: Gate>(
+    places: &Places,
+    rt: &R,
+    alloc: Global,
+    gate: &G,
+    passes: &mut Passes,
+    log: &mut Log,
+    port: u32,
+    message: &Message<'_>,
+) -> Result<u16, NoMemory>
+    requires port { IsSome (get nat_cmp (outlets_of places.now).mailboxes port) }
+    requires room { 0 < log.old.dids.room }
+    requires of { AreOf places.now passes.old.locks passes.old.trail.known }
+    ensures of { AreOf places.now passes.new.locks passes.new.trail.known }
+    ensures room { 0 < log.new.dids.room }
+    ensures sent { IfOk result (λ errno. (before : List ℕ) →
+        IsSent (places_of places.now) (setting_of places.now) port (message_of message.now)
+        log.old.dids.items log.new.dids.items passes.old.trail passes.new.trail
+        before (before ++ answer (message_of message.now) errno)) }
+    ensures looked { OnErr result (MayLook passes.old.trail passes.new.trail) }
+    ensures same { OnErr result (log.new.dids.items ≡ log.old.dids.items) }
+{
     let decoded = decode_request(alloc, message)?;
     let place = asked_place(places, &decoded);
     let call = log.next_call();
     let words = words_of(alloc, port, call, message.whole, &decoded)?;
     log.make_room()?;
-    make_answer_room(message, replies)?;
     let errno = carry_out(places, rt, alloc, gate, passes, port, call, decoded)?;
-    let answer = acknowledge(message, errno, replies);
-    log.send(words, answer);
+    log.send(words, due(message, errno));
     if let Some(place) = place {
         gate.answered(place);
     }
-    Ok(())
+    Ok(errno)
 }

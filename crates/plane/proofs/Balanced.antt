@@ -14,7 +14,7 @@ use Rattle.packet_moves.specs.declared.setting.Setting.{Setting}
 use Rattle.place_rows.specs.Shares.{IsBalanced}
 use Rattle.place_turns.specs.Trails.{Trail, MayLook}
 use Rattle.place_turns.specs.Moving.{IsFed}
-use Rattle.place_turns.specs.Messages.{Sends}
+use Rattle.place_turns.specs.Messages.{Sends, SendsUnread}
 use Rattle.histories.specs.Logs.{is_received}
 
 -- what the law says of feeding, of messages and of looks
@@ -85,6 +85,14 @@ message_logged places s port front dids logged received old new before after (Ok
     sends_logged places s port front dids logged received old new before after used sent is
 message_logged places s port front dids logged received old new before after (Err e) sent same is =
     ap (filter is_received) same ∙ is
+
+-- what is sent where nobody reads the replies is sent with some replies
+pub some_replies : (places : ℕ) (s : Setting) (port : ℕ) (front : Option (NetlinkMessage × ℕ))
+    (dids logged : List Did) (old new : Trail) (r : Result ℕ NoMemory) →
+    IfOk r (SendsUnread places s port front dids logged old new) →
+    (after : List ℕ) × IfOk r (Sends places s port front dids logged old new [] after)
+some_replies places s port front dids logged old new (Ok used) sent = ((sent []).0, (sent []).1)
+some_replies places s port front dids logged old new (Err e) sent = ([], tt)
 
 -- ---- closing
 

@@ -36,7 +36,7 @@ impl Plane {
     ghost use Rattle.plane.specs.Planes.{places_of, setting_of};
     ghost use Rattle.place_turns.specs.Trails.{MayLook, parts_of};
     ghost use Rattle.place_turns.specs.Moving.{IsFed};
-    ghost use Rattle.place_turns.specs.Messages.{Sends};
+    ghost use Rattle.place_turns.specs.Messages.{Sends, SendsUnread};
     ghost use Rattle.packet_moves.specs.OnTheWay.{HandsBack};
     ghost use Rattle.plane.specs.Passes.{IsFeederOf, IsPortOf, Receives, Closes};
 
@@ -118,6 +118,42 @@ impl Plane {
             pass.port,
             datagram,
             replies,
+        )
+    }
+
+    /// As [`message`](Plane::message) does, where nobody reads the replies: none is made, and no
+    /// memory is taken for it.
+    pub fn message_unread<R: Wait, G: Gate>(
+        &self,
+        rt: &R,
+        alloc: Global,
+        pass: &mut PortPass,
+        gate: &G,
+        datagram: &[u8],
+    ) -> Result<u32, NoMemory>
+        requires pass { IsPortOf self.now pass.old }
+        requires short { length datagram.now < 2 ^ 31 }
+        ensures pass { IsPortOf self.now pass.new }
+        ensures sent { IfOk result (SendsUnread (places_of self.now) (setting_of self.now)
+            pass.old.port (first_message datagram.now) pass.old.dids pass.new.dids
+            pass.old.trail pass.new.trail) }
+        ensures receiver { (pass.new.receiver ≡ pass.old.receiver)
+            × (pass.new.port ≡ pass.old.port) }
+        ensures looked { OnErr result (MayLook pass.old.trail pass.new.trail) }
+        ensures none_logged { OnErr result (pass.new.dids ≡ pass.old.dids) }
+        ensures parts { parts_of pass.new.trail.known ≡ parts_of pass.old.trail.known }
+    {
+        passes_stay_balanced();
+        passes_keep_their_parts();
+        place_turns::message_unread(
+            &self.shared,
+            rt,
+            alloc,
+            gate,
+            &mut pass.passes,
+            &mut pass.log,
+            pass.port,
+            datagram,
         )
     }
 

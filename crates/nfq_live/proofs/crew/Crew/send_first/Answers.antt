@@ -1,4 +1,4 @@
-use Rattle.std.proofs.Common.{◌∙◌, ◌++◌, refl, sym}
+use Rattle.std.proofs.Common.{[], ◌∙◌, ◌++◌, refl, subst, sym}
 use Rattle.std.specs.Prelude.{slice_index_or, slice_set}
 use Rattle.netlink_codec.specs.Messages.{first_message}
 use Rattle.plane.specs.Passes.{PortView}
@@ -10,13 +10,13 @@ use Rattle.nfq_live.proofs.EndsAt.{says_first}
 use Rattle.nfq_live.proofs.Going.{goes_on_at}
 use Rattle.live_work.proofs.Kept.{port_here}
 use Rattle.live_work.proofs.Minded.{mind_stays}
-use Rattle.nfq_live.proofs.Numbering.{its_number, zip_put}
-use Rattle.nfq_live.proofs.Onward.{mind_there, port_there}
-use Rattle.live_work.proofs.Spoken.{counted_either, if_sent, speaks}
+use Rattle.nfq_live.proofs.Numbering.{its_number, zip_keep}
+use Rattle.nfq_live.proofs.Onward.{port_there}
+use Rattle.live_work.proofs.Spoken.{counted_unread, if_unread, speaks}
 use Rattle.nfq_live.proofs.crew.Crew.send_first.Goals as goal
 
-pub message-requires-clause-pass : goal.message-requires-clause-pass
-message-requires-clause-pass g c κs within =
+pub message_unread-requires-clause-pass : goal.message_unread-requires-clause-pass
+message_unread-requires-clause-pass g c κs within =
     port_there c.args.plane.now c.args.self.now c.args.at c.index_mut-pass.result.now
     c.requires.crew c.requires.within c.index_mut-pass.ensures.value
 
@@ -24,12 +24,12 @@ pub returns-clause-crew : goal.returns-clause-crew
 returns-clause-crew g c =
     let goes = goes_on_at c.args.plane.now c.args.self.now.feeding.pass
     c.args.self.now.closed.items c.parts_stay_whole.ensures c.args.self.now.ports.items c.args.at
-    c.index_mut-pass.result.now c.message.new.pass c.requires.within
+    c.index_mut-pass.result.now c.message_unread.new.pass c.requires.within
     c.index_mut-pass.ensures.value c.requires.crew.all
     (record {
-      of = c.message.ensures.pass;
-      port = c.message.ensures.receiver.1;
-      parts = c.message.ensures.parts;
+      of = c.message_unread.ensures.pass;
+      port = c.message_unread.ensures.receiver.1;
+      parts = c.message_unread.ensures.parts;
     }) in
     record { all = goes.all; looks = c.requires.crew.looks }
 
@@ -37,64 +37,62 @@ pub returns-clause-minds : goal.returns-clause-minds
 returns-clause-minds g c = λ script minds.
     let crew = c.args.self.now in
     let old = c.index_mut-pass.result.now in
-    let new = c.message.new.pass in
-    let mind = c.index_mut.result.now in
-    zip_put (IsMind script) crew.ports.items crew.minds.items c.args.at new
-    (record mind { replies = c.message.new.replies }) minds
-    (mind_stays script old new mind (record mind { replies = c.message.new.replies })
-    (mind_there script crew c.args.at old mind minds c.requires.within
-    c.index_mut-pass.ensures.value c.index_mut.ensures.value)
+    let new = c.message_unread.new.pass in
+    zip_keep (IsMind script) crew.ports.items crew.minds.items c.args.at old new minds
+    (λ mind was. mind_stays script old new mind mind
+    (subst (λ (p : PortView). IsMind script p mind) (sym c.index_mut-pass.ensures.value) was)
     (record {
-      receiver = c.message.ensures.receiver.0;
-      counted = counted_either (places_of c.args.plane.now) (setting_of c.args.plane.now) old.port
-          (first_message c.args.datagram.now) old.dids new.dids old.trail new.trail _ _
-          c.message.result c.message.ensures.sent c.message.ensures.none_logged;
-    }) c.message.ensures.receiver.1 refl refl)
+      receiver = c.message_unread.ensures.receiver.0;
+      counted = counted_unread (places_of c.args.plane.now) (setting_of c.args.plane.now) old.port
+          (first_message c.args.datagram.now) old.dids new.dids old.trail new.trail
+          c.message_unread.result c.message_unread.ensures.sent
+          c.message_unread.ensures.none_logged;
+    }) c.message_unread.ensures.receiver.1 refl refl)
 
 pub returns-clause-sent : goal.returns-clause-sent
 returns-clause-sent g c =
     let goes = goes_on_at c.args.plane.now c.args.self.now.feeding.pass
     c.args.self.now.closed.items c.parts_stay_whole.ensures c.args.self.now.ports.items c.args.at
-    c.index_mut-pass.result.now c.message.new.pass c.requires.within
+    c.index_mut-pass.result.now c.message_unread.new.pass c.requires.within
     c.index_mut-pass.ensures.value c.requires.crew.all
     (record {
-      of = c.message.ensures.pass;
-      port = c.message.ensures.receiver.1;
-      parts = c.message.ensures.parts;
+      of = c.message_unread.ensures.pass;
+      port = c.message_unread.ensures.receiver.1;
+      parts = c.message_unread.ensures.parts;
     }) in
     let crew = c.args.self.now in
     let places = places_of c.args.plane.now in
     let front = first_message c.args.datagram.now in
     let old = c.index_mut-pass.result.now in
-    let new = c.message.new.pass in
+    let new = c.message_unread.new.pass in
     let news = slice_set crew.ports.items c.args.at new in
-    if_sent places (setting_of c.args.plane.now) old.port front old.dids new.dids old.trail
-    new.trail _ _ c.message.result
+    if_unread places (setting_of c.args.plane.now) old.port front old.dids new.dids old.trail
+    new.trail c.message_unread.result
     (λ used. (d : PortView) → SpeaksFirst places
     (slice_index_or crew.ports.items c.args.at d).port front
     (passes_in crew.feeding.pass (crew.ports.items ++ crew.closed.items)
     (slice_index_or crew.ports.items c.args.at d).port)
     (passes_in crew.feeding.pass (news ++ crew.closed.items)
     (slice_index_or crew.ports.items c.args.at d).port) used)
-    (λ used sent d.
+    (λ used after sent d.
     says_first c.args.plane.now places (slice_index_or crew.ports.items c.args.at d).port front
     crew.feeding.pass crew.ports.items news crew.closed.items old new used goes
     (its_number crew.ports.items c.args.at d old c.requires.within c.index_mut-pass.ensures.value)
-    (speaks c.ports_speak_by_their_passes.ensures.sends c.args.plane.now front old old new _ _ used
+    (speaks c.ports_speak_by_their_passes.ensures.sends c.args.plane.now front old old new [] after used
     (port_here c.args.plane.now old
     (port_there c.args.plane.now crew c.args.at old c.requires.crew c.requires.within
-    c.index_mut-pass.ensures.value)) sent c.message.ensures.receiver.0)) c.message.ensures.sent
+    c.index_mut-pass.ensures.value)) sent c.message_unread.ensures.receiver.0)) c.message_unread.ensures.sent
 
 pub returns-clause-others : goal.returns-clause-others
 returns-clause-others g c = λ d.
     let goes = goes_on_at c.args.plane.now c.args.self.now.feeding.pass
     c.args.self.now.closed.items c.parts_stay_whole.ensures c.args.self.now.ports.items c.args.at
-    c.index_mut-pass.result.now c.message.new.pass c.requires.within
+    c.index_mut-pass.result.now c.message_unread.new.pass c.requires.within
     c.index_mut-pass.ensures.value c.requires.crew.all
     (record {
-      of = c.message.ensures.pass;
-      port = c.message.ensures.receiver.1;
-      parts = c.message.ensures.parts;
+      of = c.message_unread.ensures.pass;
+      port = c.message_unread.ensures.receiver.1;
+      parts = c.message_unread.ensures.parts;
     }) in
     record {
       alone = record { numbers = goes.numbers; closed = refl; feeding = refl };
