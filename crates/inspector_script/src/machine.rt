@@ -98,9 +98,7 @@ impl PortMachine {
         // Where no line answers, no memory is taken.
         ensures unanswered { IsUnansweredAs script.now self.now.place n notice.now → IsOk result }
     {
-        script
-            .block(self.place)
-            .answer(Vec::new(alloc), n, notice)
+        script.block(self.place).answer(Vec::new(alloc), n, notice)
     }
 
     /// Counts the notice, and says what it asks for in answer: what `answer_as` says of it with the
