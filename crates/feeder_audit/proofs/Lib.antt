@@ -1,0 +1,7 @@
+pub mod Fitting
+pub mod Items
+pub mod Going
+pub mod Places
+pub mod Rising
+pub mod Queues
+pub mod Walking

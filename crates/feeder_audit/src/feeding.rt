@@ -1,0 +1,91 @@
+//! All queues' histories, gone over.
+
+ghost use Rattle.std.specs.Prelude.{◌≡◌, ◌↔◌, IsTrue, OnOk, IfOk};
+ghost use Rattle.std.specs.BTreeMap.{get};
+ghost use Rattle.std.specs.Ordering.{nat_cmp};
+ghost use Rattle.histories.specs.History as history;
+ghost use Rattle.made_runs.specs.Feeder as feeder;
+ghost use Rattle.feeder_audit.specs.Fitting as fitting;
+ghost use Rattle.feeder_audit.specs.Queues as kept;
+
+use crate::fed::Fed;
+use crate::lines::downs_in_effect;
+use histories::{Entries, Entry, a_legal_history_goes_on, an_entry_is_of_its_queue_alone};
+use inspector_script::Script;
+use made_runs::one_feeder_feeds_all;
+use packet_entry::NoMemory;
+use script_lines::Down;
+use std::alloc::Global;
+use std::collections::BTreeMap;
+
+/// Histories by the queue's number; those without an entry aren't kept.
+type Queues = BTreeMap<u16, Fed>;
+
+/// Whether each queue's history was fed by one feeder with so many frames, and with the `down`
+/// lines of the script.
+///
+/// The entries may stand in any order of their queues. `NoMemory` comes only where memory runs out.
+pub fn is_fed(
+    alloc: Global,
+    script: &Script,
+    frames: u32,
+    entries: &Entries,
+) -> Result<bool, NoMemory>
+    requires { history.AreLegal entries.now }
+    ensures { IfOk result (λ is. IsTrue is ↔ feeder.AreFed 1 script.now frames entries.now) }
+{
+    one_feeder_feeds_all();
+    let downs = downs_in_effect(alloc, script, frames)?;
+    let queues = follow_all(alloc, &downs, entries)?;
+    Ok(are_whole(&downs, queues))
+}
+
+/// Goes over all entries.
+fn follow_all(alloc: Global, downs: &[Down], entries: &Entries) -> Result<Queues, NoMemory>
+    requires legal { history.AreLegal entries.now }
+    requires lines { fitting.Rises 0 downs.now }
+    ensures { IfOk result (kept.AreGoneOver downs.now entries.now) }
+{
+    an_entry_is_of_its_queue_alone();
+    a_legal_history_goes_on();
+    let mut queues = BTreeMap::new(alloc);
+    for entry in entries {
+        follow(alloc, downs, entry, &mut queues)?;
+    }
+    Ok(queues)
+}
+
+/// Goes over the next entry of all, which is a step of its queue.
+fn follow(
+    alloc: Global,
+    downs: &[Down],
+    entry: &Entry,
+    queues: &mut Queues,
+) -> Result<(), NoMemory>
+    requires lines { fitting.Rises 0 downs.now }
+    requires kept { kept.IsKeptIn downs.now (get nat_cmp queues.old entry.now.queue) }
+    requires step { history.IsStep (kept.queue_in (get nat_cmp queues.old entry.now.queue))
+        entry.now }
+    ensures { OnOk result (kept.FollowsIn downs.now queues.old queues.new entry.now) }
+{
+    if !queues.contains_key(&entry.queue) {
+        queues.insert(entry.queue, Fed::new())?;
+    }
+    let Some(fed) = queues.get_mut(&entry.queue) else {
+        unreachable!()
+    };
+    fed.follow(alloc, downs, entry)
+}
+
+/// Whether all lines can be put into each history.
+fn are_whole(downs: &[Down], queues: Queues) -> bool
+    requires { kept.AreKept downs.now queues }
+    ensures { IsTrue result ↔ kept.AreWhole downs.now queues }
+{
+    for (_, fed) in queues {
+        if !fed.is_whole(downs) {
+            return false;
+        }
+    }
+    true
+}
