@@ -33,8 +33,11 @@ first_late : (es : List Entry) (q : Option Bound) (u : ℕ) (d : Down) (ds : Lis
     Fits q u (d ∷ ds) es → u ≤ falling_time d.after
 first_late [] q u d ds fits = fits.1
 first_late (e ∷ es) q u d ds (inl was) =
-    omega (arith, last_late u (times_of_event e.event) was.1,
-    first_late es (step q e.event).state (last_of u (times_of_event e.event)) d ds was.2)
+    omega (
+      arith,
+      last_late u (times_of_event e.event) was.1,
+      first_late es (step q e.event).state (last_of u (times_of_event e.event)) d ds was.2,
+    )
 first_late (e ∷ es) q u d ds (inr (inl fell)) = fell.1
 first_late (e ∷ es) q u d ds (inr (inr pass)) = pass.1
 

@@ -163,7 +163,7 @@ module _ (downs : List Down) (old new : Fed) (e : Entry) (kept : IsKept downs ol
     };
     goes = λ es fits.
         let fed = feed_goes old.queue e es n plain times old.time rest (row_of old.ways) opened
-            kept.rises fits in
+        kept.rises fits in
         fits_as next next (feeding_time n + 1) new.time es (drop k rest) (drop new.placed downs)
         (only can) (row_of new.ways) refl (sym feeds.time) (sym lines) (sym feeds.row)
         (here next (feeding_time n + 1) es (drop k rest) (only can)
@@ -171,8 +171,8 @@ module _ (downs : List Down) (old new : Fed) (e : Entry) (kept : IsKept downs ol
         (le-leb old.time (feeding_time n) fed.0) fed.1) fed.2);
     came = λ es fits.
         let fed = only_here next (feeding_time n + 1) es (drop k rest) can
-            (fits_as next next new.time (feeding_time n + 1) es (drop new.placed downs)
-            (drop k rest) (row_of new.ways) (only can) refl feeds.time lines feeds.row fits) in
+        (fits_as next next new.time (feeding_time n + 1) es (drop new.placed downs)
+        (drop k rest) (row_of new.ways) (only can) refl feeds.time lines feeds.row fits) in
         let are = both (nat_le old.time (feeding_time n)) (row_of old.ways k) fed.0 in
         feed_came old.queue e es n plain times old.time rest (row_of old.ways)
         (leb-true old.time (feeding_time n) are.0, are.1, fed.1);
@@ -187,6 +187,9 @@ module _ (downs : List Down) (old new : Fed) (e : Entry) (kept : IsKept downs ol
       lines : drop new.placed downs ≡ drop k rest
       lines = ap (λ m. drop m downs) feeds.placed ∙ sym (drop-drop k old.placed downs)
 
+counted : (row : Row) (k : ℕ) → row k ≡ row (0 + k)
+counted row k = ap row (let same : k ≡ 0 + k = omega arith in same)
+
 -- a device goes down at a bound queue
 down_goes : (q : Option Bound) → IsSome q → (e : Entry) (es : List Entry) (device t : ℕ)
     (ds : List Down) (row : Row) → e.event ≡ DeviceDown device → FitsBy q t (e ∷ es) ds row →
@@ -194,7 +197,7 @@ down_goes : (q : Option Bound) → IsSome q → (e : Entry) (es : List Entry) (d
 down_goes None some e es device t ds row is fits = absurd (let wrong : false ≡ true = some in cc)
 down_goes (Some b) some e es device t ds row is fits =
     to_rest ds (flag_at (fallen device ds row 0))
-    (fall_goes b e es device is t ds row row 0 (λ k. refl) fits)
+    (fall_goes b e es device is t ds row row 0 (counted row) fits)
   where
     to_rest : (cs : List Down) (r : Row) → FellTo (step (Some b) e.event).state es cs r →
         FitsBy (step (Some b) e.event).state (first_time t cs) es (drop 1 cs) r
@@ -209,7 +212,7 @@ down_came None some e es device t ds row is rises fits = absurd (let wrong : fal
 down_came (Some b) some e es device t [] row is rises fits =
     absurd (no_way (step (Some b) e.event).state t es [] (flag_at []) (λ k within. refl) fits)
 down_came (Some b) some e es device t (d ∷ ds) row is rises fits =
-    fall_came b e es device is t (d ∷ ds) row row 0 (λ k. refl) rises fits
+    fall_came b e es device is t (d ∷ ds) row row 0 (counted row) rises fits
 
 rises_first : (t : ℕ) (ds : List Down) → Rises t ds → Rises (first_time t ds) (drop 1 ds)
 rises_first t [] rises = tt

@@ -58,11 +58,11 @@ module _ (q : Option Bound) (t : ℕ) (ds : List Down) where
       AscendFrom t (times_of_event e.event) →
       IsFedFrom (step q e.event).state (last_of t (times_of_event e.event)) ds es →
       IsFedFrom q t ds (e ∷ es)
-  with_was e es no ascend fed = record {
+  with_was e es plain ascend fed = record {
     items = Was e ∷ fed.items;
     entries = ap (λ fs. e ∷ fs) fed.entries;
     lines = fed.lines;
-    each = (no, fed.each);
+    each = (plain, fed.each);
     times = ascend_both t (times_of_event e.event) (flat_map times_of fed.items) ascend fed.times;
   }
 

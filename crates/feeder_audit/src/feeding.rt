@@ -1,9 +1,10 @@
 //! All queues' histories, gone over.
 
-ghost use Rattle.std.specs.Prelude.{◌≡◌, ◌↔◌, IsTrue, OnOk, IfOk};
+ghost use Rattle.std.specs.Prelude.{◌<◌, ◌↔◌, IsTrue, OnOk, IfOk};
 ghost use Rattle.std.specs.BTreeMap.{get};
 ghost use Rattle.std.specs.Ordering.{nat_cmp};
 ghost use Rattle.histories.specs.History as history;
+ghost use Rattle.histories.specs.Numbers.{queue_count};
 ghost use Rattle.made_runs.specs.Feeder as feeder;
 ghost use Rattle.feeder_audit.specs.Fitting as fitting;
 ghost use Rattle.feeder_audit.specs.Queues as kept;
@@ -50,18 +51,19 @@ fn follow_all(alloc: Global, downs: &[Down], entries: &Entries) -> Result<Queues
     a_legal_history_goes_on();
     let mut queues = BTreeMap::new(alloc);
     for entry in entries {
+        number_is_short(entry.queue);
         follow(alloc, downs, entry, &mut queues)?;
     }
     Ok(queues)
 }
 
+/// A queue's number is of 16 bits.
+fn number_is_short(queue: u16)
+    ensures { queue < queue_count }
+{}
+
 /// Goes over the next entry of all, which is a step of its queue.
-fn follow(
-    alloc: Global,
-    downs: &[Down],
-    entry: &Entry,
-    queues: &mut Queues,
-) -> Result<(), NoMemory>
+fn follow(alloc: Global, downs: &[Down], entry: &Entry, queues: &mut Queues) -> Result<(), NoMemory>
     requires lines { fitting.Rises 0 downs.now }
     requires kept { kept.IsKeptIn downs.now (get nat_cmp queues.old entry.now.queue) }
     requires step { history.IsStep (kept.queue_in (get nat_cmp queues.old entry.now.queue))
