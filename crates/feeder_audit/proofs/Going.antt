@@ -2,6 +2,7 @@
 use Rattle.std.proofs.Common.{◌≡◌, ◌≤◌, ℕ, ◌+◌, ◌-◌, List, [], ◌∷◌, length, drop, Option, Some, None}
 use Rattle.std.proofs.Common.{Bool, true, false, cond, refl, sym, ap, ◌∙◌, subst, arith, drop-drop}
 use Rattle.std.proofs.Common.{length-drop}
+use Rattle.std.proofs.Math.Path.{fun_ext}
 use Rattle.std.specs.Prelude.{◌==◌, ◌↔◌, ◌&&◌, IsSome, IsTrue, is_none, nat_le}
 use Rattle.std.proofs.lemmas.Bool.{leb-true, le-leb, and_from}
 use Rattle.queue_core.specs.State.{Bound}
@@ -224,7 +225,8 @@ falls_on : (downs : List Down) (old new : Fed) (e : Entry) (device : ℕ) → Is
 falls_on downs old new e device kept some is falls =
     let rest : List Down = drop old.placed downs in
     let next : Option Bound = (step old.queue e.event).state in
-    let flags : Row = flag_at (fallen device rest (row_of old.ways) 0) in record {
+    let flags : Row = flag_at (fallen device rest (row_of old.ways) 0) in
+    let row : row_of new.ways ≡ flags = fun_ext falls.row in record {
       queue = falls.queue;
       kept = record {
         within = falls.within;
@@ -234,12 +236,12 @@ falls_on downs old new e device kept some is falls =
       };
       goes = λ es fits. fits_as next next (first_time old.time rest) new.time es (drop 1 rest)
           (drop new.placed downs) flags (row_of new.ways) refl (sym falls.time) (sym falls.left)
-          (sym falls.row)
+          (sym row)
           (down_goes old.queue some e es device old.time rest (row_of old.ways) is fits);
       came = λ es fits. down_came old.queue some e es device old.time rest (row_of old.ways) is
           kept.rises
           (fits_as next next new.time (first_time old.time rest) es (drop new.placed downs)
-          (drop 1 rest) (row_of new.ways) flags refl falls.time falls.left falls.row fits);
+          (drop 1 rest) (row_of new.ways) flags refl falls.time falls.left row fits);
     }
 
 pub moves_on : (downs : List Down) (old new : Fed) (e : Entry) (event : Event) → e.event ≡ event →

@@ -1,5 +1,5 @@
 -- For proofs alone: whether `down` lines can be put into what is left of a queue's history.
-use Rattle.std.specs.Prelude.{◌≡◌, ◌≤◌, ◌⊎◌, ℕ, zero, suc, List, [], ◌∷◌, Option, None, Bool, true}
+use Rattle.std.specs.Prelude.{◌≡◌, ◌≤◌, ◌<◌, ◌^◌, ◌⊎◌, ℕ, zero, suc, List, [], ◌∷◌, Option, None, Bool, true}
 use Rattle.queue_core.specs.State.{Bound}
 use Rattle.queue_core.specs.Step.{step}
 use Rattle.queue_core.specs.declared.event.Event.TheVariants.{DeviceDown}
@@ -63,3 +63,8 @@ abbrev pub time_at : ℕ → List Down → ℕ → ℕ
 time_at t ds zero = t
 time_at t [] (suc k) = t
 time_at t (d ∷ ds) (suc k) = time_at (falling_time d.after) ds k
+
+-- the numbers of these lines' frames are of 32 bits
+abbrev pub AreShort : List Down → Type 0
+AreShort [] = Unit {0}
+AreShort (d ∷ ds) = (d.after < 2 ^ 32) × AreShort ds

@@ -48,6 +48,10 @@ fallen device [] row at = []
 fallen device (d ∷ ds) row at =
     ((d.device == device) && row at) ∷ fallen device ds row (at + 1)
 
+abbrev pub IsFallen : ℕ → List Down → Row → Ways → Type 0
+IsFallen device ds row ways =
+    (k : ℕ) → row_of ways k ≡ flag_at (fallen device ds row 0) k
+
 abbrev pub first_time : ℕ → List Down → ℕ
 first_time t [] = t
 first_time t (d ∷ ds) = falling_time d.after
@@ -114,7 +118,7 @@ pub record Falls (downs : List Down) (device : ℕ) (old new : Fed) : Type 0 whe
   pub left : drop new.placed downs ≡ drop 1 (drop old.placed downs)
   pub within : new.placed ≤ length downs
   pub time : new.time ≡ first_time old.time (drop old.placed downs)
-  pub row : row_of new.ways ≡ flag_at (fallen device (drop old.placed downs) (row_of old.ways) 0)
+  pub row : IsFallen device (drop old.placed downs) (row_of old.ways) new.ways
 
 abbrev pub FeedsIf : Bool → List Down → ℕ → Fed → Fed → Type 0
 FeedsIf true downs number old new = Feeds downs number old new

@@ -135,7 +135,7 @@ impl Fed {
         let left = &downs[self.placed..];
         match left.first() {
             Some(first) => {
-                self.ways = Ways::These(self.ways.fallen(alloc, device, left)?);
+                self.ways = self.ways.fallen(alloc, device, left)?;
                 self.time = falling_time(first.after);
                 self.placed += 1;
             }

@@ -29,7 +29,7 @@ type Queues = BTreeMap<u16, Fed>;
 pub fn is_fed(
     alloc: Global,
     script: &Script,
-    frames: u32,
+    frames: usize,
     entries: &Entries,
 ) -> Result<bool, NoMemory>
     requires { history.AreLegal entries.now }

@@ -1,6 +1,6 @@
 //! The `down` lines that take effect, and when.
 
-ghost use Rattle.std.specs.Prelude.{◌≡◌, ◌≤◌, ◌++◌, length, OnOk, IfOk};
+ghost use Rattle.std.specs.Prelude.{◌≡◌, ◌≤◌, ◌<◌, ◌^◌, ◌++◌, length, OnOk, IfOk};
 ghost use Rattle.made_runs.specs.Feeder as feeder;
 ghost use Rattle.port_scripts.specs.Downs.{lines_after};
 ghost use Rattle.feeder_audit.specs.Fitting as fitting;
@@ -16,18 +16,39 @@ use std::alloc::Global;
 pub(crate) fn downs_in_effect(
     alloc: Global,
     script: &Script,
-    frames: u32,
+    frames: usize,
 ) -> Result<Vec<Down>, NoMemory>
     ensures { IfOk result (λ downs. downs.items ≡ feeder.downs_in_effect script.now frames) }
 {
+    lines_are_short(script);
+    downs_up_to(alloc, script, frames.min(u32::MAX as usize) as u32)
+}
+
+/// The lines after frames up to this one, frame by frame.
+fn downs_up_to(alloc: Global, script: &Script, last: u32) -> Result<Vec<Down>, NoMemory>
+    ensures { IfOk result (λ downs. downs.items ≡ feeder.downs_in_effect script.now last) }
+{
     let by_frame = downs_by_frame(alloc, script)?;
     let mut downs = Vec::new(alloc);
-    for number in 0..frames {
+    for number in 0..last {
         push_after(&by_frame, number, &mut downs)?;
     }
-    push_after(&by_frame, frames, &mut downs)?;
+    push_after(&by_frame, last, &mut downs)?;
     Ok(downs)
 }
+
+/// No line stands after a frame whose number takes more than 32 bits.
+fn lines_are_short(script: &Script)
+    ensures { fitting.AreShort script.now.downs }
+{
+    for down in script.downs() {
+        number_is_short(down.after);
+    }
+}
+
+fn number_is_short(number: u32)
+    ensures { number < 2 ^ 32 }
+{}
 
 /// Appends the lines after this frame.
 fn push_after(by_frame: &DownsByFrame, number: u32, downs: &mut Vec<Down>) -> Result<(), NoMemory>

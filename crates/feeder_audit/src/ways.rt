@@ -1,6 +1,6 @@
 //! How many further `down` lines can have been put into a history so far.
 
-ghost use Rattle.std.specs.Prelude.{◌≡◌, MatchOption, IfOk};
+ghost use Rattle.std.specs.Prelude.{◌≡◌, true, MatchOption, IfOk};
 ghost use Rattle.feeder_audit.specs.Rows as rows;
 
 use packet_entry::NoMemory;
@@ -64,12 +64,19 @@ impl Ways {
 
     /// The numbers behind the first of these lines, once this device went down: by that line or by
     /// one behind it.
-    pub(crate) fn fallen(
-        &self,
-        alloc: Global,
-        device: u32,
-        left: &[Down],
-    ) -> Result<Vec<bool>, NoMemory>
+    pub(crate) fn fallen(&self, alloc: Global, device: u32, left: &[Down]) -> Result<Ways, NoMemory>
+        ensures { IfOk result (rows.IsFallen device left.now (rows.row_of self.now)) }
+    {
+        match self {
+            Ways::Nowhere => Ok(Ways::Nowhere),
+            Ways::Here => Ok(by_first(device, left)),
+            Ways::FromHere => Ok(Ways::These(self.flags(alloc, device, left)?)),
+            Ways::These(_) => Ok(Ways::These(self.flags(alloc, device, left)?)),
+        }
+    }
+
+    /// The same as flags, one for each line.
+    fn flags(&self, alloc: Global, device: u32, left: &[Down]) -> Result<Vec<bool>, NoMemory>
         ensures { IfOk result (λ flags.
             flags.items ≡ rows.fallen device left.now (rows.row_of self.now) 0) }
     {
@@ -78,5 +85,16 @@ impl Ways {
             flags.push(left[place].device == device && self.has(place))?;
         }
         Ok(flags)
+    }
+}
+
+/// The numbers behind the first line, where it is the only one by which the device can go down.
+fn by_first(device: u32, left: &[Down]) -> Ways
+    ensures { rows.IsFallen device left.now (rows.only true) result }
+{
+    match left.first() {
+        Some(first) if first.device == device => Ways::Here,
+        Some(_) => Ways::Nowhere,
+        None => Ways::Nowhere,
     }
 }

@@ -1,6 +1,6 @@
 use Rattle.std.proofs.Common.{◌≡◌, ◌++◌, drop}
 use Rattle.feeder_audit.specs.Rows.{fallen, row_of}
-use Rattle.feeder_audit.proofs.ways.Ways.fallen.Given as goal
+use Rattle.feeder_audit.proofs.ways.Ways.flags.Given as goal
 
 -- with the flags that are left, these are all
 abbrev pub invariant-loop-place : goal.invariant-loop-place
