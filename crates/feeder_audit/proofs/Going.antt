@@ -1,9 +1,9 @@
 -- One queue's history, gone over entry by entry.
-use Rattle.std.proofs.Common.{◌≡◌, ◌≤◌, ℕ, ◌+◌, ◌-◌, List, [], ◌∷◌, length, drop, Option, Some, None}
+use Rattle.std.proofs.Common.{◌≡◌, ℕ, ◌+◌, ◌-◌, List, [], ◌∷◌, length, drop, Option, Some, None}
 use Rattle.std.proofs.Common.{Bool, true, false, cond, refl, sym, ap, ◌∙◌, subst, arith, drop-drop}
 use Rattle.std.proofs.Common.{length-drop}
 use Rattle.std.proofs.Math.Path.{fun_ext}
-use Rattle.std.specs.Prelude.{◌==◌, ◌↔◌, ◌&&◌, IsSome, IsTrue, is_none, nat_le}
+use Rattle.std.specs.Prelude.{◌==◌, ◌↔◌, IsSome, IsTrue, is_none, nat_le}
 use Rattle.std.proofs.lemmas.Bool.{leb-true, le-leb, and_from}
 use Rattle.queue_core.specs.State.{Bound}
 use Rattle.queue_core.specs.Step.{step}
@@ -12,11 +12,11 @@ use Rattle.queue_core.specs.declared.event.Event.TheVariants.{Arrive, Ask, PortC
 use Rattle.histories.specs.declared.entry.Entry.{Entry}
 use Rattle.histories.specs.History.{IsStep, IsAllowed}
 use Rattle.script_lines.specs.declared.line.Down.{Down}
-use Rattle.made_runs.specs.Feeder.{IsNoDown, times_of_event, feeding_time, falling_time}
+use Rattle.made_runs.specs.Feeder.{IsNoDown, times_of_event, feeding_time}
 use Rattle.feeder_audit.specs.declared.fed.Fed.{Fed}
 use Rattle.feeder_audit.specs.declared.ways.Ways.TheVariants.{Nowhere, FromHere}
 use Rattle.feeder_audit.specs.Fitting.{Row, FitsBy, IsOpen, Rises, time_at}
-use Rattle.feeder_audit.specs.Rows.{only, none, all, flag_at, row_of, lines_before, fallen}
+use Rattle.feeder_audit.specs.Rows.{only, all, flag_at, row_of, lines_before, fallen}
 use Rattle.feeder_audit.specs.Rows.{first_time, IsLeast, HasNone, IsKept, IsFedBy, Follows, Closes}
 use Rattle.feeder_audit.specs.Rows.{Stays, Feeds, Falls, FeedsIf, Moves, can_feed}
 use Rattle.feeder_audit.proofs.Fitting.{both, no_way, here, only_here, pass_goes, pass_came}

@@ -1,6 +1,6 @@
 -- The time behind some lines.
 use Rattle.std.proofs.Common.{◌≡◌, ◌≤◌, ◌<◌, ℕ, zero, suc, ◌-◌, List, [], ◌∷◌, length, get_or}
-use Rattle.std.proofs.Common.{refl, ap, ◌∙◌, sym, arith}
+use Rattle.std.proofs.Common.{refl, ap, ◌∙◌, arith}
 use Rattle.script_lines.specs.declared.line.Down.{Down}
 use Rattle.made_runs.specs.Feeder.{falling_time}
 use Rattle.feeder_audit.specs.Fitting.{time_at}

@@ -1,6 +1,6 @@
 -- All histories, gone over entry by entry.
-use Rattle.std.proofs.Common.{◌≡◌, ◌<◌, ℕ, List, [], ◌∷◌, ◌++◌, length, Option, Some, None, Bool, true, false}
-use Rattle.std.proofs.Common.{refl, sym, ap, ◌∙◌, subst, inl, inr, append_assoc, append-nil, cond}
+use Rattle.std.proofs.Common.{◌≡◌, ◌<◌, ℕ, List, [], ◌∷◌, ◌++◌, Option, Some, None, Bool, true, false}
+use Rattle.std.proofs.Common.{refl, sym, ap, ◌∙◌, subst, inl, inr, append_assoc, cond}
 use Rattle.std.specs.Prelude.{◌==◌, ◌↔◌, IsTrue}
 use Rattle.std.specs.BTreeMap.{get, is_at}
 use Rattle.std.specs.Ordering.{nat_cmp, is_eq}
@@ -20,7 +20,7 @@ use Rattle.inspector_script.specs.Scripts.{ScriptValue}
 use Rattle.made_runs.specs.Feeder.{AreFed, IsFed, IsFedBy, downs_in_effect}
 use Rattle.feeder_audit.specs.declared.fed.Fed.{Fed}
 use Rattle.feeder_audit.specs.Fitting.{FitsBy, Rises}
-use Rattle.feeder_audit.specs.Rows.{IsKept, all}
+use Rattle.feeder_audit.specs.Rows.{all}
 use Rattle.feeder_audit.specs.Queues.{FedMap, queue_in, IsKeptIn, IsFedIn, FollowsIn, AreKept}
 use Rattle.feeder_audit.specs.Queues.{AreWhole, IsWholeIn, AreGoneOver}
 use Rattle.feeder_audit.proofs.Fitting.{from_first, all_open, all_put}

@@ -1,10 +1,10 @@
 -- The times of the lines that take effect ascend.
-use Rattle.std.proofs.Common.{◌≡◌, ◌≤◌, ℕ, zero, suc, ◌+◌, ◌*◌, List, [], ◌∷◌, ◌++◌, inl, inr, arith}
+use Rattle.std.proofs.Common.{◌≡◌, ◌≤◌, ℕ, zero, suc, ◌+◌, List, [], ◌∷◌, ◌++◌, inl, inr, arith}
 use Rattle.std.specs.Prelude.{filter}
 use Rattle.std.proofs.lemmas.Bool.{cases_Bool, eqb-true}
 use Rattle.script_lines.specs.declared.line.Down.{Down}
 use Rattle.inspector_script.specs.Scripts.{ScriptValue}
-use Rattle.made_runs.specs.Feeder.{falling_time, is_after, downs_after, downs_from, downs_in_effect}
+use Rattle.made_runs.specs.Feeder.{falling_time, is_after, downs_from, downs_in_effect}
 use Rattle.feeder_audit.specs.Fitting.{Rises}
 
 -- those of one frame, and then those of later ones

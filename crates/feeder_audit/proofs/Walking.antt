@@ -1,8 +1,8 @@
 -- All queues are gone over, up to the first history that isn't whole.
-use Rattle.std.proofs.Common.{◌≡◌, ℕ, List, [], ◌∷◌, ◌++◌, Option, Some, None, Bool, true, false}
+use Rattle.std.proofs.Common.{◌≡◌, ℕ, List, [], ◌∷◌, ◌++◌, Option, Some, Bool, true, false}
 use Rattle.std.proofs.Common.{cond, sym, ap, ◌∙◌, subst, inl, inr, append_assoc}
 use Rattle.std.specs.Prelude.{⊤}
-use Rattle.std.specs.BTreeMap.{get, is_at}
+use Rattle.std.specs.BTreeMap.{is_at}
 use Rattle.std.specs.Map.{lookup, keys_of}
 use Rattle.std.specs.Ordering.{nat_cmp, is_eq}
 use Rattle.std.specs.List.{AllByRecursion}
@@ -13,7 +13,7 @@ use Rattle.std.proofs.lemmas.Map.Keys.{sorted_head, sorted_tail}
 use Rattle.script_lines.specs.declared.line.Down.{Down}
 use Rattle.feeder_audit.specs.declared.fed.Fed.{Fed}
 use Rattle.feeder_audit.specs.Rows.{IsFedBy, IsKept}
-use Rattle.feeder_audit.specs.Queues.{FedMap, IsWholeIn, IsKeptIn, AreKept, AreWhole}
+use Rattle.feeder_audit.specs.Queues.{FedMap, IsWholeIn, IsKeptIn, AreWhole}
 use Rattle.feeder_audit.proofs.Queues.{at_own, at_itself}
 
 abbrev Kept : Type 0

@@ -1,20 +1,23 @@
 //! All queues' histories, gone over.
 
-ghost use Rattle.std.specs.Prelude.{◌<◌, ◌↔◌, IsTrue, OnOk, IfOk};
+ghost use Rattle.std.specs.Prelude.{◌<◌, ◌↔◌, length, IsTrue, OnOk, IfOk};
 ghost use Rattle.std.specs.BTreeMap.{get};
 ghost use Rattle.std.specs.Ordering.{nat_cmp};
 ghost use Rattle.histories.specs.History as history;
 ghost use Rattle.histories.specs.Numbers.{queue_count};
-ghost use Rattle.made_runs.specs.Feeder as feeder;
+ghost use Rattle.made_runs.specs.Run.{FeederHolds};
 ghost use Rattle.feeder_audit.specs.Fitting as fitting;
 ghost use Rattle.feeder_audit.specs.Queues as kept;
 
 use crate::fed::Fed;
 use crate::lines::downs_in_effect;
-use histories::{Entries, Entry, a_legal_history_goes_on, an_entry_is_of_its_queue_alone};
+use histories::{
+    Entries, Entry, Histories, a_legal_history_goes_on, an_entry_is_of_its_queue_alone,
+};
 use inspector_script::Script;
 use made_runs::one_feeder_feeds_all;
 use packet_entry::NoMemory;
+use pcap_io::Capture;
 use script_lines::Down;
 use std::alloc::Global;
 use std::collections::BTreeMap;
@@ -22,22 +25,23 @@ use std::collections::BTreeMap;
 /// Histories by the queue's number; those without an entry aren't kept.
 type Queues = BTreeMap<u16, Fed>;
 
-/// Whether each queue's history was fed by one feeder with so many frames, and with the `down`
-/// lines of the script.
+/// Whether each queue's history was fed by one feeder with the frames of this capture, and with the
+/// `down` lines of this script.
 ///
 /// The entries may stand in any order of their queues. `NoMemory` comes only where memory runs out.
 pub fn is_fed(
     alloc: Global,
     script: &Script,
-    frames: usize,
-    entries: &Entries,
+    capture: &Capture,
+    histories: &Histories,
 ) -> Result<bool, NoMemory>
-    requires { history.AreLegal entries.now }
-    ensures { IfOk result (λ is. IsTrue is ↔ feeder.AreFed 1 script.now frames entries.now) }
+    requires { history.AreLegal histories.now.entries }
+    ensures { IfOk result (λ is. IsTrue is
+        ↔ FeederHolds 1 script.now (length capture.now.frames) histories.now) }
 {
     one_feeder_feeds_all();
-    let downs = downs_in_effect(alloc, script, frames)?;
-    let queues = follow_all(alloc, &downs, entries)?;
+    let downs = downs_in_effect(alloc, script, capture.frames.len())?;
+    let queues = follow_all(alloc, &downs, &histories.entries)?;
     Ok(are_whole(&downs, queues))
 }
 
