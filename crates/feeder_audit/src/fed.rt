@@ -2,7 +2,6 @@
 
 ghost use Rattle.std.specs.Prelude.{◌≡◌, ◌≤◌, ◌↔◌, [], None, length, IsTrue, OnOk};
 ghost use Rattle.histories.specs.History as history;
-ghost use Rattle.feeder_audit.specs.Fitting as fitting;
 ghost use Rattle.feeder_audit.specs.Rows as rows;
 
 use crate::lines::{falling_time, feeding_time, lines_before, time_behind};

@@ -110,7 +110,11 @@ fn first_arrivals_ascend(rt: HostRuntime) -> Result<(), Fail> {
         (NONE, &[BIND, FIRST, FIRST], false),
         (NONE, &[BIND, FIRST, SECOND, AGAIN, AGAIN], true),
         (NONE, &[SECOND_GONE, BIND, FIRST], false),
-        (NONE, &[BIND, "A 0 4294967295 1 1 n y 0 0 1 0 2048 - 45 copynone"], true),
+        (
+            NONE,
+            &[BIND, "A 0 4294967295 1 1 n y 0 0 1 0 2048 - 45 copynone"],
+            true,
+        ),
     ];
     check_rows(rt.alloc(), ROWS)
 }
@@ -175,9 +179,21 @@ fn each_queue_is_judged(rt: HostRuntime) -> Result<(), Fail> {
     const DOWN_9: &str = "D 9 1 0";
     const SECOND_9: &str = "A 9 2 1 1 n y 0 0 2 0 2048 - 45 copynone";
     const ROWS: Rows<'static> = &[
-        (BETWEEN, &[BIND, FIRST, DOWN_1, BIND_9, DOWN_9, SECOND_9], true),
-        (BETWEEN, &[BIND, FIRST, DOWN_1, BIND_9, SECOND_9, DOWN_9], false),
-        (BETWEEN, &[BIND, DOWN_1, FIRST, BIND_9, DOWN_9, SECOND_9], false),
+        (
+            BETWEEN,
+            &[BIND, FIRST, DOWN_1, BIND_9, DOWN_9, SECOND_9],
+            true,
+        ),
+        (
+            BETWEEN,
+            &[BIND, FIRST, DOWN_1, BIND_9, SECOND_9, DOWN_9],
+            false,
+        ),
+        (
+            BETWEEN,
+            &[BIND, DOWN_1, FIRST, BIND_9, DOWN_9, SECOND_9],
+            false,
+        ),
         (BETWEEN, &[BIND_9, SECOND_9], true),
     ];
     check_rows(rt.alloc(), ROWS)
