@@ -13,6 +13,8 @@ pub use first_illegal::{Place1, check_histories};
 pub use journeys_audit::check_journeys;
 
 #[cfg(test)]
+mod feeder_tests;
+#[cfg(test)]
 mod journey_tests;
 #[cfg(test)]
 mod tests;

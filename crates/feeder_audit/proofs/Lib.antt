@@ -1,0 +1,9 @@
+pub mod Fitting
+pub mod Items
+pub mod Falling
+pub mod Going
+pub mod Places
+pub mod Short
+pub mod Rising
+pub mod Queues
+pub mod Walking

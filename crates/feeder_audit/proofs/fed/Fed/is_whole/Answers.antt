@@ -1,0 +1,7 @@
+use Rattle.feeder_audit.proofs.Going.{whole_is}
+use Rattle.feeder_audit.proofs.fed.Fed.is_whole.Goals as goal
+
+pub returns : goal.returns
+returns c =
+    whole_is c.args.downs.now c.args.self c.close.new.self c.close.ensures c.has.result
+    c.has.ensures

@@ -1,0 +1,5 @@
+use Rattle.feeder_audit.proofs.Walking.{IsWalked}
+use Rattle.feeder_audit.proofs.feeding.are_whole.Given as goal
+
+abbrev pub invariant-loop-fed : goal.invariant-loop-fed
+invariant-loop-fed l = IsWalked l.downs l.fn.queues.entries l.fed-iterator

@@ -1,0 +1,30 @@
+use Rattle.std.proofs.Common.{sym, ap, ◌∙◌, subst, length}
+use Rattle.made_runs.specs.Feeder.{downs_in_effect}
+use Rattle.std.specs.Prelude.{◌↔◌, IsTrue}
+use Rattle.feeder_audit.specs.Fitting.{Rises}
+use Rattle.feeder_audit.specs.Queues.{AreWhole}
+use Rattle.feeder_audit.proofs.Rising.{all_rise}
+use Rattle.feeder_audit.proofs.Queues.{OneFeeder, fed_exactly}
+use Rattle.feeder_audit.proofs.feeding.is_fed.Goals as goal
+
+pub follow_all-requires-clause-lines : goal.follow_all-requires-clause-lines
+follow_all-requires-clause-lines c =
+    subst (Rises 0) (sym (c.deref.ensures.value ∙ c.in_ok-downs.ensures))
+    (all_rise c.args.script.now c.len.result)
+
+pub returns : goal.returns
+returns c =
+    let law : OneFeeder = record {
+      fed = c.one_feeder_feeds_all.ensures.fed;
+      all = c.one_feeder_feeds_all.ensures.all;
+    } in
+    let script = c.args.script.now in
+    let frames = c.args.capture.now.frames in
+    let downs = c.deref.result.now in
+    let queues = c.in_ok-queues.queues in
+    let same = c.deref-2.ensures.value ∙ sym c.deref.ensures.value in
+    fed_exactly law script (length frames) c.args.histories.now.entries downs queues
+    c.are_whole.result
+    (c.deref.ensures.value ∙ c.in_ok-downs.ensures
+    ∙ ap (λ n. downs_in_effect script n) c.len.ensures) c.in_ok-queues.ensures
+    (subst (λ ds. IsTrue c.are_whole.result ↔ AreWhole ds queues) same c.are_whole.ensures)
