@@ -17,9 +17,10 @@ use std::sync::Arc;
 pub struct Bytes {
     /// `None` only where the list has no bytes.
     buffer: Option<Arc<Vec<u8>, Global>>,
-    /// Where the bytes begin in the buffer, and where they end.
-    start: usize,
-    end: usize,
+    /// Where the bytes begin in the buffer, and where they end. A buffer has fewer than 2^32 bytes,
+    /// so that a list takes 16.
+    start: u32,
+    end: u32,
 }
 
 impl Model for Bytes {
@@ -50,12 +51,15 @@ impl Bytes {
 
     /// The bytes of the vector, which becomes the buffer as it is: no byte is copied. The memory
     /// that is taken counts the lists that share the buffer. Where there is none the vector comes
-    /// back.
+    /// back, and so does one of 2^32 bytes or more.
     pub fn from_vec(items: Vec<u8>) -> Result<Bytes, AllocFailed<Vec<u8>>>
         ensures ok { IfOk result (λ bytes. bytes ≡ items.items) }
         ensures returned { IfErr result (λ failed. failed.value ≡ items) }
     {
-        let end = items.len();
+        if items.len() > u32::MAX as usize {
+            return Err(AllocFailed { value: items });
+        }
+        let end = items.len() as u32;
         Ok(Bytes {
             buffer: Some(Arc::new(*items.allocator(), items)?),
             start: 0,
@@ -78,8 +82,11 @@ impl Bytes {
         requires within { end ≤ length self.now }
         ensures { IfOk result (λ bytes. bytes ≡ slice_range self.now start end) }
     {
+        let (first, last) = (self.start, self.end);
+        prove!(first <= last);
+        prove!(end <= (last - first) as usize);
         match &self.buffer {
-            Some(buffer) => part_of(buffer, self.start + start, self.start + end),
+            Some(buffer) => part_of(buffer, first + start as u32, first + end as u32),
             None => Ok(no_bytes()),
         }
     }
@@ -89,7 +96,7 @@ impl Bytes {
         ensures { result.now ≡ self.now }
     {
         match &self.buffer {
-            Some(buffer) => &buffer[self.start..self.end],
+            Some(buffer) => &buffer[self.start as usize..self.end as usize],
             None => &[],
         }
     }
@@ -98,7 +105,7 @@ impl Bytes {
     pub fn len(&self) -> usize
         ensures { result ≡ length self.now }
     {
-        self.end - self.start
+        (self.end - self.start) as usize
     }
 
     /// Whether there are no bytes.
@@ -121,7 +128,7 @@ fn no_bytes() -> Bytes
 }
 
 /// The part of a buffer from `start` to before `end`, which shares it unless it is empty.
-fn part_of(buffer: &Arc<Vec<u8>, Global>, start: usize, end: usize) -> Result<Bytes, NoMemory>
+fn part_of(buffer: &Arc<Vec<u8>, Global>, start: u32, end: u32) -> Result<Bytes, NoMemory>
     requires order { start ≤ end }
     requires within { end ≤ length (arc_value buffer.now).items }
     ensures { IfOk result (λ bytes. bytes ≡ slice_range (arc_value buffer.now).items start end) }
