@@ -5,3 +5,4 @@ pub mod Invariant
 pub mod PlaneView
 pub mod Closing
 pub mod Examples
+pub mod Notices

@@ -1,6 +1,6 @@
 //! Requests, and the packets that they let go on.
 
-ghost use Rattle.std.specs.Prelude.{◌≡◌, ◌≤◌, length, IfOk, OnOk, OnErr};
+ghost use Rattle.std.specs.Prelude.{◌≡◌, ◌≤◌, [], length, IfOk, OnOk, OnErr};
 ghost use Rattle.nfqa_msgs.specs.RequestReading.{PayloadFits};
 ghost use Rattle.histories.specs.Happenings.{all_handed};
 ghost use Rattle.packet_moves.specs.Moving.{CarriesAll};
@@ -19,12 +19,14 @@ use queue_core::Handed;
 use std::alloc::Global;
 
 /// Moves packets on that a request let go on, one after the other, each to its rest or its end.
-fn hand_on(held: &mut Held, alloc: Global, setting: &Setting, mut handed: Handed)
+/// None is left in the list.
+fn hand_on(held: &mut Held, alloc: Global, setting: &Setting, handed: &mut Handed)
     requires ready { IsReady held.old.place }
-    requires in_time { AreInTime handed.items }
-    requires room { length handed.items ≤ held.old.lost.room }
+    requires in_time { AreInTime handed.old.items }
+    requires room { length handed.old.items ≤ held.old.lost.room }
     ensures ready { IsReady held.new.place }
-    ensures carried { CarriesAll setting.now handed.items (world_of held.old)
+    ensures none_left { handed.new.items ≡ [] }
+    ensures carried { CarriesAll setting.now handed.old.items (world_of held.old)
         (world_of held.new) }
     ensures logs { logs_of held.new.ports ≡ logs_of held.old.ports }
 {
@@ -32,11 +34,11 @@ fn hand_on(held: &mut Held, alloc: Global, setting: &Setting, mut handed: Handed
         let route = onward(&setting.tables, setting.key, &packet, &decision);
         carry(held, alloc, setting, Came::GoesOn { packet, route });
     }
-    handed.finish();
 }
 
 /// Carries out a port's request, and moves on what it let go on: its errno. `NoMemory` leaves all
-/// as it was; a packet whose next arrival finds no memory is lost.
+/// as it was; a packet whose next arrival finds no memory is lost. The list of what goes on is empty
+/// before and afterwards: its memory is used again.
 pub(crate) fn ask(
     held: &mut Held,
     alloc: Global,
@@ -44,11 +46,14 @@ pub(crate) fn ask(
     port: u32,
     call: u32,
     request: Request,
+    handed: &mut Handed,
 ) -> Result<u16, NoMemory>
     requires ready { IsReady held.old.place }
+    requires none_handed { handed.old.items ≡ [] }
     requires payload { PayloadFits request }
     requires in_time { WaitInTime held.old.place.entries }
     ensures ready { IsReady held.new.place }
+    ensures none_left { handed.new.items ≡ [] }
     ensures asked { IfOk result (IsAsked setting.now port call request (world_of held.old)
         (world_of held.new)) }
     ensures logs { logs_of held.new.ports ≡ logs_of held.old.ports }
@@ -56,17 +61,9 @@ pub(crate) fn ask(
 {
     let waiting = held.place.waiting_in(queue_of(&request));
     held.lost.make_room(waiting as usize)?;
-    let mut handed = Handed::new(alloc);
-    match held.place.ask(alloc, port, call, request, &mut handed) {
-        Ok(errno) => {
-            // No more packets leave than waited, and each has the visit with which it waited.
-            what_goes_on_is_in_time();
-            hand_on(held, alloc, setting, handed);
-            Ok(errno)
-        }
-        Err(NoMemory) => {
-            handed.finish();
-            Err(NoMemory)
-        }
-    }
+    let errno = held.place.ask(alloc, port, call, request, handed)?;
+    // No more packets leave than waited, and each has the visit with which it waited.
+    what_goes_on_is_in_time();
+    hand_on(held, alloc, setting, handed);
+    Ok(errno)
 }

@@ -1,7 +1,8 @@
-//! Messages of a port.
+//! Messages of a port. What a request lets go on is handed out in one list, whose memory is used
+//! again: it is empty between two messages.
 
 ghost use Rattle.std.specs.Prelude.{◌≡◌, ◌^◌, ◌<◌, ◌++◌, ℕ, List, length, IfOk, OnOk};
-ghost use Rattle.std.specs.Prelude.{OnErr, IsSome};
+ghost use Rattle.std.specs.Prelude.{[], OnErr, IsSome};
 ghost use Rattle.std.specs.BTreeMap.{get};
 ghost use Rattle.std.specs.Ordering.{nat_cmp};
 ghost use Rattle.netlink_codec.specs.Acknowledgements.{answer};
@@ -19,6 +20,7 @@ use netlink_codec::{Message, next_message};
 use nfqa_msgs::{Decoded, decode_request};
 use packet_entry::NoMemory;
 use packet_moves::{Setting, acknowledge, due, make_answer_room, words_of};
+use queue_core::Handed;
 use std::alloc::Global;
 
 /// Carries out what a message is decoded to: its errno. `NoMemory` leaves all as it was; a packet
@@ -30,11 +32,14 @@ fn carry_out(
     port: u32,
     call: u32,
     decoded: Decoded,
+    handed: &mut Handed,
 ) -> Result<u16, NoMemory>
     requires ready { IsReady held.old.place }
     requires payload { AskedFits decoded }
     requires in_time { WaitInTime held.old.place.entries }
+    requires none_handed { handed.old.items ≡ [] }
     ensures ready { IsReady held.new.place }
+    ensures none_left { handed.new.items ≡ [] }
     ensures carried_out { IfOk result (CarriesOut setting.now port call decoded
         (world_of held.old) (world_of held.new)) }
     ensures logs { logs_of held.new.ports ≡ logs_of held.old.ports }
@@ -43,7 +48,7 @@ fn carry_out(
     match decoded {
         Decoded::Nothing => Ok(0),
         Decoded::Refused { errno } => Ok(errno),
-        Decoded::Asked { request } => ask(held, alloc, setting, port, call, request),
+        Decoded::Asked { request } => { ask(held, alloc, setting, port, call, request, handed) }
     }
 }
 
@@ -56,12 +61,15 @@ pub(crate) fn message(
     port: u32,
     datagram: &[u8],
     replies: &mut Vec<u8>,
+    handed: &mut Handed,
 ) -> Result<u32, NoMemory>
     requires short { length datagram.now < 2 ^ 31 }
     requires ready { IsReady held.old.place }
     requires port { IsSome (get nat_cmp held.old.ports port) }
     requires in_time { WaitInTime held.old.place.entries }
+    requires none_handed { handed.old.items ≡ [] }
     ensures ready { IsReady held.new.place }
+    ensures none_left { handed.new.items ≡ [] }
     ensures sent { IfOk result (Sends setting.now port (first_message datagram.now)
         (world_of held.old) (world_of held.new) replies.old.items replies.new.items) }
     ensures ports { (p : ℕ) → closed_ports (world_of held.new) p
@@ -71,7 +79,7 @@ pub(crate) fn message(
 {
     match next_message(datagram) {
         Some((message, used)) => {
-            send(held, alloc, setting, port, &message, replies)?;
+            send(held, alloc, setting, port, &message, replies, handed)?;
             Ok(used as u32)
         }
         None => Ok(0),
@@ -85,12 +93,15 @@ pub(crate) fn message_unread(
     setting: &Setting,
     port: u32,
     datagram: &[u8],
+    handed: &mut Handed,
 ) -> Result<u32, NoMemory>
     requires short { length datagram.now < 2 ^ 31 }
     requires ready { IsReady held.old.place }
     requires port { IsSome (get nat_cmp held.old.ports port) }
     requires in_time { WaitInTime held.old.place.entries }
+    requires none_handed { handed.old.items ≡ [] }
     ensures ready { IsReady held.new.place }
+    ensures none_left { handed.new.items ≡ [] }
     ensures sent { IfOk result (SendsUnread setting.now port (first_message datagram.now)
         (world_of held.old) (world_of held.new)) }
     ensures ports { (p : ℕ) → closed_ports (world_of held.new) p
@@ -99,7 +110,7 @@ pub(crate) fn message_unread(
 {
     match next_message(datagram) {
         Some((message, used)) => {
-            let _errno = send_unread(held, alloc, setting, port, &message)?;
+            let _errno = send_unread(held, alloc, setting, port, &message, handed)?;
             Ok(used as u32)
         }
         None => Ok(0),
@@ -115,12 +126,15 @@ fn send(
     port: u32,
     message: &Message<'_>,
     replies: &mut Vec<u8>,
+    handed: &mut Handed,
 ) -> Result<(), NoMemory>
     requires short { length message.now.whole.now < 2 ^ 31 }
     requires ready { IsReady held.old.place }
     requires port { IsSome (get nat_cmp held.old.ports port) }
     requires in_time { WaitInTime held.old.place.entries }
+    requires none_handed { handed.old.items ≡ [] }
     ensures ready { IsReady held.new.place }
+    ensures none_left { handed.new.items ≡ [] }
     ensures sent { OnOk result (IsSent setting.now port (message_of message.now)
         (world_of held.old) (world_of held.new) replies.old.items replies.new.items) }
     ensures ports { (p : ℕ) → closed_ports (world_of held.new) p
@@ -129,7 +143,7 @@ fn send(
     ensures none_answered { OnErr result (replies.new.items ≡ replies.old.items) }
 {
     make_answer_room(message, replies)?;
-    let errno = send_unread(held, alloc, setting, port, message)?;
+    let errno = send_unread(held, alloc, setting, port, message, handed)?;
     acknowledge(message, errno, replies);
     Ok(())
 }
@@ -141,11 +155,14 @@ fn send_unread(
     setting: &Setting,
     port: u32,
     message: &Message<'_>,
+    handed: &mut Handed,
 ) -> Result<u16, NoMemory>
     requires ready { IsReady held.old.place }
     requires port { IsSome (get nat_cmp held.old.ports port) }
     requires in_time { WaitInTime held.old.place.entries }
+    requires none_handed { handed.old.items ≡ [] }
     ensures ready { IsReady held.new.place }
+    ensures none_left { handed.new.items ≡ [] }
     ensures sent { IfOk result (λ errno. (before : List ℕ) →
         IsSent setting.now port (message_of message.now) (world_of held.old) (world_of held.new)
         before (before ++ answer (message_of message.now) errno)) }
@@ -157,7 +174,7 @@ fn send_unread(
     let call = ports::next_call(&held.ports, port);
     let words = words_of(alloc, port, call, message.whole, &decoded)?;
     ports::make_log_room(&mut held.ports, port)?;
-    let errno = carry_out(held, alloc, setting, port, call, decoded)?;
+    let errno = carry_out(held, alloc, setting, port, call, decoded, handed)?;
     ports::send(&mut held.ports, port, words, due(message, errno));
     Ok(errno)
 }

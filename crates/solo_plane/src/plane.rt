@@ -22,6 +22,7 @@ use hook_chain::Tables;
 use packet_entry::{Letter, NoMemory, Packet, Stock};
 use packet_moves::{Fed, Refused, Setting, histories_stay_sound};
 use place_history::Place;
+use queue_core::Handed;
 use std::alloc::Global;
 
 /// A plane: packets are fed to it, its ports send messages to its queues and receive notices, and
@@ -31,7 +32,10 @@ pub struct SoloPlane {
     /// The ports in the order in which they were given.
     order: Vec<u32>,
     held: Held,
+    /// What a request lets go on, while it is carried out: its memory is used again.
+    handed: Handed,
     ghost kept: { IsPlane setting order.items held },
+    ghost none_handed: { handed.items ≡ [] },
 }
 
 impl SoloPlane {
@@ -40,6 +44,7 @@ impl SoloPlane {
     ghost use Rattle.packet_moves.specs.Messages.{Sends, SendsUnread};
     ghost use Rattle.packet_moves.specs.Planes.{IsFed, beginning, with_closed, without_device};
     ghost use Rattle.histories.specs.Grouping.{IsGrouped};
+    ghost use Rattle.solo_plane.specs.Notices.{has_notice};
     ghost use Rattle.packet_moves.specs.Logs.{logs_in};
     ghost use Rattle.packet_moves.specs.Soundness.{IsSound};
     ghost use Rattle.solo_plane.specs.PlaneView.{setting_of, order_of, world_in, IsWith};
@@ -74,6 +79,7 @@ impl SoloPlane {
                 fed: Stock::new(alloc),
                 lost: Stock::new(alloc),
             },
+            handed: Handed::new(alloc),
         })
     }
 
@@ -127,6 +133,7 @@ impl SoloPlane {
             port,
             datagram,
             replies,
+            &mut self.handed,
         )
     }
 
@@ -149,7 +156,21 @@ impl SoloPlane {
     {
         legal_at(&self.held.place);
         histories_stay_sound();
-        messages::message_unread(&mut self.held, alloc, &self.setting, port, datagram)
+        messages::message_unread(
+            &mut self.held,
+            alloc,
+            &self.setting,
+            port,
+            datagram,
+            &mut self.handed,
+        )
+    }
+
+    /// Whether a port has a notice to receive. Takes no memory.
+    pub fn has_notice(&self, port: u32) -> bool
+        ensures { result ≡ has_notice ((world_in self.now).ports port) }
+    {
+        ports::has_notice(&self.held.ports, port)
     }
 
     /// A port receives its first notice, which its log notes; `None` exactly where its mailbox is
@@ -228,7 +249,9 @@ impl SoloPlane {
             setting: _setting,
             order,
             held,
+            handed,
         } = self;
+        handed.finish();
         closing::histories(alloc, &order, held)
     }
 }

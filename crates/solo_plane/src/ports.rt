@@ -9,6 +9,7 @@ ghost use Rattle.packet_moves.specs.World.{closed};
 ghost use Rattle.packet_moves.specs.Moving.{takes_one};
 ghost use Rattle.solo_plane.specs.PortView.{ports_of, logs_of, OnPort};
 ghost use Rattle.packet_moves.specs.Messages.{call_at};
+ghost use Rattle.solo_plane.specs.Notices.{has_notice};
 
 use crate::port::PortState;
 use histories::AskWords;
@@ -24,6 +25,16 @@ pub(crate) fn takes_one(ports: &Ports, port: u32, mail: u32) -> bool
 {
     match ports.get(&port) {
         Some(state) => state.mailbox.len() < mail as usize,
+        None => false,
+    }
+}
+
+/// Whether a port's mailbox has a notice.
+pub(crate) fn has_notice(ports: &Ports, port: u32) -> bool
+    ensures { result ≡ has_notice (ports_of ports.now port) }
+{
+    match ports.get(&port) {
+        Some(state) => 0 < state.mailbox.len(),
         None => false,
     }
 }

@@ -1,16 +1,18 @@
 -- Looks, rounds and emptied mailboxes.
 use Rattle.std.proofs.Common.{◌≡◌, ◌<◌, ◌+◌, ◌-◌, ◌∙◌, ℕ, suc, List, [], ◌∷◌, length, drop}
-use Rattle.std.proofs.Common.{Option, Some, Bool, true, false, sym, ap, arith}
-use Rattle.std.specs.Prelude.{◌||◌}
+use Rattle.std.proofs.Common.{Option, Some, None, Bool, true, false, cond, refl, sym, ap, arith}
+use Rattle.std.specs.Prelude.{◌||◌, nat_lt}
+use Rattle.std.proofs.lemmas.Bool.{ltb-false}
 use Rattle.std.proofs.lemmas.List.{drop_more}
 use Rattle.packet_entry.specs.declared.letter.Letter.{Letter}
 use Rattle.script_lines.specs.declared.ask.Ask.{Ask}
 use Rattle.inspector_script.specs.Scripts.{ScriptValue}
 use Rattle.packet_moves.specs.declared.setting.Setting.{Setting}
-use Rattle.packet_moves.specs.World.{World}
+use Rattle.packet_moves.specs.World.{World, Port}
+use Rattle.solo_plane.specs.Notices.{has_notice}
 use Rattle.made_runs.specs.Log.{asks_for}
 use Rattle.made_runs.specs.NoticeTexts.{told_exactly}
-use Rattle.script_runs.specs.Schedule.{looked, looked_at, letters_at, is_open_port}
+use Rattle.script_runs.specs.Schedule.{Looked, looked, looked_at, letters_at, is_open_port}
 use Rattle.script_runs.specs.Schedule.{received_in, round, emptied_in, go_on_while}
 use Rattle.script_runs.specs.Sending.{all_done}
 use Rattle.solo_run.specs.RunState.{ReceivesFirst, port_at}
@@ -49,6 +51,35 @@ pub looked_one : (s : Setting) (script : ScriptValue) (place port : ℕ) (asks :
 looked_one s script place port asks old mid new before open_ is did =
     rw open_ (at_one s script place port (letters_at (old.ports port))
     asks old mid new before is did)
+
+-- a port without a notice finds none
+at_none : (s : Setting) (script : ScriptValue) (place port : ℕ) (p : Option Port) (w : World)
+    (before : Bool) → has_notice p ≡ false →
+    cond (is_open_port p)
+    (looked_at s script place port (letters_at p) (record { world = w; found = before }))
+    (record { world = w; found = before })
+    ≡ record { world = w; found = before }
+at_none s script place port None w before none = refl
+at_none s script place port (Some p) w before none =
+    ap (λ (letters : List Letter). cond (is_open_port (Some p))
+    (looked_at s script place port letters (record { world = w; found = before }))
+    (record { world = w; found = before })) (no_letters p.letters none)
+    ∙ both (is_open_port (Some p)) (record { world = w; found = before })
+  where
+    no_letters : (letters : List Letter) → nat_lt 0 (length letters) ≡ false → letters ≡ []
+    no_letters [] h = refl
+    no_letters (l ∷ ls) h = absurd (omega (arith, ltb-false 0 (length (l ∷ ls)) h))
+
+    both : (b : Bool) (l : Looked) → cond b l l ≡ l
+    both true l = refl
+    both false l = refl
+
+pub looked_none : (s : Setting) (script : ScriptValue) (place port : ℕ) (w : World)
+    (before : Bool) → has_notice (w.ports port) ≡ false →
+    looked s script place port (record { world = w; found = before })
+    ≡ record { world = w; found = false || before }
+looked_none s script place port w before none =
+    at_none s script place port (w.ports port) w before none
 
 -- ---- rounds
 

@@ -28,6 +28,10 @@ fn look(run: &mut Run, alloc: Global, script: &Script, place: u32) -> Result<boo
     if !run.is_open(script, place) {
         return Ok(false);
     }
+    // Mostly a mailbox is empty.
+    if !run.has_notice(script, place) {
+        return Ok(false);
+    }
     ports_close_at_the_end();
     match run.receive(alloc, script, place)? {
         Some(asks) => {

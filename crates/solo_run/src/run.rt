@@ -14,6 +14,7 @@ ghost use Rattle.histories.specs.Grouping.{IsGrouped};
 ghost use Rattle.packet_moves.specs.Logs.{logs_in};
 ghost use Rattle.packet_moves.specs.Planes.{beginning, with_closed, without_device};
 ghost use Rattle.script_runs.specs.Schedule as schedule;
+ghost use Rattle.solo_plane.specs.Notices.{has_notice};
 
 use crate::inspector::{Inspector, asked, count_call, count_closing, inspectors};
 use histories::Histories;
@@ -183,6 +184,14 @@ impl Run {
         ensures { result ≡ is_open_at script.now (world_of self.now) place }
     {
         self.inspectors[place as usize].is_open
+    }
+
+    /// Whether a port has a notice to receive.
+    pub(crate) fn has_notice(&self, script: &Script, place: u32) -> bool
+        requires { place < length script.now.ports }
+        ensures { result ≡ has_notice ((world_of self.now).ports (port_at script.now place)) }
+    {
+        self.plane.has_notice(script.ports()[place as usize])
     }
 
     /// What the inspector of a port asks for when the port opens.

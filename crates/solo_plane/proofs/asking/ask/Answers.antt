@@ -6,7 +6,7 @@ use Rattle.solo_plane.proofs.asking.ask.Goals as goal
 pub hand_on-requires-clause-room : goal.hand_on-requires-clause-room
 hand_on-requires-clause-room c =
     let q = state_of c.args.held.now.place.entries (queue_of c.args.request) in
-    let handed = rw c.new-handed.ensures at c.in-Ok.ensures.handed in
+    let handed = rw c.requires.none_handed at c.in_ok-errno.ensures.handed in
     let waiting : c.waiting_in-waiting.result ≡ waiting_at q =
     rw c.queue_of.ensures at c.waiting_in-waiting.ensures in
     rw handed
@@ -20,7 +20,7 @@ hand_on-requires-clause-room c =
 pub hand_on-requires-clause-in_time : goal.hand_on-requires-clause-in_time
 hand_on-requires-clause-in_time c =
     let q = state_of c.args.held.now.place.entries (queue_of c.args.request) in
-    let handed = rw c.new-handed.ensures at c.in-Ok.ensures.handed in
+    let handed = rw c.requires.none_handed at c.in_ok-errno.ensures.handed in
     rw handed
     (c.what_goes_on_is_in_time.ensures.request q c.args.port c.args.call c.args.request
     (c.requires.in_time (queue_of c.args.request)))

@@ -1,10 +1,10 @@
-use Rattle.std.proofs.Common.{◌≡◌, subst}
+use Rattle.std.proofs.Common.{◌≡◌, ◌∙◌, sym, subst}
 use Rattle.packet_moves.specs.declared.setting.Setting.{Setting}
 use Rattle.script_runs.specs.Sending.{all_done}
 use Rattle.solo_run.specs.RunState.{port_at, setting_of, world_of}
 use Rattle.solo_run.proofs.Keeping.{keeps_both}
 use Rattle.solo_run.proofs.Words.{last_of_words, received_words}
-use Rattle.solo_run.proofs.Looking.{looked_one}
+use Rattle.solo_run.proofs.Looking.{looked_none, looked_one}
 use Rattle.solo_run.proofs.rounds.look.Goals as goal
 
 pub do_all-requires-clause-last : goal.do_all-requires-clause-last
@@ -14,6 +14,12 @@ do_all-requires-clause-last c =
     c.in-Some.asks (world_of c.args.run.now) (world_of c.receive.new.self)
     (rw c.in-Some.is at c.in_ok-asks.ensures.received)
     (c.ports_close_at_the_end.ensures.answer c.args.script.now))
+
+pub returns-then-not-has_notice-clause-looked : goal.returns-then-not-has_notice-clause-looked
+returns-then-not-has_notice-clause-looked c before =
+    looked_none (setting_of c.args.run.now) c.args.script.now c.args.place
+    (port_at c.args.script.now c.args.place) (world_of c.args.run.now) before
+    (sym c.has_notice.ensures ∙ c.if-not-has_notice.true)
 
 pub returns-in_ok-do_all-in-Some-clause-looked : goal.returns-in_ok-do_all-in-Some-clause-looked
 returns-in_ok-do_all-in-Some-clause-looked c before =

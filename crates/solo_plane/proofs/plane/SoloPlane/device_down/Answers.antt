@@ -8,4 +8,5 @@ invariant_of-self c =
         sound = c.device_down.ensures.sound c.args.self.now.setting c.args.self.now.kept.sound;
         apart = c.args.self.now.kept.apart;
       };
+      none_handed = c.args.self.now.none_handed;
     }

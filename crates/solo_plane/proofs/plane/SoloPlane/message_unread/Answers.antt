@@ -40,4 +40,5 @@ invariant_of-self c =
         sound = record { sound = is.sound };
         apart = c.args.self.now.kept.apart;
       };
+      none_handed = c.message_unread.ensures.none_left;
     }

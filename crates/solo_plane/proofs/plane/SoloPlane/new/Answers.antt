@@ -22,4 +22,5 @@ invariant_of-result c =
         };
         apart = rw c.in_ok-order.ensures.items apart;
       };
+      none_handed = c.new-4.ensures;
     }
