@@ -17,7 +17,8 @@ use Rattle.histories.specs.declared.entry.Entry.{Entry}
 use Rattle.script_lines.specs.declared.line.Down.{Down}
 use Rattle.made_runs.specs.Feeder.{IsNoDown, times_of_event}
 use Rattle.made_runs.specs.Underway.{AllFed}
-use Rattle.live_runs.specs.Calls.{Enters, Falls, Feeds, IsLater, IsLaterEvent, IsTurn, entering}
+use Rattle.live_runs.specs.Calls.{Enters, Falls, FallsAt, Feeds, IsLater, IsLaterEvent, IsTurn}
+use Rattle.live_runs.specs.Calls.{entering}
 use Rattle.live_runs.specs.Feeding.{TakesDownTo}
 use Rattle.live_runs.specs.Owners.{IsFeeders, IsFeedersEvent, IsFeeding, IsNotFed}
 use Rattle.live_runs.specs.Seen.{EachIs, Grows, OursAre, Seen, Shares, TheirsAre, all_ours, entries}
@@ -212,6 +213,7 @@ feeds_grows places (To queue bypass table) card old new is k =
 pub nothing_down : (places : ℕ) (d : Down) (old : Shares) → TakesDownTo 0 places d old old
 nothing_down places d old = record {
   done = λ time fallen less k below within is. absurd (omega (arith, below));
+  turned = λ k below. absurd (omega (arith, below));
   rest = λ k least. refl;
   grows = λ k. same_grows IsFeeders (old k) (old k) refl;
 }
@@ -222,6 +224,7 @@ pub one_down : FeedingLaws → (place places : ℕ) (d : Down) (old mid new : Sh
 one_down laws place places d old mid new so f = record {
   done = λ time fallen less k below within is. by k time fallen less below within is
       (cases_Bool (k == place));
+  turned = λ k below. turn_of k below (cases_Bool (k == place));
   rest = λ k least. f.elsewhere k (λ same. absurd (omega (arith, least, same)))
       ∙ so.rest k (omega (arith, least));
   grows = λ k. grows_on IsFeeders (old k) (mid k) (new k) (so.grows k)
@@ -247,6 +250,20 @@ one_down laws place places d old mid new so f = record {
 
         before : (k : ℕ) → k < place + 1 → (k ≡ place → ⊥) → k < place
         before k below away = omega (arith, below, away)
+
+    turn_of : (k : ℕ) → k < place + 1 → ((k == place) ≡ true) ⊎ ((k == place) ≡ false) →
+        FallsAt d.device (old k) (new k)
+    turn_of k below (inl h) =
+        subst (λ j. FallsAt d.device (old j) (new j)) (sym (eqb-true k place h))
+        (subst (λ xs. FallsAt d.device xs (new place)) (so.rest place (omega arith))
+        (record { others = f.others; turn = f.turn }))
+    turn_of k below (inr h) =
+        let away : k ≡ place → ⊥ = λ same. no_way (eq-eqb k place same) in
+        subst (FallsAt d.device (old k)) (sym (f.elsewhere k away))
+        (so.turned k (omega (arith, below, away)))
+      where
+        no_way : (k == place) ≡ true → ⊥
+        no_way wrong = absurd (cc)
 
 -- where nothing has happened yet
 pub first_feeding : FeedingLaws → IsFeeding 0 [] []

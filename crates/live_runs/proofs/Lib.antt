@@ -4,6 +4,7 @@ mod Pleas
 mod Closed
 mod Noting
 mod Fed
+mod FedByAll
 mod Adding
 mod Plain
 mod Quiet

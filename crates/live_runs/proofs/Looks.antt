@@ -1,5 +1,5 @@
 -- What a port does adds up to looks, and looks to a stage.
-use Rattle.std.proofs.Common.{◌∷◌, ◌≡◌, List, [], false, inl, refl, subst, ℕ}
+use Rattle.std.proofs.Common.{◌∷◌, ◌≡◌, ◌++◌, Bool, List, [], false, true, inl, refl, subst, ℕ}
 use Rattle.std.specs.Prelude.{if◌then◌else◌}
 use Rattle.packet_entry.specs.declared.letter.Letter.{Letter}
 use Rattle.histories.specs.declared.log.AskWords.{AskWords}
@@ -11,11 +11,12 @@ use Rattle.made_runs.specs.Log.{Due, Note, all_due, answer_to, is_pool}
 use Rattle.made_runs.specs.NoticeTexts.{told_exactly}
 use Rattle.made_runs.specs.Ports.{place_in}
 use Rattle.live_runs.specs.Doing.{GoesOn, HasAsked, HasHeard, HasSent, IsAnswering, IsDoing}
+use Rattle.live_runs.specs.Doing.{LeavesWaiting}
 use Rattle.live_runs.specs.Passes.{Pass, Receives}
 use Rattle.live_runs.specs.Ports.{IsPort}
 use Rattle.live_runs.specs.Stages.{Ending, MaySpeak, Opening, Stage, Went, Working}
 use Rattle.live_runs.specs.Stands.{Now, answering, idle, side}
-use Rattle.live_runs.proofs.Acting.{begins_doing, doing_gets}
+use Rattle.live_runs.proofs.Acting.{begins_doing, doing_gets, doing_turns}
 use Rattle.live_runs.proofs.Known.{ClosingLaws, Conserve, LogLaws}
 use Rattle.live_runs.proofs.Stagewise.{went_on}
 
@@ -53,29 +54,73 @@ module _ (logs : LogLaws) (laws : ClosingLaws) (conserve : Conserve) (workers : 
   abbrev place : ℕ
   place = place_in port script.ports
 
-  pub looks_once : (l : Letter) (old mid new : Pass) → is_pool workers ≡ false →
-      Receives l old mid →
+  pub looks_once : (l : Letter) (old mid new : Pass) → Receives l old mid →
       HasAsked workers script places port
       (answer_to script place mid.dids (told_exactly l.bytes)) [] mid new →
       GoesOn workers script places port old new
-  looks_once l old mid new alone r a = record {
+  looks_once l old mid new r a = record {
     on = λ stage was start_at ends answers is.
         a.on stage was start_at (Now [] ends)
         (may_answer workers script places port stage [] ends answers)
         (owes stage was start_at ends
-        (all_due (answer_to script place mid.dids (told_exactly l.bytes))) mid alone
+        (all_due (answer_to script place mid.dids (told_exactly l.bytes))) mid (is_pool workers)
+        refl
         (doing_gets logs laws conserve workers script places stage port was start_at [] ends l old
         mid answers r is));
   }
     where
       owes : (stage : Stage) (was : List Note) (start_at : Pass) (ends due : List Due)
-          (pass : Pass) → is_pool workers ≡ false →
+          (pass : Pass) (b : Bool) → is_pool workers ≡ b →
           IsDoing workers script places stage port was start_at (answering workers [] ends due)
           pass →
           IsDoing workers script places stage port was start_at (side (Now [] ends) due) pass
-      owes stage was start_at ends due pass alone is =
+      owes stage was start_at ends due pass false alone is =
           subst (λ b. IsDoing workers script places stage port was start_at
           (if b then side (Now (due ∷ []) ends) [] else side (Now [] ends) due) pass) alone is
+      owes stage was start_at ends due pass true pool is =
+          doing_turns logs laws conserve workers script places stage port was start_at due [] ends
+          pass pool
+          (subst (λ b. IsDoing workers script places stage port was start_at
+          (if b then side (Now (due ∷ []) ends) [] else side (Now [] ends) due) pass) pool is)
+
+  -- ---- behind a pool
+
+  pub hears_more : (l : Letter) (groups : List (List Due)) (old mid new : Pass) →
+      is_pool workers ≡ true → LeavesWaiting workers script places port groups old mid →
+      Receives l mid new →
+      LeavesWaiting workers script places port
+      (groups ++ all_due (answer_to script place new.dids (told_exactly l.bytes)) ∷ []) old new
+  hears_more l groups old mid new pool w r = record {
+    on = λ stage was start_at ends answers is.
+        waits stage was start_at ends
+        (all_due (answer_to script place new.dids (told_exactly l.bytes))) new
+        (doing_gets logs laws conserve workers script places stage port was start_at groups ends l
+        mid new answers r (w.on stage was start_at ends answers is));
+  }
+    where
+      waits : (stage : Stage) (was : List Note) (start_at : Pass) (ends due : List Due)
+          (pass : Pass) →
+          IsDoing workers script places stage port was start_at
+          (answering workers groups ends due) pass →
+          IsDoing workers script places stage port was start_at
+          (side (Now (groups ++ due ∷ []) ends) []) pass
+      waits stage was start_at ends due pass is =
+          subst (λ b. IsDoing workers script places stage port was start_at
+          (if b then side (Now (groups ++ due ∷ []) ends) [] else side (Now groups ends) due)
+          pass) pool is
+
+  pub answers_first : (asks : List Ask) (groups : List (List Due)) (old mid new : Pass) →
+      is_pool workers ≡ true →
+      LeavesWaiting workers script places port (all_due asks ∷ groups) old mid →
+      HasAsked workers script places port asks [] mid new →
+      LeavesWaiting workers script places port groups old new
+  answers_first asks groups old mid new pool w a = record {
+    on = λ stage was start_at ends answers is.
+        a.on stage was start_at (Now groups ends)
+        (may_answer workers script places port stage groups ends answers)
+        (doing_turns logs laws conserve workers script places stage port was start_at
+        (all_due asks) groups ends mid pool (w.on stage was start_at ends answers is));
+  }
 
   pub looked_through : (stage : Stage) (was : List Note) (ends : List Due) (old new : Pass) →
       IsAnswering stage → GoesOn workers script places port old new →

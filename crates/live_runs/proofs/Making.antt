@@ -13,10 +13,9 @@ use Rattle.histories.specs.declared.histories.Histories.{Histories}
 use Rattle.histories.specs.declared.log.Did.{Did}
 use Rattle.histories.specs.declared.log.PortLog.{PortLog}
 use Rattle.histories.specs.Letters.{is_from}
-use Rattle.script_lines.specs.declared.line.Down.{Down}
 use Rattle.inspector_script.specs.Scripts.{ScriptValue}
 use Rattle.made_runs.specs.Closing.{IsClosing, is_closed}
-use Rattle.made_runs.specs.Feeder.{IsFed, IsFedBy, downs_in_effect}
+use Rattle.made_runs.specs.Feeder.{IsFedBy, downs_in_effect}
 use Rattle.made_runs.specs.Log.{IsLog, Note, Standing, logged, start, unanswered}
 use Rattle.made_runs.specs.Notices.{heard, letters_from}
 use Rattle.made_runs.specs.Order.{IsOrdered, kinds_told}
@@ -24,31 +23,30 @@ use Rattle.made_runs.specs.Ports.{is_port, log_of, place_in}
 use Rattle.made_runs.specs.Requests.{answer_in, pleas_in, pleas_told}
 use Rattle.made_runs.specs.Room.{some_lacks}
 use Rattle.made_runs.specs.Run.{IsMadeBy}
-use Rattle.made_runs.specs.Underway.{AllFed, Ordered}
+use Rattle.made_runs.specs.Underway.{Ordered}
 use Rattle.live_runs.specs.ClosedPlanes.{IsClosedPlane, IsCovered, log_by, sent_by_all}
 use Rattle.live_runs.specs.Meetings.{ArePorts}
-use Rattle.live_runs.specs.Owners.{IsFeeding, IsNotBy, IsNotFed, IsOf}
+use Rattle.live_runs.specs.Owners.{IsFedByAll, IsNotBy, IsNotFed, IsOf}
 use Rattle.live_runs.specs.Passes.{Pass, feeder_number, is_pass, seen_at}
 use Rattle.live_runs.specs.Seen.{OursAre, all_theirs}
 use Rattle.live_runs.specs.Stages.{InOrder}
 use Rattle.live_runs.specs.Stands.{IsDone, Stand}
 use Rattle.live_runs.proofs.Closed.{grown_shutting}
 use Rattle.live_runs.proofs.Covering.{full_entries, theirs_are}
-use Rattle.live_runs.proofs.Fed.{grown_feeding}
-use Rattle.live_runs.proofs.Known.{ClosingLaws, FeedingLaws, LogLaws}
+use Rattle.live_runs.proofs.FedByAll.{met_by_all}
+use Rattle.live_runs.proofs.Known.{ClosingLaws, LogLaws}
 use Rattle.live_runs.proofs.Marks.{met_grows, ours_as}
 use Rattle.live_runs.proofs.Owning.{covered_even, other_passes, others_own, port_passes}
 use Rattle.live_runs.proofs.Owning.{ports_not_fed}
 
-module _ (logs : LogLaws) (laws : ClosingLaws) (feedings : FeedingLaws)
-    (one_feeder : (downs : List Down) (hs : List Entry) → IsFed downs hs → IsFedBy 1 downs hs)
-    (workers : ℕ) (script : ScriptValue) (places frames time : ℕ) (passes : ℕ → Pass)
+module _ (logs : LogLaws) (laws : ClosingLaws) (workers feeders : ℕ) (script : ScriptValue)
+    (places frames : ℕ) (passes : ℕ → Pass)
     (h : Histories) (notes : ℕ → List Note) (stands : ℕ → Stand) (some : 0 < places)
     (closed : IsClosedPlane script.ports script.mail places passes h)
     (are : ArePorts workers script places passes notes stands)
     (done : (port : ℕ) → is_port script port ≡ true → IsDone (stands port))
     (feeding : (k : ℕ) → k < places →
-    IsFeeding time (downs_in_effect script frames) (seen_at passes k feeder_number))
+    IsFedByAll feeders (downs_in_effect script frames) (seen_at passes k feeder_number))
     (received : (port : ℕ) → is_port script port ≡ true →
     sent_by_all script.ports places passes port ≡ length (passes port).letters) where
   abbrev at : ℕ → ℕ
@@ -186,30 +184,26 @@ module _ (logs : LogLaws) (laws : ClosingLaws) (feedings : FeedingLaws)
       (are.ours p i k)
 
   fed_so : (queue : ℕ) → queue < queue_count →
-      IsFedBy 1 (downs_in_effect script frames) (history queue h.entries)
+      IsFedBy feeders (downs_in_effect script frames) (history queue h.entries)
   fed_so queue below =
       let k = at queue in
       let c = covered_at queue in
       let fallen = downs_in_effect script frames in
       let xs = seen_at passes k feeder_number in
-      let whole_so = grown_feeding feedings time fallen xs
-      (xs ++ all_theirs (c.rest feeder_number))
-      (met_grows IsNotFed xs (xs ++ all_theirs (c.rest feeder_number)) (c.rest feeder_number) refl)
+      let whole_so = met_by_all feeders fallen xs (c.rest feeder_number)
       (feeding k (within queue)) in
-      one_feeder fallen (history queue h.entries)
-      (subst (IsFed fallen) (sym (closed.same queue))
-      (feedings.fed time fallen (history queue (closed.whole k))
-      ((subst (AllFed time fallen)
+      subst (IsFedBy feeders fallen) (sym (closed.same queue))
+      (subst (λ es. IsFedBy feeders fallen (history queue es))
       (full_entries (is_pass script.ports) (seen_at passes k) (closed.whole k) c feeder_number refl)
       (whole_so.fed
       (theirs_are (is_pass script.ports) (seen_at passes k) (closed.whole k) c IsNotFed
-      feeder_number refl (λ p passes_so other. not_fed k p passes_so other)))).each queue below)))
+      feeder_number refl (λ p passes_so other. not_fed k p passes_so other)) queue below))
 
   -- ---- all of it
 
   pub made_so : (early late : ℕ) →
       InOrder workers script places early late closed.whole notes →
-      IsMadeBy workers 1 script frames h notes (λ port. [])
+      IsMadeBy workers feeders script frames h notes (λ port. [])
   made_so early late order = record {
     log = record { each = λ port dids i found. log_so port dids i found; others = are.others };
     requests = record {

@@ -89,6 +89,11 @@ abbrev pub Feeds : ℕ → Next → Card → Shares → Shares → Type 0
 Feeds places Released card old new = (k : ℕ) → new k ≡ old k
 Feeds places (To queue bypass table) card old new = Enters places queue table bypass card old new
 
+-- a device goes down where this was seen
+pub record FallsAt (device : ℕ) (old new : List Seen) : Type 0 where
+  pub others : List Entry
+  pub turn : IsTurn others (downs device (entries old ++ others)) old new
+
 -- a device goes down at a place
 pub record Falls (device place : ℕ) (old new : Shares) : Type 0 where
   pub others : List Entry

@@ -18,7 +18,7 @@ use Rattle.live_runs.specs.Passes.{Pass}
 use Rattle.live_runs.specs.Ports.{IsPort}
 use Rattle.live_runs.specs.Stages.{Stage, Opening, Working, Ending, Adds, early_of, late_of}
 use Rattle.live_runs.specs.Stages.{MaySpeak}
-use Rattle.live_runs.specs.Stands.{Side, Stand, side, cut_side, idle}
+use Rattle.live_runs.specs.Stands.{Now, Side, Stand, side, cut_side, idle}
 
 -- Where nothing but requests stands, and no pass but this one appends anything, it appends requests
 -- alone: nothing waits, and so nothing is handed on.
@@ -89,3 +89,11 @@ pub record GoesOn (workers : ℕ) (script : ScriptValue) (places port : ℕ) (ol
   pub on : (stage : Stage) (was : List Note) (start : Pass) (ends : List Due) →
       IsAnswering stage → IsDoing workers script places stage port was start (idle ends) old →
       IsDoing workers script places stage port was start (idle ends) new
+
+-- Whatever it had done before, in a stage in which answers are sent: it owed nothing and owes
+-- nothing now, and these groups of answers wait behind a pool.
+pub record LeavesWaiting (workers : ℕ) (script : ScriptValue) (places port : ℕ)
+    (groups : List (List Due)) (old new : Pass) : Type 0 where
+  pub on : (stage : Stage) (was : List Note) (start : Pass) (ends : List Due) →
+      IsAnswering stage → IsDoing workers script places stage port was start (idle ends) old →
+      IsDoing workers script places stage port was start (side (Now groups ends) []) new

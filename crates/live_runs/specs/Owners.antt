@@ -9,7 +9,7 @@ use Rattle.histories.specs.History.{history}
 use Rattle.histories.specs.Numbers.{queue_count}
 use Rattle.script_lines.specs.declared.line.Down.{Down}
 use Rattle.made_runs.specs.Closing.{IsClosing, is_of_port}
-use Rattle.made_runs.specs.Feeder.{IsNoDown, times_of_event}
+use Rattle.made_runs.specs.Feeder.{IsFedBy, IsNoDown, times_of_event}
 use Rattle.made_runs.specs.Log.{Note}
 use Rattle.made_runs.specs.Requests.{pleas_in, pleas_told}
 use Rattle.made_runs.specs.Underway.{AllFed}
@@ -77,3 +77,9 @@ IsNotFed e = IsNoDown e.event × (times_of_event e.event ≡ [])
 -- fed up to this time, with these lines.
 pub record IsFeeding (time : ℕ) (fallen : List Down) (xs : List Seen) : Type 0 where
   pub fed : TheirsAre IsNotFed xs → AllFed time fallen (entries xs)
+
+-- As long as the others' entries are no first arrivals and no devices that go down, so many feeders
+-- fed each queue of the place, with these lines.
+pub record IsFedByAll (feeders : ℕ) (downs : List Down) (xs : List Seen) : Type 0 where
+  pub fed : TheirsAre IsNotFed xs → (queue : ℕ) → queue < queue_count →
+      IsFedBy feeders downs (history queue (entries xs))

@@ -22,7 +22,7 @@ ghost use Rattle.live_runs.specs.Stands.{idle, shut_stand, side};
 ghost use Rattle.live_runs.specs.Ports.{IsPort};
 ghost use Rattle.live_runs.specs.Stages.{Ending, MaySpeak, Stage, Went};
 ghost use Rattle.live_runs.specs.Doing.{GoesOn, HasAsked, HasHeard, HasSent, IsAnswering};
-ghost use Rattle.live_runs.specs.Doing.{IsCutting, IsDoing};
+ghost use Rattle.live_runs.specs.Doing.{IsCutting, IsDoing, LeavesWaiting};
 
 use made_runs::{closings_are_kept, datagrams_are_short, logs_go_on};
 use queue_core::each_packet_stays_or_leaves;
@@ -137,8 +137,9 @@ pub fn a_port_goes_through_a_stage()
     closings_are_kept();
 }
 
-/// What a port does adds up: what it sends, to all asks of an answer; a notice and its answers,
-/// where no pool works them out, to a look after which nothing is owed; and looks, to a stage.
+/// What a port does adds up: what it sends, to all asks of an answer; a notice and its answers, to
+/// a look after which nothing is owed, with a pool behind the port and without; and looks, to a
+/// stage.
 pub fn what_a_port_does_adds_up()
     ensures no_ask { (workers : ℕ) (script : ScriptValue) (places port : ℕ) (asks : List Ask)
         (pass : Pass) → HasAsked workers script places port asks asks pass pass }
@@ -150,8 +151,7 @@ pub fn what_a_port_does_adds_up()
     ensures no_look { (workers : ℕ) (script : ScriptValue) (places port : ℕ) (pass : Pass) →
         GoesOn workers script places port pass pass }
     ensures look { (workers : ℕ) (script : ScriptValue) (places port : ℕ) (l : Letter)
-        (old mid new : Pass) → is_pool workers ≡ false → Receives l old mid →
-        HasAsked workers script places port
+        (old mid new : Pass) → Receives l old mid → HasAsked workers script places port
         (answer_to script (place_in port script.ports) mid.dids (told_exactly l.bytes)) [] mid
         new →
         GoesOn workers script places port old new }
@@ -164,6 +164,31 @@ pub fn what_a_port_does_adds_up()
         IsPort workers script places port was (idle ends) old →
         (now : List Note) × IsPort workers script places port now (idle ends) new
         × Went workers script stage port was now old.shares new.shares }
+{
+    logs_go_on();
+    closings_are_kept();
+    each_packet_stays_or_leaves();
+}
+
+/// Behind a pool notices are received while no answer is sent: their answers wait, group by group.
+/// Then these are sent in the order of the notices, until none waits.
+pub fn a_pool_answers_in_groups()
+    ensures none { (workers : ℕ) (script : ScriptValue) (places port : ℕ) (pass : Pass) →
+        LeavesWaiting workers script places port [] pass pass }
+    ensures receives { (workers : ℕ) (script : ScriptValue) (places port : ℕ) (l : Letter)
+        (groups : List (List Due)) (old mid new : Pass) → is_pool workers ≡ true →
+        LeavesWaiting workers script places port groups old mid → Receives l mid new →
+        LeavesWaiting workers script places port (groups ++ all_due
+        (answer_to script (place_in port script.ports) new.dids (told_exactly l.bytes)) ∷ [])
+        old new }
+    ensures answers { (workers : ℕ) (script : ScriptValue) (places port : ℕ) (asks : List Ask)
+        (groups : List (List Due)) (old mid new : Pass) → is_pool workers ≡ true →
+        LeavesWaiting workers script places port (all_due asks ∷ groups) old mid →
+        HasAsked workers script places port asks [] mid new →
+        LeavesWaiting workers script places port groups old new }
+    ensures done { (workers : ℕ) (script : ScriptValue) (places port : ℕ) (old new : Pass) →
+        LeavesWaiting workers script places port [] old new →
+        GoesOn workers script places port old new }
 {
     logs_go_on();
     closings_are_kept();

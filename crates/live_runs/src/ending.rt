@@ -11,7 +11,7 @@ ghost use Rattle.made_runs.specs.Ports.{is_port};
 ghost use Rattle.made_runs.specs.Run.{IsMadeBy};
 ghost use Rattle.live_runs.specs.Seen.{Grows, IsAny, IsNone, Shares, all_theirs};
 ghost use Rattle.live_runs.specs.Calls.{ShutsAll};
-ghost use Rattle.live_runs.specs.Owners.{IsFeeding};
+ghost use Rattle.live_runs.specs.Owners.{IsFedByAll, IsFeeding};
 ghost use Rattle.live_runs.specs.Passes.{AreMet, Pass, feeder_number, is_pass, seen_at};
 ghost use Rattle.live_runs.specs.ClosedPlanes.{IsClosedPlane, sent_at, sent_by_all};
 ghost use Rattle.live_runs.specs.Stands.{IsDone, Stand};
@@ -68,8 +68,9 @@ pub fn nothing_is_sent_to_a_closed_port()
 
 /// The histories of a closed plane are made by the script, where its passes met at last; each port
 /// has done all that it had to; the feeder fed the places up to some time, with all lines that take
-/// effect; and each port received as many notices as all passes sent to it. No notice is left. Nor
-/// did a request ask for a payload that is too long.
+/// effect, or so many feeders did whose passes were joined into one; and each port received as many
+/// notices as all passes sent to it. No notice is left. Nor did a request ask for a payload that is
+/// too long.
 pub fn a_run_with_threads_is_made_by_its_script()
     ensures made { (workers : ℕ) (script : ScriptValue) (places frames time : ℕ) (stage : Stage)
         (passes : ℕ → Pass) (h : Histories) (notes : ℕ → List Note) (stands : ℕ → Stand) →
@@ -81,6 +82,17 @@ pub fn a_run_with_threads_is_made_by_its_script()
         ((port : ℕ) → is_port script port ≡ true →
         sent_by_all script.ports places passes port ≡ length (passes port).letters) →
         IsMadeBy workers 1 script frames h notes (λ port. []) }
+    ensures made_by_all { (workers feeders : ℕ) (script : ScriptValue) (places frames : ℕ)
+        (stage : Stage) (passes : ℕ → Pass) (h : Histories) (notes : ℕ → List Note)
+        (stands : ℕ → Stand) → 0 < places →
+        IsClosedPlane script.ports script.mail places passes h →
+        IsMeeting workers script places stage passes notes stands →
+        ((port : ℕ) → is_port script port ≡ true → IsDone (stands port)) →
+        ((k : ℕ) → k < places → IsFedByAll feeders (downs_in_effect script frames)
+        (seen_at passes k feeder_number)) →
+        ((port : ℕ) → is_port script port ≡ true →
+        sent_by_all script.ports places passes port ≡ length (passes port).letters) →
+        IsMadeBy workers feeders script frames h notes (λ port. []) }
     ensures short { (workers : ℕ) (script : ScriptValue) (places mail : ℕ) (passes : ℕ → Pass)
         (h : Histories) (notes : ℕ → List Note) (stands : ℕ → Stand) → 0 < places →
         IsClosedPlane script.ports mail places passes h →

@@ -7,10 +7,10 @@ ghost use Rattle.histories.specs.declared.entry.Entry.{Entry};
 ghost use Rattle.script_lines.specs.declared.line.Down.{Down};
 ghost use Rattle.live_runs.specs.Seen.{Seen, Shares, all_theirs, Grows};
 ghost use Rattle.live_runs.specs.Calls.{Feeds, Falls};
-ghost use Rattle.live_runs.specs.Owners.{IsFeeders, IsFeeding};
+ghost use Rattle.live_runs.specs.Owners.{IsFedByAll, IsFeeders, IsFeeding};
 ghost use Rattle.live_runs.specs.Feeding.{TakesDownTo};
 
-use made_runs::fed_histories_go_on;
+use made_runs::{fed_histories_go_on, one_feeder_feeds_all};
 
 /// The feeder's pass keeps its time at each place: where nothing has happened yet, where it meets
 /// other passes, where a packet of the next frame is fed, and where a line takes effect, place by
@@ -35,4 +35,16 @@ pub fn the_feeder_keeps_its_time()
         TakesDownTo (place + 1) places d old new }
 {
     fed_histories_go_on();
+}
+
+/// A place that so many feeders fed is fed by them also where their pass meets others. One that was
+/// fed up to some time, with all lines, was fed by one.
+pub fn a_place_stays_fed_by_all()
+    ensures meets { (feeders : ℕ) (downs : List Down) (xs : List Seen) (es : List Entry) →
+        IsFedByAll feeders downs xs → IsFedByAll feeders downs (xs ++ all_theirs es) }
+    ensures one { (time : ℕ) (downs : List Down) (xs : List Seen) → IsFeeding time downs xs →
+        IsFedByAll 1 downs xs }
+{
+    fed_histories_go_on();
+    one_feeder_feeds_all();
 }

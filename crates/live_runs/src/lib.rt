@@ -12,13 +12,13 @@ mod meeting;
 
 pub use by_hand::a_run_by_hand;
 pub use doing::{
-    a_port_does_what_is_next, a_port_goes_through_a_stage, messages_are_sent_one_by_one,
-    what_a_port_does_adds_up,
+    a_pool_answers_in_groups, a_port_does_what_is_next, a_port_goes_through_a_stage,
+    messages_are_sent_one_by_one, what_a_port_does_adds_up,
 };
 pub use ending::{
     a_run_with_threads_is_made_by_its_script, meetings_and_closings_send_nothing,
     nothing_is_sent_to_a_closed_port,
 };
-pub use feeding::the_feeder_keeps_its_time;
+pub use feeding::{a_place_stays_fed_by_all, the_feeder_keeps_its_time};
 pub use locks::a_turn_of_a_lock_is_one_of_its_pass;
 pub use meeting::{a_stage_ends_where_all_meet, ports_open_one_after_the_other};

@@ -6,3 +6,4 @@ pub mod Looked
 pub mod Fallen
 pub mod Passed
 pub mod Fresh
+pub mod Pooled

@@ -1,9 +1,9 @@
 -- A port looks into its mailbox: what is known after each look.
-use Rattle.std.proofs.Common.{◌≡◌, [], ℕ, List, Option, Some, None, ap, false, refl, subst, sym}
+use Rattle.std.proofs.Common.{◌≡◌, [], ℕ, List, Option, Some, None, ap, subst, sym}
 use Rattle.packet_entry.specs.declared.letter.Letter.{Letter}
 use Rattle.script_lines.specs.declared.ask.Ask.{Ask}
 use Rattle.inspector_script.specs.Scripts.{ScriptValue}
-use Rattle.made_runs.specs.Log.{answer_to, is_pool}
+use Rattle.made_runs.specs.Log.{answer_to}
 use Rattle.made_runs.specs.NoticeTexts.{told_exactly}
 use Rattle.made_runs.specs.Ports.{place_in}
 use Rattle.port_scripts.specs.Words.{AreWords}
@@ -15,7 +15,6 @@ use Rattle.live_runs.specs.Doing.{GoesOn, HasAsked}
 use Rattle.live_runs.specs.Passes.{Pass, Receives}
 use Rattle.live_passes.specs.Numbered.{StaysPort}
 use Rattle.live_passes.specs.Views.{port_pass}
-use Rattle.live_work.specs.Numbers.{one_worker}
 use Rattle.live_work.specs.Sending.{SaysTo}
 use Rattle.live_work.specs.Looking.{LooksOn}
 
@@ -23,7 +22,7 @@ use Rattle.live_work.specs.Looking.{LooksOn}
 
 abbrev pub LookLaw : Type 0
 LookLaw = (workers : ℕ) (script : ScriptValue) (places port : ℕ) (l : Letter)
-    (old mid new : Pass) → is_pool workers ≡ false → Receives l old mid →
+    (old mid new : Pass) → Receives l old mid →
     HasAsked workers script places port
     (answer_to script (place_in port script.ports) mid.dids (told_exactly l.bytes)) [] mid new →
     GoesOn workers script places port old new
@@ -74,30 +73,41 @@ pub looks_on : LookLaw → (script : ScriptValue) (places : ℕ) (l : Letter) (a
     (old mid new : PortView) → Receives l (port_pass old) (port_pass mid) →
     mid.port ≡ old.port →
     asks ≡ answer_to script (place_in old.port script.ports) mid.dids (told_exactly l.bytes) →
-    SaysTo script places mid.port asks [] (port_pass mid) (port_pass new) →
-    LooksOn script places old new
-looks_on law script places l asks old mid new receives port are says = record {
-  on = law one_worker script places old.port l (port_pass old) (port_pass mid) (port_pass new) refl
+    SaysTo script places mid.port asks [] (port_pass mid) (port_pass new) → (workers : ℕ) →
+    LooksOn workers script places old new
+looks_on law script places l asks old mid new receives port are says workers = record {
+  on = law workers script places old.port l (port_pass old) (port_pass mid) (port_pass new)
       receives
-      (subst (λ (given : List Ask). HasAsked one_worker script places old.port given []
+      (subst (λ (given : List Ask). HasAsked workers script places old.port given []
       (port_pass mid) (port_pass new)) are
       ((subst (λ (p : ℕ). SaysTo script places p asks [] (port_pass mid) (port_pass new)) port
-      says).each one_worker));
+      says).each workers));
 }
 
 -- the mailbox was found empty, or nothing was done
 pub looks_none : NoLookLaw → (script : ScriptValue) (places : ℕ) (old new : PortView) →
-    port_pass new ≡ port_pass old → LooksOn script places old new
-looks_none law script places old new same = record {
-  on = subst (λ (q : Pass). GoesOn one_worker script places old.port (port_pass old) q) (sym same)
-      (law one_worker script places old.port (port_pass old));
+    port_pass new ≡ port_pass old → (workers : ℕ) → LooksOn workers script places old new
+looks_none law script places old new same workers = record {
+  on = subst (λ (q : Pass). GoesOn workers script places old.port (port_pass old) q) (sym same)
+      (law workers script places old.port (port_pass old));
 }
 
 pub looks_both : NextLookLaw → (script : ScriptValue) (places : ℕ) (a b c : PortView) →
-    b.port ≡ a.port → LooksOn script places a b → LooksOn script places b c →
-    LooksOn script places a c
-looks_both law script places a b c port one two = record {
-  on = law one_worker script places a.port (port_pass a) (port_pass b) (port_pass c) one.on
-      (subst (λ (p : ℕ). GoesOn one_worker script places p (port_pass b) (port_pass c)) port
-      two.on);
+    b.port ≡ a.port → ((workers : ℕ) → LooksOn workers script places a b) →
+    ((workers : ℕ) → LooksOn workers script places b c) → (workers : ℕ) →
+    LooksOn workers script places a c
+looks_both law script places a b c port one two workers = record {
+  on = law workers script places a.port (port_pass a) (port_pass b) (port_pass c)
+      (one workers).on
+      (subst (λ (p : ℕ). GoesOn workers script places p (port_pass b) (port_pass c)) port
+      (two workers).on);
+}
+
+-- the same with so many workers
+pub looks_on_by : NextLookLaw → (workers : ℕ) (script : ScriptValue) (places : ℕ)
+    (a b c : PortView) → b.port ≡ a.port → LooksOn workers script places a b →
+    LooksOn workers script places b c → LooksOn workers script places a c
+looks_on_by law workers script places a b c port one two = record {
+  on = law workers script places a.port (port_pass a) (port_pass b) (port_pass c) one.on
+      (subst (λ (p : ℕ). GoesOn workers script places p (port_pass b) (port_pass c)) port two.on);
 }

@@ -3,3 +3,4 @@ pub mod Minds
 pub mod Sending
 pub mod Feeding
 pub mod Looking
+pub mod Pooling

@@ -4,8 +4,9 @@ use Rattle.inspector_script.specs.Scripts.{ScriptValue}
 use Rattle.plane.specs.Passes.{PortView}
 use Rattle.live_runs.specs.Doing.{GoesOn}
 use Rattle.live_passes.specs.Views.{port_pass}
-use Rattle.live_work.specs.Numbers.{one_worker}
 
--- A port went on answering its notices: it owed nothing, and owes nothing now.
-pub record LooksOn (script : ScriptValue) (places : ℕ) (old new : PortView) : Type 0 where
-  pub on : GoesOn one_worker script places old.port (port_pass old) (port_pass new)
+-- A port went on answering its notices, with so many workers behind it: it owed nothing, and owes
+-- nothing now.
+pub record LooksOn (workers : ℕ) (script : ScriptValue) (places : ℕ) (old new : PortView)
+    : Type 0 where
+  pub on : GoesOn workers script places old.port (port_pass old) (port_pass new)

@@ -9,9 +9,11 @@
 mod feeding;
 mod looking;
 mod mind;
+mod pooling;
 mod sending;
 
 pub use feeding::{Feeding, take_down_after};
 pub use looking::{inspect, look};
 pub use mind::{Mind, minds};
+pub use pooling::{inspect_by_pool, look_by_pool};
 pub use sending::say_all;

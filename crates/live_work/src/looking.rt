@@ -1,6 +1,6 @@
 //! How a port looks into its mailbox and answers its notices.
 
-ghost use Rattle.std.specs.Prelude.{OnOk};
+ghost use Rattle.std.specs.Prelude.{ℕ, OnOk};
 ghost use Rattle.plane.specs.Passes.{IsPortOf};
 ghost use Rattle.plane.specs.Planes.{places_of};
 ghost use Rattle.live_work.specs.Minds.{IsMind};
@@ -20,10 +20,11 @@ use std::alloc::Global;
 use std::sync::Wait;
 
 /// How many looks in a row find nothing before an inspector ends.
-const LAST_LOOK: u32 = 100_000;
+pub(crate) const LAST_LOOK: u32 = 100_000;
 
 /// A port looks into its mailbox: a notice that it finds is received and answered. Whether there
-/// was one. `NoMemory` leaves a part of its answer sent.
+/// was one. That is a look of a port with a pool behind it, too, which it doesn't use. `NoMemory`
+/// leaves a part of its answer sent.
 pub fn look<R: Wait, G: Gate>(
     rt: &R,
     alloc: Global,
@@ -37,7 +38,8 @@ pub fn look<R: Wait, G: Gate>(
     requires mind { IsMind script.now pass.old mind.old }
     ensures stays { StaysPort plane.now pass.old pass.new }
     ensures mind { OnOk result (IsMind script.now pass.new mind.new) }
-    ensures on { OnOk result (LooksOn script.now (places_of plane.now) pass.old pass.new) }
+    ensures on { OnOk result ((workers : ℕ) →
+        LooksOn workers script.now (places_of plane.now) pass.old pass.new) }
 {
     ports_speak_by_their_passes();
     what_a_port_does_adds_up();
@@ -67,7 +69,8 @@ pub fn inspect<R: Wait, G: Gate>(
     requires mind { IsMind script.now pass.old mind.old }
     ensures stays { StaysPort plane.now pass.old pass.new }
     ensures mind { OnOk result (IsMind script.now pass.new mind.new) }
-    ensures on { OnOk result (LooksOn script.now (places_of plane.now) pass.old pass.new) }
+    ensures on { OnOk result ((workers : ℕ) →
+        LooksOn workers script.now (places_of plane.now) pass.old pass.new) }
 {
     what_a_port_does_adds_up();
     let backoff = Backoff::new();

@@ -139,7 +139,7 @@ all_look_on law script places a b c one two = record {
 pub list_looks : NextLookLaw → (plane : Plane) (script : ScriptValue) (places : ℕ)
     (start c : Crew) (news : List PortView) (old new : PortView) →
     GoesOnAt plane c.feeding.pass c.ports.items news c.closed.items old new →
-    LooksOn script places old new → (port : ℕ) →
+    LooksOn one_worker script places old new → (port : ℕ) →
     GoesOn one_worker script places port (passes_of start port) (passes_of c port) →
     GoesOn one_worker script places port (passes_of start port)
     (passes_in c.feeding.pass (news ++ c.closed.items) port)

@@ -14,6 +14,7 @@ use Rattle.nfq_live.specs.declared.workers.Room.{Room}
 use Rattle.live_work.specs.Feeding.{FramesPass}
 use Rattle.live_work.specs.Looking.{LooksOn}
 use Rattle.live_work.specs.Minds.{IsMind}
+use Rattle.live_work.specs.Numbers.{one_worker}
 use Rattle.live_passes.specs.Numbered.{StaysPort}
 
 -- a worker at its port
@@ -25,7 +26,7 @@ pub record IsSeated (script : ScriptValue) (plane : Plane) (i : Inspector) : Typ
 pub record IsInspected (script : ScriptValue) (plane : Plane) (old new : Inspector) : Type 0 where
   pub stays : StaysPort plane old.pass new.pass
   pub mind : new.failed ≡ false → IsMind script new.pass new.mind
-  pub on : new.failed ≡ false → LooksOn script (places_of plane) old.pass new.pass
+  pub on : new.failed ≡ false → LooksOn one_worker script (places_of plane) old.pass new.pass
 
 abbrev pub passes_at : List Inspector → List PortView
 passes_at seats = map (λ (i : Inspector). i.pass) seats
@@ -45,7 +46,7 @@ pub record HasRoom (count : ℕ) (r : Room) : Type 0 where
 -- the same port's pass, which went on answering
 pub record WentOn (script : ScriptValue) (places : ℕ) (old new : PortView) : Type 0 where
   pub port : new.port ≡ old.port
-  pub looked : LooksOn script places old new
+  pub looked : LooksOn one_worker script places old new
 
 -- All open ports went on answering their notices, beside the feeder, which fed all frames of a
 -- capture. Nobody closed.

@@ -40,7 +40,7 @@ pub fn answered(
 }
 
 /// The notice whose text these bytes are. Its payload is a part of them: nothing is copied.
-fn notice_in(bytes: &Bytes) -> Result<Option<Notice>, NoMemory>
+pub fn notice_in(bytes: &Bytes) -> Result<Option<Notice>, NoMemory>
     ensures { IfOk result
         (λ notice. notice ≡ option_map notice_of (told_exactly bytes.now)) }
 {

@@ -8,7 +8,7 @@ mod downs;
 mod packet;
 mod texts;
 
-pub use answers::answered;
+pub use answers::{answered, notice_in};
 pub use closings::ports_close_at_the_end;
 pub use downs::{DownsByFrame, downs_by_frame};
 pub use packet::packet_of;

@@ -29,8 +29,8 @@ returns c =
       no_look = λ workers script places port pass. record {
         on = λ stage was start ends answers is. is;
       };
-      look = λ workers script places port l old mid new alone r a. looks_once logs laws conserve
-          workers script places port l old mid new alone r a;
+      look = λ workers script places port l old mid new r a. looks_once logs laws conserve workers
+          script places port l old mid new r a;
       next_look = λ workers script places port old mid new one two. looks_again workers script
           places
           port old mid new one two;

@@ -1,4 +1,7 @@
+use Rattle.made_runs.specs.Feeder.{downs_in_effect}
+use Rattle.live_runs.specs.Passes.{feeder_number, seen_at}
 use Rattle.live_runs.specs.Stages.{early_of, late_of}
+use Rattle.live_runs.proofs.FedByAll.{one_by_all}
 use Rattle.live_runs.proofs.Known.{ClosingLaws, FeedingLaws, LogLaws}
 use Rattle.live_runs.proofs.Finish.{in_order, payloads_fit}
 use Rattle.live_runs.proofs.Making.{made_so}
@@ -32,9 +35,16 @@ returns c =
     record {
       made = λ workers script places frames time stage passes h notes stands some closed meeting
           done
-          feeding received. made_so logs laws feedings c.one_feeder_feeds_all.ensures.fed workers
-          script places frames time passes h notes stands some closed meeting.are done feeding
+          feeding received. made_so logs laws workers 1 script places frames passes h notes stands
+          some closed meeting.are done
+          (λ k within. one_by_all feedings c.one_feeder_feeds_all.ensures.fed time
+          (downs_in_effect script frames) (seen_at passes k feeder_number) (feeding k within))
           received (early_of script.ports stage) (late_of stage)
+          (in_order workers script places stage passes h notes stands some closed meeting);
+      made_by_all = λ workers feeders script places frames stage passes h notes stands some closed
+          meeting done feeding received. made_so logs laws workers feeders script places frames
+          passes h notes stands some closed meeting.are done feeding received
+          (early_of script.ports stage) (late_of stage)
           (in_order workers script places stage passes h notes stands some closed meeting);
       short = λ workers script places mail passes h notes stands some closed are. payloads_fit
           workers script places mail passes h notes stands some closed are;

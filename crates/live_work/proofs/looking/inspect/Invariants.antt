@@ -1,3 +1,4 @@
+use Rattle.std.proofs.Common.{ℕ}
 use Rattle.plane.specs.Planes.{places_of}
 use Rattle.live_work.specs.Minds.{IsMind}
 use Rattle.live_passes.specs.Numbered.{StaysPort}
@@ -8,5 +9,5 @@ abbrev pub invariant-loop : goal.invariant-loop
 invariant-loop g l = record {
   stays : StaysPort l.plane l.initial.pass l.pass;
   mind : IsMind l.script l.pass l.mind;
-  on : LooksOn l.script (places_of l.plane) l.initial.pass l.pass;
+  on : (workers : ℕ) → LooksOn workers l.script (places_of l.plane) l.initial.pass l.pass;
 }

@@ -1,0 +1,12 @@
+use Rattle.plane.specs.Planes.{places_of}
+use Rattle.live_passes.specs.Numbered.{StaysPort}
+use Rattle.live_work.specs.Looking.{LooksOn}
+use Rattle.live_work.specs.Minds.{IsMind}
+use Rattle.live_work.proofs.pooling.inspect_by_pool.Given as goal
+
+abbrev pub invariant-loop : goal.invariant-loop
+invariant-loop g l = record {
+  stays : StaysPort l.plane l.initial.pass l.pass;
+  mind : IsMind l.script l.pass l.mind;
+  on : LooksOn l.workers l.script (places_of l.plane) l.initial.pass l.pass;
+}

@@ -1,0 +1,21 @@
+use Rattle.std.proofs.Common.{length}
+use Rattle.std.specs.Prelude.{All}
+use Rattle.script_lines.specs.Limits.{IsAsk}
+use Rattle.plane.specs.Planes.{places_of}
+use Rattle.port_scripts.specs.Words.{AreWords}
+use Rattle.live_passes.specs.Numbered.{StaysPort}
+use Rattle.live_work.specs.Minds.{IsMind}
+use Rattle.live_work.specs.Pooling.{LeavesAnswers}
+use Rattle.live_work.proofs.pooling.send_answers.Given as goal
+
+abbrev pub invariant-loop-asks : goal.invariant-loop-asks
+invariant-loop-asks g l = record {
+  fit : All (All IsAsk) l.left;
+  words : All AreWords l.left;
+  stays : StaysPort l.plane l.initial.pass l.pass;
+  mind : IsMind l.script l.pass l.mind;
+  sent : LeavesAnswers l.script (places_of l.plane) l.fn.answers l.left l.initial.pass l.pass;
+}
+
+abbrev pub decreases-loop-asks : goal.decreases-loop-asks
+decreases-loop-asks g l = length l.left
