@@ -1,0 +1,9 @@
+mod Ending
+mod Joined
+mod Keeping
+mod Marking
+mod Passing
+mod Pushing
+mod RunWrittenOut
+mod Uniting
+mod WrittenOut

@@ -1,0 +1,4 @@
+pub mod ByHand
+pub mod Joining
+pub mod Lines
+pub mod Sights
