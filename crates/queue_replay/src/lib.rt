@@ -13,5 +13,6 @@ mod step;
 mod waiting_list;
 
 pub use going::{Leavers, going_on};
+pub use requests::port_of;
 pub use standing::Standing;
 pub use step::is_step;

@@ -97,7 +97,7 @@ fn config(
 }
 
 /// The port that a queue is bound to, if it is.
-pub(crate) fn port_of(queue: &Option<Standing>) -> Option<u32>
+pub fn port_of(queue: &Option<Standing>) -> Option<u32>
     ensures { option_map (λ (b : Bound). b.port) queue.now ≡ result }
 {
     match queue {

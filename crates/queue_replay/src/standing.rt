@@ -62,6 +62,20 @@ impl Standing {
         })
     }
 
+    /// How much of a packet its notices tell: the copy mode.
+    pub fn mode(&self) -> u8
+        ensures { result ≡ self.now.mode }
+    {
+        self.mode
+    }
+
+    /// How many bytes of a packet its notices tell, under the mode `PACKET`.
+    pub fn range(&self) -> u32
+        ensures { result ≡ self.now.range }
+    {
+        self.range
+    }
+
     /// Applies what a config request asks for: params, maximum and flags, in this order.
     pub(crate) fn configure(
         &mut self,

@@ -1,0 +1,10 @@
+pub mod Makers
+pub mod Told
+pub mod Following
+pub mod Hearing
+pub mod Closing
+pub mod Dealing
+pub mod Kinds
+pub mod Noticing
+pub mod Pleading
+pub mod Ranking

@@ -1,0 +1,59 @@
+//! The parts behind that on logs, one after the other.
+
+ghost use Rattle.std.specs.Prelude.{◌≡◌, ℕ, List, length, IfOk};
+ghost use Rattle.histories.specs.History as history;
+ghost use Rattle.made_runs.specs.Log.{Note};
+ghost use Rattle.makers_audit.specs.Makers.{IsMakersAnswer};
+ghost use Rattle.parts_audit.specs.Given.{AreGiven};
+
+use feeder_audit::is_fed;
+use histories::Histories;
+use inspector_script::Script;
+use makers_audit::{
+    MessageKind, Rows, are_closings, are_notices, are_ordered, are_ports, are_requests, are_roomy,
+    logs_tell_what_ports_did,
+};
+use packet_entry::NoMemory;
+use pcap_io::Capture;
+use std::alloc::Global;
+
+/// The number of the first part that doesn't hold of legal histories; `None` where the script made
+/// them. The ports' logs are what the script says, `kinds` has the kinds of their messages, and no
+/// two arrivals are of one packet at one visit.
+pub fn first_part_amiss(
+    alloc: Global,
+    script: &Script,
+    capture: &Capture,
+    histories: &Histories,
+    kinds: Rows<MessageKind>,
+) -> Result<Option<u8>, NoMemory>
+    requires { history.AreLegal histories.now.entries }
+    ensures { IfOk result (λ answer. (notes : ℕ → List Note) →
+        AreGiven script.now histories.now kinds notes →
+        IsMakersAnswer script.now (length capture.now.frames) histories.now answer) }
+{
+    logs_tell_what_ports_did();
+    let _ports = script.ports();
+    if !are_requests(alloc, script, histories)? {
+        return Ok(Some(2));
+    }
+    if !are_notices(alloc, script, histories)? {
+        return Ok(Some(3));
+    }
+    if !are_closings(alloc, script, histories)? {
+        return Ok(Some(4));
+    }
+    if !is_fed(alloc, script, capture, histories)? {
+        return Ok(Some(5));
+    }
+    if !are_ports(script, histories) {
+        return Ok(Some(6));
+    }
+    if !are_ordered(alloc, script, histories, kinds)? {
+        return Ok(Some(7));
+    }
+    if !are_roomy(alloc, script, histories)? {
+        return Ok(Some(8));
+    }
+    Ok(None)
+}
