@@ -1,0 +1,10 @@
+pub mod Counting
+pub mod Going
+pub mod Along
+pub mod Evenness
+pub mod Whole
+pub mod Owning
+pub mod Asking
+pub mod Witness
+pub mod Told
+pub mod Cutting

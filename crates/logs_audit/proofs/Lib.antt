@@ -1,0 +1,9 @@
+pub mod HeldDues
+pub mod Spelling
+pub mod Stepping
+pub mod Known
+pub mod Choosing
+pub mod Placed
+pub mod Keeping
+pub mod Noticed
+pub mod Single

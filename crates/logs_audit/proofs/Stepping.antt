@@ -1,0 +1,129 @@
+-- The walk along a port's log, step by step.
+use Rattle.std.proofs.Common.{◌≡◌, ◌∙◌, ℕ, List, [], ◌∷◌, ◌++◌, sym, ap, subst, Bool, true}
+use Rattle.std.proofs.Common.{false}
+use Rattle.std.proofs.Common.{Option, Some, Result, Ok, Err}
+use Rattle.std.specs.Prelude.{IfOk, map}
+use Rattle.histories.specs.declared.log.AskWords.{AskWords}
+use Rattle.histories.specs.declared.log.Did.{Did}
+use Rattle.histories.specs.declared.log.Did.TheVariants.{Sent}
+use Rattle.packet_moves.specs.Calls.{after_this}
+use Rattle.inspector_script.specs.Scripts.{ScriptValue}
+use Rattle.made_runs.specs.Log.{Due, first_due, owed_then, ends_then}
+use Rattle.made_runs.specs.Order.{kind_by}
+use Rattle.log_walks.specs.Walking.{Known, Walk, AllGoOn, IsLoggedAs, ends_at, settled}
+use Rattle.log_walks.specs.Walking.{timed_of}
+use Rattle.log_walks.specs.Walking.{IsDone, IsWalked, beginning, ended, walked_all}
+use Rattle.logs_audit.specs.PortWalks.{GoesOver, IsWalkedWith, Steps}
+use Rattle.logs_audit.specs.PortWalks as port_walks
+use Rattle.logs_audit.specs.declared.port_walk.KindAt.{KindAt}
+
+-- ---- a port that owes nothing sends a message of its end
+
+module _ (known : Known) (script : ScriptValue) (place port : ℕ) (w new : Walk) (owed : List Due)
+    (call : ℕ) (ask : AskWords) (answer : Option ℕ) (is : owed ≡ settled port w.call w.owed)
+    (none : owed ≡ []) where
+  same_settled : settled port w.call owed ≡ settled port w.call w.owed
+  same_settled = ap (settled port w.call) none ∙ sym none ∙ is
+
+  abbrev goes_by : List Due → Type 0
+  goes_by o =
+      (w.is_open ≡ true) × (call ≡ w.call)
+      × IsLoggedAs port call ask (first_due o (ends_at port w.call o w.ends))
+
+  abbrev sent_by : List Due → Walk
+  sent_by o =
+      record w {
+        owed = owed_then [] o;
+        ends = ends_then [] o (ends_at port w.call o w.ends);
+        call = after_this w.call;
+        timed = w.timed ++ timed_of (kind_by o w.heard)
+            (first_due o (ends_at port w.call o w.ends));
+      }
+
+  nothing_owed : (b : Bool) →
+      Steps known script place port (Sent call ask answer) (record w { owed = owed }) new b →
+      Steps known script place port (Sent call ask answer) w new b
+  nothing_owed true steps =
+      (subst goes_by same_settled steps.0, steps.1 ∙ ap sent_by same_settled)
+  nothing_owed false stops = λ goes. stops (subst goes_by (sym same_settled) goes)
+
+  pub sent_at_end : {E : Type 0} (r : Result Bool E) →
+      IfOk r (Steps known script place port (Sent call ask answer) (record w { owed = owed }) new) →
+      IfOk r (Steps known script place port (Sent call ask answer) w new)
+  sent_at_end {E} (Ok b) steps = nothing_owed b steps
+  sent_at_end {E} (Err e) steps = tt
+
+-- ---- entry by entry
+
+module _ (known : Known) (script : ScriptValue) (place port : ℕ) where
+  -- the walk goes on over all of these, as it does over the rest from here
+  pub record IsGoingOver (start now : Walk) (all rest : List Did) : Type 0 where
+    pub on : AllGoOn known script place port start all → AllGoOn known script place port now rest
+    pub back : AllGoOn known script place port now rest → AllGoOn known script place port start all
+    pub leads : walked_all known script place port start all
+        ≡ walked_all known script place port now rest
+
+  pub over_begun : (start : Walk) (all rest : List Did) → rest ≡ all →
+      IsGoingOver start start all rest
+  over_begun start all rest same = record {
+    on = subst (AllGoOn known script place port start) (sym same);
+    back = subst (AllGoOn known script place port start) same;
+    leads = ap (walked_all known script place port start) (sym same);
+  }
+
+  pub over_on : (start now new : Walk) (all rest behind : List Did) (d : Did) →
+      rest ≡ d ∷ behind → Steps known script place port d now new true →
+      IsGoingOver start now all rest → IsGoingOver start new all behind
+  over_on start now new all rest behind d is steps over = record {
+    on = λ goes. let more = subst (AllGoOn known script place port now) is (over.on goes) in
+        subst (λ w. AllGoOn known script place port w behind) (sym steps.1) more.1;
+    back = λ goes. over.back (subst (AllGoOn known script place port now) (sym is)
+        (steps.0, subst (λ w. AllGoOn known script place port w behind) steps.1 goes));
+    leads = over.leads ∙ ap (walked_all known script place port now) is
+        ∙ ap (λ w. walked_all known script place port w behind) (sym steps.1);
+  }
+
+  pub over_stopped : (start now new : Walk) (all rest behind : List Did) (d : Did) →
+      rest ≡ d ∷ behind → Steps known script place port d now new false →
+      IsGoingOver start now all rest → AllGoOn known script place port start all → ⊥
+  over_stopped start now new all rest behind d is stops over goes =
+      stops (subst (AllGoOn known script place port now) is (over.on goes)).0
+
+  pub over_done : (start now : Walk) (all rest : List Did) → rest ≡ [] →
+      IsGoingOver start now all rest → GoesOver known script place port all start now true
+  over_done start now all rest none over = (
+    over.back (subst (AllGoOn known script place port now) (sym none) tt),
+    sym (over.leads ∙ ap (walked_all known script place port now) none),
+  )
+
+  -- ---- a whole log
+
+  pub not_over : (dids : List Did) (start new : Walk) → start ≡ beginning script place →
+      GoesOver known script place port dids start new false →
+      IsWalked known script place port dids → ⊥
+  not_over dids start new is stops walks =
+      stops (subst (λ w. AllGoOn known script place port w dids) (sym is) walks.goes)
+
+  led_to : (dids : List Did) (start new : Walk) → start ≡ beginning script place →
+      GoesOver known script place port dids start new true →
+      new ≡ ended known script place port dids
+  led_to dids start new is goes =
+      goes.1 ∙ ap (λ w. walked_all known script place port w dids) is
+
+  pub not_done : (dids : List Did) (start new : Walk) → start ≡ beginning script place →
+      GoesOver known script place port dids start new true → (IsDone port new → ⊥) →
+      IsWalked known script place port dids → ⊥
+  not_done dids start new is goes open_ walks =
+      open_ (subst (IsDone port) (sym (led_to dids start new is goes)) walks.done)
+
+  pub whole_walk : (dids : List Did) (start new : Walk) → start ≡ beginning script place →
+      GoesOver known script place port dids start new true → IsDone port new →
+      (kinds : List KindAt) → map port_walks.timed_of kinds ≡ new.timed →
+      IsWalkedWith known script place port dids (Some kinds)
+  whole_walk dids start new is goes done kinds same = (
+    record {
+      goes = subst (λ w. AllGoOn known script place port w dids) is goes.0;
+      done = subst (IsDone port) (led_to dids start new is goes) done;
+    },
+    same ∙ ap (λ (w : Walk). w.timed) (led_to dids start new is goes),
+  )

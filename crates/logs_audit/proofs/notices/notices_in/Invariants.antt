@@ -1,0 +1,5 @@
+use Rattle.logs_audit.proofs.Keeping.{AreKept}
+use Rattle.logs_audit.proofs.notices.notices_in.Given as goal
+
+abbrev pub invariant-loop-entry : goal.invariant-loop-entry
+invariant-loop-entry l = AreKept l.entries l.entry-iterator l.queues l.notices

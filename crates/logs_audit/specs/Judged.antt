@@ -1,0 +1,95 @@
+-- The logs of a script's ports, judged.
+use Rattle.std.specs.Prelude.{◌≡◌, ℕ, List, [], ◌∷◌, map, Option, Some, None, true}
+use Rattle.std.specs.Prelude.{◌≤◌, ◌==◌, ◌&&◌}
+use Rattle.packet_entry.specs.declared.letter.Letter.{Letter}
+use Rattle.queue_core.specs.Laws.{times}
+use Rattle.histories.specs.Stays.{arrivals}
+use Rattle.histories.specs.declared.entry.Entry.{Entry}
+use Rattle.histories.specs.declared.histories.Histories.{Histories}
+use Rattle.histories.specs.declared.log.Did.{Did}
+use Rattle.inspector_script.specs.Scripts.{ScriptValue}
+use Rattle.made_runs.specs.Log.{Note}
+use Rattle.made_runs.specs.Order.{kinds_told}
+use Rattle.made_runs.specs.Ports.{is_port, log_of, place_in}
+use Rattle.makers_audit.specs.Makers.{HaveLogs, IsTaken}
+use Rattle.makers_audit.specs.Noticing.{IsOnlyOne}
+use Rattle.makers_audit.specs.Pleading.{AreToldByWords, HaveErrnos}
+use Rattle.log_walks.specs.Walking.{IsWalked, Known, kinds_at}
+use Rattle.logs_audit.specs.PortWalks.{IsWalkedWith, timed_of}
+use Rattle.logs_audit.specs.Stays.{known_in}
+use Rattle.logs_audit.specs.declared.judging.PortKinds.{PortKinds}
+use Rattle.logs_audit.specs.declared.port_walk.KindAt.{KindAt}
+
+-- No packet's visit to a queue made two notices. So it is of sound histories.
+abbrev pub AllOnlyOnes : List Entry → Type 0
+AllOnlyOnes es = (l : Letter) → IsTaken es l → IsOnlyOne es l
+
+-- no two arrivals are of one packet at one visit
+abbrev pub ArriveOnce : List Entry → Type 0
+ArriveOnce es = (number visit : ℕ) →
+    times (λ n v. (n == number) && (v == visit)) (arrivals es) ≤ 1
+
+-- The requests of a port have these kinds, queue by queue.
+abbrev pub HasKinds : ScriptValue → (ℕ → List Note) → PortKinds → Type 0
+HasKinds script notes k = (queue : ℕ) →
+    kinds_told 1 script queue k.port (notes k.port) ≡ kinds_at queue (map timed_of k.kinds.items)
+
+abbrev pub AllHaveKinds : ScriptValue → (ℕ → List Note) → List PortKinds → Type 0
+AllHaveKinds script notes [] = Unit {0}
+AllHaveKinds script notes (k ∷ ks) = HasKinds script notes k × AllHaveKinds script notes ks
+
+-- it is told what each port did, as each message was logged and with the errnos that were answered
+pub record AreTold (script : ScriptValue) (h : Histories) (notes : ℕ → List Note) : Type 0 where
+  pub logs : HaveLogs script h notes
+  pub words : AreToldByWords script notes
+  pub errnos : HaveErrnos script h notes
+
+-- The logs are what the script says, and the ports' requests have these kinds, however it is told
+-- what the ports did.
+pub record AreJudged (script : ScriptValue) (h : Histories) (kinds : List PortKinds)
+    : Type 0 where
+  pub notes : ℕ → List Note
+  pub told : AreTold script h notes
+  pub ports : map (λ (k : PortKinds). k.port) kinds ≡ script.ports
+  pub each : (ns : ℕ → List Note) → HaveLogs script h ns → AllHaveKinds script ns kinds
+
+abbrev pub IsJudgement : ScriptValue → Histories → Option (List PortKinds) → Type 0
+IsJudgement script h None = (notes : ℕ → List Note) → HaveLogs script h notes → ⊥
+IsJudgement script h (Some kinds) = AreJudged script h kinds
+
+-- ---- for proofs
+
+-- the log of a port is walked, with these requests
+pub record IsPortWalked (script : ScriptValue) (h : Histories) (port : ℕ) (k : PortKinds)
+    : Type 0 where
+  pub is : k.port ≡ port
+  pub dids : List Did
+  pub log : log_of port h.logs ≡ Some dids
+  pub walked : IsWalkedWith (known_in h.entries) script (place_in port script.ports) port dids
+      (Some k.kinds.items)
+
+abbrev pub ArePortsWalked : ScriptValue → Histories → List ℕ → List PortKinds → Type 0
+ArePortsWalked script h [] [] = Unit {0}
+ArePortsWalked script h [] (k ∷ ks) = ⊥
+ArePortsWalked script h (p ∷ ps) [] = ⊥
+ArePortsWalked script h (p ∷ ps) (k ∷ ks) =
+    IsPortWalked script h p k × ArePortsWalked script h ps ks
+
+-- the log of a port can be walked
+pub record IsWalkable (script : ScriptValue) (h : Histories) (port : ℕ) : Type 0 where
+  pub dids : List Did
+  pub log : log_of port h.logs ≡ Some dids
+  pub walks : IsWalked (known_in h.entries) script (place_in port script.ports) port dids
+
+abbrev pub IsWalkedAll : ScriptValue → Histories → Option (List PortKinds) → Type 0
+IsWalkedAll script h None =
+    ((port : ℕ) → is_port script port ≡ true → IsWalkable script h port) → ⊥
+IsWalkedAll script h (Some ks) = ArePortsWalked script h script.ports ks
+
+-- a log, if there is one, is walked with these requests; or there is none, or it can't be walked
+abbrev pub IsLogWalkedWith : Known → ScriptValue → ℕ → ℕ → Option (List Did) →
+    Option (List KindAt) → Type 0
+IsLogWalkedWith known script place port None None = Unit {0}
+IsLogWalkedWith known script place port None (Some kinds) = ⊥
+IsLogWalkedWith known script place port (Some dids) kinds =
+    IsWalkedWith known script place port dids kinds

@@ -1,0 +1,4 @@
+pub mod Dues
+pub mod Stays
+pub mod PortWalks
+pub mod Judged

@@ -1,0 +1,97 @@
+//! The logs of a script's ports, judged.
+
+ghost use Rattle.std.specs.Prelude.{◌≡◌, ◌<◌, ℕ, Some, None, IfOk, OnOk, option_map, length};
+ghost use Rattle.std.specs.Prelude.{slice_get};
+ghost use Rattle.histories.specs.declared.histories.Histories.{Histories};
+ghost use Rattle.made_runs.specs.Ports.{log_of};
+ghost use Rattle.log_walks.specs.Walking.{Known};
+ghost use Rattle.logs_audit.specs.Judged as judged;
+ghost use Rattle.logs_audit.specs.PortWalks as port_walks;
+ghost use Rattle.logs_audit.specs.Stays as stays;
+
+use crate::notices::{Notices, notices_in};
+use crate::numbers::ports_fit;
+use crate::port_walk::{KindAt, walk_log};
+use histories::{Histories, Logs};
+use inspector_script::Script;
+use log_walks::{a_log_is_walked, a_walked_log_is_told};
+use made_runs::each_port_has_its_place;
+use makers_audit::log_of;
+use packet_entry::NoMemory;
+use std::alloc::Global;
+
+/// The requests of a port, each with the queue that it asks something of, and when it was sent.
+#[derive(Debug, Drop)]
+pub struct PortKinds {
+    /// The port.
+    pub port: u32,
+    /// Its requests, in the order in which they were sent.
+    pub kinds: Vec<KindAt>,
+}
+
+/// Whether each port of the script has a log, which is what the script says, with notices of
+/// arrivals that queues took: the requests of all ports, in the script's order; `None` where it
+/// isn't so. The histories are those of a capture's packets, sound and with nothing lost.
+pub fn judge_logs(
+    alloc: Global,
+    script: &Script,
+    histories: &Histories,
+) -> Result<Option<Vec<PortKinds>>, NoMemory>
+    ensures { judged.AllOnlyOnes histories.now.entries → IfOk result (λ kinds.
+        judged.IsJudgement script.now histories.now (option_map (λ ks. ks.items) kinds)) }
+{
+    a_log_is_walked();
+    a_walked_log_is_told();
+    each_port_has_its_place();
+    let ports = script.ports();
+    ports_fit(ports);
+    let notices = notices_in(alloc, &histories.entries)?;
+    walk_all(alloc, script, &notices, histories)
+}
+
+/// The requests of all ports whose logs are walked to their ends; `None` where one can't be, or
+/// there is none.
+fn walk_all(
+    alloc: Global,
+    script: &Script,
+    notices: &Notices,
+    histories: &Histories,
+) -> Result<Option<Vec<PortKinds>>, NoMemory>
+    requires { stays.AreTold (stays.known_in histories.now.entries) notices.now }
+    ensures { IfOk result (λ kinds.
+        judged.IsWalkedAll script.now histories.now (option_map (λ ks. ks.items) kinds)) }
+{
+    each_port_has_its_place();
+    let mut kinds = Vec::new(alloc);
+    for (place, port) in script.ports().iter().enumerate() {
+        match walk_port(alloc, script, place as u32, *port, notices, &histories.logs)? {
+            Some(of_port) => kinds.push(PortKinds {
+                port: *port,
+                kinds: of_port,
+            })?,
+            None => return Ok(None),
+        }
+    }
+    Ok(Some(kinds))
+}
+
+/// The requests of a port, whose log is walked to its end; `None` where it can't be, or there is
+/// none.
+fn walk_port(
+    alloc: Global,
+    script: &Script,
+    place: u32,
+    port: u32,
+    notices: &Notices,
+    logs: &Logs,
+) -> Result<Option<Vec<KindAt>>, NoMemory>
+    requires place { place < length script.now.ports }
+    ensures { (known : Known) → stays.AreTold known notices.now →
+        IfOk result (λ kinds. judged.IsLogWalkedWith known script.now place port
+        (log_of port logs.now) (option_map (λ ks. ks.items) kinds)) }
+{
+    match log_of(logs, port) {
+        Some(dids) => walk_log(alloc, script, place, port, notices, dids),
+        None => Ok(None),
+    }
+}

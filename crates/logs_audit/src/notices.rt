@@ -1,0 +1,164 @@
+//! The notices of arrivals that queues took.
+
+ghost use Rattle.std.specs.Prelude.{◌≡◌, ◌<◌, ◌≤◌, ◌^◌, ◌↔◌, ◌∷◌, [], Some, IfOk, OnOk};
+ghost use Rattle.std.specs.Prelude.{option_map, IsTrue};
+ghost use Rattle.std.specs.BTreeMap.{get};
+ghost use Rattle.std.specs.Ordering.{nat_cmp};
+ghost use Rattle.nfqa_msgs.specs.NoticeMeaning.{notice_of};
+ghost use Rattle.nfqa_msgs.specs.NoticeWriting.{notice};
+ghost use Rattle.queue_core.specs.WithOffer.{letter_of};
+ghost use Rattle.made_runs.specs.NoticeTexts.{told_exactly};
+ghost use Rattle.makers_audit.specs.Following.{queue_in};
+ghost use Rattle.logs_audit.specs.Stays as stays;
+
+use crate::numbers::card_fits;
+use histories::{Entries, Entry, Event, Reply};
+use makers_audit::{Queues, replay};
+use nfqa_msgs::{Notice, PACKET, notices_are_told_apart};
+use packet_entry::{Card, IPV4, IPV6, NoMemory};
+use queue_core::Outcome;
+use queue_replay::Standing;
+use std::alloc::Global;
+use std::collections::BTreeMap;
+
+/// The most bytes that a notice tells of a packet.
+const LONGEST_PAYLOAD: usize = 65_531;
+
+/// The bytes of an Ethernet header up to the end of its source address.
+const ADDRESSES_LENGTH: usize = 12;
+
+/// A packet's stay in a queue.
+#[derive(Clone, Copy, Debug, PartialEq, Eq, PartialOrd, Ord)]
+pub(crate) struct Stay {
+    /// The queue's number.
+    pub(crate) queue: u16,
+    /// The packet's number.
+    pub(crate) number: u32,
+    /// Which of its visits this is, counted from 1.
+    pub(crate) visit: u32,
+}
+
+/// Notices by what they tell of.
+pub(crate) type Notices = BTreeMap<Stay, Notice>;
+
+/// The notices of the arrivals that these entries' queues took, of each stay the first.
+pub(crate) fn notices_in(alloc: Global, entries: &Entries) -> Result<Notices, NoMemory>
+    ensures { IfOk result (stays.AreTold (stays.known_in entries.now)) }
+{
+    let mut queues: Queues = BTreeMap::new(alloc);
+    let mut notices = BTreeMap::new(alloc);
+    for entry in entries {
+        keep(&queues, entry, &mut notices)?;
+        replay(alloc, entry, &mut queues)?;
+    }
+    Ok(notices)
+}
+
+/// Keeps the notice of an entry, if it makes one, unless there is one of this stay.
+fn keep(queues: &Queues, entry: &Entry, notices: &mut Notices) -> Result<(), NoMemory>
+    ensures { OnOk result (stays.Keeps
+        (stays.letters_at (queue_in (get nat_cmp queues.now entry.now.queue)) entry.now)
+        entry.now.queue notices.old notices.new) }
+{
+    match queues.get(&entry.queue) {
+        Some(Some(queue)) => keep_of(queue, entry, notices),
+        _ => Ok(()),
+    }
+}
+
+/// The same, of a bound queue.
+fn keep_of(queue: &Standing, entry: &Entry, notices: &mut Notices) -> Result<(), NoMemory>
+    ensures { OnOk result (stays.Keeps (stays.letters_at (Some queue.now) entry.now)
+        entry.now.queue notices.old notices.new) }
+{
+    match (&entry.event, entry.reply) {
+        (
+            Event::Arrive { card, .. },
+            Reply::Arrived {
+                outcome: Outcome::Taken { id },
+            },
+        ) => keep_taken(queue, entry.queue, id, card, notices),
+        _ => Ok(()),
+    }
+}
+
+/// The same, of an arrival at the queue with this number, which took it under this id.
+fn keep_taken(
+    queue: &Standing,
+    number: u16,
+    id: u32,
+    card: &Card,
+    notices: &mut Notices,
+) -> Result<(), NoMemory>
+    ensures { OnOk result (stays.Keeps (letter_of number queue.now id card.now ∷ []) number
+        notices.old notices.new) }
+{
+    let stay = Stay {
+        queue: number,
+        number: card.number,
+        visit: card.visit,
+    };
+    let notice = notice_from(number, queue.mode(), queue.range(), id, card)?;
+    keep_first(stay, notice, notices)
+}
+
+/// Keeps a notice, unless there is one of this stay.
+fn keep_first(stay: Stay, notice: Notice, notices: &mut Notices) -> Result<(), NoMemory>
+    ensures { OnOk result (stays.KeepsFirst stay notice notices.old notices.new) }
+{
+    if !notices.contains_key(&stay) {
+        notices.insert(stay, notice)?;
+    }
+    Ok(())
+}
+
+/// The notice of a packet that waits under this id, as a port reads it. A card that no packet has
+/// isn't told: that is answered as want of memory, and doesn't come where each packet came from a
+/// capture.
+fn notice_from(queue: u16, mode: u8, range: u32, id: u32, card: &Card) -> Result<Notice, NoMemory>
+    ensures { IfOk result (λ told. option_map notice_of
+        (told_exactly (notice queue mode range id card.now)) ≡ Some told) }
+{
+    notices_are_told_apart();
+    card_fits(card);
+    let told = told_length(mode, range, card.bytes.len());
+    if !is_told(card) || LONGEST_PAYLOAD < told {
+        return Err(NoMemory);
+    }
+    Ok(Notice {
+        queue,
+        id,
+        protocol: card.protocol,
+        mark: card.mark,
+        priority: card.priority,
+        length: length_told(mode, told, card.bytes.len()) as u32,
+        payload: card.bytes.cut(0, told)?,
+    })
+}
+
+/// Whether a notice can tell of this packet.
+fn is_told(card: &Card) -> bool
+    ensures { IsTrue result → stays.IsTellable card.now }
+{
+    (card.protocol == IPV4 || card.protocol == IPV6)
+        && (card.link.is_empty() || ADDRESSES_LENGTH <= card.link.len())
+        && card.bytes.len() <= u32::MAX as usize
+}
+
+/// How many bytes of a packet are told.
+fn told_length(mode: u8, range: u32, length: usize) -> usize
+    ensures { result ≡ stays.told_length mode range length }
+{
+    if mode == PACKET {
+        length.min(range as usize)
+    } else {
+        0
+    }
+}
+
+/// The length of a packet, as far as a notice tells it.
+fn length_told(mode: u8, told: usize, length: usize) -> usize
+    ensures { result ≡ stays.length_told mode told length }
+{
+    if mode == PACKET { length } else { told }
+}
