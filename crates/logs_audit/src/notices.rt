@@ -113,8 +113,7 @@ fn keep_first(stay: Stay, notice: Notice, notices: &mut Notices) -> Result<(), N
 }
 
 /// The notice of a packet that waits under this id, as a port reads it. A card that no packet has
-/// isn't told: that is answered as want of memory, and doesn't come where each packet came from a
-/// capture.
+/// isn't told: that is answered as want of memory.
 fn notice_from(queue: u16, mode: u8, range: u32, id: u32, card: &Card) -> Result<Notice, NoMemory>
     ensures { IfOk result (λ told. option_map notice_of
         (told_exactly (notice queue mode range id card.now)) ≡ Some told) }
