@@ -10,3 +10,4 @@ mod MetAll
 mod SentAll
 mod OneQueue
 mod ClosedAll
+mod RowsApart

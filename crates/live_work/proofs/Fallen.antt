@@ -4,7 +4,7 @@ use Rattle.std.proofs.Common.{Option, Some, None, ap, append-nil, append_assoc, 
 use Rattle.std.proofs.Common.{subst, sym}
 use Rattle.std.specs.BTreeMap.{BTreeMap, get}
 use Rattle.std.specs.Ordering.{nat_cmp}
-use Rattle.std.specs.Prelude.{All, filter, option_map, option_to_list, unwrap_or}
+use Rattle.std.specs.Prelude.{All, filter, option_map, unwrap_or}
 use Rattle.std.proofs.lemmas.Bool.{eqb-true}
 use Rattle.std.proofs.lemmas.List.Elements.{filter_passes}
 use Rattle.ip_fields.specs.Frame.{cut_of}
@@ -16,7 +16,7 @@ use Rattle.hook_chain.specs.declared.chain.Next.{Next}
 use Rattle.script_lines.specs.declared.line.Down.{Down}
 use Rattle.inspector_script.specs.Scripts.{ScriptValue}
 use Rattle.made_runs.specs.Entering.{card_at, card_of}
-use Rattle.made_runs.specs.Feeder.{downs_after, falling_time, feeding_time, is_after}
+use Rattle.made_runs.specs.Feeder.{downs_after, falling_time, is_after}
 use Rattle.port_scripts.specs.Downs.{AreDownsOf}
 use Rattle.live_runs.specs.Calls.{Feeds}
 use Rattle.live_runs.specs.Feeding.{TakesDown}
@@ -31,12 +31,6 @@ abbrev pub WaitsLaw : Type 0
 WaitsLaw = (time later : ℕ) (fallen : List Down) (xs : List Seen) → time ≤ later →
     IsFeeding time fallen xs → IsFeeding later fallen xs
 
-abbrev pub FeedsLaw : Type 0
-FeedsLaw = (places time : ℕ) (route : Next) (fallen : List Down) (card : Card)
-    (old new : Shares) → 0 < places → time ≤ 2 * card.number → Feeds places route card old new →
-    ((k : ℕ) → k < places → IsFeeding time fallen (old k)) → (k : ℕ) → k < places →
-    IsFeeding (2 * card.number + 1) fallen (new k)
-
 abbrev pub GrowsLaw : Type 0
 GrowsLaw = (places : ℕ) (route : Next) (card : Card) (old new : Shares) →
     Feeds places route card old new → (k : ℕ) → Grows IsFeeders (old k) (new k)
@@ -49,7 +43,7 @@ ours_both Q [] ys one two = two
 ours_both Q (Ours e ∷ xs) ys one two = (one.0, ours_both Q xs ys one.1 two)
 ours_both Q (Theirs e ∷ xs) ys one two = ours_both Q xs ys one two
 
-grows_both : (Q : Entry → Type 0) (a b c : List Seen) → Grows Q a b → Grows Q b c → Grows Q a c
+pub grows_both : (Q : Entry → Type 0) (a b c : List Seen) → Grows Q a b → Grows Q b c → Grows Q a c
 grows_both Q a b c one two = record {
   more = one.more ++ two.more;
   is = two.is ∙ ap (λ (l : List Seen). l ++ two.more) one.is
@@ -57,7 +51,7 @@ grows_both Q a b c one two = record {
   ours = ours_both Q one.more two.more one.ours two.ours;
 }
 
-grows_none : (Q : Entry → Type 0) (xs : List Seen) → Grows Q xs xs
+pub grows_none : (Q : Entry → Type 0) (xs : List Seen) → Grows Q xs xs
 grows_none Q xs = record { more = []; is = sym (append-nil xs); ours = tt }
 
 -- ---- what is fed
@@ -92,19 +86,6 @@ taken_down places d number old new after down = record {
   grows = down.grows;
 }
 
--- a packet was fed
-pub fed_one : FeedsLaw → GrowsLaw → (places number : ℕ) (route : Next) (card : Card)
-    (old new : Shares) → 0 < places → card.number ≡ number → Feeds places route card old new →
-    FedOn places (feeding_time number) (falling_time number) [] old new
-fed_one feeds grows places number route card old new some is did = record {
-  on = λ time fallen within were k here.
-      subst (λ (ds : List Down). IsFeeding (2 * number + 1) ds (new k)) (sym (append-nil fallen))
-      (subst (λ (n : ℕ). IsFeeding (2 * n + 1) fallen (new k)) is
-      (feeds places time route fallen card old new some (omega (arith, within, is)) did were k
-      here));
-  grows = grows places route card old new did;
-}
-
 -- ---- lines of a frame
 
 pub lines_after_one : (number : ℕ) (ds : List Down) →
@@ -132,16 +113,6 @@ pub card_is : (capture : Capture) (number : ℕ) (frame : Frame) (card : Card) �
     Some card ≡ card_of capture number frame → (card.visit ≡ 0) × (card.number ≡ number)
 card_is capture number frame card is =
     some_card capture number frame (cut_of capture.link frame.bytes) card is
-
-pub fed_card : (fed new : List Card) (o : Option Card) (card : Card) → Some card ≡ o →
-    new ≡ fed ++ card ∷ [] → new ≡ fed ++ option_to_list o
-fed_card fed new o card is more =
-    subst (λ (p : Option Card). new ≡ fed ++ option_to_list p) is more
-
-pub fed_no_card : (fed : List Card) (o : Option Card) → None ≡ o →
-    fed ≡ fed ++ option_to_list o
-fed_no_card fed o is =
-    subst (λ (p : Option Card). fed ≡ fed ++ option_to_list p) is (sym (append-nil fed))
 
 -- ---- the lines of a frame's number
 

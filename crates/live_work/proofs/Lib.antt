@@ -4,6 +4,7 @@ pub mod Asked
 pub mod Minded
 pub mod Looked
 pub mod Fallen
+pub mod Shared
 pub mod Passed
 pub mod Fresh
 pub mod Pooled

@@ -1,5 +1,5 @@
-//! What each thread of a run does by its own pass: a feeder feeds frames and lets devices go down,
-//! an inspector receives notices and answers them.
+//! What each thread of a run does by its own pass: a feeder feeds the frames of its share and lets
+//! devices go down, an inspector receives notices and answers them.
 //!
 //! [`Feeding::work`] is the feeder's work, [`inspect`] an inspector's. [`look`], [`say_all`] and
 //! [`take_down_after`] are steps of them, for who does both alone. Each says what its pass did,

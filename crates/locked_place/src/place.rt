@@ -178,12 +178,14 @@ impl LockedPlace {
         ensures lost { lost.new.items ≡ lost.old.items }
         ensures begins { IsPrefix self.old.entries self.new.entries }
         ensures legal { AreLegal self.new.entries }
+        ensures short { length self.new.entries < 2 ^ 64 }
         ensures err { OnErr result ((self.new.entries ≡ self.old.entries)
             × (handed.new.items ≡ handed.old.items)) }
     {
         let asked = requests::ask(alloc, &mut self.place, lost, port, call, request, handed);
         publish(&self.place, &mut self.writer, &outlets.board);
         legal_at(&self.place);
+        short_at(&self.place);
         asked
     }
 
@@ -196,11 +198,13 @@ impl LockedPlace {
         ensures count { result ≡ told (taken_in (closings port self.old.entries)) }
         ensures entries { self.new.entries ≡ self.old.entries ++ closings port self.old.entries }
         ensures legal { AreLegal self.new.entries }
+        ensures short { length self.new.entries < 2 ^ 64 }
     {
         senders_keep_up();
         let destroyed = self.place.close_port(port);
         publish(&self.place, &mut self.writer, &outlets.board);
         legal_at(&self.place);
+        short_at(&self.place);
         destroyed
     }
 
@@ -215,13 +219,16 @@ impl LockedPlace {
         ensures entries { OnOk result (self.new.entries
             ≡ self.old.entries ++ downs device self.old.entries) }
         ensures legal { AreLegal self.new.entries }
+        ensures short { length self.new.entries < 2 ^ 64 }
         ensures err { OnErr result (self.new.entries ≡ self.old.entries) }
     {
         senders_keep_up();
         legal_at(&self.place);
+        short_at(&self.place);
         let destroyed = self.place.device_down(device)?;
         publish(&self.place, &mut self.writer, &outlets.board);
         legal_at(&self.place);
+        short_at(&self.place);
         Ok(destroyed)
     }
 

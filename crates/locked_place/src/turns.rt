@@ -91,6 +91,7 @@ pub fn ask<R: Wait, G: Gate>(
     ensures part { (view_of pass.new).part ≡ (view_of pass.old).part }
     ensures turn { IfOk result (λ errno. AsksIn port call request
         (view_of pass.old) (view_of pass.new) errno handed.new.items) }
+    ensures short { length (view_of pass.new).seen < 2 ^ 64 }
     ensures room { OnOk result (length handed.new.items ≤ lost.new.room) }
     ensures in_time { OnOk result (AreInTime handed.new.items) }
     ensures lost { lost.new.items ≡ lost.old.items }
@@ -122,6 +123,7 @@ pub fn close_port<R: Wait>(
         IsPassOf label_of named lock.now pass.new }
     ensures part { (view_of pass.new).part ≡ (view_of pass.old).part }
     ensures turn { ClosesIn port (view_of pass.old) (view_of pass.new) result }
+    ensures short { length (view_of pass.new).seen < 2 ^ 64 }
 {
     let mut held = lock.enter(rt, pass);
     let destroyed = held.state().close_port(outlets, port);
@@ -146,6 +148,7 @@ pub fn device_down<R: Wait>(
         IsPassOf label_of named lock.now pass.new }
     ensures part { (view_of pass.new).part ≡ (view_of pass.old).part }
     ensures turn { IfOk result (GoesDownIn device (view_of pass.old) (view_of pass.new)) }
+    ensures short { length (view_of pass.new).seen < 2 ^ 64 }
     ensures err { OnErr result (LooksOn (view_of pass.old) (view_of pass.new)) }
 {
     let mut held = lock.enter(rt, pass);

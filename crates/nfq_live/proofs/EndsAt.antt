@@ -24,6 +24,7 @@ use Rattle.nfq_live.specs.Crews.{IsReceived, OnePass, OneShuts, OthersStay, Port
 use Rattle.nfq_live.specs.Crews.{passes_of}
 use Rattle.nfq_live.specs.Endings.{CutsEnd, CutsEndTo, EndsTo, HasStopped, SaysEndTo, SaysOfEnd}
 use Rattle.nfq_live.specs.Endings.{closing_left}
+use Rattle.nfq_live.specs.Sizes.{Size}
 use Rattle.live_work.specs.declared.mind.Mind.{Mind}
 use Rattle.live_work.specs.Minds.{IsMind}
 use Rattle.live_work.proofs.Asked.{TakesUpLaw}
@@ -172,29 +173,29 @@ module _ (plane : Plane) (script : ScriptValue) (place at : ℕ)
 
   -- ---- its end is over
 
-  pub end_stops : GoesLaw → (frames : ℕ) (asks : List Ask) (c m : Crew) (closes : Bool) →
+  pub end_stops : GoesLaw → (size : Size) (asks : List Ask) (c m : Crew) (closes : Bool) →
       closes ≡ false →
       SaysEndTo script (places_of plane) place asks (closing_left closes) c m →
-      EndsTo script (places_of plane) frames place asks c →
-      HasStopped script (places_of plane) frames place m
-  end_stops law frames asks c m closes never says e =
-      stops_so law script (places_of plane) frames place m
-      (subst (λ (b : Bool). EndsTo script (places_of plane) frames place (closing_left b) m) never
-      (says.on frames e))
+      EndsTo script (places_of plane) size place asks c →
+      HasStopped script (places_of plane) size place m
+  end_stops law size asks c m closes never says e =
+      stops_so law script (places_of plane) size place m
+      (subst (λ (b : Bool). EndsTo script (places_of plane) size place (closing_left b) m) never
+      (says.on size e))
 
-  pub end_shuts : GoesLaw → ClosesLaw → ClosedLaw → (frames : ℕ) (asks : List Ask)
+  pub end_shuts : GoesLaw → ClosesLaw → ClosedLaw → (size : Size) (asks : List Ask)
       (c m n : Crew) (closes : Bool) (d : PortView) → closes ≡ true → IsCrewOf plane m →
       at < length m.ports.items → IsItsPort m →
       OneShuts (places_of plane) (slice_index_or m.ports.items at d).port m n →
       SaysEndTo script (places_of plane) place asks (closing_left closes) c m →
-      EndsTo script (places_of plane) frames place asks c →
-      HasStopped script (places_of plane) frames place n
-  end_shuts goes closes closed frames asks c m n so d told crew less its shut says e =
+      EndsTo script (places_of plane) size place asks c →
+      HasStopped script (places_of plane) size place n
+  end_shuts goes closes closed size asks c m n so d told crew less its shut says e =
       let port = (slice_index_or m.ports.items at d).port in
-      shuts_so goes closes closed script (places_of plane) frames place port m n (some_place plane)
+      shuts_so goes closes closed script (places_of plane) size place port m n (some_place plane)
       (port_in_script plane script m at d crew order less) (its d)
-      (subst (λ (b : Bool). EndsTo script (places_of plane) frames place (closing_left b) m) told
-      (says.on frames e)) shut shut.beyond (same_feeder m n shut.feeding)
+      (subst (λ (b : Bool). EndsTo script (places_of plane) size place (closing_left b) m) told
+      (says.on size e)) shut shut.beyond (same_feeder m n shut.feeding)
 
 -- ---- what the port received
 

@@ -32,7 +32,7 @@ use Rattle.nfq_live.specs.Crews.{AllLookOn, AreReceived, OnePass, PortsAlone, is
 use Rattle.nfq_live.specs.Crews.{passes_of}
 use Rattle.nfq_live.specs.Endings.{CutsEnd, CutsEndTo, Ends, EndsCutting, HasEnded, HaveEnded}
 use Rattle.nfq_live.specs.Endings.{SaysEndTo, SaysOfEnd}
-use Rattle.live_work.specs.Numbers.{one_worker}
+use Rattle.nfq_live.specs.Sizes.{Size}
 use Rattle.live_work.proofs.Asked.{TakesUpLaw}
 use Rattle.nfq_live.proofs.Numbering.{among_closed, of_ports}
 use Rattle.nfq_live.proofs.Onward.{alone_none, still_open}
@@ -98,9 +98,9 @@ pub record IsIdle (t : Stand) : Type 0 where
   pub ends : List Due
   pub is : t ≡ idle ends
 
-module _ (script : ScriptValue) (places frames place : ℕ) (met : ℕ → Pass)
+module _ (script : ScriptValue) (places : ℕ) (size : Size) (place : ℕ) (met : ℕ → Pass)
     (notes : ℕ → List Note) (stands : ℕ → Stand)
-    (ended : HaveEnded script places frames place met notes stands) where
+    (ended : HaveEnded script places size place met notes stands) where
   pub idle_if_open : (port : ℕ) → is_port script port ≡ true → (stands port).is_open ≡ true →
       IsIdle (stands port)
   idle_if_open port is opens = by (cases_lt (place_in port script.ports) place)
@@ -124,7 +124,7 @@ module _ (script : ScriptValue) (places frames place : ℕ) (met : ℕ → Pass)
 
 -- ---- the port that ends
 
-module _ (script : ScriptValue) (places frames place port : ℕ) (is : is_port script port ≡ true)
+module _ (script : ScriptValue) (places : ℕ) (size : Size) (place port : ℕ) (is : is_port script port ≡ true)
     (here : place_in port script.ports ≡ place) where
   its_own : (q : ℕ) → is_port script q ≡ true → place_in q script.ports ≡ place → q ≡ port
   its_own q in_script there = same_place q port script.ports in_script is (there ∙ sym here)
@@ -134,17 +134,17 @@ module _ (script : ScriptValue) (places frames place port : ℕ) (is : is_port s
 
   -- its pass went on
   pub ends_with : (mine later : Stand) (c m : Crew) → later.is_open ≡ mine.is_open →
-      OnePass port c m → (e : Ends script places frames place mine c) →
-      IsDoing one_worker script places (Ending place) port (e.notes port) (e.met port) later
-      (passes_of m port) → Ends script places frames place later m
+      OnePass port c m → (e : Ends script places size place mine c) →
+      IsDoing size.workers script places (Ending place) port (e.notes port) (e.met port) later
+      (passes_of m port) → Ends script places size place later m
   ends_with mine later c m same one e does = record {
     met = e.met;
     notes = e.notes;
     stands = e.stands;
     ended = e.ended;
-    this = λ q in_script there. subst (λ (p : ℕ). IsDoing one_worker script places (Ending place) p
+    this = λ q in_script there. subst (λ (p : ℕ). IsDoing size.workers script places (Ending place) p
         (e.notes p) (e.met p) later (passes_of m p)) (sym (its_own q in_script there)) does;
-    others = λ q in_script other. subst (λ (p : Pass). IsDoing one_worker script places
+    others = λ q in_script other. subst (λ (p : Pass). IsDoing size.workers script places
         (Ending place) q (e.notes q) (e.met q) (e.stands q) p)
         (sym (one.others q (other_than q other))) (e.others q in_script other);
     feeder = same_feeder c m one.alone.feeding ∙ e.feeder;
@@ -158,7 +158,7 @@ module _ (script : ScriptValue) (places frames place port : ℕ) (is : is_port s
       apart : (q : ℕ) → (e.stands q).is_open ≡ false → q ≢ port
       apart q closed equal =
           let wrong : true ≡ false =
-          sym (open_from script places frames place e.met e.notes e.stands e.ended port is
+          sym (open_from script places size place e.met e.notes e.stands e.ended port is
           (omega (arith, here)))
           ∙ ap (λ (p : ℕ). (e.stands p).is_open) (sym equal) ∙ closed in
           absurd (cc)
@@ -171,19 +171,19 @@ module _ (script : ScriptValue) (places frames place port : ℕ) (is : is_port s
   pub end_sends : SendsOneLaw → (m : NetlinkMessage) (ms : List NetlinkMessage) (errno : ℕ)
       (ds : List Due) (c n : Crew) → 0 < places → OnePass port c n →
       Speaks places port m errno (passes_of c port) (passes_of n port) →
-      EndsCutting script places frames place (m ∷ ms) ds c →
-      Ends script places frames place (side (AtEnd []) (map Message ms ++ ds)) n
+      EndsCutting script places size place (m ∷ ms) ds c →
+      Ends script places size place (side (AtEnd []) (map Message ms ++ ds)) n
   end_sends law m ms errno ds c n some one speaks e =
       ends_with (cut_side (AtEnd []) (map Message (m ∷ ms) ++ ds) e.fresh)
       (side (AtEnd []) (map Message ms ++ ds)) c n refl one e.ends
-      (law one_worker script places (Ending place) port (e.ends.notes port) (e.ends.met port)
+      (law size.workers script places (Ending place) port (e.ends.notes port) (e.ends.met port)
       (AtEnd []) m errno (map Message ms ++ ds) e.fresh (passes_of c port) (passes_of n port) some
       (All-head AsksWell m ms e.short) (sym here) speaks (e.ends.this port is here))
 
   -- and as a port's pass alone
   cuts : (ms : List NetlinkMessage) (ds : List Due) (c : Crew)
-      (e : EndsCutting script places frames place ms ds c) →
-      IsCutting one_worker script places (Ending place) port (e.ends.notes port)
+      (e : EndsCutting script places size place ms ds c) →
+      IsCutting size.workers script places (Ending place) port (e.ends.notes port)
       (e.ends.met port) (AtEnd []) ms ds (passes_of c port)
   cuts ms ds c e = record {
     fresh = e.fresh;
@@ -196,26 +196,26 @@ module _ (script : ScriptValue) (places frames place port : ℕ) (is : is_port s
   pub end_none : NoneLaw → (count look : ℕ) (rest : List ℕ) (ds : List Due) (c n : Crew)
       (used : ℕ) → 0 < places → look < count → used ≤ 0 → OnePass port c n →
       SpeaksFirst places port (first_message rest) (passes_of c port) (passes_of n port) used →
-      EndsCutting script places frames place (cut_in (count - look) rest) ds c →
-      Ends script places frames place (side (AtEnd []) ds) n
+      EndsCutting script places size place (cut_in (count - look) rest) ds c →
+      Ends script places size place (side (AtEnd []) ds) n
   end_none law count look rest ds c n used some within none one speaks e =
       let ms = cut_in (count - look) rest in
       ends_with (cut_side (AtEnd []) (map Message ms ++ ds) e.fresh) (side (AtEnd []) ds) c n refl
       one e.ends
-      (law one_worker script places (Ending place) port (e.ends.notes port) (e.ends.met port)
+      (law size.workers script places (Ending place) port (e.ends.notes port) (e.ends.met port)
       (AtEnd []) ds count look rest (passes_of c port) (passes_of n port) used some (sym here)
       within none speaks (cuts ms ds c e))
 
   -- there was a look for each byte
   pub end_enough : EnoughLaw → (count look : ℕ) (rest : List ℕ) (ds : List Due) (c : Crew) →
       0 < places → count ≤ look →
-      EndsCutting script places frames place (cut_in (count - look) rest) ds c →
-      Ends script places frames place (side (AtEnd []) ds) c
+      EndsCutting script places size place (cut_in (count - look) rest) ds c →
+      Ends script places size place (side (AtEnd []) ds) c
   end_enough law count look rest ds c some past e =
       let ms = cut_in (count - look) rest in
       ends_with (cut_side (AtEnd []) (map Message ms ++ ds) e.fresh) (side (AtEnd []) ds) c c refl
       (nothing_new c c (alone_none c) (λ p. refl)) e.ends
-      (law one_worker script places (Ending place) port (e.ends.notes port) (e.ends.met port)
+      (law size.workers script places (Ending place) port (e.ends.notes port) (e.ends.met port)
       (AtEnd []) ds count look rest (passes_of c port) some (sym here) past (cuts ms ds c e))
 
   -- an ask of its end was taken up
@@ -223,34 +223,34 @@ module _ (script : ScriptValue) (places frames place port : ℕ) (is : is_port s
       (c n : Crew) → PortsAlone c n → ((p : ℕ) → passes_of n p ≡ passes_of c p) →
       bytes ≡ bytes_of port (next_call (passes_of c port).dids) words →
       All AsksWell (messages_in (bytes_of port (next_call (passes_of c port).dids) words)) →
-      Ends script places frames place (side (AtEnd []) (Still (Words words) ∷ ds)) c →
-      EndsCutting script places frames place (messages_in bytes) ds n
+      Ends script places size place (side (AtEnd []) (Still (Words words) ∷ ds)) c →
+      EndsCutting script places size place (messages_in bytes) ds n
   end_takes_up law words bytes ds c n alone same are short e =
       let ms = messages_in (bytes_of port (next_call (passes_of c port).dids) words) in
-      subst (λ (l : List ℕ). EndsCutting script places frames place (messages_in l) ds n) (sym are)
+      subst (λ (l : List ℕ). EndsCutting script places size place (messages_in l) ds n) (sym are)
       (record {
         fresh = is_some_due (map Message ms);
         some = λ so. so;
         short = short;
         ends = ends_with (side (AtEnd []) (Still (Words words) ∷ ds)) (cut_then (AtEnd []) ms ds) c
             n refl (nothing_new c n alone same) e
-            (subst (λ (p : Pass). IsDoing one_worker script places (Ending place) port
+            (subst (λ (p : Pass). IsDoing size.workers script places (Ending place) port
             (e.notes port) (e.met port) (cut_then (AtEnd []) ms ds) p) (sym (same port))
-            (law one_worker script places (Ending place) port (e.notes port) (e.met port)
+            (law size.workers script places (Ending place) port (e.notes port) (e.met port)
             (AtEnd []) words ds (passes_of c port) (e.this port is here)));
       })
 
 -- ---- all ports look
 
-pub ends_look : (script : ScriptValue) (places frames place : ℕ) (due : List Due) (c m : Crew) →
-    AllLookOn script places c m → Ends script places frames place (idle due) c →
-    Ends script places frames place (idle due) m
-ends_look script places frames place due c m looks e = record {
+pub ends_look : (script : ScriptValue) (places : ℕ) (size : Size) (place : ℕ) (due : List Due) (c m : Crew) →
+    AllLookOn script places c m → Ends script places size place (idle due) c →
+    Ends script places size place (idle due) m
+ends_look script places size place due c m looks e = record {
   met = e.met;
   notes = e.notes;
   stands = e.stands;
   ended = e.ended;
-  this = λ q is there. (looks.each q (e.is_open q is there)).on (Ending place) (e.notes q)
+  this = λ q is there. (looks.each size.workers q (e.is_open q is there)).on (Ending place) (e.notes q)
       (e.met q) due tt (e.this q is there);
   others = λ q is other. by q is other (cases_Bool (e.stands q).is_open);
   feeder = same_feeder c m looks.alone.feeding ∙ e.feeder;
@@ -265,24 +265,24 @@ ends_look script places frames place due c m looks e = record {
         place_in q script.ports ≢ place
     apart q is closed there =
         let wrong : true ≡ false =
-        sym (open_from script places frames place e.met e.notes e.stands e.ended q is
+        sym (open_from script places size place e.met e.notes e.stands e.ended q is
         (omega (arith, there))) ∙ closed in
         absurd (cc)
 
     by : (q : ℕ) → is_port script q ≡ true → place_in q script.ports ≢ place →
         ((e.stands q).is_open ≡ true) ⊎ ((e.stands q).is_open ≡ false) →
-        IsDoing one_worker script places (Ending place) q (e.notes q) (e.met q) (e.stands q)
+        IsDoing size.workers script places (Ending place) q (e.notes q) (e.met q) (e.stands q)
         (passes_of m q)
     by q is other (inl opens) =
-        let i = idle_if_open script places frames place e.met e.notes e.stands e.ended q is opens in
-        subst (λ (t : Stand). IsDoing one_worker script places (Ending place) q (e.notes q)
+        let i = idle_if_open script places size place e.met e.notes e.stands e.ended q is opens in
+        subst (λ (t : Stand). IsDoing size.workers script places (Ending place) q (e.notes q)
         (e.met q) t (passes_of m q)) (sym i.is)
-        ((looks.each q (e.are_open q is other ∙ opens)).on (Ending place) (e.notes q) (e.met q)
+        ((looks.each size.workers q (e.are_open q is other ∙ opens)).on (Ending place) (e.notes q) (e.met q)
         i.ends tt
-        (subst (λ (t : Stand). IsDoing one_worker script places (Ending place) q (e.notes q)
+        (subst (λ (t : Stand). IsDoing size.workers script places (Ending place) q (e.notes q)
         (e.met q) t (passes_of c q)) i.is (e.others q is other)))
     by q is other (inr closed) =
-        subst (λ (p : Pass). IsDoing one_worker script places (Ending place) q (e.notes q)
+        subst (λ (p : Pass). IsDoing size.workers script places (Ending place) q (e.notes q)
         (e.met q) (e.stands q) p)
         (sym (closed_same c m looks.alone q (e.are_open q is other ∙ closed)))
         (e.others q is other)
@@ -344,7 +344,7 @@ pub cuts_first : (script : ScriptValue) (places place : ℕ) (bytes : List ℕ) 
 cuts_first script places place bytes c =
     let none : length bytes ≡ length bytes - 0 = omega arith in
     record {
-      on = λ frames ds e. subst (λ (k : ℕ). EndsCutting script places frames place
+      on = λ size ds e. subst (λ (k : ℕ). EndsCutting script places size place
           (cut_in k bytes) ds c) none e;
     }
 
@@ -361,26 +361,26 @@ module _ (script : ScriptValue) (places place port : ℕ) (is : is_port script p
   -- none was sent yet
   pub cuts_none : (bytes : List ℕ) (c : Crew) →
       CutsEndTo script places place bytes (messages_in bytes) c c
-  cuts_none bytes c = record { on = λ frames ds e. e }
+  cuts_none bytes c = record { on = λ size ds e. e }
 
-  sent_one : SendsOneLaw → (frames : ℕ) (ds : List Due) (cut : List ℕ → List NetlinkMessage)
+  sent_one : SendsOneLaw → (size : Size) (ds : List Due) (cut : List ℕ → List NetlinkMessage)
       (rest : List ℕ) (c n m : Crew) (used : ℕ) (front : Option (NetlinkMessage × ℕ)) →
       0 < places → 0 < used → OnePass port c n → AllLookOn script places n m →
       SpeaksFirst places port front (passes_of c port) (passes_of n port) used →
-      EndsCutting script places frames place (with_those_behind cut rest front) ds c →
-      EndsCutting script places frames place (cut (drop used rest)) ds m
-  sent_one law frames ds cut rest c n m used None some uses one looks speaks e =
+      EndsCutting script places size place (with_those_behind cut rest front) ds c →
+      EndsCutting script places size place (cut (drop used rest)) ds m
+  sent_one law size ds cut rest c n m used None some uses one looks speaks e =
       absurd (omega (arith, uses, speaks.0))
-  sent_one law frames ds cut rest c n m used (Some (x, k)) some uses one looks speaks e =
+  sent_one law size ds cut rest c n m used (Some (x, k)) some uses one looks speaks e =
       let ms = cut (drop k rest) in
-      subst (λ (i : ℕ). EndsCutting script places frames place (cut (drop i rest)) ds m)
+      subst (λ (i : ℕ). EndsCutting script places size place (cut (drop i rest)) ds m)
       (sym speaks.0)
       (record {
         fresh = false;
         some = λ wrong. absurd (cc);
         short = All-tail AsksWell x ms e.short;
-        ends = ends_look script places frames place (map Message ms ++ ds) n m looks
-            (end_sends script places frames place port is here law x ms speaks.1.errno ds c n some
+        ends = ends_look script places size place (map Message ms ++ ds) n m looks
+            (end_sends script places size place port is here law x ms speaks.1.errno ds c n some
             one speaks.1.speaks e);
       })
 
@@ -394,13 +394,13 @@ module _ (script : ScriptValue) (places place port : ℕ) (is : is_port script p
       CutsEndTo script places place bytes (cut_in (count - (look + 1)) left) begun m
   cuts_on law bytes count look rest left begun c n m used some within uses one looks speaks are
       so_far = record {
-        on = λ frames ds e.
-            subst (λ (l : List ℕ). EndsCutting script places frames place
+        on = λ size ds e.
+            subst (λ (l : List ℕ). EndsCutting script places size place
             (cut_in (count - (look + 1)) l) ds m) (sym are)
-            (sent_one law frames ds (cut_in (count - (look + 1))) rest c n m used
+            (sent_one law size ds (cut_in (count - (look + 1))) rest c n m used
             (first_message rest) some uses one looks speaks
-            (subst (λ (ms : List NetlinkMessage). EndsCutting script places frames place ms ds c)
-            (cut_more count look rest within) (so_far.on frames ds e)));
+            (subst (λ (ms : List NetlinkMessage). EndsCutting script places size place ms ds c)
+            (cut_more count look rest within) (so_far.on size ds e)));
       }
 
   -- no message stands there
@@ -410,8 +410,8 @@ module _ (script : ScriptValue) (places place port : ℕ) (is : is_port script p
       CutsEndTo script places place bytes (cut_in (count - look) rest) begun c →
       CutsEnd script places place bytes begun n
   cuts_last law bytes count look rest begun c n used some within none one speaks so_far = record {
-    on = λ frames ds e. end_none script places frames place port is here law count look rest ds c n
-        used some within none one speaks (so_far.on frames ds e);
+    on = λ size ds e. end_none script places size place port is here law count look rest ds c n
+        used some within none one speaks (so_far.on size ds e);
   }
 
   -- there was a look for each byte
@@ -420,8 +420,8 @@ module _ (script : ScriptValue) (places place port : ℕ) (is : is_port script p
       CutsEndTo script places place bytes (cut_in (count - look) rest) begun c →
       CutsEnd script places place bytes begun c
   cuts_all law bytes count look rest begun c some past so_far = record {
-    on = λ frames ds e. end_enough script places frames place port is here law count look rest ds c
-        some past (so_far.on frames ds e);
+    on = λ size ds e. end_enough script places size place port is here law count look rest ds c
+        some past (so_far.on size ds e);
   }
 
   -- the messages of an ask were sent
@@ -431,8 +431,8 @@ module _ (script : ScriptValue) (places place port : ℕ) (is : is_port script p
       All AsksWell (messages_in (bytes_of port (next_call (passes_of c port).dids) words)) →
       CutsEnd script places place bytes n m → SaysOfEnd script places place words c m
   says_of_end law words bytes c n m alone same are short cut = record {
-    on = λ frames ds e. cut.on frames ds
-        (end_takes_up script places frames place port is here law words bytes ds c n alone same are
+    on = λ size ds e. cut.on size ds
+        (end_takes_up script places size place port is here law words bytes ds c n alone same are
         short e);
   }
 
@@ -440,16 +440,16 @@ module _ (script : ScriptValue) (places place port : ℕ) (is : is_port script p
 
 pub none_of_end : (script : ScriptValue) (places place : ℕ) (asks : List Ask) (c : Crew) →
     SaysEndTo script places place asks asks c c
-none_of_end script places place asks c = record { on = λ frames e. e }
+none_of_end script places place asks c = record { on = λ size e. e }
 
 pub end_said_on : (script : ScriptValue) (places place : ℕ) (asks left rest : List Ask)
     (words : AskWords) (begun c n : Crew) → left ≡ Words words ∷ rest →
     SaysEndTo script places place asks left begun c → SaysOfEnd script places place words c n →
     SaysEndTo script places place asks rest begun n
 end_said_on script places place asks left rest words begun c n steps so_far says = record {
-  on = λ frames e. says.on frames (all_due rest)
-      (subst (λ (l : List Ask). Ends script places frames place (side (AtEnd []) (all_due l)) c)
-      steps (so_far.on frames e));
+  on = λ size e. says.on size (all_due rest)
+      (subst (λ (l : List Ask). Ends script places size place (side (AtEnd []) (all_due l)) c)
+      steps (so_far.on size e));
 }
 
 pub end_left : (script : ScriptValue) (places place : ℕ) (asks left now : List Ask)

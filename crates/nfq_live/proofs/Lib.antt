@@ -4,6 +4,9 @@ pub mod Going
 pub mod Onward
 pub mod Counted
 pub mod Opened
+pub mod Fed
+pub mod Joined
+pub mod Splitting
 pub mod EndsOn
 pub mod EndsAt
 pub mod Stopped

@@ -28,7 +28,6 @@ use Rattle.nfq_live.specs.Crews.{PortsAlone, is_open_in, passes_of}
 use Rattle.live_work.specs.Feeding.{IsFeedingOf}
 use Rattle.live_work.specs.declared.mind.Mind.{Mind}
 use Rattle.live_work.specs.Minds.{IsMind}
-use Rattle.live_work.specs.Numbers.{one_worker}
 use Rattle.live_work.specs.Looking.{LooksOn}
 use Rattle.nfq_live.proofs.Going.{GoesOnAt, closes_at, in_order}
 use Rattle.live_work.proofs.Looked.{NextLookLaw, NoLookLaw}
@@ -123,47 +122,47 @@ pub none_look : NoLookLaw → (script : ScriptValue) (places : ℕ) (c : Crew) �
     AllLookOn script places c c
 none_look law script places c = record {
   alone = alone_none c;
-  each = λ port is. law one_worker script places port (passes_of c port);
+  each = λ workers port is. law workers script places port (passes_of c port);
 }
 
 pub all_look_on : NextLookLaw → (script : ScriptValue) (places : ℕ) (a b c : Crew) →
     AllLookOn script places a b → AllLookOn script places b c → AllLookOn script places a c
 all_look_on law script places a b c one two = record {
   alone = alone_both a b c one.alone two.alone;
-  each = λ port is. law one_worker script places port (passes_of a port) (passes_of b port)
-      (passes_of c port) (one.each port is)
-      (two.each port (still_open a b one.alone port ∙ is));
+  each = λ workers port is. law workers script places port (passes_of a port) (passes_of b port)
+      (passes_of c port) (one.each workers port is)
+      (two.each workers port (still_open a b one.alone port ∙ is));
 }
 
 -- one more port looked
-pub list_looks : NextLookLaw → (plane : Plane) (script : ScriptValue) (places : ℕ)
+pub list_looks : NextLookLaw → (workers : ℕ) (plane : Plane) (script : ScriptValue) (places : ℕ)
     (start c : Crew) (news : List PortView) (old new : PortView) →
     GoesOnAt plane c.feeding.pass c.ports.items news c.closed.items old new →
-    LooksOn one_worker script places old new → (port : ℕ) →
-    GoesOn one_worker script places port (passes_of start port) (passes_of c port) →
-    GoesOn one_worker script places port (passes_of start port)
+    LooksOn workers script places old new → (port : ℕ) →
+    GoesOn workers script places port (passes_of start port) (passes_of c port) →
+    GoesOn workers script places port (passes_of start port)
     (passes_in c.feeding.pass (news ++ c.closed.items) port)
-list_looks law plane script places start c news old new goes looks port was =
+list_looks law workers plane script places start c news old new goes looks port was =
     by (cases_Bool (port == old.port))
   where
-    its : GoesOn one_worker script places old.port (passes_of c old.port)
+    its : GoesOn workers script places old.port (passes_of c old.port)
         (passes_in c.feeding.pass (news ++ c.closed.items) old.port)
-    its = subst (λ (p : Pass). GoesOn one_worker script places old.port p
+    its = subst (λ (p : Pass). GoesOn workers script places old.port p
         (passes_in c.feeding.pass (news ++ c.closed.items) old.port)) (sym goes.had)
-        (subst (λ (p : Pass). GoesOn one_worker script places old.port (port_pass old) p)
+        (subst (λ (p : Pass). GoesOn workers script places old.port (port_pass old) p)
         (sym goes.has) looks.on)
 
     by : ((port == old.port) ≡ true) ⊎ ((port == old.port) ≡ false) →
-        GoesOn one_worker script places port (passes_of start port)
+        GoesOn workers script places port (passes_of start port)
         (passes_in c.feeding.pass (news ++ c.closed.items) port)
     by (inl h) =
-        law one_worker script places port (passes_of start port) (passes_of c port)
+        law workers script places port (passes_of start port) (passes_of c port)
         (passes_in c.feeding.pass (news ++ c.closed.items) port) was
-        (subst (λ (q : ℕ). GoesOn one_worker script places q (passes_of c q)
+        (subst (λ (q : ℕ). GoesOn workers script places q (passes_of c q)
         (passes_in c.feeding.pass (news ++ c.closed.items) q)) (sym (eqb-true port old.port h))
         its)
     by (inr h) =
-        subst (λ (p : Pass). GoesOn one_worker script places port (passes_of start port) p)
+        subst (λ (p : Pass). GoesOn workers script places port (passes_of start port) p)
         (sym (goes.others port (eqb-false port old.port h))) was
 
 -- ---- a port closes

@@ -1,7 +1,7 @@
 -- The ports of a run open, one after the other, and behind each all passes meet.
 use Rattle.std.proofs.Common.{◌≡◌, ◌<◌, ◌≤◌, ◌⊎◌, ◌+◌, ◌∙◌, ◌++◌, ◌∷◌, [], ℕ, zero, suc, List, true}
-use Rattle.std.proofs.Common.{false, ap, arith, inl, inr, length, map, refl, subst, sym}
-use Rattle.std.specs.Prelude.{◌==◌, if◌then◌else◌, slice_index, slice_index_or}
+use Rattle.std.proofs.Common.{false, ap, arith, inl, inr, length, refl, subst, sym}
+use Rattle.std.specs.Prelude.{◌==◌, IfSome, Option, if◌then◌else◌, slice_index, slice_index_or}
 use Rattle.std.proofs.lemmas.Bool.{cases_Bool, eqb-false, eqb-true}
 use Rattle.std.proofs.lemmas.List.{length-map}
 use Rattle.glance.specs.Views.{PassView}
@@ -13,6 +13,7 @@ use Rattle.made_runs.specs.Log.{Note, all_due}
 use Rattle.made_runs.specs.Ports.{ArePlaced, is_port, place_in}
 use Rattle.plane.specs.declared.plane.Plane.{Plane}
 use Rattle.plane.specs.Passes.{FeederView, PortView}
+use Rattle.plane.specs.Planes.{board_of}
 use Rattle.live_runs.specs.Doing.{IsDoing}
 use Rattle.live_runs.specs.Meetings.{IsOpenTo}
 use Rattle.live_runs.specs.Owners.{IsFeeding}
@@ -26,8 +27,7 @@ use Rattle.nfq_live.specs.declared.crew.Crew.{Crew}
 use Rattle.live_work.specs.declared.feeding.Feeding.{Feeding}
 use Rattle.nfq_live.specs.Crews.{IsCrewOf, OnePass, passes_of}
 use Rattle.live_work.specs.Feeding.{AreFeeding, FedOn}
-use Rattle.live_work.specs.Numbers.{one_worker}
-use Rattle.nfq_live.specs.Openings.{HaveOpened}
+use Rattle.nfq_live.specs.Openings.{HaveOpened, IsOpenedBy}
 use Rattle.live_work.specs.Sending.{SaysTo}
 use Rattle.nfq_live.proofs.Going.{GoesOnAt, WholeLaw, feeder_goes_on}
 use Rattle.nfq_live.proofs.Numbering.{number_at}
@@ -96,17 +96,17 @@ pub passes_with : (c m : Crew) (port : ℕ) → OnePass port c m →
 passes_with c m port one = λ j p. with_one c m port one p j
 
 -- the port did what its opening asks for
-pub has_opened : BeginsLaw → (script : ScriptValue) (places port : ℕ) (c m : Crew)
+pub has_opened : BeginsLaw → (workers : ℕ) (script : ScriptValue) (places port : ℕ) (c m : Crew)
     (notes : ℕ → List Note) (stands : ℕ → Stand) → is_port script port ≡ true →
-    IsOpenTo one_worker script places (place_in port script.ports) (passes_of c) notes stands →
+    IsOpenTo workers script places (place_in port script.ports) (passes_of c) notes stands →
     SaysTo script places port (opening script (place_in port script.ports)) []
     (passes_of c port) (passes_of m port) →
-    IsDoing one_worker script places (Opening (place_in port script.ports)) port (notes port)
+    IsDoing workers script places (Opening (place_in port script.ports)) port (notes port)
     (passes_of c port) (opened script port) (passes_of m port)
-has_opened law script places port c m notes stands is was says =
-    (says.each one_worker).on (Opening (place_in port script.ports)) (notes port)
+has_opened law workers script places port c m notes stands is was says =
+    (says.each workers).on (Opening (place_in port script.ports)) (notes port)
     (passes_of c port) (Now [] (all_due (closing script (place_in port script.ports)))) refl
-    (law one_worker script places port (passes_of c) notes stands is was)
+    (law workers script places port (passes_of c) notes stands is was)
 
 -- the feeder's places stay as they were
 pub feeds_still : MeetsLaw → (script : ScriptValue) (places time : ℕ) (fallen : List Down)
@@ -122,6 +122,33 @@ pub same_feeder : (c m : Crew) → m.feeding ≡ c.feeding →
     passes_of m feeder_number ≡ passes_of c feeder_number
 same_feeder c m same = ap (λ (f : Feeding). feeder_pass f.pass) same
 
+-- so it has with so many workers
+opened_next : BeginsLaw → NextLaw → (workers : ℕ) (script : ScriptValue) (places place port : ℕ)
+    (c m n : Crew) → 0 < places → IsScript script → is_port script port ≡ true →
+    place_in port script.ports ≡ place → suc (place_in port script.ports) ≡ place + 1 →
+    IsOpenedBy workers script places place c →
+    SaysTo script places port (opening script (place_in port script.ports)) []
+    (passes_of c port) (passes_of m port) →
+    AreMet script.ports (with_pass port (passes_of m port) (passes_of c)) (passes_of n) →
+    IsOpenedBy workers script places (place + 1) n
+opened_next begins next workers script places place port c m n some facts is here up was says
+    moved =
+    let open_to : IsOpenTo workers script places (place_in port script.ports) (passes_of c)
+    was.notes was.stands =
+    subst (λ (k : ℕ). IsOpenTo workers script places k (passes_of c) was.notes was.stands)
+    (sym here) was.open_to in
+    let does = has_opened begins workers script places port c m was.notes was.stands is open_to
+    says in
+    record {
+      notes = λ p. if p == port then does.notes else was.notes p;
+      stands = λ p. if p == port then opened script port else was.stands p;
+      open_to = subst (λ (k : ℕ). IsOpenTo workers script places k (passes_of n)
+          (λ p. if p == port then does.notes else was.notes p)
+          (λ p. if p == port then opened script port else was.stands p)) up
+          (next workers script places port (passes_of c) (passes_of n) was.notes was.stands
+          (passes_of m port) some facts is open_to does moved);
+    }
+
 pub opens_next : BeginsLaw → NextLaw → MeetsLaw → (script : ScriptValue) (places place port : ℕ)
     (c m n : Crew) → 0 < places → IsScript script → is_port script port ≡ true →
     place_in port script.ports ≡ place → HaveOpened script places place c →
@@ -132,24 +159,14 @@ pub opens_next : BeginsLaw → NextLaw → MeetsLaw → (script : ScriptValue) (
     n.feeding.pass.fed ≡ m.feeding.pass.fed → HaveOpened script places (place + 1) n
 opens_next begins next meets script places place port c m n some facts is here was one says met
     numbers closed fed =
-    let open_to : IsOpenTo one_worker script places (place_in port script.ports) (passes_of c)
-    was.notes was.stands =
-    subst (λ (k : ℕ). IsOpenTo one_worker script places k (passes_of c) was.notes was.stands)
-    (sym here) was.open_to in
-    let does = has_opened begins script places port c m was.notes was.stands is open_to says in
     let moved : AreMet script.ports (with_pass port (passes_of m port) (passes_of c))
     (passes_of n) =
     subst (λ (ps : ℕ → Pass). AreMet script.ports ps (passes_of n)) (passes_with c m port one)
     met in
     let up : suc (place_in port script.ports) ≡ place + 1 = omega (arith, here) in
     record {
-      notes = λ p. if p == port then does.notes else was.notes p;
-      stands = λ p. if p == port then opened script port else was.stands p;
-      open_to = subst (λ (k : ℕ). IsOpenTo one_worker script places k (passes_of n)
-          (λ p. if p == port then does.notes else was.notes p)
-          (λ p. if p == port then opened script port else was.stands p)) up
-          (next one_worker script places port (passes_of c) (passes_of n) was.notes was.stands
-          (passes_of m port) some facts is open_to does moved);
+      opened = λ workers. opened_next begins next workers script places place port c m n some facts
+          is here up (was.opened workers) says moved;
       early = feeds_still meets script places 0 [] m n met (λ k less.
           subst (λ (p : Pass). IsFeeding 0 [] (p.shares k))
           (sym (same_feeder c m one.alone.feeding)) (was.early k less));
@@ -195,7 +212,10 @@ feeder_crew law plane c n ports closed stays gauge crew = record {
       (subst (λ (l : List PortView). AreAll plane n.feeding.pass c.ports.items l) (sym closed)
       (feeder_goes_on law plane c.feeding.pass n.feeding.pass c.ports.items c.closed.items stays
       crew.all));
-  looks = record { looks = ap (λ (g : PassView). g.board) gauge ∙ crew.looks.looks };
+  looks = record {
+    looks = subst (λ (seen : Option PassView).
+        IfSome seen (λ (g : PassView). g.board ≡ board_of plane)) (sym gauge) crew.looks.looks;
+  };
 }
 
 pub earlier : (places sooner early late : ℕ) (lines : List Down) (old new : Shares) →

@@ -1,8 +1,10 @@
 -- A whole run: how it begins, and what the closed plane gives of it.
-use Rattle.std.proofs.Common.{◌≡◌, ◌≤◌, ◌<◌, ◌⊎◌, ◌∙◌, ◌++◌, ◌∷◌, [], ℕ, List, true, false, ap}
+use Rattle.std.proofs.Common.{◌≡◌, ◌≤◌, ◌<◌, ◌+◌, ◌⊎◌, ◌∙◌, ◌++◌, ◌∷◌, [], ℕ, List, true, false, ap}
 use Rattle.std.proofs.Common.{append-nil}
 use Rattle.std.proofs.Common.{arith, inl, inr, length, map, refl, subst, suc, sym, zero}
-use Rattle.std.specs.Prelude.{All, Err, Ok, OnOk, Result, nat_eq, slice_index}
+use Rattle.std.specs.Prelude.{All, Err, IfSome, Ok, OnOk, Option, Result, Some, count_by, nat_eq}
+use Rattle.std.specs.Prelude.{slice_index, sum_by}
+use Rattle.hook_chain.specs.Rules.{RuleTables}
 use Rattle.std.specs.List.{list_any}
 use Rattle.std.proofs.lemmas.Bool.{cases_Bool, eq-eqb, ne_eqb}
 use Rattle.std.proofs.lemmas.List.Elements.{All-head, All-tail}
@@ -13,7 +15,8 @@ use Rattle.glance.specs.Views.{PassView}
 use Rattle.histories.specs.declared.entry.Entry.{Entry}
 use Rattle.histories.specs.declared.histories.Histories.{Histories}
 use Rattle.histories.specs.declared.histories.Lost.{Lost}
-use Rattle.histories.specs.Journeys.{AreSound}
+use Rattle.histories.specs.Moves.{Move, moves}
+use Rattle.histories.specs.Journeys.{AreSound, Arrival, asks, entering, times_came, visit_of}
 use Rattle.histories.specs.Lengths.{AreShort}
 use Rattle.histories.specs.Numbers.{queue_count}
 use Rattle.inspector_script.specs.Scripts.{ScriptValue}
@@ -27,10 +30,10 @@ use Rattle.plane.specs.declared.plane.Plane.{Plane}
 use Rattle.plane.specs.Closings.{IsClosed, all_holders, port_holds}
 use Rattle.plane.specs.Opening.{IsOpened}
 use Rattle.plane.specs.Passes.{FeederView, PortView}
-use Rattle.plane.specs.Planes.{order_of, places_of, setting_of}
+use Rattle.plane.specs.Planes.{board_of, order_of, places_of, setting_of}
 use Rattle.live_runs.specs.ClosedPlanes.{IsClosedPlane, sent_by_all}
 use Rattle.live_runs.specs.Meetings.{ArePorts, IsMeeting, IsNew, IsOpenTo}
-use Rattle.live_runs.specs.Owners.{IsFeeding}
+use Rattle.live_runs.specs.Owners.{IsFedByAll, IsFeeding}
 use Rattle.live_runs.specs.Passes.{Pass, feeder_number, is_pass, seen_at}
 use Rattle.live_runs.specs.Seen.{Seen}
 use Rattle.live_runs.specs.Stages.{Stage}
@@ -41,9 +44,10 @@ use Rattle.nfq_live.specs.declared.crew.Crew.{Crew}
 use Rattle.live_work.specs.declared.feeding.Feeding.{Feeding}
 use Rattle.nfq_live.specs.Crews.{AreOpenFrom, AreReceived, IsCrewOf, passes_of}
 use Rattle.nfq_live.specs.Endings.{IsAtMeeting, stage_before}
-use Rattle.live_work.specs.Numbers.{one_worker}
 use Rattle.nfq_live.specs.Openings.{HaveOpened}
-use Rattle.nfq_live.specs.Run.{IsLiveRun}
+use Rattle.nfq_live.specs.Feeders.{AreTheSame}
+use Rattle.nfq_live.specs.Run.{IsLiveRunBy}
+use Rattle.nfq_live.specs.Sizes.{Size, size_of}
 use Rattle.live_work.proofs.Minded.{within_ports}
 use Rattle.nfq_live.proofs.Onward.{IsMadeOf, crew_of, passes_made}
 use Rattle.nfq_live.proofs.Stopped.{all_done}
@@ -76,16 +80,16 @@ AtLastLaw = (workers : ℕ) (script : ScriptValue) (places mail port sum : ℕ)
     sent_by_all script.ports places passes port ≡ sum
 
 abbrev pub MadeLaw : Type 0
-MadeLaw = (workers : ℕ) (script : ScriptValue) (places frames time : ℕ) (stage : Stage)
+MadeLaw = (workers feeders : ℕ) (script : ScriptValue) (places frames : ℕ) (stage : Stage)
     (passes : ℕ → Pass) (h : Histories) (notes : ℕ → List Note) (stands : ℕ → Stand) →
     0 < places → IsClosedPlane script.ports script.mail places passes h →
     IsMeeting workers script places stage passes notes stands →
     ((port : ℕ) → is_port script port ≡ true → IsDone (stands port)) →
-    ((k : ℕ) → k < places → IsFeeding time (downs_in_effect script frames)
+    ((k : ℕ) → k < places → IsFedByAll feeders (downs_in_effect script frames)
     (seen_at passes k feeder_number)) →
     ((port : ℕ) → is_port script port ≡ true →
     sent_by_all script.ports places passes port ≡ length (passes port).letters) →
-    IsMadeBy workers 1 script frames h notes (λ port. [])
+    IsMadeBy workers feeders script frames h notes (λ port. [])
 
 -- ---- the ports' numbers
 
@@ -122,12 +126,16 @@ module _ (script : ScriptValue) (s : Setting) (plane : Plane) (feeder : FeederVi
 
   pub opened_crew : AllOpenedLaw → (feeding : Feeding) (c : Crew) →
       list_any (nat_eq feeder_number) script.ports ≡ false → feeding.pass ≡ feeder →
-      feeding.gauge ≡ gauge → IsMadeOf c feeding ports [] → IsCrewOf plane c
+      feeding.gauge ≡ Some gauge → IsMadeOf c feeding ports [] → IsCrewOf plane c
   opened_crew law feeding c none feeds looks made =
       crew_of plane c feeding ports [] made
       (subst (λ (f : FeederView). AreAll plane f ports []) (sym feeds)
       (law (places_of plane) script.ports s plane feeder ports gauge distinct none o))
-      (record { looks = ap (λ (g : PassView). g.board) (looks ∙ o.looks) })
+      (record {
+        looks = subst (λ (seen : Option PassView).
+            IfSome seen (λ (g : PassView). g.board ≡ board_of plane)) (sym looks)
+            (ap (λ (g : PassView). g.board) o.looks);
+      })
 
   new_pass : NewOpenedLaw → (feeding : Feeding) (c : Crew) → feeding.pass ≡ feeder →
       IsMadeOf c feeding ports [] → (p : ℕ) → is_pass script.ports p ≡ true →
@@ -143,10 +151,12 @@ module _ (script : ScriptValue) (s : Setting) (plane : Plane) (feeder : FeederVi
       (c : Crew) → feeding.pass ≡ feeder → IsMadeOf c feeding ports [] →
       HaveOpened script (places_of plane) 0 c
   none_opened law opens begins feeding c feeds made = record {
-    notes = λ p. [];
-    stands = unopened script;
-    open_to = opens one_worker script (places_of plane) (passes_of c)
-        (λ p is. new_pass law feeding c feeds made p is);
+    opened = λ workers. record {
+      notes = λ p. [];
+      stands = unopened script;
+      open_to = opens workers script (places_of plane) (passes_of c)
+          (λ p is. new_pass law feeding c feeds made p is);
+    };
     early = λ k less. subst (λ (xs : List Seen). IsFeeding 0 [] xs)
         (sym ((new_pass law feeding c feeds made feeder_number refl).shares k)) begins;
     none_fed = ap (λ (f : Feeding). f.pass.fed) made.feeding_is
@@ -159,9 +169,9 @@ module _ (script : ScriptValue) (s : Setting) (plane : Plane) (feeder : FeederVi
 -- ---- all frames have passed
 
 -- where no port has ended all are open
-pub all_open : (script : ScriptValue) (places frames : ℕ) (c : Crew) →
-    IsAtMeeting script places frames 0 c → AreOpenFrom script 0 c
-all_open script places frames c m p least less =
+pub all_open : (script : ScriptValue) (places : ℕ) (size : Size) (c : Crew) →
+    IsAtMeeting script places size 0 c → AreOpenFrom script 0 c
+all_open script places size c m p least less =
     let is = each_is_there script.ports p less in
     m.are_open (slice_index script.ports p) is
     ∙ ap (λ (t : Stand). t.is_open)
@@ -169,17 +179,18 @@ all_open script places frames c m p least less =
 
 -- ---- the plane was closed
 
-pub live_run : AtLastLaw → MadeLaw → (script : ScriptValue) (places : ℕ) (capture : Capture)
-    (c : Crew) (h : Histories) → 0 < places →
-    IsAtMeeting script places (length capture.frames) (length script.ports) c →
+pub live_run : AtLastLaw → MadeLaw → (workers feeders : ℕ) (script : ScriptValue) (places : ℕ)
+    (capture : Capture) (c : Crew) (h : Histories) → 0 < places →
+    IsAtMeeting script places (size_of workers feeders capture) (length script.ports) c →
     AreReceived script.ports places c →
-    IsClosedPlane script.ports script.mail places (passes_of c) h → IsLiveRun script capture h
-live_run at_last law script places capture c h some m received closed = record {
+    IsClosedPlane script.ports script.mail places (passes_of c) h →
+    IsLiveRunBy workers feeders script capture h
+live_run at_last law workers feeders script places capture c h some m received closed = record {
   notes = m.notes;
-  made = law one_worker script places (length capture.frames) m.ended.time
+  made = law workers feeders script places (length capture.frames)
       (stage_before (length script.ports)) (passes_of c) h m.notes m.stands some closed
       m.ended.meeting
-      (λ port is. all_done script places (length capture.frames) c m port is
+      (λ port is. all_done script places (size_of workers feeders capture) c m port is
       (within_ports port script.ports is))
       m.ended.fed
       (λ port is. by port is (cases_Bool (m.stands port).is_open));
@@ -190,7 +201,7 @@ live_run at_last law script places capture c h some m received closed = record {
         sent_by_all script.ports places (passes_of c) port ≡ length (passes_of c port).letters
     by port is (inl h_open) = received.all port (m.are_open port is ∙ h_open)
     by port is (inr h_shut) =
-        at_last one_worker script places script.mail port (length (passes_of c port).letters)
+        at_last workers script places script.mail port (length (passes_of c port).letters)
         (passes_of c) h m.notes m.stands is m.ended.meeting.are closed
         (m.ended.sums port is h_shut)
 
@@ -204,15 +215,35 @@ pub fed_by_all : (feeder : FeederView) (ps : List PortView) →
 fed_by_all feeder ps =
     ap (λ (l : List Card). feeder.fed ++ l) (none_fed_by ps) ∙ append-nil feeder.fed
 
+-- of the same packets, in whatever order
+sound_same : (tables : RuleTables) (key : ℕ) (one two : List Card) (h : Histories) →
+    AreTheSame one two → AreSound tables key one h.entries h.lost →
+    AreSound tables key two h.entries h.lost
+sound_same tables key one two h same sound = record {
+  asked = λ test. subst (λ (n : ℕ).
+      times_came test (moves h.entries) + count_by test []
+      ≤ n + sum_by (λ (m : Move). count_by test (asks tables key m)) (moves h.entries))
+      (same (λ (c : Card). count_by test (entering tables key c))) (sound.asked test);
+  met = λ test. subst (λ (n : ℕ).
+      times_came (λ (a : Arrival). test (visit_of a)) (moves h.entries)
+      + count_by (λ (a : Arrival). test (visit_of a)) [] + count_by test h.lost
+      ≡ n + sum_by (λ (m : Move). count_by (λ (a : Arrival). test (visit_of a))
+      (asks tables key m)) (moves h.entries))
+      (same (λ (c : Card). count_by (λ (a : Arrival). test (visit_of a)) (entering tables key c)))
+      (sound.met test);
+  first = sound.first;
+}
+
 pub sound_for : (plane : Plane) (s : Setting) (feeder : FeederView) (ps : List PortView)
     (h : Histories) (fed : List Card) → IsClosed plane feeder ps h → setting_of plane ≡ s →
-    feeder.fed ≡ fed → AreSound s.tables s.key fed h.entries h.lost
+    AreTheSame feeder.fed fed → AreSound s.tables s.key fed h.entries h.lost
 sound_for plane s feeder ps h fed closed setting is =
     subst (λ (t : Setting). AreSound t.tables t.key fed h.entries h.lost) setting
+    (sound_same (setting_of plane).tables (setting_of plane).key feeder.fed fed h is
     (subst (λ (l : List Card). AreSound (setting_of plane).tables (setting_of plane).key l
-    h.entries h.lost) (fed_by_all feeder ps ∙ is)
+    h.entries h.lost) (fed_by_all feeder ps)
     (subst (λ (l : List Lost). AreSound (setting_of plane).tables (setting_of plane).key
-    (all_fed (all_holders feeder ps)) h.entries l) (sym closed.lost) closed.entries.sound))
+    (all_fed (all_holders feeder ps)) h.entries l) (sym closed.lost) closed.entries.sound)))
 
 -- ---- what is known of the closed plane
 
@@ -250,14 +281,19 @@ ShortLaw = (workers : ℕ) (script : ScriptValue) (places mail : ℕ) (passes : 
     IsClosedPlane script.ports mail places passes h →
     ArePorts workers script places passes notes stands → AreShort h.entries
 
-pub short_for : ShortLaw → (script : ScriptValue) (places frames : ℕ) (c : Crew)
-    (h : Histories) → 0 < places → IsAtMeeting script places frames (length script.ports) c →
+pub short_for : ShortLaw → (script : ScriptValue) (places : ℕ) (size : Size) (c : Crew)
+    (h : Histories) → 0 < places → IsAtMeeting script places size (length script.ports) c →
     IsClosedPlane script.ports script.mail places (passes_of c) h → AreShort h.entries
-short_for law script places frames c h some m closed =
-    law one_worker script places script.mail (passes_of c) h m.notes m.stands some closed
+short_for law script places size c h some m closed =
+    law size.workers script places script.mail (passes_of c) h m.notes m.stands some closed
     m.ended.meeting.are
 
 -- of a result that went well
 pub went_ok : {X E : Type 0} (r : Result X E) (x : X) (P : Type 0) → r ≡ Ok x → OnOk r P → P
 went_ok (Ok y) x P is on = on
 went_ok (Err e) x P is on = absurd (cc)
+
+-- what holds whether it went well or not
+pub at_any : {X E : Type 0} (r : Result X E) (P : Type 0) → P → OnOk r P
+at_any (Ok y) P is = is
+at_any (Err e) P is = tt

@@ -1,7 +1,7 @@
 -- Passes take their seats as workers and leave them: what is known of all of them.
 use Rattle.std.proofs.Common.{◌≡◌, ◌<◌, ◌≤◌, ◌+◌, ◌∙◌, ◌++◌, ◌∷◌, [], ℕ, Bool, List, ap}
 use Rattle.std.proofs.Common.{append-nil, append_assoc, arith, drop_of_length-le, false, length}
-use Rattle.std.proofs.Common.{map, refl, subst, suc, sym, take_all, true, zero}
+use Rattle.std.proofs.Common.{refl, subst, suc, sym, take_all, true, zero}
 use Rattle.std.proofs.lemmas.List.{length-append, length-map}
 use Rattle.std.specs.List.{AllZip}
 use Rattle.std.specs.Prelude.{◌&&◌, All, drop, not, slice_index_or, take}
@@ -16,6 +16,9 @@ use Rattle.live_work.specs.declared.mind.Mind.{Mind}
 use Rattle.nfq_live.specs.declared.workers.Inspector.{Inspector}
 use Rattle.live_work.specs.Minds.{IsMind}
 use Rattle.nfq_live.specs.Workers.{IsInspected, IsSeated, WentOn, minds_at, passes_at}
+use Rattle.live_passes.specs.Views.{port_pass}
+use Rattle.live_work.proofs.Kept.{port_here}
+use Rattle.live_work.proofs.Looked.{NoLookLaw}
 use Rattle.nfq_live.proofs.Numbering.{zip_long}
 use Rattle.nfq_live.proofs.Together.{every_index}
 
@@ -53,39 +56,59 @@ all_seated script plane seats of minds =
     λ i d less. every_index (IsSeated script plane) seats i d
     (every_seated script plane seats of minds) less
 
+-- ---- none worked
+
+-- a worker that did nothing
+pub none_inspected : NoLookLaw → (workers : ℕ) (script : ScriptValue) (plane : Plane)
+    (seats : List Inspector) → All (λ (i : Inspector). IsSeated script plane i) seats →
+    AllZip (IsInspected workers script plane) seats seats
+none_inspected law workers script plane [] seated = tt
+none_inspected law workers script plane (s ∷ ss) seated =
+    let one = All-head (λ (i : Inspector). IsSeated script plane i) s ss seated in (
+      record {
+        stays = port_here plane s.pass one.pass;
+        mind = λ well. one.mind;
+        on = λ well. record {
+          on = law workers script (places_of plane) s.pass.port (port_pass s.pass);
+        };
+      },
+      none_inspected law workers script plane ss
+          (All-tail (λ (i : Inspector). IsSeated script plane i) s ss seated),
+    )
+
 -- ---- what they did
 
-pub all_stay : (script : ScriptValue) (plane : Plane) (old new : List Inspector) →
-    AllZip (IsInspected script plane) old new →
+pub all_stay : (workers : ℕ) (script : ScriptValue) (plane : Plane) (old new : List Inspector) →
+    AllZip (IsInspected workers script plane) old new →
     AllZip (StaysPort plane) (passes_at old) (passes_at new)
-all_stay script plane [] [] did = tt
-all_stay script plane [] (n ∷ ns) did = absurd did
-all_stay script plane (o ∷ os) [] did = absurd did
-all_stay script plane (o ∷ os) (n ∷ ns) did = (did.0.stays, all_stay script plane os ns did.1)
+all_stay workers script plane [] [] did = tt
+all_stay workers script plane [] (n ∷ ns) did = absurd did
+all_stay workers script plane (o ∷ os) [] did = absurd did
+all_stay workers script plane (o ∷ os) (n ∷ ns) did = (did.0.stays, all_stay workers script plane os ns did.1)
 
 abbrev IsWell : Inspector → Type 0
 IsWell i = i.failed ≡ false
 
-pub all_went_on : (script : ScriptValue) (plane : Plane) (old new : List Inspector) →
-    AllZip (IsInspected script plane) old new → All (λ (i : Inspector). i.failed ≡ false) new →
-    AllZip (WentOn script (places_of plane)) (passes_at old) (passes_at new)
-all_went_on script plane [] [] did well = tt
-all_went_on script plane [] (n ∷ ns) did well = absurd did
-all_went_on script plane (o ∷ os) [] did well = absurd did
-all_went_on script plane (o ∷ os) (n ∷ ns) did well = (
+pub all_went_on : (workers : ℕ) (script : ScriptValue) (plane : Plane) (old new : List Inspector) →
+    AllZip (IsInspected workers script plane) old new → All (λ (i : Inspector). i.failed ≡ false) new →
+    AllZip (WentOn workers script (places_of plane)) (passes_at old) (passes_at new)
+all_went_on workers script plane [] [] did well = tt
+all_went_on workers script plane [] (n ∷ ns) did well = absurd did
+all_went_on workers script plane (o ∷ os) [] did well = absurd did
+all_went_on workers script plane (o ∷ os) (n ∷ ns) did well = (
   record { port = did.0.stays.port; looked = did.0.on (All-head IsWell n ns well) },
-  all_went_on script plane os ns did.1 (All-tail IsWell n ns well),
+  all_went_on workers script plane os ns did.1 (All-tail IsWell n ns well),
 )
 
-pub all_have_minds : (script : ScriptValue) (plane : Plane) (old new : List Inspector) →
-    AllZip (IsInspected script plane) old new → All (λ (i : Inspector). i.failed ≡ false) new →
+pub all_have_minds : (workers : ℕ) (script : ScriptValue) (plane : Plane) (old new : List Inspector) →
+    AllZip (IsInspected workers script plane) old new → All (λ (i : Inspector). i.failed ≡ false) new →
     AllZip (IsMind script) (passes_at new) (minds_at new)
-all_have_minds script plane [] [] did well = tt
-all_have_minds script plane [] (n ∷ ns) did well = absurd did
-all_have_minds script plane (o ∷ os) [] did well = absurd did
-all_have_minds script plane (o ∷ os) (n ∷ ns) did well = (
+all_have_minds workers script plane [] [] did well = tt
+all_have_minds workers script plane [] (n ∷ ns) did well = absurd did
+all_have_minds workers script plane (o ∷ os) [] did well = absurd did
+all_have_minds workers script plane (o ∷ os) (n ∷ ns) did well = (
   did.0.mind (All-head IsWell n ns well),
-  all_have_minds script plane os ns did.1 (All-tail IsWell n ns well),
+  all_have_minds workers script plane os ns did.1 (All-tail IsWell n ns well),
 )
 
 -- ---- a list that was lent
@@ -121,15 +144,15 @@ seated_from script plane seats ports minds passes_are minds_are of kept =
     (subst (λ (l : List PortView). AllZip (IsMind script) l (minds_at seats)) (sym passes_are)
     (subst (λ (l : List Mind). AllZip (IsMind script) ports l) (sym minds_are) kept))
 
-pub as_many_seats : (script : ScriptValue) (plane : Plane) (before after : List Inspector)
-    (ports : List PortView) → AllZip (IsInspected script plane) before after →
+pub as_many_seats : (workers : ℕ) (script : ScriptValue) (plane : Plane) (before after : List Inspector)
+    (ports : List PortView) → AllZip (IsInspected workers script plane) before after →
     passes_at before ≡ ports → length after ≡ length ports
-as_many_seats script plane before after ports did are =
+as_many_seats workers script plane before after ports did are =
     let all : length (passes_at before) ≡ length ports =
     ap (λ (l : List PortView). length l) are in
     omega (
       arith,
-      zip_long (IsInspected script plane) before after did,
+      zip_long (IsInspected workers script plane) before after did,
       all,
       length-map before (λ (i : Inspector). i.pass),
     )
@@ -140,32 +163,32 @@ pub went_back : {X : Type 0} (back none items : List X) → none ≡ [] → back
 went_back {X} back none items empty is =
     sym (is ∙ ap (λ (l : List X). l ++ items) empty)
 
-pub stay_at_seats : (script : ScriptValue) (plane : Plane) (before after : List Inspector)
+pub stay_at_seats : (workers : ℕ) (script : ScriptValue) (plane : Plane) (before after : List Inspector)
     (ports back : List PortView) → passes_at before ≡ ports → passes_at after ≡ back →
-    AllZip (IsInspected script plane) before after → AllZip (StaysPort plane) ports back
-stay_at_seats script plane before after ports back were are did =
+    AllZip (IsInspected workers script plane) before after → AllZip (StaysPort plane) ports back
+stay_at_seats workers script plane before after ports back were are did =
     subst (λ (l : List PortView). AllZip (StaysPort plane) l back) were
     (subst (λ (l : List PortView). AllZip (StaysPort plane) (passes_at before) l) are
-    (all_stay script plane before after did))
+    (all_stay workers script plane before after did))
 
-pub went_at_seats : (script : ScriptValue) (plane : Plane) (before after : List Inspector)
+pub went_at_seats : (workers : ℕ) (script : ScriptValue) (plane : Plane) (before after : List Inspector)
     (ports back : List PortView) → passes_at before ≡ ports → passes_at after ≡ back →
-    AllZip (IsInspected script plane) before after →
+    AllZip (IsInspected workers script plane) before after →
     All (λ (i : Inspector). i.failed ≡ false) after →
-    AllZip (WentOn script (places_of plane)) ports back
-went_at_seats script plane before after ports back were are did well =
-    subst (λ (l : List PortView). AllZip (WentOn script (places_of plane)) l back) were
-    (subst (λ (l : List PortView). AllZip (WentOn script (places_of plane)) (passes_at before) l)
-    are (all_went_on script plane before after did well))
+    AllZip (WentOn workers script (places_of plane)) ports back
+went_at_seats workers script plane before after ports back were are did well =
+    subst (λ (l : List PortView). AllZip (WentOn workers script (places_of plane)) l back) were
+    (subst (λ (l : List PortView). AllZip (WentOn workers script (places_of plane)) (passes_at before) l)
+    are (all_went_on workers script plane before after did well))
 
-pub minds_from_seats : (script : ScriptValue) (plane : Plane) (before after : List Inspector)
+pub minds_from_seats : (workers : ℕ) (script : ScriptValue) (plane : Plane) (before after : List Inspector)
     (ports : List PortView) (minds : List Mind) → passes_at after ≡ ports →
-    minds_at after ≡ minds → AllZip (IsInspected script plane) before after →
+    minds_at after ≡ minds → AllZip (IsInspected workers script plane) before after →
     All (λ (i : Inspector). i.failed ≡ false) after → AllZip (IsMind script) ports minds
-minds_from_seats script plane before after ports minds passes_are minds_are did well =
+minds_from_seats workers script plane before after ports minds passes_are minds_are did well =
     subst (λ (l : List PortView). AllZip (IsMind script) l minds) passes_are
     (subst (λ (l : List Mind). AllZip (IsMind script) (passes_at after) l) minds_are
-    (all_have_minds script plane before after did well))
+    (all_have_minds workers script plane before after did well))
 
 -- ---- seat by seat
 

@@ -1,5 +1,5 @@
 -- A port has ended, and all passes meet: what is known then, and how the next port begins its end.
-use Rattle.std.proofs.Common.{◌≡◌, ◌≢◌, ◌<◌, ◌≤◌, ◌+◌, ◌⊎◌, ◌∙◌, ◌++◌, ◌∷◌, [], ℕ, zero, suc, List}
+use Rattle.std.proofs.Common.{◌≡◌, ◌≢◌, ◌<◌, ◌≤◌, ◌⊎◌, ◌∙◌, ◌++◌, ◌∷◌, [], ℕ, zero, suc, List}
 use Rattle.std.proofs.Common.{true, false, ap, arith, inl, inr, length, refl, subst, sym}
 use Rattle.std.specs.Prelude.{◌==◌}
 use Rattle.std.proofs.lemmas.Bool.{cases_Bool, cases_lt, eqb-false, eqb-true}
@@ -12,7 +12,7 @@ use Rattle.made_runs.specs.Ports.{is_port, place_in}
 use Rattle.live_runs.specs.ClosedPlanes.{sent_at, sent_by_all}
 use Rattle.live_runs.specs.Doing.{HasHeard, IsAnswering, IsDoing}
 use Rattle.live_runs.specs.Meetings.{IsMeeting}
-use Rattle.live_runs.specs.Owners.{IsFeeding}
+use Rattle.live_runs.specs.Owners.{IsFedByAll}
 use Rattle.live_runs.specs.Passes.{AreMet, Pass, Shuts, feeder_number, seen_at}
 use Rattle.live_runs.specs.Ports.{IsPort}
 use Rattle.live_runs.specs.Seen.{Shares}
@@ -23,9 +23,9 @@ use Rattle.nfq_live.specs.declared.crew.Crew.{Crew}
 use Rattle.nfq_live.specs.Crews.{IsReceived, OneShuts, is_open_in, passes_of}
 use Rattle.nfq_live.specs.Endings.{EndsTo, HasEnded, HasStopped, HaveEnded, IsAtMeeting}
 use Rattle.nfq_live.specs.Endings.{stage_before}
-use Rattle.live_work.specs.Numbers.{one_worker}
+use Rattle.nfq_live.specs.Sizes.{Size}
 use Rattle.nfq_live.proofs.Onward.{ClosesNothingLaw, MeetsNothingLaw, SumLaw}
-use Rattle.nfq_live.proofs.Opened.{MeetsLaw, feeds_still}
+use Rattle.nfq_live.proofs.Fed.{FedMeetsLaw, fed_still}
 use Rattle.nfq_live.proofs.EndsOn.{open_from, same_place}
 
 -- ---- laws
@@ -131,13 +131,13 @@ closed_received law sums ports places port old new shut was =
 -- ---- how a port has ended
 
 -- one port of them
-pub record StopsAs (script : ScriptValue) (places place p : ℕ) (was : List Note) (met : Pass)
+pub record StopsAs (workers : ℕ) (script : ScriptValue) (places place p : ℕ) (was : List Note) (met : Pass)
     (stood : Stand) (c : Crew) : Type 0 where
   pub now : List Note
   pub stand : Stand
-  pub port : is_port script p ≡ true → IsPort one_worker script places p now stand (passes_of c p)
+  pub port : is_port script p ≡ true → IsPort workers script places p now stand (passes_of c p)
   pub went : is_port script p ≡ true →
-      Went one_worker script (Ending place) p was now met.shares (passes_of c p).shares
+      Went workers script (Ending place) p was now met.shares (passes_of c p).shares
   pub none : is_port script p ≡ false → now ≡ []
   pub other : is_port script p ≡ true → place_in p script.ports ≢ place → stand ≡ stood
   pub mine : is_port script p ≡ true → place_in p script.ports ≡ place → HasEnded stand
@@ -148,10 +148,10 @@ no_port : {X : Type 0} (script : ScriptValue) (p : ℕ) → is_port script p ≡
 no_port script p not is = let wrong : true ≡ false = sym is ∙ not in absurd (cc)
 
 -- no port of the script
-stops_none : (script : ScriptValue) (places place p : ℕ) (was : List Note) (met : Pass)
+stops_none : (workers : ℕ) (script : ScriptValue) (places place p : ℕ) (was : List Note) (met : Pass)
     (stood : Stand) (c : Crew) → is_port script p ≡ false →
-    StopsAs script places place p was met stood c
-stops_none script places place p was met stood c not = record {
+    StopsAs workers script places place p was met stood c
+stops_none workers script places place p was met stood c not = record {
   now = [];
   stand = stood;
   port = λ is. no_port script p not is;
@@ -163,15 +163,15 @@ stops_none script places place p was met stood c not = record {
 }
 
 -- one that another's end left as it was
-stops_other : GoesLaw → (script : ScriptValue) (places place p : ℕ) (was : List Note) (met : Pass)
+stops_other : GoesLaw → (workers : ℕ) (script : ScriptValue) (places place p : ℕ) (was : List Note) (met : Pass)
     (stood : Stand) (c : Crew) → is_port script p ≡ true → place_in p script.ports ≢ place →
-    IsDoing one_worker script places (Ending place) p was met stood (passes_of c p) →
-    is_open_in c p ≡ stood.is_open → StopsAs script places place p was met stood c
-stops_other law script places place p was met stood c is apart does opens = record {
+    IsDoing workers script places (Ending place) p was met stood (passes_of c p) →
+    is_open_in c p ≡ stood.is_open → StopsAs workers script places place p was met stood c
+stops_other law workers script places place p was met stood c is apart does opens = record {
   now = does.notes;
   stand = stood;
   port = λ yes. does.is;
-  went = λ yes. law one_worker script places (Ending place) p was met stood (passes_of c p) tt
+  went = λ yes. law workers script places (Ending place) p was met stood (passes_of c p) tt
       does;
   none = λ not. no_port script p not is;
   other = λ yes differ. refl;
@@ -180,15 +180,15 @@ stops_other law script places place p was met stood c is apart does opens = reco
 }
 
 -- the one that ended, and is open still
-stops_open : GoesLaw → (script : ScriptValue) (places place p : ℕ) (was : List Note) (met : Pass)
+stops_open : GoesLaw → (workers : ℕ) (script : ScriptValue) (places place p : ℕ) (was : List Note) (met : Pass)
     (stood : Stand) (c : Crew) → is_port script p ≡ true → place_in p script.ports ≡ place →
-    IsDoing one_worker script places (Ending place) p was met (side (AtEnd []) [])
-    (passes_of c p) → is_open_in c p ≡ true → StopsAs script places place p was met stood c
-stops_open law script places place p was met stood c is here does opens = record {
+    IsDoing workers script places (Ending place) p was met (side (AtEnd []) [])
+    (passes_of c p) → is_open_in c p ≡ true → StopsAs workers script places place p was met stood c
+stops_open law workers script places place p was met stood c is here does opens = record {
   now = does.notes;
   stand = idle [];
   port = λ yes. does.is;
-  went = λ yes. law one_worker script places (Ending place) p was met (side (AtEnd []) [])
+  went = λ yes. law workers script places (Ending place) p was met (side (AtEnd []) [])
       (passes_of c p) tt does;
   none = λ not. no_port script p not is;
   other = λ yes apart. absurd (apart here);
@@ -197,28 +197,28 @@ stops_open law script places place p was met stood c is here does opens = record
 }
 
 -- the one that ended, and closed
-stops_shut : ClosesLaw → ClosedLaw → (script : ScriptValue) (places place p : ℕ)
+stops_shut : ClosesLaw → ClosedLaw → (workers : ℕ) (script : ScriptValue) (places place p : ℕ)
     (was : List Note) (met : Pass) (stood : Stand) (c m : Crew) → 0 < places →
     is_port script p ≡ true → place_in p script.ports ≡ place →
-    IsDoing one_worker script places (Ending place) p was met
+    IsDoing workers script places (Ending place) p was met
     (side (AtEnd []) (Still Close ∷ [])) (passes_of c p) →
     Shuts places p (passes_of c p) (passes_of m p) →
     ((k : ℕ) → places ≤ k → (passes_of m p).shares k ≡ (passes_of c p).shares k) →
-    is_open_in m p ≡ false → StopsAs script places place p was met stood m
-stops_shut closes closed script places place p was met stood c m some is here does shuts beyond
+    is_open_in m p ≡ false → StopsAs workers script places place p was met stood m
+stops_shut closes closed workers script places place p was met stood c m some is here does shuts beyond
     gone =
-    let a : IsDoing one_worker script places (Ending (place_in p script.ports)) p was met
+    let a : IsDoing workers script places (Ending (place_in p script.ports)) p was met
     (side (AtEnd []) (Still Close ∷ [])) (passes_of c p) =
-    subst (λ (k : ℕ). IsDoing one_worker script places (Ending k) p was met
+    subst (λ (k : ℕ). IsDoing workers script places (Ending k) p was met
     (side (AtEnd []) (Still Close ∷ [])) (passes_of c p)) (sym here) does in
     record {
       now = a.notes ++ Shut ∷ [];
       stand = shut_stand;
-      port = λ yes. closed one_worker script places p was met (passes_of c p) (passes_of m p) some
+      port = λ yes. closed workers script places p was met (passes_of c p) (passes_of m p) some
           a shuts;
-      went = λ yes. subst (λ (k : ℕ). Went one_worker script (Ending k) p was
+      went = λ yes. subst (λ (k : ℕ). Went workers script (Ending k) p was
           (a.notes ++ Shut ∷ []) met.shares (passes_of m p).shares) here
-          (closes one_worker script places p was met (passes_of c p) (passes_of m p) a shuts
+          (closes workers script places p was met (passes_of c p) (passes_of m p) a shuts
           beyond);
       none = λ not. no_port script p not is;
       other = λ yes apart. absurd (apart here);
@@ -227,14 +227,14 @@ stops_shut closes closed script places place p was met stood c m some is here do
     }
 
 -- of all of them
-stopped : (script : ScriptValue) (places frames place : ℕ) (met : ℕ → Pass)
+stopped : (script : ScriptValue) (places : ℕ) (size : Size) (place : ℕ) (met : ℕ → Pass)
     (was : ℕ → List Note) (stood : ℕ → Stand) (c : Crew) →
-    HaveEnded script places frames place met was stood →
+    HaveEnded script places size place met was stood →
     passes_of c feeder_number ≡ met feeder_number →
     ((p : ℕ) → is_port script p ≡ true → (stood p).is_open ≡ false → passes_of c p ≡ met p) →
-    ((p : ℕ) → StopsAs script places place p (was p) (met p) (stood p) c) →
-    HasStopped script places frames place c
-stopped script places frames place met was stood c ended feeder shut each = record {
+    ((p : ℕ) → StopsAs size.workers script places place p (was p) (met p) (stood p) c) →
+    HasStopped script places size place c
+stopped script places size place met was stood c ended feeder shut each = record {
   met = met;
   was = was;
   stood = stood;
@@ -252,45 +252,45 @@ stopped script places frames place met was stood c ended feeder shut each = reco
 }
 
 -- the port is open still
-pub stops_so : GoesLaw → (script : ScriptValue) (places frames place : ℕ) (c : Crew) →
-    EndsTo script places frames place [] c → HasStopped script places frames place c
-stops_so law script places frames place c e =
-    stopped script places frames place e.met e.notes e.stands c e.ended e.feeder e.shut
+pub stops_so : GoesLaw → (script : ScriptValue) (places : ℕ) (size : Size) (place : ℕ) (c : Crew) →
+    EndsTo script places size place [] c → HasStopped script places size place c
+stops_so law script places size place c e =
+    stopped script places size place e.met e.notes e.stands c e.ended e.feeder e.shut
     (λ p. by p (cases_Bool (is_port script p)) (cases_Bool (place_in p script.ports == place)))
   where
     by : (p : ℕ) → (is_port script p ≡ true) ⊎ (is_port script p ≡ false) →
         ((place_in p script.ports == place) ≡ true)
         ⊎ ((place_in p script.ports == place) ≡ false) →
-        StopsAs script places place p (e.notes p) (e.met p) (e.stands p) c
+        StopsAs size.workers script places place p (e.notes p) (e.met p) (e.stands p) c
     by p (inr not) there =
-        stops_none script places place p (e.notes p) (e.met p) (e.stands p) c not
+        stops_none size.workers script places place p (e.notes p) (e.met p) (e.stands p) c not
     by p (inl is) (inl h) =
         let here = eqb-true (place_in p script.ports) place h in
-        stops_open law script places place p (e.notes p) (e.met p) (e.stands p) c is here
+        stops_open law size.workers script places place p (e.notes p) (e.met p) (e.stands p) c is here
         (e.this p is here) (e.is_open p is here)
     by p (inl is) (inr h) =
         let apart = eqb-false (place_in p script.ports) place h in
-        stops_other law script places place p (e.notes p) (e.met p) (e.stands p) c is apart
+        stops_other law size.workers script places place p (e.notes p) (e.met p) (e.stands p) c is apart
         (e.others p is apart) (e.are_open p is apart)
 
 -- the port has closed
 pub shuts_so : GoesLaw → ClosesLaw → ClosedLaw → (script : ScriptValue)
-    (places frames place port : ℕ) (c m : Crew) → 0 < places → is_port script port ≡ true →
-    place_in port script.ports ≡ place → EndsTo script places frames place (Close ∷ []) c →
+    (places : ℕ) (size : Size) (place port : ℕ) (c m : Crew) → 0 < places → is_port script port ≡ true →
+    place_in port script.ports ≡ place → EndsTo script places size place (Close ∷ []) c →
     OneShuts places port c m →
     ((k : ℕ) → places ≤ k → (passes_of m port).shares k ≡ (passes_of c port).shares k) →
     passes_of m feeder_number ≡ passes_of c feeder_number →
-    HasStopped script places frames place m
-shuts_so goes closes closed script places frames place port c m some is_in at_place e shut beyond
+    HasStopped script places size place m
+shuts_so goes closes closed script places size place port c m some is_in at_place e shut beyond
     feeder =
-    stopped script places frames place e.met e.notes e.stands m e.ended (feeder ∙ e.feeder)
+    stopped script places size place e.met e.notes e.stands m e.ended (feeder ∙ e.feeder)
     (λ p is gone. shut.others p (differs p gone) ∙ e.shut p is gone)
     (λ p. by p (cases_Bool (is_port script p)) (cases_Bool (place_in p script.ports == place)))
   where
     differs : (p : ℕ) → (e.stands p).is_open ≡ false → p ≢ port
     differs p gone equal =
         let wrong : true ≡ false =
-        sym (open_from script places frames place e.met e.notes e.stands e.ended port is_in
+        sym (open_from script places size place e.met e.notes e.stands e.ended port is_in
         (omega (arith, at_place)))
         ∙ ap (λ (q : ℕ). (e.stands q).is_open) (sym equal) ∙ gone in
         absurd (cc)
@@ -307,20 +307,20 @@ shuts_so goes closes closed script places frames place port c m some is_in at_pl
     by : (p : ℕ) → (is_port script p ≡ true) ⊎ (is_port script p ≡ false) →
         ((place_in p script.ports == place) ≡ true)
         ⊎ ((place_in p script.ports == place) ≡ false) →
-        StopsAs script places place p (e.notes p) (e.met p) (e.stands p) m
+        StopsAs size.workers script places place p (e.notes p) (e.met p) (e.stands p) m
     by p (inr not) there =
-        stops_none script places place p (e.notes p) (e.met p) (e.stands p) m not
+        stops_none size.workers script places place p (e.notes p) (e.met p) (e.stands p) m not
     by p (inl is) (inl h) =
         let here = eqb-true (place_in p script.ports) place h in
         let i = its p (same_place p port script.ports is is_in (here ∙ sym at_place)) in
-        stops_shut closes closed script places place p (e.notes p) (e.met p) (e.stands p) c m some
+        stops_shut closes closed size.workers script places place p (e.notes p) (e.met p) (e.stands p) c m some
         is here (e.this p is here) i.0 i.1 i.2
     by p (inl is) (inr h) =
         let apart = eqb-false (place_in p script.ports) place h in
         let other : p ≢ port =
         λ same. apart (ap (λ (q : ℕ). place_in q script.ports) same ∙ at_place) in
-        stops_other goes script places place p (e.notes p) (e.met p) (e.stands p) m is apart
-        (subst (λ (q : Pass). IsDoing one_worker script places (Ending place) p (e.notes p)
+        stops_other goes size.workers script places place p (e.notes p) (e.met p) (e.stands p) m is apart
+        (subst (λ (q : Pass). IsDoing size.workers script places (Ending place) p (e.notes p)
         (e.met p) (e.stands p) q) (sym (shut.others p other)) (e.others p is apart))
         (shut.stay p other ∙ e.are_open p is apart)
 
@@ -329,25 +329,24 @@ shuts_so goes closes closed script places frames place port c m some is_in at_pl
 pub record MeetingLaws : Type 0 where
   pub meeting : MeetingLaw
   pub rests : RestsFeedingLaw
-  pub meets : MeetsLaw
+  pub meets : FedMeetsLaw
   pub closed : ClosedSumLaw
   pub stage : StageSumLaw
 
-pub at_meeting : MeetingLaws → (script : ScriptValue) (places frames place port : ℕ)
+pub at_meeting : MeetingLaws → (script : ScriptValue) (places : ℕ) (size : Size) (place port : ℕ)
     (c n : Crew) → 0 < places → is_port script port ≡ true → place_in port script.ports ≡ place →
-    HasStopped script places frames place c → AreMet script.ports (passes_of c) (passes_of n) →
+    HasStopped script places size place c → AreMet script.ports (passes_of c) (passes_of n) →
     ((p : ℕ) → is_open_in n p ≡ is_open_in c p) → IsReceived script.ports places n port →
-    IsAtMeeting script places frames (suc place) n
-at_meeting laws script places frames place port c n some is_in at_place s met opens received =
+    IsAtMeeting script places size (suc place) n
+at_meeting laws script places size place port c n some is_in at_place s met opens received =
     record {
       notes = s.now;
       stands = s.stands;
       ended = record {
         meeting = meeting;
-        time = s.ended.time;
-        fed = feeds_still laws.meets script places s.ended.time (downs_in_effect script frames) c n
-            met (λ k less. subst (λ (p : Pass). IsFeeding s.ended.time
-            (downs_in_effect script frames) (p.shares k)) (sym s.feeder) (s.ended.fed k less));
+        fed = fed_still laws.meets script size.feeders places (downs_in_effect script size.frames)
+            c n met (λ k less. subst (λ (p : Pass). IsFedByAll size.feeders
+            (downs_in_effect script size.frames) (p.shares k)) (sym s.feeder) (s.ended.fed k less));
         before = λ p is less. by p is (cases_Bool (place_in p script.ports == place)) less;
         behind = λ p is most. s.others p is (λ same. absurd (omega (arith, same, most)))
             ∙ s.ended.behind p is (omega (arith, most));
@@ -362,8 +361,8 @@ at_meeting laws script places frames place port c n some is_in at_place s met op
         (s.met feeder_number).shares p.shares) (sym s.feeder)
         (laws.rests script (Ending place) (s.met feeder_number).shares)
 
-    meeting : IsMeeting one_worker script places (Ending place) (passes_of n) s.now s.stands
-    meeting = laws.meeting one_worker script places (stage_before place) (Ending place) s.met
+    meeting : IsMeeting size.workers script places (Ending place) (passes_of n) s.now s.stands
+    meeting = laws.meeting size.workers script places (stage_before place) (Ending place) s.met
         (passes_of c) (passes_of n) s.was s.now s.stood s.stands some
         (follows_before script.ports place) s.ended.meeting s.ports s.went s.none feeding met
 
@@ -378,31 +377,31 @@ at_meeting laws script places frames place port c n some is_in at_place s met op
         (s.ended.before p is (omega (arith, apart, less)))
 
     mine : (p : ℕ) → p ≡ port → (s.stands p).is_open ≡ false →
-        WasSent one_worker script places p (length (passes_of n p).letters) (passes_of n)
+        WasSent size.workers script places p (length (passes_of n p).letters) (passes_of n)
     mine p same gone =
-        subst (λ (sum : ℕ). WasSent one_worker script places p sum (passes_of n))
+        subst (λ (sum : ℕ). WasSent size.workers script places p sum (passes_of n))
         (subst (λ (q : ℕ). IsReceived script.ports places n q) (sym same) received)
-        (laws.closed one_worker script places p (Ending place) (passes_of n) s.now s.stands meeting
+        (laws.closed size.workers script places p (Ending place) (passes_of n) s.now s.stands meeting
         gone)
 
     theirs : (p : ℕ) → is_port script p ≡ true → place_in p script.ports ≢ place →
         (s.stands p).is_open ≡ false →
-        WasSent one_worker script places p (length (passes_of n p).letters) (passes_of n)
+        WasSent size.workers script places p (length (passes_of n p).letters) (passes_of n)
     theirs p is apart gone =
         let was : (s.stood p).is_open ≡ false =
         ap (λ (t : Stand). t.is_open) (sym (s.others p is apart)) ∙ gone in
         let same : passes_of c p ≡ s.met p = s.shut p is was in
-        subst (λ (sum : ℕ). WasSent one_worker script places p sum (passes_of n))
+        subst (λ (sum : ℕ). WasSent size.workers script places p sum (passes_of n))
         (ap (λ (q : Pass). length q.letters) (sym same)
         ∙ ap (λ (l : List Letter). length l) (sym (met.letters p)))
-        (laws.stage one_worker script places p (length (s.met p).letters) (Ending place) s.met
+        (laws.stage size.workers script places p (length (s.met p).letters) (Ending place) s.met
         (passes_of c) (passes_of n) s.was s.now is s.went feeding
         (λ k. ap (λ (q : Pass). q.shares k) same) met (s.ended.sums p is was))
 
     sum : (p : ℕ) → is_port script p ≡ true → (s.stands p).is_open ≡ false →
         ((place_in p script.ports == place) ≡ true)
         ⊎ ((place_in p script.ports == place) ≡ false) →
-        WasSent one_worker script places p (length (passes_of n p).letters) (passes_of n)
+        WasSent size.workers script places p (length (passes_of n p).letters) (passes_of n)
     sum p is gone (inl h) =
         mine p (same_place p port script.ports is is_in
         (eqb-true (place_in p script.ports) place h ∙ sym at_place)) gone
@@ -414,11 +413,11 @@ owes_nothing : (ends : List Due) (t : Stand) → t ≡ idle ends → (t.owed ≡
 owes_nothing ends t is = (ap (λ (u : Stand). u.owed) is, ap (λ (u : Stand). u.pending) is)
 
 -- no port owes an answer where all have met
-pub owes_none : (script : ScriptValue) (places frames place : ℕ) (met : ℕ → Pass)
+pub owes_none : (script : ScriptValue) (places : ℕ) (size : Size) (place : ℕ) (met : ℕ → Pass)
     (notes : ℕ → List Note) (stands : ℕ → Stand) →
-    HaveEnded script places frames place met notes stands → (port : ℕ) →
+    HaveEnded script places size place met notes stands → (port : ℕ) →
     is_port script port ≡ true → ((stands port).owed ≡ []) × ((stands port).pending ≡ [])
-owes_none script places frames place met notes stands ended port is =
+owes_none script places size place met notes stands ended port is =
     by (cases_lt (place_in port script.ports) place)
   where
     before : HasEnded (stands port) → ((stands port).owed ≡ []) × ((stands port).pending ≡ [])
@@ -432,16 +431,16 @@ owes_none script places frames place met notes stands ended port is =
         owes_nothing (all_due (closing script (place_in port script.ports))) (stands port)
         (ended.behind port is most)
 
-pub ends_begin : BeginsDoingLaw → (script : ScriptValue) (places frames place : ℕ) (c : Crew) →
-    IsAtMeeting script places frames place c →
-    EndsTo script places frames place (closing script place) c
-ends_begin law script places frames place c m = record {
+pub ends_begin : BeginsDoingLaw → (script : ScriptValue) (places : ℕ) (size : Size) (place : ℕ) (c : Crew) →
+    IsAtMeeting script places size place c →
+    EndsTo script places size place (closing script place) c
+ends_begin law script places size place c m = record {
   met = passes_of c;
   notes = m.notes;
   stands = m.stands;
   ended = m.ended;
   this = λ p is here.
-      subst (λ (t : Stand). IsDoing one_worker script places (Ending place) p (m.notes p)
+      subst (λ (t : Stand). IsDoing size.workers script places (Ending place) p (m.notes p)
       (passes_of c p) t (passes_of c p)) (stands_so p is here) (begun p is);
   others = λ p is apart. begun p is;
   feeder = refl;
@@ -457,20 +456,20 @@ ends_begin law script places frames place c m = record {
         ∙ ap (λ (k : ℕ). idle (all_due (closing script k))) here
 
     begun : (p : ℕ) → is_port script p ≡ true →
-        IsDoing one_worker script places (Ending place) p (m.notes p) (passes_of c p) (m.stands p)
+        IsDoing size.workers script places (Ending place) p (m.notes p) (passes_of c p) (m.stands p)
         (passes_of c p)
     begun p is =
-        law one_worker script places (Ending place) p (m.notes p) (passes_of c p) (m.stands p)
-        (inl (owes_none script places frames place (passes_of c) m.notes m.stands m.ended p is))
+        law size.workers script places (Ending place) p (m.notes p) (passes_of c p) (m.stands p)
+        (inl (owes_none script places size place (passes_of c) m.notes m.stands m.ended p is))
         (m.ended.meeting.are.ports p is)
 
 -- ---- all have ended
 
-pub all_done : (script : ScriptValue) (places frames : ℕ) (c : Crew)
-    (m : IsAtMeeting script places frames (length script.ports) c) → (port : ℕ) →
+pub all_done : (script : ScriptValue) (places : ℕ) (size : Size) (c : Crew)
+    (m : IsAtMeeting script places size (length script.ports) c) → (port : ℕ) →
     is_port script port ≡ true → place_in port script.ports < length script.ports →
     IsDone (m.stands port)
-all_done script places frames c m port is less = by (m.ended.before port is less)
+all_done script places size c m port is less = by (m.ended.before port is less)
   where
     by : HasEnded (m.stands port) → IsDone (m.stands port)
     by (inl h) = record {

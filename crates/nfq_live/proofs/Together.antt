@@ -104,7 +104,7 @@ pub record UnionLaws : Type 0 where
       is_normal (union p q) ≡ true
 
 module _ (laws : UnionLaws) (k : ℕ) where
-  turned_round : (t p q : Tree) → is_normal t ≡ true → is_normal p ≡ true → is_normal q ≡ true →
+  pub turned_round : (t p q : Tree) → is_normal t ≡ true → is_normal p ≡ true → is_normal q ≡ true →
       union (union t p) q ≡ union (union t q) p
   turned_round t p q first second third =
       laws.order t p q first second third

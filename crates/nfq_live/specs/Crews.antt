@@ -12,7 +12,7 @@ use Rattle.live_runs.specs.Passes.{Pass, Shuts}
 use Rattle.nfq_live.specs.declared.crew.Crew.{Crew}
 use Rattle.live_work.specs.Feeding.{IsFeedingOf}
 use Rattle.live_work.specs.Minds.{IsMind}
-use Rattle.live_work.specs.Numbers.{most_counted, one_worker}
+use Rattle.live_work.specs.Numbers.{most_counted}
 use Rattle.live_passes.specs.Numbered.{AreAll, numbers_of, passes_in, rows_in}
 
 -- ---- who is there
@@ -51,11 +51,12 @@ pub record PortsAlone (old new : Crew) : Type 0 where
   pub closed : new.closed.items ≡ old.closed.items
   pub feeding : new.feeding ≡ old.feeding
 
--- Each open port went on answering its notices, and nothing else happened.
+-- Each open port went on answering its notices, without a pool, and nothing else happened. That is
+-- how it goes on with any number of workers behind it.
 pub record AllLookOn (script : ScriptValue) (places : ℕ) (old new : Crew) : Type 0 where
   pub alone : PortsAlone old new
-  pub each : (port : ℕ) → is_open_in old port ≡ true →
-      GoesOn one_worker script places port (passes_of old port) (passes_of new port)
+  pub each : (workers port : ℕ) → is_open_in old port ≡ true →
+      GoesOn workers script places port (passes_of old port) (passes_of new port)
 
 -- A port received as many notices as all passes sent to it.
 abbrev pub IsReceived : List ℕ → ℕ → Crew → ℕ → Type 0

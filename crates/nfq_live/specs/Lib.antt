@@ -1,3 +1,5 @@
+pub mod Sizes
+pub mod Feeders
 pub mod Workers
 pub mod Crews
 pub mod Openings

@@ -9,15 +9,20 @@ use Rattle.live_runs.specs.Stands.{Stand}
 use Rattle.nfq_live.specs.declared.crew.Crew.{Crew}
 use Rattle.nfq_live.specs.Crews.{passes_of}
 use Rattle.live_work.specs.Feeding.{AreFeeding, FedOn, shares_in}
-use Rattle.live_work.specs.Numbers.{one_worker}
 use Rattle.live_passes.specs.Numbered.{numbers_of}
 
--- The ports before this place of the script have opened, all passes have met, and nothing was fed.
--- All ports are open, in the script's order.
-pub record HaveOpened (script : ScriptValue) (places place : ℕ) (c : Crew) : Type 0 where
+-- The ports before this place of the script have opened, with so many workers behind each, and all
+-- passes have met.
+pub record IsOpenedBy (workers : ℕ) (script : ScriptValue) (places place : ℕ) (c : Crew)
+    : Type 0 where
   pub notes : ℕ → List Note
   pub stands : ℕ → Stand
-  pub open_to : IsOpenTo one_worker script places place (passes_of c) notes stands
+  pub open_to : IsOpenTo workers script places place (passes_of c) notes stands
+
+-- They have opened so with any number of workers, and nothing was fed. All ports are open, in the
+-- script's order.
+pub record HaveOpened (script : ScriptValue) (places place : ℕ) (c : Crew) : Type 0 where
+  pub opened : (workers : ℕ) → IsOpenedBy workers script places place c
   pub early : AreFeeding places 0 [] (λ k. seen_at (passes_of c) k feeder_number)
   pub none_fed : c.feeding.pass.fed ≡ []
   pub in_order : numbers_of c.ports.items ≡ script.ports

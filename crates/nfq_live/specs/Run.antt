@@ -27,8 +27,13 @@ IsOpenedFor script o =
     IsOpened (places_of o.plane) script.ports (setting_for script (tables_of o)) o.plane o.feeder
     o.ports o.gauge
 
--- The ports made these histories by the script, with one inspector each and one feeder, and
--- received every notice that was sent: what each did is told in full.
-pub record IsLiveRun (script : ScriptValue) (capture : Capture) (h : Histories) : Type 0 where
+-- The ports made these histories by the script, with so many workers behind each and so many
+-- feeders, and received every notice that was sent: what each did is told in full.
+pub record IsLiveRunBy (workers feeders : ℕ) (script : ScriptValue) (capture : Capture)
+    (h : Histories) : Type 0 where
   pub notes : ℕ → List Note
-  pub made : IsMadeBy one_worker one_feeder script (length capture.frames) h notes (λ port. [])
+  pub made : IsMadeBy workers feeders script (length capture.frames) h notes (λ port. [])
+
+-- so they did with one inspector each and one feeder
+abbrev pub IsLiveRun : ScriptValue → Capture → Histories → Type 0
+IsLiveRun script capture h = IsLiveRunBy one_worker one_feeder script capture h

@@ -1,4 +1,4 @@
-//! Ports that end, in the script's order, once all frames have passed.
+//! Ports that end, in the script's order, once all size have passed.
 
 ghost use Rattle.std.specs.Prelude.{◌≡◌, ◌<◌, ◌^◌, ℕ, suc, length, slice_index_or};
 ghost use Rattle.std.specs.Prelude.{All, IfOk, OnOk};
@@ -13,6 +13,7 @@ ghost use Rattle.nfq_live.specs.Crews.{AreOpenFrom, AreReceived, HaveMinds, IsCr
 ghost use Rattle.nfq_live.specs.Crews.{IsReceived, OnePass, OthersStay, PortsAlone, passes_of};
 ghost use Rattle.nfq_live.specs.Endings.{CutsEnd, EndsTo, HasStopped, IsAtMeeting, SaysEndTo};
 ghost use Rattle.nfq_live.specs.Endings.{SaysOfEnd, closing_left};
+ghost use Rattle.nfq_live.specs.Sizes.{Size};
 ghost use Rattle.port_scripts.specs.Words.{ClosesLast};
 
 use crate::crew::Crew;
@@ -20,9 +21,9 @@ use histories::AskWords;
 use inspector_script::{Asks, Script};
 use live_passes::ports_speak_by_their_passes;
 use live_runs::{
-    a_port_does_what_is_next, a_port_goes_through_a_stage, a_stage_ends_where_all_meet,
-    meetings_and_closings_send_nothing, messages_are_sent_one_by_one,
-    nothing_is_sent_to_a_closed_port, the_feeder_keeps_its_time,
+    a_place_stays_fed_by_all, a_port_does_what_is_next, a_port_goes_through_a_stage,
+    a_stage_ends_where_all_meet, meetings_and_closings_send_nothing, messages_are_sent_one_by_one,
+    nothing_is_sent_to_a_closed_port,
 };
 use made_runs::{datagrams_are_short, each_port_has_its_place};
 use packet_entry::NoMemory;
@@ -220,9 +221,9 @@ impl Crew {
         requires received { AreReceived script.now.ports (places_of plane.now) self.old }
         ensures crew { IsCrewOf plane.now self.new }
         ensures minds { OnOk result (HaveMinds script.now self.new) }
-        ensures stopped { OnOk result ((frames : ℕ) →
-            EndsTo script.now (places_of plane.now) frames place asks self.old →
-            HasStopped script.now (places_of plane.now) frames place self.new) }
+        ensures stopped { OnOk result ((size : Size) →
+            EndsTo script.now (places_of plane.now) size place asks self.old →
+            HasStopped script.now (places_of plane.now) size place self.new) }
         ensures received { OnOk result
             (AreReceived script.now.ports (places_of plane.now) self.new) }
         ensures its { OnOk result ((d : PortView) → IsReceived script.now.ports
@@ -258,10 +259,10 @@ impl Crew {
         ensures crew { IsCrewOf plane.now self.new }
         ensures minds { OnOk result (HaveMinds script.now self.new) }
         ensures are_open { OnOk result (AreOpenFrom script.now (suc place) self.new) }
-        ensures ended { OnOk result ((frames : ℕ) →
-            EndsTo script.now (places_of plane.now) frames place (closing script.now place)
+        ensures ended { OnOk result ((size : Size) →
+            EndsTo script.now (places_of plane.now) size place (closing script.now place)
             self.old →
-            IsAtMeeting script.now (places_of plane.now) frames (suc place) self.new) }
+            IsAtMeeting script.now (places_of plane.now) size (suc place) self.new) }
         ensures received { OnOk result
             (AreReceived script.now.ports (places_of plane.now) self.new) }
         ensures fed { OnOk result (self.new.feeding.pass.fed ≡ self.old.feeding.pass.fed) }
@@ -271,7 +272,7 @@ impl Crew {
         a_stage_ends_where_all_meet();
         meetings_and_closings_send_nothing();
         nothing_is_sent_to_a_closed_port();
-        the_feeder_keeps_its_time();
+        a_place_stays_fed_by_all();
         let Some(at) = self.find(script.ports()[place]) else {
             unreachable!()
         };
@@ -294,9 +295,9 @@ impl Crew {
         requires minds { HaveMinds script.now self.old }
         requires are_open { AreOpenFrom script.now 0 self.old }
         ensures crew { IsCrewOf plane.now self.new }
-        ensures ended { OnOk result ((frames : ℕ) →
-            IsAtMeeting script.now (places_of plane.now) frames 0 self.old →
-            IsAtMeeting script.now (places_of plane.now) frames (length script.now.ports)
+        ensures ended { OnOk result ((size : Size) →
+            IsAtMeeting script.now (places_of plane.now) size 0 self.old →
+            IsAtMeeting script.now (places_of plane.now) size (length script.now.ports)
             self.new) }
         ensures received { OnOk result
             (AreReceived script.now.ports (places_of plane.now) self.new) }

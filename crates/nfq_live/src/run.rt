@@ -2,24 +2,29 @@
 
 ghost use Rattle.std.specs.Prelude.{◌≡◌, ◌≤◌, ◌<◌, List, [], length, All, IfOk, OnOk};
 ghost use Rattle.packet_entry.specs.Numbers.{longest_packet};
+ghost use Rattle.hook_chain.specs.Numbers.{most_feeders};
 ghost use Rattle.histories.specs.declared.entry.Entry.{Entry};
 ghost use Rattle.histories.specs.Grouping.{IsGrouped};
 ghost use Rattle.histories.specs.History.{AreLegal};
 ghost use Rattle.histories.specs.Journeys.{AreSound};
 ghost use Rattle.histories.specs.Lengths.{AreShort};
 ghost use Rattle.histories.specs.Numbers.{queue_count};
+ghost use Rattle.inspector_pool.specs.Numbers.{most_workers};
 ghost use Rattle.made_runs.specs.Entering.{cards};
 ghost use Rattle.place_rows.specs.Lists.{Every};
 ghost use Rattle.plane.specs.Opening.{IsNew};
 ghost use Rattle.plane.specs.Planes.{order_of, places_of};
 ghost use Rattle.nfq_live.specs.Crews.{AreReceived, IsCrewOf};
 ghost use Rattle.nfq_live.specs.Endings.{IsAtMeeting};
-ghost use Rattle.live_work.specs.Numbers.{most_frames};
+ghost use Rattle.live_work.specs.Numbers.{most_frames, one_feeder, one_worker};
+ghost use Rattle.nfq_live.specs.Feeders.{AreTheSame};
 ghost use Rattle.nfq_live.specs.Openings.{HaveOpened};
-ghost use Rattle.nfq_live.specs.Run.{IsLiveRun, IsOpenedFor, tables_of};
+ghost use Rattle.nfq_live.specs.Run.{IsLiveRun, IsLiveRunBy, IsOpenedFor, tables_of};
+ghost use Rattle.nfq_live.specs.Sizes.{size_of};
 
 use crate::crew::Crew;
 use histories::{Entries, Histories};
+use inspector_pool::{JobGate, OpenJobGate};
 use inspector_script::Script;
 use live_passes::{a_closed_plane_has_all_that_its_passes_did, opened_passes_are_new};
 use live_runs::{
@@ -51,15 +56,20 @@ fn queues_are_short(entries: &Entries)
 
 /// All that happens between the opening of the plane and its closing: the ports open, the frames
 /// pass while the inspectors answer, the mailboxes are emptied, and the ports end.
-fn go<R: Threads + Wait + Sync, G: Gate>(
+fn go<R: Threads + Wait + Sync, G: Gate, J: JobGate>(
     rt: &R,
     alloc: Global,
     plane: &Plane,
     gate: &G,
+    jobs: &J,
     script: &Script,
     capture: &Capture,
+    feeders: u32,
+    pool: u32,
     crew: &mut Crew,
 ) -> Result<(), NoMemory>
+    requires feeders { (one_feeder ≤ feeders) × (feeders ≤ most_feeders) }
+    requires pool { (one_worker ≤ pool) × (pool ≤ most_workers) }
     requires crew { IsCrewOf plane.now crew.old }
     requires order { order_of plane.now ≡ script.now.ports }
     requires frames { length capture.now.frames ≤ most_frames }
@@ -68,36 +78,44 @@ fn go<R: Threads + Wait + Sync, G: Gate>(
     requires new { Every IsNew crew.old.ports.items }
     ensures crew { IsCrewOf plane.now crew.new }
     ensures ended { OnOk result (IsAtMeeting script.now (places_of plane.now)
-        (length capture.now.frames) (length script.now.ports) crew.new) }
+        (size_of pool feeders capture.now) (length script.now.ports) crew.new) }
     ensures received { OnOk result
         (AreReceived script.now.ports (places_of plane.now) crew.new) }
-    ensures fed { OnOk result (crew.new.feeding.pass.fed ≡ cards capture.now) }
+    ensures fed { OnOk result (AreTheSame crew.new.feeding.pass.fed (cards capture.now)) }
 {
     let downs = downs_by_frame(alloc, script)?;
     crew.minds = minds(alloc, script)?;
     crew.make_ready(rt, alloc, plane, gate, script, &downs)?;
-    crew.work(rt, alloc, plane, gate, script, capture, &downs)?;
+    crew.work(rt, alloc, plane, gate, jobs, script, capture, feeders, pool)?;
     crew.end_all(rt, alloc, plane, gate, script)
 }
 
 /// Runs a script over the packets of a capture, of at most 200,000 frames of at most 262,144 bytes
-/// each, on a plane that was just opened for the script's ports, mail and key: a feeder and an
-/// inspector for each port work beside each other, where threads can be made. What happened is a
-/// run of the script, in which every notice was received and no packet is lost. It is legal, and
-/// sound for the packets of the capture. `NoMemory` also where memory ran out between two queues,
-/// so that a packet was lost. The gate is told of each turn, and of the answer to each request.
-pub fn run_workers<R: Threads + Wait + Sync, G: Gate>(
+/// each, on a plane that was just opened for the script's ports, mail and key: 1 to 16 feeders,
+/// which share out the frames, and an inspector for each port work beside each other, where threads
+/// can be made. Behind each inspector a pool of 2 to 16 workers works out the answers, or with 1 it
+/// does so alone. What happened is a run of the script, in which every notice was received and no
+/// packet is lost. It is legal, and sound for the packets of the capture. Rules that fan out by
+/// feeder do so by the number of feeders that the plane's tables have. `NoMemory` also where memory
+/// ran out between two queues, so that a packet was lost. The gate is told of each turn, and of the
+/// answer to each request; `jobs` of each job of a pool.
+pub fn run_pools<R: Threads + Wait + Sync, G: Gate, J: JobGate>(
     rt: &R,
     alloc: Global,
     opened: Opened,
     script: &Script,
     capture: &Capture,
+    feeders: u32,
+    pool: u32,
     gate: &G,
+    jobs: &J,
 ) -> Result<Histories, NoMemory>
+    requires feeders { (one_feeder ≤ feeders) × (feeders ≤ most_feeders) }
+    requires pool { (one_worker ≤ pool) × (pool ≤ most_workers) }
     requires opened { IsOpenedFor script.now opened }
     requires frames { length capture.now.frames ≤ most_frames }
     requires bytes { All (λ f. length f.bytes ≤ longest_packet) capture.now.frames }
-    ensures made { IfOk result (IsLiveRun script.now capture.now) }
+    ensures made { IfOk result (IsLiveRunBy pool feeders script.now capture.now) }
     ensures legal { IfOk result (λ h. AreLegal h.entries) }
     ensures sound { IfOk result
         (λ h. AreSound (tables_of opened) script.now.key (cards capture.now) h.entries h.lost) }
@@ -121,7 +139,7 @@ pub fn run_workers<R: Threads + Wait + Sync, G: Gate>(
     let mut crew = Crew {
         feeding: Feeding {
             pass: feeder,
-            gauge,
+            gauge: Some(gauge),
             failed: false,
         },
         ports: ports.into_vec(),
@@ -129,7 +147,9 @@ pub fn run_workers<R: Threads + Wait + Sync, G: Gate>(
         closed: Vec::new(alloc),
     };
     // Packets may wait in the plane: it is closed before anything is answered.
-    let outcome = go(rt, alloc, &plane, gate, script, capture, &mut crew);
+    let outcome = go(
+        rt, alloc, &plane, gate, jobs, script, capture, feeders, pool, &mut crew,
+    );
     let Crew {
         feeding,
         ports,
@@ -150,4 +170,53 @@ pub fn run_workers<R: Threads + Wait + Sync, G: Gate>(
         return Err(NoMemory);
     }
     Ok(histories)
+}
+
+/// [`run_pools`] without a pool: each inspector works out its answers alone.
+pub fn run_feeders<R: Threads + Wait + Sync, G: Gate>(
+    rt: &R,
+    alloc: Global,
+    opened: Opened,
+    script: &Script,
+    capture: &Capture,
+    feeders: u32,
+    gate: &G,
+) -> Result<Histories, NoMemory>
+    requires feeders { (one_feeder ≤ feeders) × (feeders ≤ most_feeders) }
+    requires opened { IsOpenedFor script.now opened }
+    requires frames { length capture.now.frames ≤ most_frames }
+    requires bytes { All (λ f. length f.bytes ≤ longest_packet) capture.now.frames }
+    ensures made { IfOk result (IsLiveRunBy one_worker feeders script.now capture.now) }
+    ensures legal { IfOk result (λ h. AreLegal h.entries) }
+    ensures sound { IfOk result
+        (λ h. AreSound (tables_of opened) script.now.key (cards capture.now) h.entries h.lost) }
+    ensures short { IfOk result (λ h. AreShort h.entries) }
+    ensures grouped { IfOk result (λ h. (es : List Entry) × IsGrouped es h.entries) }
+    ensures whole { IfOk result (λ h. h.lost ≡ []) }
+{
+    let jobs = OpenJobGate;
+    run_pools(rt, alloc, opened, script, capture, feeders, 1, gate, &jobs)
+}
+
+/// [`run_feeders`] with one feeder, which feeds all frames.
+pub fn run_workers<R: Threads + Wait + Sync, G: Gate>(
+    rt: &R,
+    alloc: Global,
+    opened: Opened,
+    script: &Script,
+    capture: &Capture,
+    gate: &G,
+) -> Result<Histories, NoMemory>
+    requires opened { IsOpenedFor script.now opened }
+    requires frames { length capture.now.frames ≤ most_frames }
+    requires bytes { All (λ f. length f.bytes ≤ longest_packet) capture.now.frames }
+    ensures made { IfOk result (IsLiveRun script.now capture.now) }
+    ensures legal { IfOk result (λ h. AreLegal h.entries) }
+    ensures sound { IfOk result
+        (λ h. AreSound (tables_of opened) script.now.key (cards capture.now) h.entries h.lost) }
+    ensures short { IfOk result (λ h. AreShort h.entries) }
+    ensures grouped { IfOk result (λ h. (es : List Entry) × IsGrouped es h.entries) }
+    ensures whole { IfOk result (λ h. h.lost ≡ []) }
+{
+    run_feeders(rt, alloc, opened, script, capture, 1, gate)
 }

@@ -2,11 +2,15 @@
 //! and over many. What happened is compared by number, where no order of threads changes it.
 
 ghost use Rattle.std.specs.Prelude.{◌≤◌, All, IfOk, IsTrue, length};
+ghost use Rattle.hook_chain.specs.Numbers.{most_feeders};
 ghost use Rattle.packet_entry.specs.Numbers.{longest_packet};
+ghost use Rattle.inspector_pool.specs.Numbers.{most_workers};
 ghost use Rattle.nfq_live.specs.Run.{IsOpenedFor};
 
-use crate::run_workers;
+use crate::{run_pools, run_workers};
+use histories::Histories;
 use hook_chain::{Tables, read_tables};
+use inspector_pool::OpenJobGate;
 use inspector_script::{Script, read_script};
 use packet_entry::{Bytes, MAX_FRAME, NoMemory};
 use pcap_io::{Capture, Frame, Frames};
@@ -27,6 +31,16 @@ const ONE_QUEUE: &[u8] = b"*filter\n-A FORWARD -j NFQUEUE --queue-num 0\nCOMMIT\
 
 /// Packets are spread over eight queues, by their addresses.
 const MANY_QUEUES: &[u8] = b"*filter\n-A FORWARD -j NFQUEUE --queue-balance 1:8\nCOMMIT\n";
+
+/// A packet goes to the queue with the number of its feeder.
+const BY_FEEDER: &[u8] =
+    b"*filter\n-A FORWARD -j NFQUEUE --queue-balance 0:1 --queue-cpu-fanout\nCOMMIT\n";
+
+/// Two requests, a queue each, and a verdict for each packet; a device goes down after frames of two
+/// feeders.
+const TWO_QUEUES: &[u8] = b"down 5 after 3\ndown 6 after 4\nport 7
+open config 0 bind params packet 0\nopen config 1 bind params packet 0
+on any do verdict this accept this\n";
 
 /// A mailbox of one letter. Every packet is answered, where there is room for its notice.
 const ONE_LETTER: &[u8] = b"mail 1\nport 7\nopen config 0 bind params packet 0
@@ -103,7 +117,16 @@ fn open(alloc: Global, script: &Script, tables: Tables, places: u8) -> Result<Op
     Plane::new(alloc, places, script.ports(), mail, tables, script.key())
 }
 
-/// How many entries a run over so many places and packets has, and how many things its ports did.
+/// How many entries a run has, and how many things its ports did.
+fn counts_in(histories: &Histories) -> (usize, usize) {
+    let mut done: usize = 0;
+    for log in &histories.logs {
+        done = done.saturating_add(log.dids.len());
+    }
+    (histories.entries.len(), done)
+}
+
+/// These of a run over so many places and packets.
 fn counts<R: Threads + Wait + Sync>(
     rt: &R,
     alloc: Global,
@@ -121,11 +144,41 @@ fn counts<R: Threads + Wait + Sync>(
     let script = script(alloc, text)?;
     let opened = open(alloc, &script, tables(alloc, rules)?, places)?;
     let histories = run_workers(rt, alloc, opened, &script, &capture, &OpenGate)?;
-    let mut done: usize = 0;
-    for log in &histories.logs {
-        done = done.saturating_add(log.dids.len());
+    Ok(counts_in(&histories))
+}
+
+/// These of a run over two places, with so many feeders and so many workers behind each port, and
+/// how many entries queue 1 has.
+fn counts_by<R: Threads + Wait + Sync>(
+    rt: &R,
+    alloc: Global,
+    feeders: u32,
+    pool: u32,
+    text: &[u8],
+    count: u8,
+) -> Result<(usize, usize, usize), Fail>
+    requires feeders { (1 ≤ feeders) × (feeders ≤ most_feeders) }
+    requires pool { (1 ≤ pool) × (pool ≤ most_workers) }
+{
+    let capture = capture(alloc, count)?;
+    if capture.frames.len() > 1000 || !are_short(&capture.frames) {
+        return Err(Fail::new("frames"));
     }
-    Ok((histories.entries.len(), done))
+    let script = script(alloc, text)?;
+    let tables = tables(alloc, BY_FEEDER)?.with_feeders(feeders);
+    let opened = open(alloc, &script, tables, 2)?;
+    let (gate, jobs) = (OpenGate, OpenJobGate);
+    let histories = run_pools(
+        rt, alloc, opened, &script, &capture, feeders, pool, &gate, &jobs,
+    )?;
+    let mut at_one: usize = 0;
+    for entry in &histories.entries {
+        if entry.queue == 1 {
+            at_one = at_one.saturating_add(1);
+        }
+    }
+    let (entries, done) = counts_in(&histories);
+    Ok((entries, done, at_one))
 }
 
 /// Two requests, and a verdict for each packet.
@@ -199,5 +252,24 @@ fn each_notice_that_found_room_is_answered(rt: HostRuntime) -> Result<(), Fail> 
     let answered = entries.saturating_sub(201);
     assert!(rt; answered >= 1 && answered <= 200);
     assert_eq!(rt; done.saturating_sub(answered), answered + 1);
+    Ok(())
+}
+
+#[test]
+fn several_feeders_and_workers_do_as_much(rt: HostRuntime) -> Result<(), Fail> {
+    // With so many feeders and workers: the entries, what the port did, and the entries of queue 1.
+    const RUNS: [(u32, u32, (usize, usize, usize)); 4] = [
+        // Two requests, an arrival and a verdict for each packet, and two devices at each queue.
+        (1, 1, (406, 402, 3)),
+        (2, 1, (406, 402, 203)),
+        (1, 2, (406, 402, 3)),
+        (2, 4, (406, 402, 203)),
+    ];
+    for &(feeders, pool, wanted) in &RUNS {
+        if feeders >= 1 && feeders <= 16 && pool >= 1 && pool <= 16 {
+            let counts = counts_by(&rt, rt.alloc(), feeders, pool, TWO_QUEUES, 200)?;
+            assert_eq!(rt; counts, wanted);
+        }
+    }
     Ok(())
 }

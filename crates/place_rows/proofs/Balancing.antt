@@ -227,7 +227,7 @@ joined_weighs f v w u one two joins =
     )
 
 -- the sums of two rows, place by place
-rows_weigh : (h : Known → ℕ) (vs ws us : List Known) → length ws ≡ length vs →
+pub rows_weigh : (h : Known → ℕ) (vs ws us : List Known) → length ws ≡ length vs →
     length us ≡ length vs →
     ((k : ℕ) (v w u : Known) → slice_get vs k ≡ Some v → slice_get ws k ≡ Some w →
     slice_get us k ≡ Some u → h u ≡ h v + h w) →

@@ -17,3 +17,4 @@ pub mod Meeting
 pub mod Untouched
 pub mod Dealing
 pub mod Firsts
+pub mod Parting

@@ -2,10 +2,10 @@
 
 ghost use Rattle.std.specs.Prelude.{◌≡◌, ◌≢◌, ◌<◌, ◌%◌, ◌+◌, ℕ, List, [], ◌∷◌, ◌++◌, sum_by, Some};
 ghost use Rattle.std.specs.Prelude.{slice_get};
-ghost use Rattle.std.specs.Prelude.{length};
+ghost use Rattle.std.specs.Prelude.{length, map, true, false};
 ghost use Rattle.packet_entry.specs.declared.packet.Card.{Card};
-ghost use Rattle.turn_lock.specs.Parts.{Whole};
-ghost use Rattle.turn_lock.specs.Views.{HasSeenOwn};
+ghost use Rattle.turn_lock.specs.Parts.{Whole, Empty, void, is_normal};
+ghost use Rattle.turn_lock.specs.Views.{HasSeenOwn, kept_view, split_view};
 ghost use Rattle.histories.specs.declared.entry.Entry.{Entry};
 ghost use Rattle.histories.specs.declared.histories.Lost.{Lost};
 ghost use Rattle.histories.specs.Grouping.{IsGrouped};
@@ -19,10 +19,11 @@ ghost use Rattle.locked_place.specs.Turns.{IsTurn};
 ghost use Rattle.place_rows.specs.Rows.{Known, IsTurnAt};
 ghost use Rattle.place_rows.specs.Lists.{Every, AllFrom, flat};
 ghost use Rattle.place_rows.specs.Ending.{IsListOf};
-ghost use Rattle.place_rows.specs.Joining.{RowJoined, AllJoined, AreWhole, own_at, is_place};
+ghost use Rattle.place_rows.specs.Joining.{Joins, RowJoined, AllJoined, AreWhole, own_at, is_place};
+ghost use Rattle.place_rows.specs.Joining.{together_at};
 ghost use Rattle.place_rows.specs.Meeting.{ToldUpTo, AreNormal, TellsFirst, TellsRow};
 ghost use Rattle.place_rows.specs.Meeting.{HasGathered, HasSpread, HaveMet, KeepsOwn};
-ghost use Rattle.place_rows.specs.Shares.{own_moves, notices_at, sent_in, IsBalancedBut};
+ghost use Rattle.place_rows.specs.Shares.{own_moves, notices_at, sent_at, sent_in, IsBalancedBut};
 
 use histories::{an_entry_is_a_move, soundness_is_kept_move_by_move};
 use queue_core::what_is_flushed_is_destroyed;
@@ -90,6 +91,41 @@ pub fn rows_are_balanced_together()
 {
     merged_places_are_those_of_both();
 }
+
+/// A row that was split stays balanced. The one that was split off it is balanced too, and has sent
+/// nothing. Together they have the parts that the row had.
+pub fn splitting_changes_nothing_of_ones_own()
+    ensures keeps { (s : Setting) (owed : List Arrival) (entered : List Card)
+        (known : List Known) (lost : List Lost) → IsBalancedBut s owed entered known lost →
+        IsBalancedBut s owed entered (map kept_view known) lost }
+    ensures made { (s : Setting) (owed : List Arrival) (entered : List Card)
+        (known : List Known) (lost : List Lost) → IsBalancedBut s owed entered known lost →
+        IsBalancedBut s [] [] (map split_view known) [] }
+    ensures sent { (port : ℕ) (known : List Known) → sent_in port (map split_view known) ≡ 0 }
+    ensures parts { (k : ℕ) (known : List Known) (rows : List (List Known)) →
+        ((j : ℕ) (v : Known) → slice_get known j ≡ Some v →
+        (is_normal v.part ≡ true) × (void v.part ≡ false)) →
+        together_at k Empty (map kept_view known ∷ map split_view known ∷ rows)
+        ≡ together_at k Empty (known ∷ rows) }
+{
+    rows_stay_balanced();
+    parts_are_put_together_in_any_order();
+}
+
+/// What two passes sent, or two rows, that are joined adds up. Rows that are joined have the parts
+/// that they had together.
+pub fn joined_rows_have_what_both_had()
+    ensures sent_at_one { (port : ℕ) (v w after : Known) → HasSeenOwn v → HasSeenOwn w →
+        Joins w v after → sent_at port after ≡ sent_at port v + sent_at port w }
+    ensures sent { (port : ℕ) (intos froms afters : List Known) →
+        ((k : ℕ) (v : Known) → slice_get intos k ≡ Some v → HasSeenOwn v) →
+        ((k : ℕ) (v : Known) → slice_get froms k ≡ Some v → HasSeenOwn v) →
+        RowJoined 0 intos froms afters →
+        sent_in port afters ≡ sent_in port intos + sent_in port froms }
+    ensures parts { (k : ℕ) (intos froms afters : List Known) (rows : List (List Known)) →
+        RowJoined 0 intos froms afters →
+        together_at k Empty (afters ∷ rows) ≡ together_at k Empty (intos ∷ froms ∷ rows) }
+{}
 
 /// Rows are joined into one, row by row. Where they had together the whole of each lock, that one
 /// then has it.

@@ -4,6 +4,7 @@ use Rattle.std.proofs.Common.{length, refl, sym, ap, ◌∙◌, subst, arith, in
 use Rattle.std.proofs.Common.{None, Bool, true, false, append-nil}
 use Rattle.std.specs.Prelude.{slice_get, slice_set, sum_by, flat_map, option_to_list, IsSome}
 use Rattle.std.specs.Prelude.{IfSome, ◌==◌, if◌then◌else◌, nat_eq}
+use Rattle.std.specs.List.{range_with_len}
 use Rattle.std.specs.BTreeMap.{BTreeMap, get}
 use Rattle.std.specs.Ordering.{nat_cmp}
 use Rattle.std.proofs.lemmas.Bool.{cases_Bool, eqb-true, eqb-false, eq-eqb}
@@ -41,7 +42,7 @@ use Rattle.locked_place.specs.Turns.{PlacesAs, IsPosted}
 use Rattle.locked_place.specs.Views.{label_of, port_of}
 use Rattle.place_rows.specs.Rows.{Known, IsTurnAt}
 use Rattle.place_rows.specs.Shares.{at_places, notices_at, sent_at, sent_in}
-use Rattle.place_turns.specs.Counts.{count_of, IsCounted, AreCounted}
+use Rattle.place_turns.specs.Counts.{count_of, most_entries, IsCounted, AreCounted}
 use Rattle.place_turns.proofs.Passing.{get_same, get_other, some_same}
 
 -- ---- what a turn's entries send
@@ -232,26 +233,50 @@ same_label : (v w : Known) (found after : List Entry) → IsTurn v found after w
     lock.label_of label_of w ≡ lock.label_of label_of v
 same_label v w found after turn = ap (λ (x : Known). lock.label_of label_of x) turn.left
 
+ascends_wider : (low high higher : ℕ) (ks : List ℕ) → Ascends low high ks → high ≤ higher →
+    Ascends low higher ks
+ascends_wider low high higher [] a most = tt
+ascends_wider low high higher (k ∷ ks) a most =
+    (a.0, (omega (arith, a.1.0, most), ascends_wider (k + 1) high higher ks a.1.1 most))
+
+-- 64 bits count what it has seen, and so the entries up to the last of its own
+pub few_own : (v : Known) → HasSeenOwn v → length v.seen < 2 ^ 64 → Ascends 0 most_entries v.own
+few_own v placed short =
+    ascends_wider 0 (length v.seen) most_entries v.own placed (omega (arith, short))
+
+-- a look adds no entry to its own
+pub look_own : (v w : Known) → LooksOn v w → w.own ≡ v.own
+look_own v w look =
+    ap (λ (x : Known). x.own) look.turn.left
+    ∙ ap (λ n. v.own ++ range_with_len (length look.found) n)
+    (let none : length look.found - length look.found ≡ 0 = omega arith in none)
+    ∙ append-nil v.own
+
 -- a turn that sends nothing leaves the counts as they are
 pub counted_still : Grows → (v w : Known) (found fs : List Entry) (counts : BTreeMap ℕ ℕ) →
     HasSeenOwn v → IsTurn v found (found ++ fs) w → AreLegal (found ++ fs) → AreSilent fs →
-    IsCounted v counts → IsCounted w counts
-counted_still grows v w found fs counts placed turn legal silent is = record {
+    Ascends 0 most_entries w.own → IsCounted v counts → IsCounted w counts
+counted_still grows v w found fs counts placed turn legal silent few is = record {
   many = λ port. sent_after grows port v w found fs placed turn legal
       ∙ ap (λ n. sent_at port v + n) (silent_sends port found fs silent)
       ∙ (let none : sent_at port v + 0 ≡ sent_at port v = omega arith in none) ∙ is.many port;
   there = λ named label. is.there named (sym (same_label v w found (found ++ fs) turn) ∙ label);
+  only = λ named label. is.only named (sym (same_label v w found (found ++ fs) turn) ∙ label);
+  few = few;
 }
 
 nothing_more : Grows → (v w : Known) (found fs : List Entry) (counts : BTreeMap ℕ ℕ) →
     HasSeenOwn v → IsTurn v found (found ++ fs) w → AreLegal (found ++ fs) →
-    ((port : ℕ) → sends port found fs ≡ 0) → IsCounted v counts → IsCounted w counts
-nothing_more grows v w found fs counts placed turn legal none is = record {
+    ((port : ℕ) → sends port found fs ≡ 0) → Ascends 0 most_entries w.own → IsCounted v counts →
+    IsCounted w counts
+nothing_more grows v w found fs counts placed turn legal none few is = record {
   many = λ port. sent_after grows port v w found fs placed turn legal
       ∙ ap (λ n. sent_at port v + n) (none port)
       ∙ (let zero_more : sent_at port v + 0 ≡ sent_at port v = omega arith in zero_more)
       ∙ is.many port;
   there = λ named label. is.there named (sym (same_label v w found (found ++ fs) turn) ∙ label);
+  only = λ named label. is.only named (sym (same_label v w found (found ++ fs) turn) ∙ label);
+  few = few;
 }
 
 pub counted_look : Grows → (v w : Known) (counts : BTreeMap ℕ ℕ) → HasSeenOwn v →
@@ -260,7 +285,8 @@ counted_look grows v w counts placed look is =
     counted_still grows v w look.found [] counts placed
     (subst (λ (es : List Entry). IsTurn v look.found es w)
     (sym (append-nil look.found)) look.turn)
-    (subst AreLegal (sym (append-nil look.found)) look.legal) tt is
+    (subst AreLegal (sym (append-nil look.found)) look.legal) tt
+    (subst (Ascends 0 most_entries) (sym (look_own v w look)) is.few) is
 
 -- an arrival, as a turn that appends its entry
 arrives_turn : (a : Arrival) (v w : Known) (done : Placed) (in_ : ArrivesIn a v w done) →
@@ -275,19 +301,20 @@ arrives_legal a v w done in_ = subst AreLegal in_.arrives.entered in_.legal
 
 pub counted_back : Grows → RepliesTell → (a : Arrival) (v w : Known) (o : Outcome) (back : Card)
     (counts : BTreeMap ℕ ℕ) → HasSeenOwn v → ArrivesIn a v w (spot.Back o back) →
-    IsCounted v counts → IsCounted w counts
-counted_back grows tell a v w o back counts placed in_ is =
+    Ascends 0 most_entries w.own → IsCounted v counts → IsCounted w counts
+counted_back grows tell a v w o back counts placed in_ few is =
     nothing_more grows v w in_.found
     (entry_of in_.found a.queue (arrive a in_.arrives.room) ∷ []) counts placed
     (arrives_turn a v w (spot.Back o back) in_) (arrives_legal a v w (spot.Back o back) in_)
-    (λ port. back_sends tell port a in_.arrives.room in_.found o back in_.arrives.places) is
+    (λ port. back_sends tell port a in_.arrives.room in_.found o back in_.arrives.places) few is
 
 -- one more was counted
 pub counted_posted : Grows → (a : Arrival) (v w : Known) (to : ℕ) (olds news : BTreeMap ℕ ℕ) →
-    HasSeenOwn v → ArrivesIn a v w (spot.Waiting to) → IsCounted v olds →
+    HasSeenOwn v → ArrivesIn a v w (spot.Waiting to) → Ascends 0 most_entries w.own →
+    IsCounted v olds → IsSome (get nat_cmp olds to) →
     get nat_cmp news to ≡ Some (count_of (get nat_cmp olds to) + 1) →
     ((p : ℕ) → p ≢ to → get nat_cmp news p ≡ get nat_cmp olds p) → IsCounted w news
-counted_posted grows a v w to olds news placed in_ is more others = record {
+counted_posted grows a v w to olds news placed in_ few is was more others = record {
   many = λ port. grown port ∙ (elim (cases_Bool (port == to)) [
     | inl same ↦ (let e : port ≡ to = eqb-true port to same in
         rw same (ap (λ n. n + 1) (is.many port)
@@ -303,6 +330,14 @@ counted_posted grows a v w to olds news placed in_ is more others = record {
         (is.there named (sym (same_label v w in_.found _
         (arrives_turn a v w (spot.Waiting to) in_)) ∙ label) port has)
   ];
+  only = λ named label port has.
+      is.only named (sym (same_label v w in_.found _
+      (arrives_turn a v w (spot.Waiting to) in_)) ∙ label) port
+      (elim (cases_Bool (port == to)) [
+        | inl same ↦ subst (λ p. IsSome (get nat_cmp olds p)) (sym (eqb-true port to same)) was
+        | inr other ↦ subst (λ o. IsSome o) (others port (eqb-false port to other)) has
+      ]);
+  few = few;
 }
   where
     grown : (port : ℕ) → sent_at port w ≡ sent_at port v + one_to to port
@@ -350,7 +385,7 @@ one_few port None = omega arith
 one_few port (Some p) =
     omega (arith, under_few port p.state p.entry, sum_by-cons (notices_at port) p [])
 
-places_few : (port : ℕ) (ps : List Point) (ks : List ℕ) →
+pub places_few : (port : ℕ) (ps : List Point) (ks : List ℕ) →
     sum_by (notices_at port) (at_places ps ks) ≤ length ks
 places_few port ps [] = omega arith
 places_few port ps (k ∷ ks) =
@@ -361,7 +396,7 @@ places_few port ps (k ∷ ks) =
       places_few port ps ks,
     )
 
-ascend_few : (low high : ℕ) (ks : List ℕ) → Ascends low high ks → length ks ≤ high - low
+pub ascend_few : (low high : ℕ) (ks : List ℕ) → Ascends low high ks → length ks ≤ high - low
 ascend_few low high [] a = omega arith
 ascend_few low high (k ∷ ks) a =
     omega (arith, a.0, a.1.0, ascend_few (k + 1) high ks a.1.1)
@@ -442,25 +477,28 @@ counts_still known counts k v w are at keeps = record {
 
 pub counted_asked : Grows → (port call : ℕ) (request : Request) (v w : Known) (errno : ℕ)
     (handed : List (Card × Decision)) (counts : BTreeMap ℕ ℕ) → HasSeenOwn v →
-    AsksIn port call request v w errno handed → IsCounted v counts → IsCounted w counts
-counted_asked grows port call request v w errno handed counts placed in_ is =
+    AsksIn port call request v w errno handed → Ascends 0 most_entries w.own →
+    IsCounted v counts → IsCounted w counts
+counted_asked grows port call request v w errno handed counts placed in_ few is =
     counted_still grows v w in_.found
     (entry_of in_.found (queue_of request) (Ask port call request) ∷ []) counts placed
     (subst (λ (es : List Entry). IsTurn v in_.found es w) in_.asks.entered in_.turn)
     (subst AreLegal in_.asks.entered in_.legal)
-    (ask_silent in_.found (queue_of request) port call request, tt) is
+    (ask_silent in_.found (queue_of request) port call request, tt) few is
 
 pub counted_closed : Grows → (port : ℕ) (v w : Known) (count : ℕ) (counts : BTreeMap ℕ ℕ) →
-    HasSeenOwn v → ClosesIn port v w count → IsCounted v counts → IsCounted w counts
-counted_closed grows port v w count counts placed in_ is =
+    HasSeenOwn v → ClosesIn port v w count → Ascends 0 most_entries w.own → IsCounted v counts →
+    IsCounted w counts
+counted_closed grows port v w count counts placed in_ few is =
     counted_still grows v w in_.found (closings port in_.found) counts placed in_.turn in_.legal
-    (closings_silent port in_.found) is
+    (closings_silent port in_.found) few is
 
 pub counted_down : Grows → (device : ℕ) (v w : Known) (count : ℕ) (counts : BTreeMap ℕ ℕ) →
-    HasSeenOwn v → GoesDownIn device v w count → IsCounted v counts → IsCounted w counts
-counted_down grows device v w count counts placed in_ is =
+    HasSeenOwn v → GoesDownIn device v w count → Ascends 0 most_entries w.own →
+    IsCounted v counts → IsCounted w counts
+counted_down grows device v w count counts placed in_ few is =
     counted_still grows v w in_.found (downs device in_.found) counts placed in_.turn in_.legal
-    (downs_silent device in_.found) is
+    (downs_silent device in_.found) few is
 
 -- ---- the counts of all places
 

@@ -1,3 +1,4 @@
+mod Adding
 mod AtPlace
 mod Carrying
 mod CountedRows
@@ -6,6 +7,7 @@ mod Flushed
 mod Known
 mod Labels
 mod Lined
+mod Parting
 mod Parts
 mod Passing
 mod Requested

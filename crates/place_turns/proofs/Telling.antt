@@ -7,12 +7,13 @@ use Rattle.std.proofs.lemmas.Option.{slice_get_within}
 use Rattle.turn_lock.specs.declared.storied.Storied.{Ghosts}
 use Rattle.turn_lock.specs.declared.pass.Pass.{Pass}
 use Rattle.turn_lock.specs.Passes.{view_of}
+use Rattle.turn_lock.specs.Places.{Ascends}
 use Rattle.turn_lock.specs.Views.{HasSeenOwn}
 use Rattle.histories.specs.declared.entry.Entry.{Entry}
 use Rattle.locked_place.specs.Views.{LockedView, PlaceLabel, label_of}
 use Rattle.place_rows.specs.Meeting.{KeepsOwn}
 use Rattle.place_rows.specs.Rows.{Known, AreKnown, IsKnown}
-use Rattle.place_turns.specs.Counts.{IsCounted, AreCounted}
+use Rattle.place_turns.specs.Counts.{most_entries, IsCounted, AreCounted}
 use Rattle.place_turns.proofs.Passing.{some_same}
 
 pub item_at : {X : Type 0} (xs : List X) (k : ℕ) → k < length xs →
@@ -36,6 +37,9 @@ counted_still_so named v w counts is known then_ keeps = record {
   many = λ port. keeps.sent port ∙ is.many port;
   there = λ other named_so port some.
       is.there other (known.named_so ∙ sym then_.named_so ∙ named_so) port some;
+  only = λ other named_so port some.
+      is.only other (known.named_so ∙ sym then_.named_so ∙ named_so) port some;
+  few = subst (Ascends 0 most_entries) (sym keeps.own) is.few;
 }
 
 pub counted_told : (named : ℕ → PlaceLabel) (olds news : List Known)

@@ -13,6 +13,7 @@ mod meeting;
 mod messages;
 mod passes;
 mod places;
+mod sharing;
 
 pub use feeding::feed;
 pub use laws::{passes_keep_their_parts, passes_stay_balanced};

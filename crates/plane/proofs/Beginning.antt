@@ -1,10 +1,11 @@
 -- A plane that opens: nothing has happened, and its passes have together the whole of each lock.
 use Rattle.std.proofs.Common.{◌≡◌, ◌<◌, ℕ, zero, suc, List, [], ◌∷◌, length, refl, sym, ap}
-use Rattle.std.proofs.Common.{◌∙◌, subst, arith, append-nil}
-use Rattle.std.specs.Prelude.{map, slice_get, Some, IfSome}
+use Rattle.std.proofs.Common.{◌∙◌, subst, arith, append-nil, inl, inr}
+use Rattle.std.specs.Prelude.{map, slice_get, Option, Some, IfSome, IsSome, ◌↔◌}
 use Rattle.std.specs.BTreeMap.{BTreeMap, get}
 use Rattle.std.specs.Ordering.{nat_cmp}
 use Rattle.glance.specs.Views.{PassView, opening_pass}
+use Rattle.mailbox.specs.Roles.{In}
 use Rattle.mailbox.specs.Views.{MailboxView, ReceiverView}
 use Rattle.packet_entry.specs.declared.packet.Card.{Card}
 use Rattle.histories.specs.declared.histories.Lost.{Lost}
@@ -56,6 +57,24 @@ pub all_unheard : (mail : ℕ) (d : Dealt) (rs : List PortReceiver) →
     Every (row.IsOpened mail d.mailboxes) rs → Every IsUnheard rs
 all_unheard mail d [] all = tt
 all_unheard mail d (r ∷ rs) all = (all.0.nothing_yet, all_unheard mail d rs all.1)
+
+all_have : (mail : ℕ) (d : Dealt) (rs : List PortReceiver) →
+    Every (row.IsOpened mail d.mailboxes) rs → (port : ℕ) → In port (map row.port_of rs) →
+    IsSome (get nat_cmp d.mailboxes port)
+all_have mail d [] all port is = absurd is
+all_have mail d (r ∷ rs) all port (inl same) =
+    subst (λ (o : Option MailboxView). IsSome o)
+    (sym (ap (get nat_cmp d.mailboxes) same ∙ all.0.mailbox)) refl
+all_have mail d (r ∷ rs) all port (inr is) = all_have mail d rs all.1 port is
+
+-- the ports that were dealt to, and no others, have a mailbox
+pub dealt_for : (places mail : ℕ) (ports : List ℕ) (d : Dealt) → row.IsDealt places mail ports d →
+    (port : ℕ) → IsSome (get nat_cmp d.mailboxes port) ↔ In port ports
+dealt_for places mail ports d dealt port = (
+  dealt.no_others port,
+  λ is. all_have mail d d.receivers.items dealt.opened port
+      (subst (In port) (sym dealt.ports_are) is),
+)
 
 ports_by_receivers : (ps : List PortView) →
     map (λ (p : PortView). p.port) ps ≡ map row.port_of (map receiver_of ps)

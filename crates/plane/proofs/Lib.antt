@@ -1,5 +1,7 @@
 mod Balanced
+mod Dividing
 mod Flushed
+mod Framed
 mod Parts
 pub mod Finishing
 mod Splitting

@@ -21,6 +21,7 @@ use Rattle.plane.specs.declared.opened.Opened.{Opened}
 use Rattle.plane.specs.declared.plane.Plane.{Plane}
 use Rattle.plane.specs.Closings.{receiver_of}
 use Rattle.plane.specs.Examples.{AreGoing, IsGoing, Keeps, Stay}
+use Rattle.plane.specs.Feeders.{HaveThePartsOf}
 use Rattle.plane.specs.Meetings.{Meets, KeepsAll}
 use Rattle.plane.specs.Opening.{IsOpened, all_rows, known_in}
 use Rattle.plane.specs.Passes.{FeederView, PortView, IsFeederOf, IsPortOf, Receives, Closes}
@@ -438,3 +439,29 @@ one_below n xs all = (
     | inr h ↦ omega (arith, h)
   ],
 )
+
+-- ---- two feeders
+
+-- what is known of parts that stay
+abbrev pub PartsStay : Type 0
+PartsStay = (places : ℕ) (olds news : List (List Known)) →
+    map parts_of news ≡ map parts_of olds → AreWhole places olds → AreWhole places news
+
+-- a pass that was split, and joined again once each of the two fed something
+pub fed_whole : PartsStay → (places : ℕ) (old kept made one two both : List Known)
+    (rows : List (List Known)) → HaveThePartsOf kept made old → parts_of two ≡ parts_of made →
+    parts_of one ≡ parts_of kept → HaveThePartsOf one two both →
+    AreWhole places (old ∷ rows) → AreWhole places (both ∷ rows)
+fed_whole stay places old kept made one two both rows split second first joined whole =
+    let halves : AreWhole places (kept ∷ made ∷ rows) = λ k few. split k rows ∙ whole k few in
+    let same : map parts_of (one ∷ two ∷ rows) ≡ map parts_of (kept ∷ made ∷ rows) =
+    ap (λ (ts : List Tree). ts ∷ parts_of two ∷ map parts_of rows) first
+    ∙ ap (λ (ts : List Tree). parts_of kept ∷ ts ∷ map parts_of rows) second in
+    let still = stay places (kept ∷ made ∷ rows) (one ∷ two ∷ rows) same halves in
+    λ k few. sym (joined k rows) ∙ still k few
+
+pub one_fed_whole : PartsStay → (places : ℕ) (old new : List Known) (rows : List (List Known)) →
+    parts_of new ≡ parts_of old → AreWhole places (old ∷ rows) → AreWhole places (new ∷ rows)
+one_fed_whole stay places old new rows same whole =
+    stay places (old ∷ rows) (new ∷ rows)
+    (ap (λ (ts : List Tree). ts ∷ map parts_of rows) same) whole

@@ -29,7 +29,8 @@ use Rattle.place_rows.specs.Rows.{sender_made}
 use Rattle.place_rows.specs.Shares.{at_places, notices_at, sent_at}
 use Rattle.plane.specs.declared.opened.Unfilled.{Unfilled}
 use Rattle.plane.specs.Closings.{receiver_of}
-use Rattle.place_turns.specs.Counts.{IsCounted, AreCounted, count_of}
+use Rattle.place_turns.specs.Counts.{IsCounted, AreCounted, count_of, most_entries}
+use Rattle.turn_lock.specs.Places.{Ascends}
 use Rattle.plane.specs.Filling.{AreZero, AreFor, HasDoneNothing, HasUnused, IsFilled, receiver_in}
 use Rattle.plane.specs.Opening.{IsUnused, known_in}
 use Rattle.plane.specs.Passes.{PortView}
@@ -61,11 +62,18 @@ as_many label named locks row all =
 
 -- ---- counts that say nothing
 
+none_in : (port : ℕ) (o : Option ℕ) → o ≡ None → IsSome o → In port []
+none_in port None none some = absurd (cc)
+none_in port (Some n) none some = absurd (cc)
+
 pub none_counted : (counts : BTreeMap ℕ ℕ) → IsEmpty counts → AreZero [] counts
 none_counted counts empty = record {
   none = λ port.
       ap (λ (es : List (ℕ × ℕ)). count_of (lookup (is_at (nat_cmp port)) es)) empty;
   each = λ port is. absurd is;
+  only = λ port some.
+      none_in port (get nat_cmp counts port)
+      (ap (λ (es : List (ℕ × ℕ)). lookup (is_at (nat_cmp port)) es) empty) some;
 }
 
 not_last : (p port : ℕ) (ports : List ℕ) → p ≢ port → In p (ports ++ port ∷ []) → In p ports
@@ -73,6 +81,15 @@ not_last p port [] differ (inl e) = differ e
 not_last p port [] differ (inr h) = h
 not_last p port (q ∷ ports) differ (inl e) = inl e
 not_last p port (q ∷ ports) differ (inr h) = inr (not_last p port ports differ h)
+
+last_in : (p port : ℕ) (ports : List ℕ) → p ≡ port → In p (ports ++ port ∷ [])
+last_in p port [] same = inl same
+last_in p port (q ∷ ports) same = inr (last_in p port ports same)
+
+still_in : (p port : ℕ) (ports : List ℕ) → In p ports → In p (ports ++ port ∷ [])
+still_in p port [] is = absurd is
+still_in p port (q ∷ ports) (inl e) = inl e
+still_in p port (q ∷ ports) (inr h) = inr (still_in p port ports h)
 
 pub one_zero_more : (ports : List ℕ) (port : ℕ) (old new : BTreeMap ℕ ℕ) → AreZero ports old →
     get nat_cmp new port ≡ Some 0 →
@@ -89,6 +106,11 @@ one_zero_more ports port old new was own others = record {
     | inr other ↦ (let differ = eqb-false p port other in
         subst (λ (o : Option ℕ). IsSome o) (sym (others p differ))
         (was.each p (not_last p port ports differ is)))
+  ];
+  only = λ p some. elim (cases_Bool (nat_eq p port)) [
+    | inl same ↦ last_in p port ports (eqb-true p port same)
+    | inr other ↦ still_in p port ports (was.only p
+        (subst (λ (o : Option ℕ). IsSome o) (others p (eqb-false p port other)) some))
   ];
 }
 
@@ -108,6 +130,10 @@ some_below : {A B : Type 0} (f : A → B) (o : Option A) → IsSome (option_map 
 some_below f None some = absurd (cc)
 some_below f (Some x) some = refl
 
+some_above : {A B : Type 0} (f : A → B) (o : Option A) → IsSome o → IsSome (option_map f o)
+some_above f None some = absurd (cc)
+some_above f (Some x) some = refl
+
 -- a pass with no entry of its own, by counts that say 0
 zero_is_counted : (outlets : Outlets) (ports : List ℕ) (k : ℕ) (v : Known)
     (counts : BTreeMap ℕ ℕ) → AreFor outlets ports →
@@ -119,9 +145,16 @@ zero_is_counted outlets ports k v counts for known none zeros = record {
       let same : named ≡ label_at outlets k =
       some_same named (label_at outlets k) (sym is ∙ known.named_so) in
       zeros.each port
-      (for port
+      ((for port).0
       (some_below (sender_made outlets.board.places k) (get nat_cmp outlets.mailboxes port)
       (subst (λ (l : PlaceLabel). IsSome (l.senders port)) same some)));
+  only = λ named is port some.
+      let same : named ≡ label_at outlets k =
+      some_same named (label_at outlets k) (sym is ∙ known.named_so) in
+      subst (λ (l : PlaceLabel). IsSome (l.senders port)) (sym same)
+      (some_above (sender_made outlets.board.places k) (get nat_cmp outlets.mailboxes port)
+      ((for port).1 (zeros.only port some)));
+  few = subst (Ascends 0 most_entries) (sym none) tt;
 }
 
 -- and so of a row

@@ -1,5 +1,5 @@
 -- Passes of ports that are made ready while no place has a lock yet, and are filled then.
-use Rattle.std.specs.Prelude.{◌≡◌, ◌<◌, ◌≤◌, ℕ, List, [], length, IsSome}
+use Rattle.std.specs.Prelude.{◌≡◌, ◌<◌, ◌≤◌, ◌↔◌, ℕ, List, [], length, IsSome}
 use Rattle.std.specs.BTreeMap.{BTreeMap, get}
 use Rattle.std.specs.Ordering.{nat_cmp}
 use Rattle.std.specs.Vec.{vec_capacity}
@@ -14,10 +14,11 @@ use Rattle.place_turns.specs.Counts.{count_of}
 use Rattle.plane.specs.Opening.{IsUnused}
 use Rattle.plane.specs.Passes.{PortView}
 
--- the counts say 0 of every port, and there is one for each of these
+-- the counts say 0 of every port, and there is one for each of these, and no other
 pub record AreZero (ports : List ℕ) (counts : BTreeMap ℕ ℕ) : Type 0 where
   pub none : (port : ℕ) → count_of (get nat_cmp counts port) ≡ 0
   pub each : (port : ℕ) → In port ports → IsSome (get nat_cmp counts port)
+  pub only : (port : ℕ) → IsSome (get nat_cmp counts port) → In port ports
 
 abbrev pub receiver_in : Unfilled → PortReceiver
 receiver_in u = record { port = u.port; receiver = u.receiver }
@@ -37,10 +38,10 @@ pub record IsReady (places : ℕ) (ports : List ℕ) (u : Unfilled) : Type 0 whe
   pub none_did : u.log.dids.items ≡ []
   pub closable : 0 < u.log.dids.room
 
--- no port but these has a mailbox
+-- these ports, and no others, have a mailbox
 abbrev pub AreFor : Outlets → List ℕ → Type 0
 AreFor outlets ports =
-    (port : ℕ) → IsSome (get nat_cmp outlets.mailboxes port) → In port ports
+    (port : ℕ) → IsSome (get nat_cmp outlets.mailboxes port) ↔ In port ports
 
 -- a pass whose port did nothing, and which lost nothing
 pub record HasDoneNothing (p : PortView) : Type 0 where

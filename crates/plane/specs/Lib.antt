@@ -1,9 +1,11 @@
 pub mod Numbers
 pub mod Apart
 pub mod Planes
+pub mod Past
 pub mod Passes
 pub mod Opening
 pub mod Meetings
+pub mod Feeders
 pub mod Closings
 pub mod Remaining
 pub mod Filling

@@ -8,12 +8,14 @@ ghost use Rattle.place_rows.specs.Lists.{Every};
 ghost use Rattle.place_rows.specs.Rows.{Known, ArePasses, AreKnown, id_of};
 ghost use Rattle.place_rows.specs.Joining.{RowJoined, AllJoined, AreWhole};
 ghost use Rattle.plane.specs.Passes.{IsFeederOf, IsPortOf};
+ghost use Rattle.plane.specs.Past.{lost_by};
 ghost use Rattle.plane.specs.Planes.{places_of};
 ghost use Rattle.plane.specs.Closings.{IsClosed};
 ghost use Rattle.plane.specs.Opening.{all_rows, known_in};
 ghost use Rattle.plane.specs.Remaining.{times_in, dids_in, log_in, IsRowOf, IsAdded, AreAdded};
 
 use crate::opened::{ClosedPorts, PortPasses};
+use crate::past::{Link, Past};
 use crate::plane::Plane;
 use crate::port::{ClosedPort, FeederPass, PortPass};
 use histories::{Dids, Histories, Logs, Lost, PortLog};
@@ -43,6 +45,46 @@ fn add_lost(all: &mut Stock<Lost>, more: Stock<Lost>) -> Result<(), NoMemory>
         all.push(lost);
     }
     Ok(())
+}
+
+/// Adds those that were lost by passes that were joined.
+fn add_past(all: &mut Stock<Lost>, past: Past) -> Result<(), NoMemory>
+    ensures { OnOk result (all.new.items ≡ all.old.items ++ lost_by past) }
+{
+    match past {
+        Past::Nothing => Ok(()),
+        Past::Joined(link) => {
+            let Link {
+                front,
+                fed: _fed,
+                lost,
+                back,
+            } = Box::into_inner(link);
+            add_past(all, front)?;
+            add_lost(all, lost)?;
+            add_past(all, back)
+        }
+    }
+}
+
+/// All that a feeder lost, where there was memory for it.
+fn all_lost(alloc: Global, past: Past, own: Stock<Lost>) -> Result<Stock<Lost>, NoMemory>
+    ensures { IfOk result (λ all. all.items ≡ lost_by past ++ own.items) }
+{
+    let mut all = Stock::new(alloc);
+    add_past(&mut all, past)?;
+    add_lost(&mut all, own)?;
+    Ok(all)
+}
+
+/// The same, and whether there was memory.
+fn lost_by_feeder(alloc: Global, past: Past, own: Stock<Lost>) -> (Stock<Lost>, bool)
+    ensures { result.1 ≡ true → result.0.items ≡ lost_by past ++ own.items }
+{
+    match all_lost(alloc, past, own) {
+        Ok(all) => (all, true),
+        Err(NoMemory) => (Stock::new(alloc), false),
+    }
 }
 
 /// Adds what is left of a port.
@@ -186,12 +228,19 @@ impl Plane {
             outlets,
             locks,
         } = shared;
-        let FeederPass { passes, fed: _fed } = feeder;
+        let FeederPass {
+            passes,
+            fed: _fed,
+            past,
+            fed_before: _before,
+            link: _link,
+        } = feeder;
         let Passes {
             mut row,
             sent: _sent,
             lost,
         } = passes;
+        let (lost, third) = lost_by_feeder(alloc, past, lost);
         let mut remains = Remains {
             receivers: Vec::new(alloc),
             logs: Vec::new(alloc),
@@ -199,7 +248,7 @@ impl Plane {
         };
         let first = join_ports(&locks, &mut row, ports, &mut remains);
         let second = join_closed(&locks, &mut row, closed, &mut remains);
-        if !(first & second) {
+        if !(first & second & third) {
             close_all(locks, row);
             return Err(NoMemory);
         }

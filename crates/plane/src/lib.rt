@@ -2,11 +2,13 @@
 //! each behind a turn lock of its own.
 #![tactic(auto)]
 
+mod feeders;
 mod finish;
 mod laws;
 mod listing;
 mod meeting;
 mod opened;
+mod past;
 mod plane;
 mod port;
 

@@ -21,6 +21,7 @@ ghost use Rattle.plane.specs.Filling.{receiver_in, IsUnheard, HasUnused};
 ghost use Rattle.plane.specs.Opening.{IsOpened, IsUnused, known_in};
 ghost use Rattle.plane.specs.Remaining.{IsRowOf};
 
+use crate::past::{Past, new_link};
 use crate::plane::Plane;
 use crate::port::{ClosedPort, FeederPass, PortPass};
 use glance::{Board, GlancePass};
@@ -246,6 +247,7 @@ impl Plane {
         let unfilled = prepare_all(alloc, places, ports, receivers)?;
         let passes = Vec::with_capacity(alloc, unfilled.len())?;
         let sent = no_counts(alloc, places, ports)?;
+        let link = new_link(alloc)?;
         let (board, writers, gauge) = Board::new(alloc, places)?;
         let outlets = Outlets { mailboxes, board };
         let (locks, mut row) = open_places(alloc, &outlets, places, senders, writers)?;
@@ -253,6 +255,9 @@ impl Plane {
         let feeder = FeederPass {
             passes: passes_of(alloc, row, sent),
             fed: Stock::new(alloc),
+            past: Past::Nothing,
+            fed_before: 0,
+            link,
         };
         let setting = Setting { tables, key, mail };
         Ok(Opened {

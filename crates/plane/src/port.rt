@@ -1,27 +1,39 @@
 //! The passes of a plane: of who feeds, and of ports, open and closed.
 
-ghost use Rattle.std.specs.Prelude.{◌≡◌, length};
+ghost use Rattle.std.specs.Prelude.{◌≡◌, min};
 ghost use Rattle.packet_moves.specs.Calls.{sent_in};
 ghost use Rattle.place_rows.specs.Shares as share;
+ghost use Rattle.plane.specs.Numbers.{most_fed};
 
+use crate::past::{Link, Past};
 use mailbox::Receiver;
 use packet_entry::{Card, Stock};
 use place_turns::{Log, Passes};
 use std::marker::Model;
+
+/// How many packets are fed at most by one pass.
+const MOST_FED: u32 = 16_777_215;
 
 /// The right to feed packets to one plane. It may go from thread to thread.
 #[derive(Drop)]
 pub struct FeederPass {
     pub(crate) passes: Passes,
     pub(crate) fed: Stock<Card>,
+    /// What it has of passes that were joined into it, before its own lists.
+    pub(crate) past: Past,
+    /// How many packets they fed; the number stops at 16,777,215.
+    pub(crate) fed_before: u32,
+    /// The memory with which it is joined into another.
+    pub(crate) link: Box<Link>,
 }
 
 impl Model for FeederPass {
     ghost use Rattle.std.specs.Coded.{codes};
     ghost use Rattle.turn_lock.specs.Parts.{tree_code};
-    ghost use Rattle.std.specs.Prelude.{◌≤◌, length};
-    ghost use Rattle.plane.specs.Numbers.{most_fed};
+    ghost use Rattle.std.specs.Prelude.{◌++◌};
+    ghost use Rattle.plane.specs.Feeders.{IsFeeder};
     ghost use Rattle.plane.specs.Passes.{FeederView};
+    ghost use Rattle.plane.specs.Past.{fed_by, lost_by, after_lost};
 
     ghost Value = { FeederView };
 
@@ -29,19 +41,29 @@ impl Model for FeederPass {
 
     ghost view = { λ p. record {
       locks = p.passes.locks;
-      trail = p.passes.trail;
-      fed = p.fed.items;
+      trail = after_lost (lost_by p.past) p.passes.trail;
+      fed = fed_by p.past ++ p.fed.items;
     } };
 
-    ghost invariant = { λ p. length p.fed.items ≤ most_fed };
+    ghost invariant = { λ p. IsFeeder (fed_by p.past) p.fed_before p.fed };
+}
+
+/// So many packets, at most as many as one pass says that it fed.
+pub(crate) fn up_to_most(count: u32) -> u32
+    ensures { result ≡ min count most_fed }
+{
+    count.min(MOST_FED)
 }
 
 impl FeederPass {
-    /// How many packets it fed.
+    ghost use Rattle.plane.specs.Feeders.{count_of};
+
+    /// How many packets it fed, those of passes that were joined into it among them. The number
+    /// stops at 16,777,215.
     pub fn fed(&self) -> u32
-        ensures { result ≡ length self.now.fed }
+        ensures { result ≡ count_of self.now.fed }
     {
-        self.fed.len() as u32
+        up_to_most(self.fed_before + self.fed.len() as u32)
     }
 
     /// How many notices its calls put into a port's mailbox.

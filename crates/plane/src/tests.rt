@@ -10,6 +10,7 @@ ghost use Rattle.plane.specs.Passes.{IsFeederOf, IsPortOf};
 ghost use Rattle.plane.specs.Planes.{board_of};
 ghost use Rattle.place_turns.specs.Trails.{parts_of};
 
+mod feeders;
 mod inside;
 mod memory;
 mod races;

@@ -1,7 +1,10 @@
-use Rattle.std.proofs.Common.{◌≡◌, ◌∙◌, ℕ, length}
+use Rattle.std.proofs.Common.{◌≡◌, List, length, subst, sym}
+use Rattle.packet_entry.specs.declared.packet.Card.{Card}
 use Rattle.made_runs.specs.Entering.{cards}
 use Rattle.plane.specs.Planes.{places_of}
 use Rattle.nfq_live.specs.Endings.{IsAtMeeting}
+use Rattle.nfq_live.specs.Feeders.{AreTheSame}
+use Rattle.nfq_live.specs.Sizes.{Size, size_of}
 use Rattle.live_work.proofs.Asked.{on_ok}
 use Rattle.nfq_live.proofs.Ran.{all_open}
 use Rattle.nfq_live.proofs.run.go.Goals as goal
@@ -16,9 +19,11 @@ make_ready-requires-clause-minds g c κs within =
 
 pub make_ready-requires-clause-none : goal.make_ready-requires-clause-none
 make_ready-requires-clause-none g c κs within = record {
-  notes = c.requires.none.notes;
-  stands = c.requires.none.stands;
-  open_to = c.requires.none.open_to;
+  opened = λ workers. record {
+    notes = (c.requires.none.opened workers).notes;
+    stands = (c.requires.none.opened workers).stands;
+    open_to = (c.requires.none.opened workers).open_to;
+  };
   early = c.requires.none.early;
   none_fed = c.requires.none.none_fed;
   in_order = c.requires.none.in_order;
@@ -27,17 +32,17 @@ make_ready-requires-clause-none g c κs within = record {
 
 pub end_all-requires-clause-are_open : goal.end_all-requires-clause-are_open
 end_all-requires-clause-are_open g c κs within =
-    all_open c.args.script.now (places_of c.args.plane.now) (length c.args.capture.now.frames)
-    c.work.new.self c.in_ok-work.ensures.met
+    all_open c.args.script.now (places_of c.args.plane.now)
+    (size_of c.args.pool c.args.feeders c.args.capture.now) c.work.new.self c.in_ok-work.ensures.met
 
 pub returns-clause-ended : goal.returns-clause-ended
 returns-clause-ended g c =
     let script = c.args.script.now in
     let places = places_of c.args.plane.now in
-    let many = length c.args.capture.now.frames in
+    let many = size_of c.args.pool c.args.feeders c.args.capture.now in
     on_ok c.end_all.result
-    ((frames : ℕ) → IsAtMeeting script places frames 0 c.work.new.self →
-    IsAtMeeting script places frames (length script.ports) c.end_all.new.self)
+    ((size : Size) → IsAtMeeting script places size 0 c.work.new.self →
+    IsAtMeeting script places size (length script.ports) c.end_all.new.self)
     (IsAtMeeting script places many (length script.ports) c.end_all.new.self)
     (λ ended. ended many c.in_ok-work.ensures.met) c.end_all.ensures.ended
 
@@ -45,5 +50,6 @@ pub returns-clause-fed : goal.returns-clause-fed
 returns-clause-fed g c =
     on_ok c.end_all.result
     (c.end_all.new.self.feeding.pass.fed ≡ c.work.new.self.feeding.pass.fed)
-    (c.end_all.new.self.feeding.pass.fed ≡ cards c.args.capture.now)
-    (λ same. same ∙ c.in_ok-work.ensures.fed) c.end_all.ensures.fed
+    (AreTheSame c.end_all.new.self.feeding.pass.fed (cards c.args.capture.now))
+    (λ same. subst (λ (l : List Card). AreTheSame l (cards c.args.capture.now)) (sym same)
+    c.in_ok-work.ensures.fed) c.end_all.ensures.fed

@@ -13,9 +13,9 @@ returns-clause-each g c =
     let lent = c.as_mut_slice-inspectors in
     let new = c.work_beside.new.inspectors in
     let same = ap (λ (l : List Inspector). length l) lent.ensures.value in
-    subst (λ (l : List Inspector). AllZip (IsInspected script plane) old l)
+    subst (λ (l : List Inspector). AllZip (IsInspected c.args.pool script plane) old l)
     (sym (refilled c.args.seats.now.len new old (omega (arith, same, lent.ensures.len))
     (omega (arith, same, lent.ensures.len, c.work_beside.ensures.len))))
-    (subst (λ (l : List Inspector). AllZip (IsInspected script plane) l new) lent.ensures.value
-    (all_zip (IsInspected script plane) lent.result.now new c.work_beside.ensures.len
+    (subst (λ (l : List Inspector). AllZip (IsInspected c.args.pool script plane) l new) lent.ensures.value
+    (all_zip (IsInspected c.args.pool script plane) lent.result.now new c.work_beside.ensures.len
     c.work_beside.ensures.each))

@@ -1,6 +1,7 @@
 use Rattle.turn_lock.specs.Passes.{view_of}
 use Rattle.histories.specs.Journeys.{Arrival}
 use Rattle.place_turns.proofs.Counting.{counted_back, counted_posted, counted_look, count_fits}
+use Rattle.place_turns.proofs.Counting.{few_own}
 use Rattle.place_turns.proofs.passes.arrive_at.Goals as goal
 
 pub returns-in_err-port-clause-counted : goal.returns-in_err-port-clause-counted
@@ -30,7 +31,11 @@ returns-in-Waiting-clause-counted g c =
     record { queue = c.args.queue; card = c.args.packet; bypass = c.args.bypass } in
     counted_posted c.own_entries_grow_by_each_turn.ensures.sent a (view_of c.args.pass.now)
     (view_of c.arrive.new.pass) c.in-Waiting.port c.args.sent.now c.count.new.sent
-    c.args.pass.now.placed (rw c.in-Waiting.is at c.in_ok-port.ensures.turn) c.requires.counted
+    c.args.pass.now.placed (rw c.in-Waiting.is at c.in_ok-port.ensures.turn)
+    (few_own (view_of c.arrive.new.pass) c.arrive.new.pass.placed c.arrive.ensures.short)
+    c.requires.counted
+    (c.requires.counted.there c.requires.pass.0 c.requires.pass.1.named_so c.in-Waiting.port
+    (rw c.in-Waiting.is at (c.in_ok-port.ensures.sender c.requires.pass.0 c.requires.pass.1)))
     c.count.ensures.more c.count.ensures.others
 
 pub returns-in-Back-clause-counted : goal.returns-in-Back-clause-counted
@@ -40,4 +45,6 @@ returns-in-Back-clause-counted g c =
     counted_back c.own_entries_grow_by_each_turn.ensures.sent
     c.replies_tell_how_many_left.ensures a (view_of c.args.pass.now)
     (view_of c.arrive.new.pass) c.in-Back.outcome c.in-Back.packet c.args.sent.now
-    c.args.pass.now.placed (rw c.in-Back.is at c.in_ok-port.ensures.turn) c.requires.counted
+    c.args.pass.now.placed (rw c.in-Back.is at c.in_ok-port.ensures.turn)
+    (few_own (view_of c.arrive.new.pass) c.arrive.new.pass.placed c.arrive.ensures.short)
+    c.requires.counted

@@ -1,6 +1,7 @@
-use Rattle.std.proofs.Common.{sym, subst, refl, [], List}
+use Rattle.std.proofs.Common.{sym, subst, refl, ap, [], List, ◌++◌}
 use Rattle.histories.specs.declared.histories.Lost.{Lost}
 use Rattle.place_rows.specs.Shares.{IsBalanced}
+use Rattle.plane.specs.Past.{fed_by, lost_by}
 use Rattle.plane.specs.Planes.{setting_of}
 use Rattle.plane.proofs.Gathering.{port_kept, feeder_kept}
 use Rattle.plane.proofs.meeting.tell_port.Goals as goal
@@ -36,14 +37,17 @@ returns-clause-feeder c =
       record {
         of = c.tell.ensures.of;
         balanced = subst (λ (lost : List Lost). IsBalanced (setting_of c.args.plane.now)
-            c.feeder.inside.fed.items c.tell.new.self.trail.known lost)
+            (fed_by c.feeder.inside.past ++ c.feeder.inside.fed.items)
+            c.tell.new.self.trail.known (lost_by c.feeder.inside.past ++ lost))
             (sym c.tell.ensures.lost.0)
-            (c.tell.ensures.balanced (setting_of c.args.plane.now) c.feeder.inside.fed.items _
-            feeds.balanced);
+            (c.tell.ensures.balanced (setting_of c.args.plane.now)
+            (fed_by c.feeder.inside.past ++ c.feeder.inside.fed.items) _ feeds.balanced);
       },
       rw (← c.feeder.view_is)
           (feeder_kept c.feeder.inside.passes.trail.known _ _ _ refl
-          c.tell.ensures.locks.0 c.tell.ensures.lost.0),
+          c.tell.ensures.locks.0
+          (ap (λ (lost : List Lost). lost_by c.feeder.inside.past ++ lost)
+          c.tell.ensures.lost.0)),
     )
 
 pub returns-clause-told : goal.returns-clause-told

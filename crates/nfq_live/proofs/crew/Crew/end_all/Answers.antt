@@ -22,11 +22,11 @@ loop-place-init g c =
       received = subst (λ (l : List ℕ). AreReceived l places c.empty.new.self) c.requires.order
           c.in_ok-empty.ensures.received;
       fed = ap (λ (f : Feeding). f.pass.fed) on.alone.feeding;
-      ends = λ frames m. ends_look c.args.script.now places frames 0
+      ends = λ size m. ends_look c.args.script.now places size 0
           (all_due (closing c.args.script.now 0)) c.args.self.now c.empty.new.self on
-          (ends_begin c.a_port_does_what_is_next.ensures.begins c.args.script.now places frames 0
+          (ends_begin c.a_port_does_what_is_next.ensures.begins c.args.script.now places size 0
           c.args.self.now m);
-      met = λ frames m some. absurd (omega (arith, some));
+      met = λ size m some. absurd (omega (arith, some));
     }
 
 pub end_port-requires-clause-place : goal.end_port-requires-clause-place
@@ -46,22 +46,22 @@ loop-place-preserved g c =
           c.in_ok-end_port.ensures.are_open;
       received = c.in_ok-end_port.ensures.received;
       fed = c.in_ok-end_port.ensures.fed ∙ c.loop-place.invariant.fed;
-      ends = λ frames m.
-          ends_begin c.a_port_does_what_is_next.ensures.begins script places frames
+      ends = λ size m.
+          ends_begin c.a_port_does_what_is_next.ensures.begins script places size
           (c.loop-place.place + 1) c.end_port.new.self
-          (subst (λ (k : ℕ). IsAtMeeting script places frames k c.end_port.new.self) one
-          (c.in_ok-end_port.ensures.ended frames (c.loop-place.invariant.ends frames m)));
-      met = λ frames m some.
-          subst (λ (k : ℕ). IsAtMeeting script places frames k c.end_port.new.self) one
-          (c.in_ok-end_port.ensures.ended frames (c.loop-place.invariant.ends frames m));
+          (subst (λ (k : ℕ). IsAtMeeting script places size k c.end_port.new.self) one
+          (c.in_ok-end_port.ensures.ended size (c.loop-place.invariant.ends size m)));
+      met = λ size m some.
+          subst (λ (k : ℕ). IsAtMeeting script places size k c.end_port.new.self) one
+          (c.in_ok-end_port.ensures.ended size (c.loop-place.invariant.ends size m));
     }
 
 pub returns-clause-ended : goal.returns-clause-ended
-returns-clause-ended g c = λ frames m.
+returns-clause-ended g c = λ size m.
     let all = ap (λ (l : List ℕ). length l) c.ports-place-end.ensures.value in
     let last : c.loop-place.place ≡ length c.args.script.now.ports =
     omega (arith, all, c.loop-place-test.false, c.loop-place.auto.place-end) in
-    subst (λ (k : ℕ). IsAtMeeting c.args.script.now (places_of c.args.plane.now) frames k
+    subst (λ (k : ℕ). IsAtMeeting c.args.script.now (places_of c.args.plane.now) size k
     c.loop-place.self) last
-    (c.loop-place.invariant.met frames m
+    (c.loop-place.invariant.met size m
     (omega (arith, last, c.ports-place-end.ensures.facts.some_port)))

@@ -1,8 +1,9 @@
-use Rattle.std.proofs.Common.{◌≡◌, ◌<◌, ℕ}
+use Rattle.std.proofs.Common.{◌≡◌, ◌<◌}
 use Rattle.inspector_script.specs.Scripts.{closing}
 use Rattle.plane.specs.Planes.{places_of}
 use Rattle.nfq_live.specs.Crews.{AreOpenFrom, AreReceived, HaveMinds, IsCrewOf}
 use Rattle.nfq_live.specs.Endings.{EndsTo, IsAtMeeting}
+use Rattle.nfq_live.specs.Sizes.{Size}
 use Rattle.nfq_live.proofs.crew.Crew.end_all.Given as goal
 
 abbrev pub invariant-loop-place : goal.invariant-loop-place
@@ -12,8 +13,8 @@ invariant-loop-place g l = record {
   are_open : AreOpenFrom l.script l.place l.self;
   received : AreReceived l.script.ports (places_of l.plane) l.self;
   fed : l.self.feeding.pass.fed ≡ l.fn.self.feeding.pass.fed;
-  ends : (frames : ℕ) → IsAtMeeting l.script (places_of l.plane) frames 0 l.fn.self →
-      EndsTo l.script (places_of l.plane) frames l.place (closing l.script l.place) l.self;
-  met : (frames : ℕ) → IsAtMeeting l.script (places_of l.plane) frames 0 l.fn.self →
-      0 < l.place → IsAtMeeting l.script (places_of l.plane) frames l.place l.self;
+  ends : (size : Size) → IsAtMeeting l.script (places_of l.plane) size 0 l.fn.self →
+      EndsTo l.script (places_of l.plane) size l.place (closing l.script l.place) l.self;
+  met : (size : Size) → IsAtMeeting l.script (places_of l.plane) size 0 l.fn.self →
+      0 < l.place → IsAtMeeting l.script (places_of l.plane) size l.place l.self;
 }

@@ -4,15 +4,16 @@ use Rattle.plane.specs.Passes.{PortView}
 use Rattle.plane.specs.Planes.{order_of, places_of}
 use Rattle.nfq_live.specs.Crews.{AreReceived, HaveMinds, IsReceived, OneShuts, OthersStay}
 use Rattle.nfq_live.specs.Endings.{EndsTo, HasStopped}
+use Rattle.nfq_live.specs.Sizes.{Size}
 use Rattle.live_work.proofs.Asked.{ok_anyway, on_ok}
 use Rattle.nfq_live.proofs.EndsAt.{a_port, both_long, end_shuts, end_stops, its_still, others_here}
 use Rattle.nfq_live.proofs.EndsAt.{others_shut, received_here, received_shut_here, still_within}
 use Rattle.nfq_live.proofs.crew.Crew.end_at.Goals as goal
 
 pub returns-then-not-closes-clause-stopped : goal.returns-then-not-closes-clause-stopped
-returns-then-not-closes-clause-stopped g c = λ frames e.
+returns-then-not-closes-clause-stopped g c = λ size e.
     end_stops c.args.plane.now c.args.script.now c.args.place c.args.at c.requires.order
-    c.a_port_goes_through_a_stage.ensures.goes frames c.args.asks c.args.self.now
+    c.a_port_goes_through_a_stage.ensures.goes size c.args.asks c.args.self.now
     c.say_end.new.self c.in_ok-closes.closes c.if-not-closes.true c.in_ok-closes.ensures.said e
 
 pub returns-then-not-closes-clause-its : goal.returns-then-not-closes-clause-its
@@ -50,13 +51,13 @@ returns-clause-stopped g c =
     ((d : PortView) → OneShuts (places_of c.args.plane.now)
     (slice_index_or c.say_end.new.self.ports.items c.args.at d).port c.say_end.new.self
     c.close_at.new.self)
-    ((frames : ℕ) →
-    EndsTo c.args.script.now places frames c.args.place c.args.asks c.args.self.now →
-    HasStopped c.args.script.now places frames c.args.place c.close_at.new.self)
-    (λ shut frames e.
+    ((size : Size) →
+    EndsTo c.args.script.now places size c.args.place c.args.asks c.args.self.now →
+    HasStopped c.args.script.now places size c.args.place c.close_at.new.self)
+    (λ shut size e.
     end_shuts c.args.plane.now c.args.script.now c.args.place c.args.at c.requires.order
     c.a_port_goes_through_a_stage.ensures.goes c.a_port_goes_through_a_stage.ensures.closes
-    c.a_port_goes_through_a_stage.ensures.closed frames c.args.asks c.args.self.now
+    c.a_port_goes_through_a_stage.ensures.closed size c.args.asks c.args.self.now
     c.say_end.new.self c.close_at.new.self c.in_ok-closes.closes
     (a_port c.say_end.new.self c.args.at less) c.if-not-closes.false c.say_end.ensures.crew less
     (its_still c.args.plane.now c.args.script.now c.args.place c.args.at c.requires.order

@@ -9,6 +9,7 @@ use Rattle.live_runs.specs.Passes.{AreMet}
 use Rattle.live_work.specs.declared.feeding.Feeding.{Feeding}
 use Rattle.nfq_live.specs.Crews.{AreOpenFrom, AreReceived, HaveMinds, passes_of}
 use Rattle.nfq_live.specs.Endings.{EndsTo, IsAtMeeting}
+use Rattle.nfq_live.specs.Sizes.{Size}
 use Rattle.live_work.proofs.Asked.{ok_anyway, on_ok}
 use Rattle.nfq_live.proofs.EndsAt.{a_port, both_long, found_place, machine_place, machine_within}
 use Rattle.nfq_live.proofs.EndsAt.{next_open}
@@ -78,21 +79,21 @@ returns-clause-ended g c =
     c.requires.minds c.in-Some.ensures.there.0 c.index.ensures its.0 in
     on_ok c.meet.result
     (AreMet (order_of c.args.plane.now) (passes_of c.end_at.new.self) (passes_of c.meet.new.self))
-    ((frames : ℕ) → EndsTo script many frames c.args.place (closing script c.args.place) crew →
-    IsAtMeeting script many frames (suc c.args.place) c.meet.new.self)
-    (λ met frames e.
+    ((size : Size) → EndsTo script many size c.args.place (closing script c.args.place) crew →
+    IsAtMeeting script many size (suc c.args.place) c.meet.new.self)
+    (λ met size e.
     let all = subst (λ (l : List ℕ). AreMet l (passes_of c.end_at.new.self)
     (passes_of c.meet.new.self)) c.requires.order met in
     at_meeting (record {
       meeting = c.a_stage_ends_where_all_meet.ensures.meeting;
       rests = c.a_stage_ends_where_all_meet.ensures.rests;
-      meets = c.the_feeder_keeps_its_time.ensures.meets;
+      meets = c.a_place_stays_fed_by_all.ensures.meets;
       closed = c.nothing_is_sent_to_a_closed_port.ensures.closed;
       stage = c.nothing_is_sent_to_a_closed_port.ensures.stage;
-    }) script many frames c.args.place port c.end_at.new.self c.meet.new.self
+    }) script many size c.args.place port c.end_at.new.self c.meet.new.self
     (some_place c.args.plane.now) its.1 its.0
-    (c.in_ok-end_at.ensures.stopped frames
-    (subst (λ (l : List Ask). EndsTo script many frames c.args.place l crew)
+    (c.in_ok-end_at.ensures.stopped size
+    (subst (λ (l : List Ask). EndsTo script many size c.args.place l crew)
     (sym (c.in_ok-asks.ensures.asks ∙ ap (λ (k : ℕ). closing script k) mine)) e)) all
     (λ p. ap (λ (l : List ℕ). list_any (nat_eq p) l) c.meet.ensures.numbers)
     (still_received c.meetings_and_closings_send_nothing.ensures.meets

@@ -3,7 +3,6 @@ use Rattle.std.proofs.lemmas.List.{length-set}
 use Rattle.std.specs.Prelude.{slice_set}
 use Rattle.plane.specs.Planes.{places_of}
 use Rattle.live_work.specs.Minds.{IsMind}
-use Rattle.live_work.specs.Numbers.{one_worker}
 use Rattle.nfq_live.proofs.Going.{goes_on_at}
 use Rattle.nfq_live.proofs.Numbering.{zip_long, zip_put}
 use Rattle.nfq_live.proofs.Onward.{list_looks, mind_there, none_look, port_there}
@@ -77,11 +76,11 @@ loop-at-preserved g c =
           closed = alone.closed;
           feeding = alone.feeding;
         };
-        each = λ port is.
-            list_looks c.what_a_port_does_adds_up.ensures.next_look c.args.plane.now
-            c.args.script.now (places_of c.args.plane.now) c.args.self.now c.loop-at.self
+        each = λ workers port is.
+            list_looks c.what_a_port_does_adds_up.ensures.next_look workers
+            c.args.plane.now c.args.script.now (places_of c.args.plane.now) c.args.self.now c.loop-at.self
             (slice_set c.loop-at.self.ports.items c.loop-at.at c.look.new.pass)
             c.index_mut-pass.result.now c.look.new.pass goes
-            (c.in_ok-found.ensures.on one_worker) port (c.loop-at.invariant.on.each port is);
+            (c.in_ok-found.ensures.on workers) port (c.loop-at.invariant.on.each workers port is);
       };
     }

@@ -1,9 +1,14 @@
+use Rattle.std.proofs.Common.{List, subst, sym}
+use Rattle.packet_entry.specs.declared.packet.Card.{Card}
+use Rattle.made_runs.specs.Entering.{cards}
 use Rattle.plane.specs.Planes.{order_of, places_of}
-use Rattle.std.proofs.Common.{length}
+use Rattle.nfq_live.specs.Sizes.{size_of}
 use Rattle.live_runs.specs.Passes.{AreMet}
-use Rattle.nfq_live.specs.Crews.{passes_of}
+use Rattle.nfq_live.specs.Crews.{HaveMinds, passes_of}
+use Rattle.nfq_live.specs.Feeders.{AreTheSame}
 use Rattle.nfq_live.specs.Endings.{IsAtMeeting}
 use Rattle.live_work.proofs.Asked.{on_ok}
+use Rattle.nfq_live.proofs.Ran.{at_any}
 use Rattle.nfq_live.proofs.Worked.{worked}
 use Rattle.nfq_live.proofs.crew.Crew.work.Goals as goal
 
@@ -15,7 +20,7 @@ returns-clause-met g c =
     let mid = c.work_in.new.self in
     let new = c.meet.new.self in
     on_ok c.meet.result (AreMet (order_of plane) (passes_of mid) (passes_of new))
-    (IsAtMeeting script (places_of plane) (length capture.frames) 0 new)
+    (IsAtMeeting script (places_of plane) (size_of c.args.pool c.args.feeders capture) 0 new)
     (λ met. worked (record {
       all = c.ports_open_one_after_the_other.ensures.all;
       each = c.ports_open_one_after_the_other.ensures.each;
@@ -23,7 +28,18 @@ returns-clause-met g c =
       looks = c.what_a_port_does_adds_up.ensures.looks;
       meeting = c.a_stage_ends_where_all_meet.ensures.meeting;
       feeder = c.a_stage_ends_where_all_meet.ensures.feeds;
-      meets = c.the_feeder_keeps_its_time.ensures.meets;
-    }) script capture plane c.args.self.now mid new c.requires.order c.requires.crew
+      meets = c.a_place_stays_fed_by_all.ensures.meets;
+    }) c.args.pool c.args.feeders script capture plane c.args.self.now mid new c.requires.order c.requires.crew
     c.requires.ready (c.work_in.ensures.worked c.if-not-work_in.false) met
     c.meet.ensures.numbers) c.meet.ensures.met
+
+pub returns-clause-minds : goal.returns-clause-minds
+returns-clause-minds g c =
+    at_any c.meet.result (HaveMinds c.args.script.now c.meet.new.self)
+    (c.meet.ensures.minds c.args.script.now (c.work_in.ensures.minds c.if-not-work_in.false))
+
+pub returns-clause-fed : goal.returns-clause-fed
+returns-clause-fed g c =
+    at_any c.meet.result (AreTheSame c.meet.new.self.feeding.pass.fed (cards c.args.capture.now))
+    (subst (λ (l : List Card). AreTheSame l (cards c.args.capture.now)) (sym c.meet.ensures.fed)
+    (c.work_in.ensures.worked c.if-not-work_in.false).fed.cards)

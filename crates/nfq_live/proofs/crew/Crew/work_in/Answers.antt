@@ -17,8 +17,8 @@ seat_all-requires-clause-both g c =
     minds ∙ zip_long (IsMind c.args.script.now) c.args.self.now.ports.items
     c.args.self.now.minds.items c.requires.minds ∙ sym ports
 
-pub work_at_seats-requires-clause-seated : goal.work_at_seats-requires-clause-seated
-work_at_seats-requires-clause-seated g c κs within =
+pub split_and_work-requires-clause-seated : goal.split_and_work-requires-clause-seated
+split_and_work-requires-clause-seated g c κs within =
     let ports = c.args.self.now.ports.items in
     let minds = c.args.self.now.minds.items in
     seated_from c.args.script.now c.args.plane.now c.seat_all.new.seats.items ports minds
@@ -33,8 +33,8 @@ work_at_seats-requires-clause-seated g c κs within =
 pub unseat_all-well-requires-clause-room : goal.unseat_all-well-requires-clause-room
 unseat_all-well-requires-clause-room g c =
     let ports = c.args.self.now.ports.items in
-    let seats = as_many_seats c.args.script.now c.args.plane.now c.seat_all.new.seats.items
-    c.work_at_seats.new.seats.items ports c.work_at_seats.ensures.each
+    let seats = as_many_seats c.args.pool c.args.script.now c.args.plane.now c.seat_all.new.seats.items
+    c.split_and_work.new.seats.items ports c.split_and_work.ensures.each
     (passes_taken c.seat_all.new.seats.items c.args.room.seats.items
     c.replace-open_ports.result.items ports c.requires.room.no_seats c.seat_all.ensures.passes
     (ap (λ v. v.items) c.replace-open_ports.ensures.value)) in
@@ -44,8 +44,8 @@ unseat_all-well-requires-clause-room g c =
 pub unseat_all-well-requires-clause-more_room : goal.unseat_all-well-requires-clause-more_room
 unseat_all-well-requires-clause-more_room g c =
     let ports = c.args.self.now.ports.items in
-    let seats = as_many_seats c.args.script.now c.args.plane.now c.seat_all.new.seats.items
-    c.work_at_seats.new.seats.items ports c.work_at_seats.ensures.each
+    let seats = as_many_seats c.args.pool c.args.script.now c.args.plane.now c.seat_all.new.seats.items
+    c.split_and_work.new.seats.items ports c.split_and_work.ensures.each
     (passes_taken c.seat_all.new.seats.items c.args.room.seats.items
     c.replace-open_ports.result.items ports c.requires.room.no_seats c.seat_all.ensures.passes
     (ap (λ v. v.items) c.replace-open_ports.ensures.value)) in
@@ -58,52 +58,51 @@ returns-clause-crew g c =
     let plane = c.args.plane.now in
     let ports = c.args.self.now.ports.items in
     let before = c.seat_all.new.seats.items in
-    let after = c.work_at_seats.new.seats.items in
+    let after = c.split_and_work.new.seats.items in
     let back = c.unseat_all-well.new.ports.items in
     let new : Crew = record {
-      feeding = c.work_at_seats.new.feeding;
+      feeding = c.split_and_work.new.feeding;
       ports = c.unseat_all-well.new.ports;
       minds = c.unseat_all-well.new.minds;
       closed = c.args.self.now.closed;
     } in
     crew_stays c.parts_stay_whole.ensures plane c.args.self.now new
-    c.work_at_seats.ensures.fed.stays
-    (record { looks = c.work_at_seats.ensures.fed.looks.looks })
-    (stay_at_seats script plane before after ports back
+    c.split_and_work.ensures.fed.stays
+    (record { looks = c.split_and_work.ensures.fed.looks.looks })
+    (stay_at_seats c.args.pool script plane before after ports back
     (passes_taken before c.args.room.seats.items c.replace-open_ports.result.items ports
     c.requires.room.no_seats c.seat_all.ensures.passes
     (ap (λ v. v.items) c.replace-open_ports.ensures.value))
     (went_back back c.args.room.ports.items _ c.requires.room.no_ports
-    c.unseat_all-well.ensures.passes) c.work_at_seats.ensures.each) refl c.requires.crew
+    c.unseat_all-well.ensures.passes) c.split_and_work.ensures.each) refl c.requires.crew
 
 pub returns-clause-minds : goal.returns-clause-minds
 returns-clause-minds g c = λ well.
-    minds_from_seats c.args.script.now c.args.plane.now c.seat_all.new.seats.items
-    c.work_at_seats.new.seats.items c.unseat_all-well.new.ports.items
+    minds_from_seats c.args.pool c.args.script.now c.args.plane.now c.seat_all.new.seats.items
+    c.split_and_work.new.seats.items c.unseat_all-well.new.ports.items
     c.unseat_all-well.new.minds.items
     (went_back c.unseat_all-well.new.ports.items c.args.room.ports.items _
     c.requires.room.no_ports c.unseat_all-well.ensures.passes)
     (went_back c.unseat_all-well.new.minds.items c.args.room.minds.items _
-    c.requires.room.no_minds c.unseat_all-well.ensures.minds) c.work_at_seats.ensures.each
+    c.requires.room.no_minds c.unseat_all-well.ensures.minds) c.split_and_work.ensures.each
     (c.unseat_all-well.ensures.went_well (both_true c.unseat_all-well.result _ well).0)
 
 pub returns-clause-worked : goal.returns-clause-worked
 returns-clause-worked g c = λ well.
     let ports = c.args.self.now.ports.items in
     let before = c.seat_all.new.seats.items in
-    let after = c.work_at_seats.new.seats.items in
+    let after = c.split_and_work.new.seats.items in
     let back = c.unseat_all-well.new.ports.items in
     let parts = both_true c.unseat_all-well.result _ well in
     let fed_well = is_not_true _ parts.1 in
     record {
-      went_on = went_at_seats c.args.script.now c.args.plane.now before after ports back
+      went_on = went_at_seats c.args.pool c.args.script.now c.args.plane.now before after ports back
           (passes_taken before c.args.room.seats.items c.replace-open_ports.result.items ports
           c.requires.room.no_seats c.seat_all.ensures.passes
           (ap (λ v. v.items) c.replace-open_ports.ensures.value))
           (went_back back c.args.room.ports.items _ c.requires.room.no_ports
-          c.unseat_all-well.ensures.passes) c.work_at_seats.ensures.each
+          c.unseat_all-well.ensures.passes) c.split_and_work.ensures.each
           (c.unseat_all-well.ensures.went_well parts.0);
-      passed = c.work_at_seats.ensures.fed.on fed_well;
-      fed = c.work_at_seats.ensures.fed.fed fed_well;
+      fed = c.split_and_work.ensures.fed.on fed_well;
       closed = refl;
     }

@@ -5,7 +5,7 @@ use Rattle.place_rows.specs.Rows.{label_at}
 use Rattle.place_turns.specs.Places.{places_of}
 use Rattle.place_turns.proofs.AtPlace.{at_place}
 use Rattle.place_turns.proofs.CountedRows.{counted_kept}
-use Rattle.place_turns.proofs.Counting.{counted_asked, counted_look}
+use Rattle.place_turns.proofs.Counting.{counted_asked, counted_look, few_own}
 use Rattle.place_turns.proofs.Labels.{outlets_are, sender_there}
 use Rattle.place_turns.proofs.Passing.{turns_one}
 use Rattle.place_turns.proofs.Results.{ok_mapped, err_mapped, either_way}
@@ -35,7 +35,8 @@ invariant_of-self g c =
     (λ counts is. either_way c.ask.result _ _ _ c.ask.ensures.turn c.ask.ensures.err
     (λ errno h. counted_asked c.own_entries_grow_by_each_turn.ensures.sent c.args.port c.args.call
     c.args.request (view_of c.index_mut.result.now) (view_of c.ask.new.pass) errno
-    c.ask.new.handed.items counts c.index_mut.result.now.placed h is)
+    c.ask.new.handed.items counts c.index_mut.result.now.placed h
+    (few_own (view_of c.ask.new.pass) c.ask.new.pass.placed c.ask.ensures.short) is)
     (λ h. counted_look c.own_entries_grow_by_each_turn.ensures.sent
     (view_of c.index_mut.result.now) (view_of c.ask.new.pass) counts
     c.index_mut.result.now.placed h.0 is))

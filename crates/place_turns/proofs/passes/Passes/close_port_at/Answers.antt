@@ -4,7 +4,7 @@ use Rattle.place_rows.specs.Rows.{label_at}
 use Rattle.place_turns.specs.Passes.{Shuts}
 use Rattle.place_turns.proofs.AtPlace.{at_place}
 use Rattle.place_turns.proofs.CountedRows.{counted_kept}
-use Rattle.place_turns.proofs.Counting.{counted_closed}
+use Rattle.place_turns.proofs.Counting.{counted_closed, few_own}
 use Rattle.place_turns.proofs.Labels.{outlets_are}
 use Rattle.place_turns.proofs.Passing.{turns_one}
 use Rattle.place_turns.proofs.passes.Passes.close_port_at.Goals as goal
@@ -36,7 +36,9 @@ invariant_of-self g c =
     c.index_mut.ensures.value
     (λ counts is. counted_closed c.own_entries_grow_by_each_turn.ensures.sent c.args.port
     (view_of c.index_mut.result.now) (view_of c.close_port.new.pass) c.close_port.result counts
-    c.index_mut.result.now.placed c.close_port.ensures.turn is)
+    c.index_mut.result.now.placed c.close_port.ensures.turn
+    (few_own (view_of c.close_port.new.pass) c.close_port.new.pass.placed
+    c.close_port.ensures.short) is)
 
 pub returns-clause-of : goal.returns-clause-of
 returns-clause-of g c =

@@ -4,7 +4,7 @@ use Rattle.locked_place.specs.Turns.{GoesDownIn, LooksOn}
 use Rattle.place_rows.specs.Rows.{label_at}
 use Rattle.place_turns.proofs.AtPlace.{at_place}
 use Rattle.place_turns.proofs.CountedRows.{counted_kept}
-use Rattle.place_turns.proofs.Counting.{counted_down, counted_look}
+use Rattle.place_turns.proofs.Counting.{counted_down, counted_look, few_own}
 use Rattle.place_turns.proofs.Labels.{outlets_are}
 use Rattle.place_turns.proofs.Passing.{turns_one}
 use Rattle.place_turns.proofs.Results.{ok_mapped, err_mapped, either_way}
@@ -39,7 +39,9 @@ invariant_of-self g c =
     c.device_down.ensures.err
     (λ count h. counted_down c.own_entries_grow_by_each_turn.ensures.sent c.args.device
     (view_of c.index_mut.result.now) (view_of c.device_down.new.pass) count counts
-    c.index_mut.result.now.placed h is)
+    c.index_mut.result.now.placed h
+    (few_own (view_of c.device_down.new.pass) c.device_down.new.pass.placed
+    c.device_down.ensures.short) is)
     (λ h. counted_look c.own_entries_grow_by_each_turn.ensures.sent
     (view_of c.index_mut.result.now) (view_of c.device_down.new.pass) counts
     c.index_mut.result.now.placed h is))

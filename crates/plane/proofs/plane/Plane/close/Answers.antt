@@ -1,4 +1,4 @@
-use Rattle.std.proofs.Common.{◌≤◌, ◌∙◌, ◌++◌, List, sym, ap, subst, rules}
+use Rattle.std.proofs.Common.{◌≤◌, ◌∙◌, ◌++◌, ◌&&◌, List, sym, ap, subst, rules}
 use Rattle.std.proofs.Common.{map}
 use Rattle.mailbox.specs.Roles.{AreDistinct}
 use Rattle.place_rows.specs.Hearing as row
@@ -8,6 +8,7 @@ use Rattle.place_rows.specs.declared.ending.PortReceiver.{PortReceiver}
 use Rattle.place_turns.specs.Passes.{PassesView}
 use Rattle.plane.specs.Closings.{feeder_holds, port_holds}
 use Rattle.plane.specs.Passes.{FeederView, IsPortOf, PortView}
+use Rattle.plane.specs.Past.{lost_by}
 use Rattle.plane.specs.Planes.{setting_of}
 use Rattle.plane.specs.Remaining.{log_in}
 use Rattle.plane.proofs.Finishing.{rows_of_ports, balanced_all, mailboxes_all}
@@ -101,8 +102,10 @@ end_rows-requires-clause-whole c =
 
 pub end_rows-requires-clause-mailboxes : goal.end_rows-requires-clause-mailboxes
 end_rows-requires-clause-mailboxes c =
-    let both =
-    both_true c.join_ports-first.result c.join_closed-second.result (search rules) in
+    let all_kept =
+    both_true (c.join_ports-first.result && c.join_closed-second.result)
+    c.lost_by_feeder-lost.result.1 (search rules) in
+    let both = both_true c.join_ports-first.result c.join_closed-second.result all_kept.0 in
     let added =
     both_added c.args.ports c.args.closed _ _ _ (c.join_ports-first.ensures.kept both.0)
     (c.join_closed-second.ensures.kept both.1) in
@@ -114,8 +117,10 @@ end_rows-requires-clause-mailboxes c =
 
 pub end_rows-requires-clause-apart : goal.end_rows-requires-clause-apart
 end_rows-requires-clause-apart c =
-    let both =
-    both_true c.join_ports-first.result c.join_closed-second.result (search rules) in
+    let all_kept =
+    both_true (c.join_ports-first.result && c.join_closed-second.result)
+    c.lost_by_feeder-lost.result.1 (search rules) in
+    let both = both_true c.join_ports-first.result c.join_closed-second.result all_kept.0 in
     let added =
     both_added c.args.ports c.args.closed _ _ _ (c.join_ports-first.ensures.kept both.0)
     (c.join_closed-second.ensures.kept both.1) in
@@ -146,14 +151,17 @@ returns c =
     ∙ ap (λ (p : FeederView). p.trail.known) c.feeder.view_is)
     c.join_ports-first.ensures.passes c.join_closed-second.ensures.passes
     c.join_ports-first.ensures.joined c.join_closed-second.ensures.joined c.requires.whole in
-    let both =
-    both_true c.join_ports-first.result c.join_closed-second.result (search rules) in
+    let all_kept =
+    both_true (c.join_ports-first.result && c.join_closed-second.result)
+    c.lost_by_feeder-lost.result.1 (search rules) in
+    let both = both_true c.join_ports-first.result c.join_closed-second.result all_kept.0 in
     let added =
     both_added c.args.ports c.args.closed _ _ _ (c.join_ports-first.ensures.kept both.0)
     (c.join_closed-second.ensures.kept both.1) in
     closed_so c.args.self c.args.feeder ps _ c.join_closed-second.new.remains _ _ _ c.new.ensures.items
     c.new-2.ensures.items
-    (ap (λ (p : PassesView). p.trail.lost) c.passes.view_is
+    (c.lost_by_feeder-lost.ensures all_kept.1
+    ∙ ap (λ (p : PassesView). lost_by c.feeder.inside.past ++ p.trail.lost) c.passes.view_is
     ∙ ap (λ (p : FeederView). p.trail.lost) c.feeder.view_is) added
     (c.in_ok-entries.ensures (setting_of c.args.self) (feeder_holds c.args.feeder)
     (map port_holds ps) (balanced_all c.args.self c.args.feeder ps c.requires.feeder each)

@@ -1,6 +1,7 @@
-use Rattle.std.proofs.Common.{List, sym, subst}
+use Rattle.std.proofs.Common.{List, ◌++◌, sym, subst, ap, refl}
 use Rattle.histories.specs.declared.histories.Lost.{Lost}
 use Rattle.place_rows.specs.Shares.{IsBalanced}
+use Rattle.plane.specs.Past.{fed_by, lost_by}
 use Rattle.plane.specs.Planes.{setting_of}
 use Rattle.plane.proofs.Flushed.{down_one}
 use Rattle.plane.proofs.Parts.{down_parts}
@@ -15,12 +16,22 @@ returns-clause-pass g c =
     record {
       of = c.device_down.ensures.of;
       balanced = subst (λ (lost : List Lost). IsBalanced (setting_of c.args.self.now)
-          c.pass.inside.fed.items c.device_down.new.self.trail.known lost)
+          (fed_by c.pass.inside.past ++ c.pass.inside.fed.items)
+          c.device_down.new.self.trail.known (lost_by c.pass.inside.past ++ lost))
           (sym c.device_down.ensures.lost.0)
           (down_one c.rows_stay_balanced.ensures.down c.passes_stay_balanced.ensures.looked
-          (setting_of c.args.self.now) c.args.device c.pass.inside.fed.items _ _ _ _
+          (setting_of c.args.self.now) c.args.device
+          (fed_by c.pass.inside.past ++ c.pass.inside.fed.items) _ _ _ _
           c.device_down.result c.device_down.ensures.turn c.device_down.ensures.err is.balanced);
     }
+
+pub returns-clause-same : goal.returns-clause-same
+returns-clause-same g c =
+    rw (← c.pass.view_is) (
+      refl,
+      ap (λ (lost : List Lost). lost_by c.pass.inside.past ++ lost)
+          c.device_down.ensures.lost.0,
+    )
 
 pub returns-clause-parts : goal.returns-clause-parts
 returns-clause-parts g c =

@@ -1,4 +1,6 @@
-use Rattle.std.proofs.Common.{ℕ, List, arith, ap, ◌∙◌, ◌++◌}
+use Rattle.std.proofs.Common.{ℕ, List, arith, ap, refl, ◌∙◌, ◌++◌}
+use Rattle.histories.specs.declared.histories.Lost.{Lost}
+use Rattle.plane.specs.Past.{fed_by, lost_by}
 use Rattle.plane.specs.Planes.{places_of, setting_of}
 use Rattle.plane.proofs.Texts.{listed_balanced, listed_so}
 use Rattle.plane.proofs.plane.Plane.listing.Goals as goal
@@ -11,8 +13,10 @@ returns-in_err-lines-clause-pass g c =
     let is = rw (← c.pass.view_is) at c.requires.pass in
     record {
       of = c.lines.ensures.of;
-      balanced = listed_balanced (setting_of c.args.self.now) c.pass.inside.fed.items _ _ _ _
-          c.lines.ensures.kept c.lines.ensures.lost is.balanced;
+      balanced = listed_balanced (setting_of c.args.self.now)
+          (fed_by c.pass.inside.past ++ c.pass.inside.fed.items) _ _ _ _ c.lines.ensures.kept
+          (ap (λ (lost : List Lost). lost_by c.pass.inside.past ++ lost) c.lines.ensures.lost)
+          is.balanced;
     }
 
 pub returns-in_err-text-clause-pass : goal.returns-in_err-text-clause-pass
@@ -20,8 +24,10 @@ returns-in_err-text-clause-pass g c =
     let is = rw (← c.pass.view_is) at c.requires.pass in
     record {
       of = c.lines.ensures.of;
-      balanced = listed_balanced (setting_of c.args.self.now) c.pass.inside.fed.items _ _ _ _
-          c.lines.ensures.kept c.lines.ensures.lost is.balanced;
+      balanced = listed_balanced (setting_of c.args.self.now)
+          (fed_by c.pass.inside.past ++ c.pass.inside.fed.items) _ _ _ _ c.lines.ensures.kept
+          (ap (λ (lost : List Lost). lost_by c.pass.inside.past ++ lost) c.lines.ensures.lost)
+          is.balanced;
     }
 
 pub returns-in_err-extend_from_slice-clause-pass :
@@ -30,8 +36,10 @@ returns-in_err-extend_from_slice-clause-pass g c =
     let is = rw (← c.pass.view_is) at c.requires.pass in
     record {
       of = c.lines.ensures.of;
-      balanced = listed_balanced (setting_of c.args.self.now) c.pass.inside.fed.items _ _ _ _
-          c.lines.ensures.kept c.lines.ensures.lost is.balanced;
+      balanced = listed_balanced (setting_of c.args.self.now)
+          (fed_by c.pass.inside.past ++ c.pass.inside.fed.items) _ _ _ _ c.lines.ensures.kept
+          (ap (λ (lost : List Lost). lost_by c.pass.inside.past ++ lost) c.lines.ensures.lost)
+          is.balanced;
     }
 
 pub returns-clause-pass : goal.returns-clause-pass
@@ -39,8 +47,10 @@ returns-clause-pass g c =
     let is = rw (← c.pass.view_is) at c.requires.pass in
     record {
       of = c.lines.ensures.of;
-      balanced = listed_balanced (setting_of c.args.self.now) c.pass.inside.fed.items _ _ _ _
-          c.lines.ensures.kept c.lines.ensures.lost is.balanced;
+      balanced = listed_balanced (setting_of c.args.self.now)
+          (fed_by c.pass.inside.past ++ c.pass.inside.fed.items) _ _ _ _ c.lines.ensures.kept
+          (ap (λ (lost : List Lost). lost_by c.pass.inside.past ++ lost) c.lines.ensures.lost)
+          is.balanced;
     }
 
 pub returns-clause-listed : goal.returns-clause-listed
@@ -51,3 +61,23 @@ returns-clause-listed g c =
     c.in_ok-lines.ensures.lines c.in_ok-text.ensures
     (c.in_ok-extend_from_slice.ensures.items
     ∙ ap (λ (t : List ℕ). c.args.out.now.items ++ t) c.deref.ensures.value))
+
+pub returns-in_err-lines-clause-same : goal.returns-in_err-lines-clause-same
+returns-in_err-lines-clause-same g c =
+    rw (← c.pass.view_is)
+    (refl, ap (λ (lost : List Lost). lost_by c.pass.inside.past ++ lost) c.lines.ensures.lost)
+
+pub returns-in_err-text-clause-same : goal.returns-in_err-text-clause-same
+returns-in_err-text-clause-same g c =
+    rw (← c.pass.view_is)
+    (refl, ap (λ (lost : List Lost). lost_by c.pass.inside.past ++ lost) c.lines.ensures.lost)
+
+pub returns-in_err-extend_from_slice-clause-same : goal.returns-in_err-extend_from_slice-clause-same
+returns-in_err-extend_from_slice-clause-same g c =
+    rw (← c.pass.view_is)
+    (refl, ap (λ (lost : List Lost). lost_by c.pass.inside.past ++ lost) c.lines.ensures.lost)
+
+pub returns-clause-same : goal.returns-clause-same
+returns-clause-same g c =
+    rw (← c.pass.view_is)
+    (refl, ap (λ (lost : List Lost). lost_by c.pass.inside.past ++ lost) c.lines.ensures.lost)

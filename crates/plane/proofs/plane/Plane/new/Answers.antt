@@ -9,7 +9,8 @@ use Rattle.place_rows.specs.Lists.{Every}
 use Rattle.place_rows.specs.Rows.{label_at, lock_of}
 use Rattle.plane.specs.Filling.{IsReady}
 use Rattle.plane.proofs.Splitting.{as_many, zero_counted, unused_own}
-use Rattle.plane.proofs.Beginning.{all_unheard, first_unused, first_whole, opened_so}
+use Rattle.plane.proofs.Beginning.{all_unheard, dealt_for, first_unused, first_whole}
+use Rattle.plane.proofs.Beginning.{opened_so}
 use Rattle.plane.proofs.plane.Plane.new.Goals as goal
 
 pub prepare_all-requires : goal.prepare_all-requires
@@ -26,7 +27,7 @@ fill_all-port_passes-requires-clause-ready c =
       c.args.ports.now,
       c.in_ok-locks.ensures.row,
       c.in_ok-locks.ensures.many ∙ sym c.in_ok-board.ensures.places,
-      c.in_ok-mailboxes.ensures.dealt.no_others,
+      dealt_for _ _ _ _ c.in_ok-mailboxes.ensures.dealt,
       subst (λ n. Every (IsReady n c.args.ports.now) c.in_ok-unfilled.unfilled.items) (sym c.in_ok-board.ensures.places)
           c.in_ok-unfilled.ensures.ready,
     )
@@ -42,7 +43,7 @@ passes_of-requires c =
     (c.fill_all-port_passes.ensures.unused (first_unused _ c.in_ok-locks.ensures.first)).0 in
     record {
       counted = zero_counted outlets c.args.ports.now (map view_of row) _
-          c.in_ok-mailboxes.ensures.dealt.no_others all.known
+          (dealt_for _ _ _ _ c.in_ok-mailboxes.ensures.dealt) all.known
           (unused_own (map view_of row) unused)
           (c.in_ok-sent.ensures.many ∙ sym c.in_ok-locks.ensures.many
           ∙ sym (as_many label_of (label_at outlets) _ row all) ∙ sym (length-map row view_of))

@@ -1,0 +1,15 @@
+//! One of several feeders: the frames of its share, fed one after the other, and the devices that
+//! go down after each.
+#![tactic(auto)]
+
+mod falling;
+mod feeder;
+mod feeding;
+mod laws;
+mod share;
+#[cfg(test)]
+mod tests;
+
+pub use feeder::Feeder;
+pub use laws::each_frame_is_one_shares;
+pub use share::Share;

@@ -1,0 +1,187 @@
+use Rattle.std.proofs.Common.{◌≡◌, ◌≤◌, ◌<◌, ◌+◌, ◌∙◌, ◌++◌, [], List, ap, arith, false, length, refl, subst}
+use Rattle.std.proofs.Common.{sym}
+use Rattle.packet_entry.specs.declared.packet.Card.{Card}
+use Rattle.plane.specs.Passes.{FeederView}
+use Rattle.plane.specs.Planes.{places_of}
+use Rattle.feeder_set.specs.Shares.{FeederState, IsNextOf}
+use Rattle.feeder_set.specs.Steps.{PassesNext, Steps}
+use Rattle.live_work.specs.Feeding.{shares_in}
+use Rattle.live_work.specs.Sharing.{SharePasses, share_cards}
+use Rattle.live_work.proofs.Kept.{feeder_here, feeder_stays}
+use Rattle.live_work.proofs.Passed.{fed_all, fed_next, few_more, left_cards, left_first, next_within}
+use Rattle.live_work.proofs.Shared.{IsUpTo, ShareLaws, up_to_first, up_to_last, up_to_next}
+use Rattle.live_work.proofs.feeding.feed_share.Goals as goal
+
+pub loop-step-init : goal.loop-step-init
+loop-step-init g c =
+    let s = c.args.share in
+    let first = c.new-feeder.ensures.first in
+    let share = ap (λ (f : FeederState). f.share) first in
+    let next = ap (λ (f : FeederState). f.next) first in
+    let none = ap (λ (l : List Card). length l) c.requires.none in
+    record {
+      stays = feeder_here c.args.plane.now c.args.feeding.now.pass c.requires.pass;
+      looks = c.requires.looks;
+      share = share;
+      next = c.new-feeder.ensures.next;
+      many = omega (arith, next);
+      near = omega (arith, next, c.requires.number);
+      few = omega (arith, none);
+      fed = ap (λ (l : List Card). l ++ left_cards s c.args.capture.now c.new-feeder.result.next)
+          c.requires.none
+          ∙ ap (λ n. left_cards s c.args.capture.now n) next
+          ∙ left_first c.each_frame_is_one_shares.ensures.first s c.args.capture.now
+          c.requires.number;
+      up = subst (λ n. IsUpTo c.args.script.now (places_of c.args.plane.now) s n
+          (shares_in c.args.feeding.now.pass) (shares_in c.args.feeding.now.pass)) (sym next)
+          (up_to_first (record {
+            begins = c.a_feeder_keeps_its_share.ensures.begins;
+            waits = c.a_feeder_keeps_its_share.ensures.waits;
+            feeds = c.a_feeder_keeps_its_share.ensures.feeds;
+            falls = c.a_feeder_keeps_its_share.ensures.falls;
+            fed = c.feeders_feed_their_passes.ensures.feeds;
+            fell = c.feeders_feed_their_passes.ensures.falls;
+            grows = c.the_feeder_keeps_its_time.ensures.fed;
+            no_place = c.the_feeder_keeps_its_time.ensures.no_place;
+            next_place = c.the_feeder_keeps_its_time.ensures.next_place;
+            first = c.lines_of_a_share_add_up.ensures.first;
+            on = c.lines_of_a_share_add_up.ensures.on;
+            none = c.lines_of_a_share_add_up.ensures.none;
+            more = c.lines_of_a_share_add_up.ensures.more;
+            all = c.lines_of_a_share_add_up.ensures.all;
+          }) c.args.script.now (places_of c.args.plane.now) s (shares_in c.args.feeding.now.pass)
+          c.requires.number);
+    }
+
+pub loop-step-preserved : goal.loop-step-preserved
+loop-step-preserved g c =
+    let plane = c.args.plane.now in
+    let script = c.args.script.now in
+    let capture = c.args.capture.now in
+    let s = c.args.share in
+    let was = c.loop-step.feeder in
+    let now = c.step.new.self in
+    let old = c.loop-step.feeding.pass in
+    let new = c.step.new.pass in
+    let goes : PassesNext plane script capture was now old new =
+    subst (λ b. Steps plane script capture was now old new b) c.if-not-branch.false
+    c.in_ok-step.ensures.stepped in
+    let within = next_within plane script capture was now s old new c.loop-step.invariant.share
+    goes c.loop-step.invariant.next in
+    record {
+      stays = feeder_stays plane c.args.feeding.now.pass old new c.loop-step.invariant.stays
+          c.step.ensures.pass c.step.ensures.parts;
+      looks = record { looks = c.hold_back.ensures.looks };
+      share = within.0;
+      next = c.step.ensures.next;
+      many = omega (arith, within.2, c.loop-step.invariant.many, c.requires.feeders.0);
+      near = omega (arith, within.1, within.2);
+      few = few_more plane script capture was now old new c.loop-step._step goes
+          c.loop-step.invariant.few;
+      fed = fed_next c.each_frame_is_one_shares.ensures.own
+          c.each_frame_is_one_shares.ensures.between plane script capture s was now old new
+          c.loop-step.invariant.share c.loop-step.invariant.next goes c.loop-step.invariant.fed;
+      up = up_to_next (record {
+        begins = c.a_feeder_keeps_its_share.ensures.begins;
+        waits = c.a_feeder_keeps_its_share.ensures.waits;
+        feeds = c.a_feeder_keeps_its_share.ensures.feeds;
+        falls = c.a_feeder_keeps_its_share.ensures.falls;
+        fed = c.feeders_feed_their_passes.ensures.feeds;
+        fell = c.feeders_feed_their_passes.ensures.falls;
+        grows = c.the_feeder_keeps_its_time.ensures.fed;
+        no_place = c.the_feeder_keeps_its_time.ensures.no_place;
+        next_place = c.the_feeder_keeps_its_time.ensures.next_place;
+        first = c.lines_of_a_share_add_up.ensures.first;
+        on = c.lines_of_a_share_add_up.ensures.on;
+        none = c.lines_of_a_share_add_up.ensures.none;
+        more = c.lines_of_a_share_add_up.ensures.more;
+        all = c.lines_of_a_share_add_up.ensures.all;
+      }) plane script capture was now s (shares_in c.args.feeding.now.pass) old new
+          c.loop-step.invariant.share c.requires.number c.loop-step.invariant.stays.of goes
+          c.step.ensures.pass c.loop-step.invariant.up;
+    }
+
+pub returns-then-not-branch-clause-on : goal.returns-then-not-branch-clause-on
+returns-then-not-branch-clause-on g c =
+    let plane = c.args.plane.now in
+    let capture = c.args.capture.now in
+    let frames = length capture.frames in
+    let s = c.args.share in
+    let none : Steps plane c.args.script.now capture c.loop-step.feeder c.step.new.self
+    c.loop-step.feeding.pass c.step.new.pass false =
+    subst (λ b. Steps plane c.args.script.now capture c.loop-step.feeder c.step.new.self
+    c.loop-step.feeding.pass c.step.new.pass b) c.if-not-branch.true
+    c.in_ok-step.ensures.stepped in
+    subst (λ (p : FeederView). SharePasses c.args.script.now (places_of plane) s frames
+    (shares_in c.args.feeding.now.pass) (shares_in p)) (sym none.1.1)
+    (up_to_last (record {
+      begins = c.a_feeder_keeps_its_share.ensures.begins;
+      waits = c.a_feeder_keeps_its_share.ensures.waits;
+      feeds = c.a_feeder_keeps_its_share.ensures.feeds;
+      falls = c.a_feeder_keeps_its_share.ensures.falls;
+      fed = c.feeders_feed_their_passes.ensures.feeds;
+      fell = c.feeders_feed_their_passes.ensures.falls;
+      grows = c.the_feeder_keeps_its_time.ensures.fed;
+      no_place = c.the_feeder_keeps_its_time.ensures.no_place;
+      next_place = c.the_feeder_keeps_its_time.ensures.next_place;
+      first = c.lines_of_a_share_add_up.ensures.first;
+      on = c.lines_of_a_share_add_up.ensures.on;
+      none = c.lines_of_a_share_add_up.ensures.none;
+      more = c.lines_of_a_share_add_up.ensures.more;
+      all = c.lines_of_a_share_add_up.ensures.all;
+    }) c.args.script.now (places_of plane) frames c.loop-step.feeder.next s
+    (shares_in c.args.feeding.now.pass) (shares_in c.loop-step.feeding.pass) c.requires.number
+    none.0 c.loop-step.invariant.near c.loop-step.invariant.up)
+
+pub returns-then-not-branch-clause-fed : goal.returns-then-not-branch-clause-fed
+returns-then-not-branch-clause-fed g c =
+    let plane = c.args.plane.now in
+    let capture = c.args.capture.now in
+    let none : Steps plane c.args.script.now capture c.loop-step.feeder c.step.new.self
+    c.loop-step.feeding.pass c.step.new.pass false =
+    subst (λ b. Steps plane c.args.script.now capture c.loop-step.feeder c.step.new.self
+    c.loop-step.feeding.pass c.step.new.pass b) c.if-not-branch.true
+    c.in_ok-step.ensures.stepped in
+    ap (λ (p : FeederView). p.fed) none.1.1
+    ∙ fed_all c.args.share capture c.loop-step.feeder.next c.loop-step.feeding.pass.fed none.0
+    c.loop-step.invariant.fed
+
+pub returns-clause-on : goal.returns-clause-on
+returns-clause-on g c =
+    let plane = c.args.plane.now in
+    let frames = length c.args.capture.now.frames in
+    up_to_last (record {
+      begins = c.a_feeder_keeps_its_share.ensures.begins;
+      waits = c.a_feeder_keeps_its_share.ensures.waits;
+      feeds = c.a_feeder_keeps_its_share.ensures.feeds;
+      falls = c.a_feeder_keeps_its_share.ensures.falls;
+      fed = c.feeders_feed_their_passes.ensures.feeds;
+      fell = c.feeders_feed_their_passes.ensures.falls;
+      grows = c.the_feeder_keeps_its_time.ensures.fed;
+      no_place = c.the_feeder_keeps_its_time.ensures.no_place;
+      next_place = c.the_feeder_keeps_its_time.ensures.next_place;
+      first = c.lines_of_a_share_add_up.ensures.first;
+      on = c.lines_of_a_share_add_up.ensures.on;
+      none = c.lines_of_a_share_add_up.ensures.none;
+      more = c.lines_of_a_share_add_up.ensures.more;
+      all = c.lines_of_a_share_add_up.ensures.all;
+    }) c.args.script.now (places_of plane) frames c.loop-step.feeder.next c.args.share
+    (shares_in c.args.feeding.now.pass) (shares_in c.loop-step.feeding.pass) c.requires.number
+    (omega (
+      arith,
+      c.loop-step-test.false,
+      c.len-step-end.ensures,
+      c.loop-step.auto._step-end,
+      c.loop-step.invariant.many,
+    )) c.loop-step.invariant.near c.loop-step.invariant.up
+
+pub returns-clause-fed : goal.returns-clause-fed
+returns-clause-fed g c =
+    fed_all c.args.share c.args.capture.now c.loop-step.feeder.next c.loop-step.feeding.pass.fed
+    (omega (
+      arith,
+      c.loop-step-test.false,
+      c.len-step-end.ensures,
+      c.loop-step.auto._step-end,
+      c.loop-step.invariant.many,
+    )) c.loop-step.invariant.fed

@@ -1,0 +1,105 @@
+use Rattle.std.proofs.Common.{◌≡◌, ◌++◌, refl, rules}
+use Rattle.made_runs.specs.Entering.{cards}
+use Rattle.place_rows.specs.Lists.{flat}
+use Rattle.plane.specs.Closings.{IsClosed}
+use Rattle.plane.specs.Planes.{places_of}
+use Rattle.nfq_live.specs.Run.{setting_for, tables_of}
+use Rattle.nfq_live.specs.Sizes.{size_of}
+use Rattle.live_work.proofs.Kept.{some_place}
+use Rattle.nfq_live.proofs.Ran.{closed_by, closed_run, live_run, no_zero, none_opened, opened_crew}
+use Rattle.nfq_live.proofs.Ran.{short_for, sound_for}
+use Rattle.nfq_live.proofs.run.run_pools.Goals as goal
+
+pub go-outcome-requires-clause-crew : goal.go-outcome-requires-clause-crew
+go-outcome-requires-clause-crew g c κs within =
+    opened_crew c.args.script.now (setting_for c.args.script.now (tables_of c.args.opened))
+    c.args.opened.plane c.args.opened.feeder c.args.opened.ports c.args.opened.gauge
+    c.requires.opened c.opened_passes_are_new.ensures.all _ _
+    (no_zero c.args.script.now.ports c.ports-ports.ensures.facts.port_numbers) refl refl
+    (record {
+      feeding_is = refl;
+      ports_are = c.into_vec.ensures;
+      closed_are = c.new-2.ensures.items;
+    })
+
+pub go-outcome-requires-clause-order : goal.go-outcome-requires-clause-order
+go-outcome-requires-clause-order g c κs within = c.requires.opened.order_is
+
+pub go-outcome-requires-clause-none : goal.go-outcome-requires-clause-none
+go-outcome-requires-clause-none g c κs within =
+    none_opened c.args.script.now (setting_for c.args.script.now (tables_of c.args.opened))
+    c.args.opened.plane c.args.opened.feeder c.args.opened.ports c.args.opened.gauge
+    c.requires.opened c.opened_passes_are_new.ensures.new
+    c.ports_open_one_after_the_other.ensures.none c.the_feeder_keeps_its_time.ensures.begins _ _
+    refl
+    (record {
+      feeding_is = refl;
+      ports_are = c.into_vec.ensures;
+      closed_are = c.new-2.ensures.items;
+    })
+
+pub returns-clause-made : goal.returns-clause-made
+returns-clause-made g c =
+    let script = c.args.script.now in
+    let plane = c.args.opened.plane in
+    let crew = c.go-outcome.new.crew in
+    let h = c.in_ok-histories.histories in
+    let are_open : c.from_vec-ports.result ≡ crew.ports.items = search rules in
+    let are_shut : c.from_vec.result ≡ crew.closed.items = search rules in
+    let closed : IsClosed plane crew.feeding.pass (crew.ports.items ++ crew.closed.items) h =
+    closed_by plane crew.feeding.pass c.from_vec-ports.result crew.ports.items
+    c.from_vec.result crew.closed.items h are_open are_shut c.in_ok-histories.ensures in
+    let run = closed_run c.a_closed_plane_has_all_that_its_passes_did.ensures plane script
+    (setting_for script (tables_of c.args.opened)) crew h c.requires.opened.order_is
+    c.requires.opened.setting refl c.go-outcome.ensures.crew closed
+    c.queues_are_short.ensures in
+    live_run c.nothing_is_sent_to_a_closed_port.ensures.at_last
+    c.a_run_with_threads_is_made_by_its_script.ensures.made_by_all c.args.pool c.args.feeders script (places_of plane)
+    c.args.capture.now crew h (some_place plane) c.in_ok-outcome.ensures.ended
+    c.in_ok-outcome.ensures.received run
+
+pub returns-clause-sound : goal.returns-clause-sound
+returns-clause-sound g c =
+    let script = c.args.script.now in
+    let plane = c.args.opened.plane in
+    let crew = c.go-outcome.new.crew in
+    let h = c.in_ok-histories.histories in
+    let are_open : c.from_vec-ports.result ≡ crew.ports.items = search rules in
+    let are_shut : c.from_vec.result ≡ crew.closed.items = search rules in
+    let closed : IsClosed plane crew.feeding.pass (crew.ports.items ++ crew.closed.items) h =
+    closed_by plane crew.feeding.pass c.from_vec-ports.result crew.ports.items
+    c.from_vec.result crew.closed.items h are_open are_shut c.in_ok-histories.ensures in
+    sound_for plane (setting_for script (tables_of c.args.opened)) crew.feeding.pass
+    (crew.ports.items ++ crew.closed.items) h (cards c.args.capture.now) closed
+    c.requires.opened.setting c.in_ok-outcome.ensures.fed
+
+pub returns-clause-short : goal.returns-clause-short
+returns-clause-short g c =
+    let script = c.args.script.now in
+    let plane = c.args.opened.plane in
+    let crew = c.go-outcome.new.crew in
+    let h = c.in_ok-histories.histories in
+    let are_open : c.from_vec-ports.result ≡ crew.ports.items = search rules in
+    let are_shut : c.from_vec.result ≡ crew.closed.items = search rules in
+    let closed : IsClosed plane crew.feeding.pass (crew.ports.items ++ crew.closed.items) h =
+    closed_by plane crew.feeding.pass c.from_vec-ports.result crew.ports.items
+    c.from_vec.result crew.closed.items h are_open are_shut c.in_ok-histories.ensures in
+    let run = closed_run c.a_closed_plane_has_all_that_its_passes_did.ensures plane script
+    (setting_for script (tables_of c.args.opened)) crew h c.requires.opened.order_is
+    c.requires.opened.setting refl c.go-outcome.ensures.crew closed
+    c.queues_are_short.ensures in
+    short_for c.a_run_with_threads_is_made_by_its_script.ensures.short script (places_of plane)
+    (size_of c.args.pool c.args.feeders c.args.capture.now) crew h (some_place plane) c.in_ok-outcome.ensures.ended run
+
+pub returns-clause-grouped : goal.returns-clause-grouped
+returns-clause-grouped g c =
+    let script = c.args.script.now in
+    let plane = c.args.opened.plane in
+    let crew = c.go-outcome.new.crew in
+    let h = c.in_ok-histories.histories in
+    let are_open : c.from_vec-ports.result ≡ crew.ports.items = search rules in
+    let are_shut : c.from_vec.result ≡ crew.closed.items = search rules in
+    let closed : IsClosed plane crew.feeding.pass (crew.ports.items ++ crew.closed.items) h =
+    closed_by plane crew.feeding.pass c.from_vec-ports.result crew.ports.items
+    c.from_vec.result crew.closed.items h are_open are_shut c.in_ok-histories.ensures in
+    (flat closed.entries.lists, closed.entries.grouped)
