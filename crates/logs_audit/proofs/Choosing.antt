@@ -35,7 +35,8 @@ use Rattle.log_walks.specs.Telling.{AreKnown, IsKeyed, IsKnown, IsToldBy, IsWell
 use Rattle.log_walks.specs.Telling.{errno_of}
 use Rattle.log_walks.specs.Telling.{told_errno}
 use Rattle.log_walks.specs.Walking.{IsWalked, Known, ended, kinds_at}
-use Rattle.logs_audit.specs.Judged.{AllHaveKinds, AllOnlyOnes, AreJudged, ArePortsWalked, AreTold}
+use Rattle.logs_audit.specs.Judged.{AllHaveKinds, AllOnlyOnes, AreJudgedByPort, ArePortsWalked}
+use Rattle.logs_audit.specs.Judged.{AreTold}
 use Rattle.logs_audit.specs.Judged.{IsPortWalked, IsWalkable}
 use Rattle.logs_audit.specs.PortWalks.{timed_of}
 use Rattle.logs_audit.specs.Stays.{known_in}
@@ -240,7 +241,8 @@ module _ (script : ScriptValue) (h : Histories) (is : IsScript script) where
       ∙ ap (λ xs. p ∷ xs) (same_ports ps ks walked.1)
 
   pub judged : TellsLaw → KindsLaw → AllOnlyOnes h.entries → ArePorts script.ports →
-      (ks : List PortKinds) → ArePortsWalked script h script.ports ks → AreJudged script h ks
+      (ks : List PortKinds) → ArePortsWalked script h script.ports ks →
+      AreJudgedByPort script h ks
   judged tells kinds ones are ks walked =
       let chosen = choose tells script.ports ks walked in
       record {

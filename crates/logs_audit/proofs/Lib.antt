@@ -7,3 +7,4 @@ pub mod Placed
 pub mod Keeping
 pub mod Noticed
 pub mod Single
+pub mod Dealing

@@ -1,22 +1,61 @@
 -- The notice of a packet, as a port reads it.
 use Rattle.std.proofs.Common.{◌≡◌, ◌<◌, ◌≤◌, ◌^◌, ◌-◌, ◌∙◌, ℕ, List, [], length, Option, Some, None}
-use Rattle.std.proofs.Common.{Bool}
+use Rattle.std.proofs.Common.{Bool, ◌∷◌, drop, inl, inr}
 use Rattle.std.proofs.Common.{true, false, refl, sym, ap, take, cond, arith, subst}
-use Rattle.std.specs.Prelude.{◌&&◌, ◌==◌, IfSome, option_map, min, slice_range, unwrap_or, nat_lt}
+use Rattle.std.specs.Prelude.{◌&&◌, ◌||◌, ◌==◌, IfSome, option_map, min, slice_range, unwrap_or}
+use Rattle.std.specs.Prelude.{nat_lt}
 use Rattle.std.specs.Prelude.{if◌then◌else◌}
 use Rattle.std.specs.Str.{bytes_eq}
 use Rattle.std.proofs.lemmas.Bool.{and_from, lt-ltb, ltb-true, ltb-false, le-leb, eq-eqb}
-use Rattle.std.proofs.lemmas.List.{length-take, take_all, take_min}
+use Rattle.std.proofs.lemmas.Bool.{and_parts, or_cases, eqb-true}
+use Rattle.std.proofs.lemmas.List.{length-drop, length-take, take_all, take_min}
 use Rattle.std.proofs.lemmas.Slice.Eq.{bytes_eq-Decides}
 use Rattle.packet_entry.specs.Numbers.{longest_payload}
 use Rattle.packet_entry.specs.declared.packet.Card.{Card}
+use Rattle.nfqa_headers.specs.Numbers.{hardware_address_length}
 use Rattle.nfqa_msgs.specs.Numbers.{copy_packet}
 use Rattle.nfqa_msgs.specs.NoticeWriting.{Told, FitsTold, notice, notice_text, told_bytes}
-use Rattle.nfqa_msgs.specs.NoticeWriting.{told_of}
+use Rattle.nfqa_msgs.specs.NoticeWriting.{source_in, told_of}
 use Rattle.nfqa_msgs.specs.NoticeReading.{told_by}
 use Rattle.nfqa_msgs.specs.NoticeMeaning.{notice_of}
 use Rattle.made_runs.specs.NoticeTexts.{fits, is_source, is_cut, where_it_is, told_exactly}
-use Rattle.logs_audit.specs.Stays.{HaveWidths, IsTellable, length_told, told_length}
+use Rattle.logs_audit.specs.Stays.{HaveWidths, IsTellable, is_link_length, is_packets, is_protocol}
+use Rattle.logs_audit.specs.Stays.{length_told, told_length}
+
+pub clash : {A : Type 0} → true ≡ false → A
+clash {A} wrong = absurd cc
+
+-- ---- packets
+
+long : (n : ℕ) → 1 ≤ n → is_link_length n ≡ true → 12 ≤ n
+long n some is = elim (or_cases ((n == 0) || (n == 14)) (n == 18) is) [
+  | inl first ↦ elim (or_cases (n == 0) (n == 14) first) [
+    | inl none ↦ absurd (omega (arith, eqb-true n 0 none, some))
+    | inr untagged ↦ omega (arith, eqb-true n 14 untagged)
+  ]
+  | inr tagged ↦ omega (arith, eqb-true n 18 tagged)
+]
+
+linked : (link : List ℕ) → is_link_length (length link) ≡ true →
+    IfSome (source_in link) (λ source. length source ≡ hardware_address_length)
+linked [] is = tt
+linked (x ∷ link) is =
+    let enough = long (length (x ∷ link)) (omega arith) is in
+    omega (arith, enough, length-take 6 (drop 6 (x ∷ link)), length-drop 6 (x ∷ link))
+
+pub tellable : (card : Card) → is_packets card ≡ true → length card.bytes < 2 ^ 32 →
+    IsTellable card
+tellable card is small =
+    let parts = and_parts (is_protocol card.protocol) (is_link_length (length card.link)) is in
+    record { protocol = parts.0; link = linked card.link parts.1; bytes = small }
+
+pub short_told : (mode range length : ℕ) → range ≤ longest_payload →
+    told_length mode range length ≤ longest_payload
+short_told mode range length fits = by (mode == copy_packet)
+  where
+    by : (b : Bool) → cond b (min length range) 0 ≤ longest_payload
+    by true = omega (arith, fits)
+    by false = omega arith
 
 -- ---- the test of a notice's numbers holds exactly where they fit
 

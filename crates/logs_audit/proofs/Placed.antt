@@ -13,12 +13,12 @@ use Rattle.histories.specs.declared.log.Did.{Did}
 use Rattle.inspector_script.specs.Scripts.{IsScript, ScriptValue}
 use Rattle.made_runs.specs.Ports.{ArePlaced, HavePlaces, is_port, log_of, place_in}
 use Rattle.log_walks.specs.Walking.{IsWalked}
-use Rattle.logs_audit.specs.Judged.{AllOnlyOnes, ArePortsWalked, IsJudgement, IsLogWalkedWith}
+use Rattle.logs_audit.specs.Judged.{AllOnlyOnes, AreJudgedAll, ArePortsWalked, IsLogWalkedWith}
 use Rattle.logs_audit.specs.Judged.{IsPortWalked, IsWalkable, IsWalkedAll}
 use Rattle.logs_audit.specs.PortWalks.{IsWalkedWith}
 use Rattle.logs_audit.specs.Stays.{known_in}
 use Rattle.logs_audit.specs.declared.judging.PortKinds.{PortKinds}
-use Rattle.logs_audit.specs.declared.port_walk.KindAt.{KindAt}
+use Rattle.makers_audit.specs.declared.kinds.KindAt.{KindAt}
 use Rattle.logs_audit.proofs.Choosing.{KindsLaw, TellsLaw, WalksLaw, judged, walkable}
 
 -- ---- places
@@ -151,7 +151,7 @@ pub judgement : TellsLaw → WalksLaw → KindsLaw → (script : ScriptValue) (h
     AllOnlyOnes h.entries → {E : Type 0} (r : Result (Option (Vec PortKinds Global)) E) →
     IfOk r (λ kinds. IsWalkedAll script h
     (option_map (λ (ks : Vec PortKinds Global). ks.items) kinds)) →
-    IfOk r (λ kinds. IsJudgement script h
+    IfOk r (λ kinds. AreJudgedAll script h
     (option_map (λ (ks : Vec PortKinds Global). ks.items) kinds))
 judgement tells walks kinds script h is places fit ones {E} (Ok None) stops =
     λ notes have. stops (λ port among. walkable script h is walks ones notes have port

@@ -19,7 +19,8 @@ use Rattle.histories.specs.Letters.{letters_of_event}
 use Rattle.histories.specs.Stays.{arrivals}
 use Rattle.histories.specs.declared.entry.Entry.{Entry}
 use Rattle.makers_audit.specs.Makers.{IsAmong}
-use Rattle.logs_audit.specs.Judged.{AllOnlyOnes, ArriveOnce}
+use Rattle.makers_audit.specs.Noticing.{ArriveOnce}
+use Rattle.logs_audit.specs.Judged.{AllOnlyOnes}
 use Rattle.logs_audit.specs.Stays.{all_letters, letters_at}
 use Rattle.logs_audit.proofs.Known.{among_either, taken_among}
 

@@ -15,7 +15,7 @@ use Rattle.log_walks.specs.Walking.{timed_of}
 use Rattle.log_walks.specs.Walking.{IsDone, IsWalked, beginning, ended, walked_all}
 use Rattle.logs_audit.specs.PortWalks.{GoesOver, IsWalkedWith, Steps}
 use Rattle.logs_audit.specs.PortWalks as port_walks
-use Rattle.logs_audit.specs.declared.port_walk.KindAt.{KindAt}
+use Rattle.makers_audit.specs.declared.kinds.KindAt.{KindAt}
 
 -- ---- a port that owes nothing sends a message of its end
 

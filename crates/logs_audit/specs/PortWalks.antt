@@ -15,7 +15,7 @@ use Rattle.log_walks.specs.Walking.{Known, Walk, Timed, GoesOn, walked, IsWalked
 use Rattle.log_walks.specs.Walking.{AllGoOn, walked_all}
 use Rattle.logs_audit.specs.Dues.{AreHeld, dues_of}
 use Rattle.logs_audit.specs.declared.port_walk.PortWalk.{PortWalk}
-use Rattle.logs_audit.specs.declared.port_walk.KindAt.{KindAt}
+use Rattle.makers_audit.specs.declared.kinds.KindAt.{KindAt}
 
 abbrev pub timed_of : KindAt → Timed
 timed_of k = record { queue = k.queue; kind = kind_of k.kind }

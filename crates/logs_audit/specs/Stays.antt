@@ -1,10 +1,13 @@
 -- The notices of arrivals that queues took, by queue, number and visit.
-use Rattle.std.specs.Prelude.{◌≡◌, ◌<◌, ◌^◌, ℕ, Bool, false, ◌&&◌, ◌==◌, List, [], ◌∷◌, ◌++◌, find}
-use Rattle.std.specs.Prelude.{Option, Some, None, if◌then◌else◌, IfSome, length, min}
+use Rattle.std.specs.Prelude.{◌≡◌, ◌<◌, ◌^◌, ℕ, Bool, true, false, ◌&&◌, ◌||◌, ◌==◌, List, [], ◌∷◌}
+use Rattle.std.specs.Prelude.{Option, Some, None, if◌then◌else◌, IfSome, length, min, ◌++◌, find}
+use Rattle.std.specs.List.{AllByRecursion}
 use Rattle.std.specs.BTreeMap.{BTreeMap, get, is_at}
 use Rattle.std.specs.Ordering.{nat_cmp, ordering_then}
 use Rattle.std.specs.declared.cmp.Ordering.{Ordering}
 use Rattle.packet_entry.specs.Fields.{IsProtocol}
+use Rattle.packet_entry.specs.Numbers.{ipv4_type, ipv6_type, ethernet_header_length}
+use Rattle.packet_entry.specs.Numbers.{tagged_header_length}
 use Rattle.packet_entry.specs.declared.packet.Card.{Card}
 use Rattle.packet_entry.specs.declared.letter.Letter.{Letter}
 use Rattle.nfqa_headers.specs.Numbers.{hardware_address_length}
@@ -13,6 +16,8 @@ use Rattle.nfqa_msgs.specs.NoticeWriting.{source_in}
 use Rattle.nfqa_msgs.specs.declared.notice.Notice.{Notice}
 use Rattle.queue_core.specs.State.{Bound}
 use Rattle.queue_core.specs.Step.{step}
+use Rattle.queue_core.specs.declared.event.Event.{Event}
+use Rattle.queue_core.specs.declared.event.Event.TheVariants.{Arrive, Ask, PortClosed, DeviceDown}
 use Rattle.histories.specs.declared.entry.Entry.{Entry}
 use Rattle.histories.specs.History.{history}
 use Rattle.histories.specs.Letters.{letters_of_event}
@@ -84,6 +89,27 @@ pub record KeepsFirst (s : Stay) (n : Notice) (old new : NoticeMap) : Type 0 whe
   pub own : get stay_cmp new s ≡ or_this (get stay_cmp old s) n
   pub others : (t : Stay) → is_at (stay_cmp s) t ≡ false →
       get stay_cmp new t ≡ get stay_cmp old t
+
+-- a packet has one of IP's two protocols; its link header is none, or an Ethernet header without a
+-- tag or with one
+abbrev pub is_protocol : ℕ → Bool
+is_protocol protocol = (protocol == ipv4_type) || (protocol == ipv6_type)
+
+abbrev pub is_link_length : ℕ → Bool
+is_link_length n = (n == 0) || (n == ethernet_header_length) || (n == tagged_header_length)
+
+abbrev pub is_packets : Card → Bool
+is_packets card = is_protocol card.protocol && is_link_length (length card.link)
+
+-- each packet that arrives is so
+abbrev pub IsPackets : Event → Type 0
+IsPackets (Arrive card bypass room) = is_packets card ≡ true
+IsPackets (Ask port call request) = Unit {0}
+IsPackets (PortClosed port) = Unit {0}
+IsPackets (DeviceDown device) = Unit {0}
+
+abbrev pub ArePackets : List Entry → Type 0
+ArePackets es = AllByRecursion (λ (e : Entry). IsPackets e.event) es
 
 -- a notice can tell of this packet
 pub record IsTellable (card : Card) : Type 0 where

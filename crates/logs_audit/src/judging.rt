@@ -9,36 +9,81 @@ ghost use Rattle.logs_audit.specs.Judged as judged;
 ghost use Rattle.logs_audit.specs.PortWalks as port_walks;
 ghost use Rattle.logs_audit.specs.Stays as stays;
 
-use crate::notices::{Notices, notices_in};
+use crate::notices::{Notices, are_packets, notices_in};
 use crate::numbers::ports_fit;
-use crate::port_walk::{KindAt, walk_log};
+use crate::port_walk::walk_log;
 use histories::{Histories, Logs};
 use inspector_script::Script;
 use log_walks::{a_log_is_walked, a_walked_log_is_told};
 use made_runs::each_port_has_its_place;
-use makers_audit::log_of;
+use makers_audit::{KindAt, MessageKind, Rows, deal_kinds, log_of};
 use packet_entry::NoMemory;
 use std::alloc::Global;
+use std::collections::BTreeMap;
 
 /// The requests of a port, each with the queue that it asks something of, and when it was sent.
 #[derive(Debug, Drop)]
-pub struct PortKinds {
+pub(crate) struct PortKinds {
     /// The port.
-    pub port: u32,
+    pub(crate) port: u32,
     /// Its requests, in the order in which they were sent.
-    pub kinds: Vec<KindAt>,
+    pub(crate) kinds: Vec<KindAt>,
+}
+
+/// What is found of the logs of a script's ports.
+#[derive(Debug, Drop)]
+pub enum Judged {
+    /// Each port has a log, which is what the script says, with notices of arrivals that queues
+    /// took: the kinds of all requests, by port and queue.
+    Said { kinds: Rows<MessageKind> },
+    /// It isn't so.
+    Amiss,
+    /// A packet arrived that has another protocol than IP's, or another link header than
+    /// Ethernet's. Nothing is said of the logs then.
+    Foreign,
 }
 
 /// Whether each port of the script has a log, which is what the script says, with notices of
-/// arrivals that queues took: the requests of all ports, in the script's order; `None` where it
-/// isn't so. The histories are those of a capture's packets, sound and with nothing lost.
-pub fn judge_logs(
+/// arrivals that queues took. In sound histories of a capture's packets the answer isn't
+/// [`Judged::Foreign`].
+pub fn judge_logs(alloc: Global, script: &Script, histories: &Histories) -> Result<Judged, NoMemory>
+    ensures { judged.AllOnlyOnes histories.now.entries →
+        IfOk result (judged.IsJudgement script.now histories.now) }
+{
+    each_port_has_its_place();
+    let _ports = script.ports();
+    if !are_packets(&histories.entries) {
+        return Ok(Judged::Foreign);
+    }
+    match judge_ports(alloc, script, histories)? {
+        Some(ports) => {
+            let kinds = deal_all(alloc, ports.as_slice())?;
+            Ok(Judged::Said { kinds })
+        }
+        None => Ok(Judged::Amiss),
+    }
+}
+
+/// The kinds of these ports' requests, in rows.
+fn deal_all(alloc: Global, ports: &[PortKinds]) -> Result<Rows<MessageKind>, NoMemory>
+    ensures { IfOk result (judged.AreDealt ports.now) }
+{
+    let mut rows = BTreeMap::new(alloc);
+    for one in ports {
+        deal_kinds(alloc, one.port, &one.kinds, &mut rows)?;
+    }
+    Ok(rows)
+}
+
+/// The same, with the requests of all ports, in the script's order.
+fn judge_ports(
     alloc: Global,
     script: &Script,
     histories: &Histories,
 ) -> Result<Option<Vec<PortKinds>>, NoMemory>
+    requires { stays.ArePackets histories.now.entries }
     ensures { judged.AllOnlyOnes histories.now.entries → IfOk result (λ kinds.
-        judged.IsJudgement script.now histories.now (option_map (λ ks. ks.items) kinds)) }
+        judged.AreJudgedAll script.now histories.now (option_map (λ ks. ks.items) kinds)) }
 {
     a_log_is_walked();
     a_walked_log_is_told();

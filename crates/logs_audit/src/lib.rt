@@ -10,9 +10,8 @@ mod notices;
 mod numbers;
 mod port_walk;
 
-pub use judging::{PortKinds, judge_logs};
+pub use judging::{Judged, judge_logs};
 pub use laws::one_arrival_makes_one_notice;
-pub use port_walk::KindAt;
 
 #[cfg(test)]
 mod tests;

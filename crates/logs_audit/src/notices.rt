@@ -1,7 +1,8 @@
 //! The notices of arrivals that queues took.
 
 ghost use Rattle.std.specs.Prelude.{◌≡◌, ◌<◌, ◌≤◌, ◌^◌, ◌↔◌, ◌∷◌, [], Some, IfOk, OnOk};
-ghost use Rattle.std.specs.Prelude.{option_map, IsTrue};
+ghost use Rattle.std.specs.Prelude.{option_map, IsTrue, true};
+ghost use Rattle.nfqa_msgs.specs.Numbers.{longest_range};
 ghost use Rattle.std.specs.BTreeMap.{get};
 ghost use Rattle.std.specs.Ordering.{nat_cmp};
 ghost use Rattle.nfqa_msgs.specs.NoticeMeaning.{notice_of};
@@ -21,11 +22,10 @@ use queue_replay::Standing;
 use std::alloc::Global;
 use std::collections::BTreeMap;
 
-/// The most bytes that a notice tells of a packet.
-const LONGEST_PAYLOAD: usize = 65_531;
+/// The bytes of an Ethernet header, without a tag and with one.
+const ETHERNET_LENGTH: usize = 14;
 
-/// The bytes of an Ethernet header up to the end of its source address.
-const ADDRESSES_LENGTH: usize = 12;
+const TAGGED_LENGTH: usize = 18;
 
 /// A packet's stay in a queue.
 #[derive(Clone, Copy, Debug, PartialEq, Eq, PartialOrd, Ord)]
@@ -41,8 +41,33 @@ pub(crate) struct Stay {
 /// Notices by what they tell of.
 pub(crate) type Notices = BTreeMap<Stay, Notice>;
 
+/// Whether each packet that arrives has a protocol and a link header as packets have them.
+pub(crate) fn are_packets(entries: &Entries) -> bool
+    ensures { IsTrue result ↔ stays.ArePackets entries.now }
+{
+    for entry in entries {
+        if !may_arrive(entry) {
+            return false;
+        }
+    }
+    true
+}
+
+/// Whether an entry is no arrival, or one of such a packet.
+fn may_arrive(entry: &Entry) -> bool
+    ensures { IsTrue result ↔ stays.IsPackets entry.now.event }
+{
+    match &entry.event {
+        Event::Arrive { card, .. } => is_packets(card),
+        Event::Ask { .. } => true,
+        Event::PortClosed { .. } => true,
+        Event::DeviceDown { .. } => true,
+    }
+}
+
 /// The notices of the arrivals that these entries' queues took, of each stay the first.
 pub(crate) fn notices_in(alloc: Global, entries: &Entries) -> Result<Notices, NoMemory>
+    requires { stays.ArePackets entries.now }
     ensures { IfOk result (stays.AreTold (stays.known_in entries.now)) }
 {
     let mut queues: Queues = BTreeMap::new(alloc);
@@ -56,6 +81,7 @@ pub(crate) fn notices_in(alloc: Global, entries: &Entries) -> Result<Notices, No
 
 /// Keeps the notice of an entry, if it makes one, unless there is one of this stay.
 fn keep(queues: &Queues, entry: &Entry, notices: &mut Notices) -> Result<(), NoMemory>
+    requires { stays.IsPackets entry.now.event }
     ensures { OnOk result (stays.Keeps
         (stays.letters_at (queue_in (get nat_cmp queues.now entry.now.queue)) entry.now)
         entry.now.queue notices.old notices.new) }
@@ -68,6 +94,7 @@ fn keep(queues: &Queues, entry: &Entry, notices: &mut Notices) -> Result<(), NoM
 
 /// The same, of a bound queue.
 fn keep_of(queue: &Standing, entry: &Entry, notices: &mut Notices) -> Result<(), NoMemory>
+    requires { stays.IsPackets entry.now.event }
     ensures { OnOk result (stays.Keeps (stays.letters_at (Some queue.now) entry.now)
         entry.now.queue notices.old notices.new) }
 {
@@ -90,6 +117,7 @@ fn keep_taken(
     card: &Card,
     notices: &mut Notices,
 ) -> Result<(), NoMemory>
+    requires { stays.is_packets card.now ≡ true }
     ensures { OnOk result (stays.Keeps (letter_of number queue.now id card.now ∷ []) number
         notices.old notices.new) }
 {
@@ -112,16 +140,18 @@ fn keep_first(stay: Stay, notice: Notice, notices: &mut Notices) -> Result<(), N
     Ok(())
 }
 
-/// The notice of a packet that waits under this id, as a port reads it. A card that no packet has
-/// isn't told: that is answered as want of memory.
+/// The notice of a packet that waits under this id, as a port reads it. None is made of a packet of
+/// 4 gigabytes or more: that is answered as want of memory.
 fn notice_from(queue: u16, mode: u8, range: u32, id: u32, card: &Card) -> Result<Notice, NoMemory>
+    requires packet { stays.is_packets card.now ≡ true }
+    requires range { range ≤ longest_range }
     ensures { IfOk result (λ told. option_map notice_of
         (told_exactly (notice queue mode range id card.now)) ≡ Some told) }
 {
     notices_are_told_apart();
     card_fits(card);
     let told = told_length(mode, range, card.bytes.len());
-    if !is_told(card) || LONGEST_PAYLOAD < told {
+    if card.bytes.len() > u32::MAX as usize {
         return Err(NoMemory);
     }
     Ok(Notice {
@@ -135,13 +165,18 @@ fn notice_from(queue: u16, mode: u8, range: u32, id: u32, card: &Card) -> Result
     })
 }
 
-/// Whether a notice can tell of this packet.
-fn is_told(card: &Card) -> bool
-    ensures { IsTrue result → stays.IsTellable card.now }
+/// Whether this is IP's packet, with no link header, or an Ethernet header without a tag or with
+/// one.
+fn is_packets(card: &Card) -> bool
+    ensures { result ≡ stays.is_packets card.now }
 {
-    (card.protocol == IPV4 || card.protocol == IPV6)
-        && (card.link.is_empty() || ADDRESSES_LENGTH <= card.link.len())
-        && card.bytes.len() <= u32::MAX as usize
+    (card.protocol == IPV4 || card.protocol == IPV6) && is_link_length(card.link.len())
+}
+
+fn is_link_length(length: usize) -> bool
+    ensures { result ≡ stays.is_link_length length }
+{
+    length == 0 || length == ETHERNET_LENGTH || length == TAGGED_LENGTH
 }
 
 /// How many bytes of a packet are told.

@@ -18,19 +18,10 @@ use crate::duties::Duties;
 use crate::notices::{Notices, Stay};
 use histories::{AskWords, Did, Dids};
 use inspector_script::{Asks, PortMachine, Script};
-use makers_audit::MessageKind;
+use makers_audit::{KindAt, MessageKind};
 use nfqa_msgs::{Decoded, Notice, Request};
 use packet_entry::NoMemory;
 use std::alloc::Global;
-
-/// A request of a port: the queue that it asks something of, and when it was sent.
-#[derive(Clone, Copy, Debug, PartialEq, Eq)]
-pub struct KindAt {
-    /// The queue's number.
-    pub queue: u16,
-    /// When it was sent.
-    pub kind: MessageKind,
-}
 
 /// Where the walk along a port's log is.
 #[derive(Drop)]

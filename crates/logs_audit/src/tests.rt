@@ -1,11 +1,11 @@
 //! What no contract says: that logs are judged where there is memory. A row is a journal's lines
-//! from its first log on, and the requests of its port: `o`, `a` or `e` for each one of the
+//! from its first log on, and its port's requests of queue 0: `o`, `a` or `e` for each one of the
 //! opening, of an answer or of the end; `no` where the log isn't what the script says.
 
-use crate::{PortKinds, judge_logs};
+use crate::{Judged, judge_logs};
 use inspector_script::read_script;
 use journal_reading::read_journal;
-use makers_audit::MessageKind;
+use makers_audit::{MessageKind, Side};
 use packet_entry::NoMemory;
 use std::alloc::Global;
 use std::test::Fail;
@@ -39,11 +39,11 @@ fn push_kind(text: &mut String, kind: MessageKind) -> Result<(), NoMemory> {
     Ok(())
 }
 
-fn told(alloc: Global, ports: &[PortKinds]) -> Result<String, NoMemory> {
+fn told(alloc: Global, kinds: &makers_audit::Rows<MessageKind>) -> Result<String, NoMemory> {
     let mut text = String::new(alloc);
-    for port in ports {
-        for kind in port.kinds.as_slice() {
-            push_kind(&mut text, kind.kind)?;
+    if let Some(row) = kinds.get(&Side { port: 7, queue: 0 }) {
+        for kind in row {
+            push_kind(&mut text, *kind)?;
         }
     }
     Ok(text)
@@ -60,8 +60,9 @@ fn answer(alloc: Global, logs: &str) -> Result<String, Fail> {
     };
     match read_journal(alloc, text.as_bytes()) {
         Ok(histories) => match judge_logs(alloc, &script, &histories)? {
-            Some(ports) => Ok(told(alloc, ports.as_slice())?),
-            None => Ok(String::from_str(alloc, "no")?),
+            Judged::Said { kinds } => Ok(told(alloc, &kinds)?),
+            Judged::Amiss => Ok(String::from_str(alloc, "no")?),
+            Judged::Foreign => Ok(String::from_str(alloc, "?")?),
         },
         Err(fault) => Err(Fail::new(fault)),
     }

@@ -1,10 +1,11 @@
 -- Kinds of messages, in rows by port and queue.
-use Rattle.std.specs.Prelude.{◌≡◌, ℕ, List, map}
+use Rattle.std.specs.Prelude.{◌≡◌, ℕ, List, [], ◌∷◌, map, flat_map, ◌==◌, if◌then◌else◌}
 use Rattle.inspector_script.specs.Scripts.{ScriptValue}
 use Rattle.made_runs.specs.Log.{Note}
 use Rattle.made_runs.specs.Order.{Kind, Opens, Answers, Ends, kinds_told}
 use Rattle.makers_audit.specs.declared.dealing.MessageKind.{MessageKind}
 use Rattle.makers_audit.specs.declared.dealing.MessageKind.TheVariants as message
+use Rattle.makers_audit.specs.declared.kinds.KindAt.{KindAt}
 use Rattle.makers_audit.specs.Dealing.{RowMap, AreKept, row_at, side}
 
 -- a kind of message
@@ -26,3 +27,12 @@ pub record AreKinds (script : ScriptValue) (notes : ℕ → List Note) (rows : R
   pub are : (port queue : ℕ) →
       kinds_at rows port queue ≡ kinds_told 1 script queue port (notes port)
   pub kept : AreKept rows
+
+-- ---- kinds that are dealt
+
+-- the kind of a request, where it asks something of this queue
+abbrev pub kinds_by : ℕ → KindAt → List MessageKind
+kinds_by queue r = if r.queue == queue then r.kind ∷ [] else []
+
+abbrev pub kinds_in : ℕ → List KindAt → List MessageKind
+kinds_in queue rs = flat_map (kinds_by queue) rs

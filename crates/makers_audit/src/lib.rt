@@ -4,6 +4,7 @@
 
 mod closing;
 mod dealing;
+mod kinds;
 mod laws;
 mod logs;
 mod notices;
@@ -16,6 +17,7 @@ mod same_requests;
 
 pub use closing::are_closings;
 pub use dealing::{MessageKind, Rows, Side, push};
+pub use kinds::{KindAt, deal_kinds};
 pub use laws::{a_run_is_all_its_parts, logs_tell_what_ports_did};
 pub use logs::log_of;
 pub use notices::are_notices;

@@ -1,6 +1,7 @@
 //! A bound queue as it stands after some entries of its history.
 
-ghost use Rattle.std.specs.Prelude.{◌≡◌, IfOk};
+ghost use Rattle.std.specs.Prelude.{◌≡◌, ◌≤◌, IfOk};
+ghost use Rattle.nfqa_msgs.specs.Numbers.{longest_range};
 ghost use Rattle.queue_core.specs.State as state;
 ghost use Rattle.queue_core.specs.Range as range;
 
@@ -27,6 +28,8 @@ pub struct Standing {
 }
 
 impl Model for Standing {
+    ghost use Rattle.std.specs.Prelude.{◌≤◌};
+    ghost use Rattle.nfqa_msgs.specs.Numbers.{longest_range};
     ghost use Rattle.queue_core.specs.State.{Bound};
 
     ghost Value = { Bound };
@@ -42,6 +45,9 @@ impl Model for Standing {
       user_dropped = q.user_dropped;
       waiting = q.waiting;
     } };
+
+    // no range is longer than what one attribute holds
+    ghost invariant = { λ q. q.range ≤ longest_range };
 }
 
 impl Standing {
@@ -71,7 +77,8 @@ impl Standing {
 
     /// How many bytes of a packet its notices tell, under the mode `PACKET`.
     pub fn range(&self) -> u32
-        ensures { result ≡ self.now.range }
+        ensures value { result ≡ self.now.range }
+        ensures fits { result ≤ longest_range }
     {
         self.range
     }
@@ -110,7 +117,8 @@ impl Standing {
 
 /// The range that a request asks for: 0 and what is above the largest mean the largest.
 fn range_of(asked: u32) -> u32
-    ensures { result ≡ range.range_of asked }
+    ensures value { result ≡ range.range_of asked }
+    ensures fits { result ≤ longest_range }
 {
     if asked == 0 || asked > MAX_RANGE {
         MAX_RANGE

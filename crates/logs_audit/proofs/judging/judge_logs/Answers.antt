@@ -1,14 +1,25 @@
-use Rattle.std.proofs.Common.{List, ℕ, ◌<◌, ◌^◌, subst}
-use Rattle.std.specs.Prelude.{All}
-use Rattle.logs_audit.proofs.Placed.{judgement}
+use Rattle.std.proofs.Common.{◌∙◌, List, Option, subst, sym}
+use Rattle.std.specs.Prelude.{Vec, option_map}
+use Rattle.std.specs.declared.alloc.Global.{Global}
+use Rattle.logs_audit.specs.Judged.{AreDealt, AreJudgedAll}
+use Rattle.logs_audit.specs.declared.judging.PortKinds.{PortKinds}
+use Rattle.logs_audit.proofs.Dealing.{in_rows}
+use Rattle.logs_audit.proofs.Noticed.{clash}
 use Rattle.logs_audit.proofs.judging.judge_logs.Goals as goal
 
-pub returns : goal.returns
-returns c =
+pub returns-then-not-are_packets : goal.returns-then-not-are_packets
+returns-then-not-are_packets c =
+    λ ones all. clash (sym (c.are_packets.ensures.1 all) ∙ c.if-not-are_packets.true)
+
+pub returns-in_ok-kinds-in-Some : goal.returns-in_ok-kinds-in-Some
+returns-in_ok-kinds-in-Some c =
+    let script = c.args.script.now in
+    let h = c.args.histories.now in
     let facts = c.ports-ports.ensures.facts in
-    let Fit : List ℕ → Type 0 = λ ps. All (λ p. p < 2 ^ 32) ps in
-    λ ones. judgement c.a_walked_log_is_told.ensures c.a_log_is_walked.ensures.walked
-    c.a_log_is_walked.ensures.kinds c.args.script.now c.args.histories.now facts
-    (c.each_port_has_its_place.ensures c.args.script.now facts.ports_differ)
-    (subst Fit c.ports-ports.ensures.value c.ports_fit.ensures) ones c.walk_all.result
-    c.walk_all.ensures
+    let places = c.each_port_has_its_place.ensures script facts.ports_differ in
+    let ByPort : Option (Vec PortKinds Global) → Type 0 = λ o.
+    AreJudgedAll script h (option_map (λ (ks : Vec PortKinds Global). ks.items) o) in
+    let Dealt : List PortKinds → Type 0 = λ ks. AreDealt ks c.in_ok-kinds-in-Some.kinds in
+    λ ones. in_rows script h c.in-Some.ports.items c.in_ok-kinds-in-Some.kinds places.apart
+    (subst Dealt c.as_slice.ensures.value c.in_ok-kinds-in-Some.ensures)
+    (subst ByPort c.in-Some.is (c.in_ok-ports.ensures ones))

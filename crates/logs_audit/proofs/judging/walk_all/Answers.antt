@@ -4,7 +4,7 @@ use Rattle.std.specs.declared.alloc.Global.{Global}
 use Rattle.made_runs.specs.Ports.{log_of}
 use Rattle.logs_audit.specs.Judged.{IsLogWalkedWith}
 use Rattle.logs_audit.specs.Stays.{known_in}
-use Rattle.logs_audit.specs.declared.port_walk.KindAt.{KindAt}
+use Rattle.makers_audit.specs.declared.kinds.KindAt.{KindAt}
 use Rattle.logs_audit.proofs.Placed.{on_in, stopped_in}
 use Rattle.logs_audit.proofs.judging.walk_all.Goals as goal
 

@@ -3,7 +3,7 @@ use Rattle.std.specs.Prelude.{IfOk, Vec, option_map}
 use Rattle.std.specs.declared.alloc.Global.{Global}
 use Rattle.histories.specs.declared.log.Did.{Did}
 use Rattle.logs_audit.specs.Judged.{IsLogWalkedWith}
-use Rattle.logs_audit.specs.declared.port_walk.KindAt.{KindAt}
+use Rattle.makers_audit.specs.declared.kinds.KindAt.{KindAt}
 use Rattle.logs_audit.proofs.judging.walk_port.Goals as goal
 
 pub returns-in-Some : goal.returns-in-Some

@@ -5,4 +5,4 @@ pub returns : goal.returns
 returns c =
     keeps_taken c.keep_first.result c.args.number c.args.queue.now c.args.id c.args.card.now
     c.mode.result c.range.result c.in_ok-notice.notice c.args.notices.now c.keep_first.new.notices
-    c.mode.ensures c.range.ensures c.in_ok-notice.ensures c.keep_first.ensures
+    c.mode.ensures c.range.ensures.value c.in_ok-notice.ensures c.keep_first.ensures

@@ -1,0 +1,209 @@
+-- In sound histories of a capture's packets, each packet that arrives has the protocol and the link
+-- header of one that entered.
+use Rattle.std.proofs.Common.{◌≡◌, ℕ, zero, suc, ◌+◌, List, [], ◌∷◌, ◌++◌}
+use Rattle.std.proofs.Common.{Option, Some, None, Bool, true, false, cond, refl, ap, arith}
+use Rattle.std.specs.Prelude.{◌==◌, ◌&&◌, not, count_by, sum_by, flat_map}
+use Rattle.std.specs.List.{AllByRecursion}
+use Rattle.std.proofs.lemmas.Bool.{eq-eqb, eqb-true}
+use Rattle.std.proofs.lemmas.List.Sums.{sum_by-append, sum_by-cons}
+use Rattle.packet_entry.specs.declared.packet.Card.{Card}
+use Rattle.hook_chain.specs.Rules.{RuleTables}
+use Rattle.hook_chain.specs.declared.chain.Next.{Next}
+use Rattle.hook_chain.specs.declared.chain.Next.TheVariants.{Released, To}
+use Rattle.hook_chain.specs.declared.chain.Decision.TheVariants.{Accept}
+use Rattle.hook_chain.specs.Route.{next, onward_of}
+use Rattle.queue_core.specs.declared.event.Event.{Event}
+use Rattle.queue_core.specs.declared.event.Event.TheVariants.{Arrive, Ask, PortClosed, DeviceDown}
+use Rattle.queue_core.specs.Step.{Way, Gone, Open, Decided, step}
+use Rattle.histories.specs.declared.entry.Entry.{Entry}
+use Rattle.histories.specs.declared.histories.Lost.{Lost}
+use Rattle.histories.specs.History.{history, replay}
+use Rattle.histories.specs.Moves.{Move, moves_after, move_after}
+use Rattle.histories.specs.Journeys.{Arrival, asked_by, asked_by_some, entering, going_on, asks}
+use Rattle.histories.specs.Journeys.{came, arrival_of, times_came, AreSound}
+use Rattle.logs_audit.specs.Stays.{is_packets}
+use Rattle.journal_audit.proofs.Keeping.{Known, Stays, Fits, AllFit, AllLeave, step_good, state_all}
+use Rattle.journal_audit.proofs.Keeping.{append_fits}
+
+abbrev once : Bool → ℕ
+once b = cond b 1 0
+
+-- it holds of a packet
+abbrev Holds : Known
+Holds c = is_packets c ≡ true
+
+-- it holds where this is its visit, and where this is its next one
+abbrev At : ℕ → Known
+At visit c = c.visit ≡ visit → is_packets c ≡ true
+
+abbrev Before : ℕ → Known
+Before visit c = c.visit + 1 ≡ visit → is_packets c ≡ true
+
+holds_stays : Stays Holds
+holds_stays c mark payload priority h = h
+
+before_stays : (visit : ℕ) → Stays (Before visit)
+before_stays visit c mark payload priority h = h
+
+-- an arrival at this visit of which it doesn't hold
+abbrev wrong : ℕ → Arrival → Bool
+wrong visit a = (a.card.visit == visit) && not (is_packets a.card)
+
+one_right : (visit : ℕ) (a : Arrival) → At visit a.card → count_by (wrong visit) (a ∷ []) ≡ 0
+one_right visit a holds = by (a.card.visit == visit) refl
+  where
+    by : (b : Bool) → (a.card.visit == visit) ≡ b →
+        0 + once (b && not (is_packets a.card)) ≡ 0
+    by true same =
+        ap (λ t. 0 + once (not t)) (holds (eqb-true a.card.visit visit same))
+    by false other = refl
+
+asked_right : (visit : ℕ) (route : Next) (card : Card) (at : ℕ) →
+    (at ≡ visit → is_packets card ≡ true) →
+    count_by (wrong visit) (asked_by route card at) ≡ 0
+asked_right visit Released card at holds = refl
+asked_right visit (To queue bypass table) card at holds =
+    one_right visit (record {
+      queue = queue;
+      card = record card { visit = at; table = table };
+      bypass = bypass;
+    }) holds
+
+some_right : (visit : ℕ) (route : Option Next) (card : Card) (at : ℕ) →
+    (at ≡ visit → is_packets card ≡ true) →
+    count_by (wrong visit) (asked_by_some route card at) ≡ 0
+some_right visit None card at holds = refl
+some_right visit (Some route) card at holds = asked_right visit route card at holds
+
+module _ (tables : RuleTables) (key : ℕ) where
+  going_right : (visit : ℕ) (card : Card) (way : Way) → Before visit card →
+      count_by (wrong visit) (going_on tables key (card, way)) ≡ 0
+  going_right visit card Gone holds = refl
+  going_right visit card Open holds =
+      some_right visit (onward_of tables key card Accept) card (card.visit + 1) holds
+  going_right visit card (Decided d) holds =
+      some_right visit (onward_of tables key card d) card (card.visit + 1) holds
+
+  asks_right : (visit : ℕ) (ls : List (Card × Way)) → AllLeave (Before visit) ls →
+      count_by (wrong visit) (flat_map (going_on tables key) ls) ≡ 0
+  asks_right visit [] all = refl
+  asks_right visit (l ∷ ls) all =
+      omega (
+        arith,
+        sum_by-append (λ (a : Arrival). cond (wrong visit a) 1 0) (going_on tables key l)
+            (flat_map (going_on tables key) ls),
+        going_right visit l.0 l.1 all.0,
+        asks_right visit ls all.1,
+      )
+
+  moves_right : (visit : ℕ) (before es : List Entry) → AllFit (Before visit) before →
+      AllFit (Before visit) es →
+      sum_by (λ (m : Move). count_by (wrong visit) (asks tables key m)) (moves_after before es)
+      ≡ 0
+  moves_right visit before [] so fit = refl
+  moves_right visit before (e ∷ es) so fit =
+      omega (
+        arith,
+        sum_by-cons (λ (m : Move). count_by (wrong visit) (asks tables key m))
+            (move_after before e) (moves_after (before ++ e ∷ []) es),
+        asks_right visit (step (replay (history e.queue before)) e.event).left
+            (step_good (Before visit) (before_stays visit) (replay (history e.queue before))
+            e.event fit.0 (state_all (Before visit) (before_stays visit) before e.queue so)).1,
+        moves_right visit (before ++ e ∷ []) es
+            (append_fits (Before visit) (before_stays visit) before (e ∷ []) so (fit.0, tt))
+            fit.1,
+      )
+
+  entered_right : (visit : ℕ) (entered : List Card) → AllByRecursion Holds entered →
+      sum_by (λ (c : Card). count_by (wrong visit) (entering tables key c)) entered ≡ 0
+  entered_right visit [] all = refl
+  entered_right visit (c ∷ cs) all =
+      omega (
+        arith,
+        sum_by-cons (λ (c : Card). count_by (wrong visit) (entering tables key c)) c cs,
+        asked_right visit (next tables key c 1) c 1 (λ same. all.0),
+        entered_right visit cs all.1,
+      )
+
+  -- where none is wrong, it holds of each arrival at this visit
+  came_right : (visit : ℕ) (before es : List Entry) →
+      times_came (wrong visit) (moves_after before es) ≡ 0 → AllFit (At visit) es
+  came_right visit before [] none = tt
+  came_right visit before (e ∷ es) none =
+      let split = sum_by-cons (λ (m : Move). count_by (wrong visit) (came m))
+      (move_after before e) (moves_after (before ++ e ∷ []) es) in
+      let first : count_by (wrong visit) (arrival_of e.queue e.event) ≡ 0 =
+      omega (arith, split, none) in
+      let rest : times_came (wrong visit) (moves_after (before ++ e ∷ []) es) ≡ 0 =
+      omega (arith, split, none) in
+      (by e.queue e.event first, came_right visit (before ++ e ∷ []) es rest)
+    where
+      right : (card : Card) (t : Bool) → is_packets card ≡ t →
+          (b : Bool) → b ≡ true → 0 + once (b && not t) ≡ 0 → is_packets card ≡ true
+      right card true is b same nothing = is
+      right card false is true same nothing = absurd (omega (arith, nothing))
+      right card false is false same nothing = absurd cc
+
+      by : (queue : ℕ) (event : Event) →
+          count_by (wrong visit) (arrival_of queue event) ≡ 0 → Fits (At visit) event
+      by queue (Arrive card bypass room) nothing = λ same.
+          right card (is_packets card) refl (card.visit == visit)
+          (eq-eqb card.visit visit same) nothing
+      by queue (Ask port call request) nothing = tt
+      by queue (PortClosed port) nothing = tt
+      by queue (DeviceDown device) nothing = tt
+
+  module _ (entered : List Card) (es : List Entry) (lost : List Lost)
+      (all : AllByRecursion Holds entered)
+      (sound : AreSound tables key entered es lost) where
+    at_visit : (visit : ℕ) → AllFit (Before visit) es → AllFit (At visit) es
+    at_visit visit fit =
+        came_right visit [] es (omega (
+          arith,
+          sound.asked (wrong visit),
+          entered_right visit entered all,
+          moves_right visit [] es tt fit,
+        ))
+
+    weaker : (F G : Known) → ((c : Card) → F c → G c) → (gs : List Entry) → AllFit F gs →
+        AllFit G gs
+    weaker F G less [] fit = tt
+    weaker F G less (e ∷ gs) fit = (by e.event fit.0, weaker F G less gs fit.1)
+      where
+        by : (event : Event) → Fits F event → Fits G event
+        by (Arrive card bypass room) is = less card is
+        by (Ask port call request) is = tt
+        by (PortClosed port) is = tt
+        by (DeviceDown device) is = tt
+
+    at_first : (gs : List Entry) → AllFit (Before 0) gs
+    at_first [] = tt
+    at_first (e ∷ gs) = (by e.event, at_first gs)
+      where
+        by : (event : Event) → Fits (Before 0) event
+        by (Arrive card bypass room) = λ same. absurd (omega (arith, same))
+        by (Ask port call request) = tt
+        by (PortClosed port) = tt
+        by (DeviceDown device) = tt
+
+    -- at each visit
+    at_each : (visit : ℕ) → AllFit (At visit) es
+    at_each zero = at_visit 0 (at_first es)
+    at_each (suc visit) =
+        at_visit (suc visit)
+        (weaker (At visit) (Before (suc visit))
+        (λ c holds same. holds (omega (arith, same))) es (at_each visit))
+
+    holds_each : (gs : List Entry) → ((visit : ℕ) → AllFit (At visit) gs) → AllFit Holds gs
+    holds_each [] fit = tt
+    holds_each (e ∷ gs) fit =
+        (by e.event (λ visit. (fit visit).0), holds_each gs (λ visit. (fit visit).1))
+      where
+        by : (event : Event) → ((visit : ℕ) → Fits (At visit) event) → Fits Holds event
+        by (Arrive card bypass room) is = is card.visit refl
+        by (Ask port call request) is = tt
+        by (PortClosed port) is = tt
+        by (DeviceDown device) is = tt
+
+    pub all_hold : AllFit Holds es
+    all_hold = holds_each es at_each

@@ -1,0 +1,48 @@
+//! The three checks of a journal, one after the other.
+
+ghost use Rattle.std.specs.Prelude.{◌≡◌, ◌↔◌, ◌+◌, ◌<◌, ◌^◌, [], None, length, IfOk};
+ghost use Rattle.run_audit.specs.Findings as findings;
+
+use crate::finding::Finding;
+use crate::laws::a_run_has_no_finding;
+use histories::Histories;
+use hook_chain::Tables;
+use inspector_script::Script;
+use journal_audit::{check_histories, check_journeys, check_makers};
+use packet_entry::NoMemory;
+use pcap_io::Capture;
+use std::alloc::Global;
+
+/// Whether the histories are those of a run of this script over this capture, under these rules,
+/// with one inspector behind each port and one feeder: `None` exactly where they are. Otherwise
+/// what the first check found that says no: of each queue's history, of the packets' journeys, or
+/// of the ports and the feeder.
+///
+/// `NoMemory` comes also where 2^32 packets wait at one queue, a packet has 4 gigabytes or more, or
+/// a history has 2^64 entries.
+pub fn audit(
+    alloc: Global,
+    tables: &Tables,
+    script: &Script,
+    capture: &Capture,
+    histories: &Histories,
+) -> Result<Option<Finding>, NoMemory>
+    requires frames { length capture.now.frames + 1 < 2 ^ 32 }
+    requires nothing_lost { histories.now.lost ≡ [] }
+    ensures found { IfOk result
+        (findings.IsAnswer tables.now script.now capture.now histories.now) }
+    ensures none { IfOk result (λ found. (found ≡ None)
+        ↔ findings.IsRunOf tables.now script.now capture.now histories.now) }
+{
+    a_run_has_no_finding();
+    if let Some(place) = check_histories(alloc, histories)? {
+        return Ok(Some(Finding::Entry { place }));
+    }
+    if let Some(number) = check_journeys(alloc, tables, script.key(), capture, histories)? {
+        return Ok(Some(Finding::Record { number }));
+    }
+    match check_makers(alloc, script, capture, histories)? {
+        Some(part) => Ok(Some(Finding::Makers { part })),
+        None => Ok(None),
+    }
+}
