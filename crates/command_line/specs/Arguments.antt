@@ -1,10 +1,11 @@
 -- The arguments of the command line: a command, its numbers, and the names of its files.
 --     play RULES SCRIPT IN OUT LEDGER JOURNAL
---     live RULES SCRIPT IN OUT LEDGER JOURNAL PLACES
+--     live RULES SCRIPT IN OUT LEDGER JOURNAL PLACES [FEEDERS [POOL]]
 --     list RULES SCRIPT IN OUT
 --     gen NUMBER COUNT RULES SCRIPT IN
 --     trial NUMBER COUNT
 --     migrate OLD NEW
+--     audit RULES SCRIPT IN JOURNAL
 use Rattle.std.specs.Prelude.{◌≡◌, ◌≤◌, ℕ, ⊤, List, [], ◌∷◌, length, map, Option, Some, None, Bool}
 use Rattle.std.specs.Prelude.{true, false, not, ◌&&◌, ◌==◌, codes, if◌then◌else◌, option_map}
 use Rattle.std.specs.Str.{bytes_eq}
@@ -16,7 +17,10 @@ use Rattle.std.specs.declared.vec.IntoIter.{IntoIter}
 use Rattle.std.specs.declared.alloc.Global.{Global}
 use Rattle.text_lines.specs.Words.{◌>>=◌}
 use Rattle.packet_entry.specs.Numbers.{most_frames as most_records, most_places}
-use Rattle.command_line.specs.Numerals.{count_of, number_of, places_of}
+use Rattle.hook_chain.specs.Numbers.{most_feeders}
+use Rattle.inspector_pool.specs.Numbers.{most_workers}
+use Rattle.command_line.specs.Numerals.{count_of, feeders_of, number_of, places_of, workers_of}
+use Rattle.command_line.specs.declared.arguments.Audit.{Audit}
 use Rattle.command_line.specs.declared.arguments.Command.{Command}
 use Rattle.command_line.specs.declared.arguments.Command.TheVariants as command
 use Rattle.command_line.specs.declared.arguments.Generation.{Generation}
@@ -25,6 +29,7 @@ use Rattle.command_line.specs.declared.arguments.Listing.{Listing}
 use Rattle.command_line.specs.declared.arguments.Live.{Live}
 use Rattle.command_line.specs.declared.arguments.Migration.{Migration}
 use Rattle.command_line.specs.declared.arguments.Play.{Play}
+use Rattle.command_line.specs.declared.arguments.RunSize.{RunSize as ARunSize}
 use Rattle.command_line.specs.declared.arguments.Sample.{Sample as ASample}
 
 -- ---- commands
@@ -42,11 +47,17 @@ pub record PlayFiles : Type 0 where
   pub ledger : List ℕ
   pub journal : List ℕ
 
--- the names of the files that a `live` command reads and writes, and how many places its queues
--- have
+-- how many places the queues of a run with threads have, how many feeders it has, and how many
+-- workers are behind each port; one is no pool
+pub record RunSize : Type 0 where
+  pub places : ℕ
+  pub feeders : ℕ
+  pub workers : ℕ
+
+-- the names of the files that a `live` command reads and writes, and the size of its run
 pub record LiveFiles : Type 0 where
   pub files : PlayFiles
-  pub places : ℕ
+  pub size : RunSize
 
 -- the names of the files that a `list` command reads and writes
 pub record ListFiles : Type 0 where
@@ -68,6 +79,11 @@ pub record MigrateFiles : Type 0 where
   pub source : List ℕ
   pub target : List ℕ
 
+-- the names of the files that an `audit` command reads
+pub record AuditFiles : Type 0 where
+  pub inputs : InputFiles
+  pub journal : List ℕ
+
 -- a command, with the names of its files and its numbers
 pub data Call : Type 0 where
   Plays : PlayFiles → Call
@@ -76,11 +92,13 @@ pub data Call : Type 0 where
   Tries : Sample → Call
   Migrates : MigrateFiles → Call
   Lives : LiveFiles → Call
+  Audits : AuditFiles → Call
 
--- what a command reads: the inputs of a run, or a journal
+-- what a command reads: the inputs of a run, a journal, or a journal behind the inputs of its run
 pub data ReadFiles : Type 0 where
   RunInputs : InputFiles → ReadFiles
   OneJournal : List ℕ → ReadFiles
+  ToldRun : AuditFiles → ReadFiles
 
 -- the files that a command reads, if it reads any
 abbrev pub inputs : Call → Option ReadFiles
@@ -90,6 +108,7 @@ inputs (Generates g) = None
 inputs (Tries s) = None
 inputs (Migrates m) = Some (OneJournal m.source)
 inputs (Lives l) = Some (RunInputs l.files.inputs)
+inputs (Audits a) = Some (ToldRun a)
 
 -- the name of standard output
 abbrev pub standard_output : List ℕ
@@ -121,6 +140,7 @@ outputs (Generates g) = gen_outputs g
 outputs (Tries s) = trial_outputs
 outputs (Migrates m) = migrate_outputs m
 outputs (Lives l) = play_outputs l.files
+outputs (Audits a) = []
 
 -- ---- as the code holds them
 
@@ -137,8 +157,11 @@ files_of p =
       journal = p.journal.now;
     }
 
+abbrev pub size_of : ARunSize → RunSize
+size_of z = record { places = z.places; feeders = z.feeders; workers = z.workers }
+
 abbrev pub live_files_of : Live → LiveFiles
-live_files_of l = record { files = files_of l.files; places = l.places }
+live_files_of l = record { files = files_of l.files; size = size_of l.size }
 
 abbrev pub list_files_of : Listing → ListFiles
 list_files_of l = record { inputs = inputs_of l.inputs; output = l.output.now }
@@ -152,12 +175,16 @@ gen_files_of g = record { sample = sample_of g.sample; files = inputs_of g.files
 abbrev pub migrate_files_of : Migration → MigrateFiles
 migrate_files_of m = record { source = m.source.now; target = m.target.now }
 
+abbrev pub audit_files_of : Audit → AuditFiles
+audit_files_of a = record { inputs = inputs_of a.inputs; journal = a.journal.now }
+
 abbrev pub call_of : Command → Call
 call_of (command.Play files) = Plays (files_of files)
 call_of (command.List files) = Lists (list_files_of files)
 call_of (command.Gen files) = Generates (gen_files_of files)
 call_of (command.Trial sample) = Tries (sample_of sample)
 call_of (command.Migrate files) = Migrates (migrate_files_of files)
+call_of (command.Audit files) = Audits (audit_files_of files)
 
 -- ---- words
 
@@ -173,6 +200,9 @@ are_files f = are_inputs f.inputs && is_file f.output && is_file f.ledger && is_
 
 abbrev pub are_list_files : ListFiles → Bool
 are_list_files f = are_inputs f.inputs && is_file f.output
+
+abbrev pub are_audit_files : AuditFiles → Bool
+are_audit_files f = are_inputs f.inputs && is_file f.journal
 
 -- three names, none of which is another
 abbrev pub are_apart : List ℕ → List ℕ → List ℕ → Bool
@@ -192,9 +222,17 @@ IsSample s = (1 ≤ s.count) × (s.count ≤ most_records)
 abbrev pub IsGenAllowed : GenFiles → Type 0
 IsGenAllowed g = IsSample g.sample × (are_inputs_apart g.files ≡ true)
 
+-- there is one at least of each, and no more than may be
+pub record IsSizeAllowed (z : RunSize) : Type 0 where
+  pub some_places : 1 ≤ z.places
+  pub few_places : z.places ≤ most_places
+  pub some_feeders : 1 ≤ z.feeders
+  pub few_feeders : z.feeders ≤ most_feeders
+  pub some_workers : 1 ≤ z.workers
+  pub few_workers : z.workers ≤ most_workers
+
 abbrev pub IsLiveAllowed : LiveFiles → Type 0
-IsLiveAllowed l =
-    (are_outputs_apart l.files ≡ true) × (1 ≤ l.places) × (l.places ≤ most_places)
+IsLiveAllowed l = (are_outputs_apart l.files ≡ true) × IsSizeAllowed l.size
 
 -- what is known of the names and numbers of a command
 abbrev pub IsAllowed : Call → Type 0
@@ -204,6 +242,7 @@ IsAllowed (Generates g) = IsGenAllowed g
 IsAllowed (Tries s) = IsSample s
 IsAllowed (Migrates m) = ⊤
 IsAllowed (Lives l) = IsLiveAllowed l
+IsAllowed (Audits a) = ⊤
 
 -- the files of a run that these six words name, where each of them may
 abbrev pub run_files_of : List ℕ → List ℕ → List ℕ → List ℕ → List ℕ → List ℕ → Option PlayFiles
@@ -224,20 +263,36 @@ play_of (verb ∷ rules ∷ script ∷ capture ∷ output ∷ ledger ∷ journal
     then run_files_of rules script capture output ledger journal else None
 play_of words = None
 
--- the files of a run, if they are some, with the number of places that a word gives
-abbrev pub over_places : Option PlayFiles → List ℕ → Option LiveFiles
-over_places files word = do
-  f ← files
-  n ← places_of word
-  Some (record { files = f; places = n })
+-- the size of a run that three words give
+abbrev pub size_of_words : List ℕ → List ℕ → List ℕ → Option RunSize
+size_of_words places feeders workers = do
+  p ← places_of places
+  f ← feeders_of feeders
+  w ← workers_of workers
+  Some (record { places = p; feeders = f; workers = w })
 
--- the files of a run and a number of places, where these words are that
+-- the same of the words behind the files: that of the workers may be absent, and before it that of
+-- the feeders, and an absent one is as `1`
+abbrev pub size_in : List (List ℕ) → Option RunSize
+size_in (places ∷ []) = size_of_words places (codes "1") (codes "1")
+size_in (places ∷ feeders ∷ []) = size_of_words places feeders (codes "1")
+size_in (places ∷ feeders ∷ workers ∷ []) = size_of_words places feeders workers
+size_in words = None
+
+-- the files of a run, if they are some, with the size that words give
+abbrev pub sized : Option PlayFiles → List (List ℕ) → Option LiveFiles
+sized files words = do
+  f ← files
+  z ← size_in words
+  Some (record { files = f; size = z })
+
+-- the files of a run and its size, where these words are that
 abbrev pub live_files_in : List (List ℕ) → Option LiveFiles
-live_files_in (rules ∷ script ∷ capture ∷ output ∷ ledger ∷ journal ∷ places ∷ []) =
-    over_places (run_files_of rules script capture output ledger journal) places
+live_files_in (rules ∷ script ∷ capture ∷ output ∷ ledger ∷ journal ∷ numbers) =
+    sized (run_files_of rules script capture output ledger journal) numbers
 live_files_in words = None
 
--- the files and the number of a `live` command, where the arguments are one
+-- the files and the size of a `live` command, where the arguments are one
 abbrev pub live_of : List (List ℕ) → Option LiveFiles
 live_of [] = None
 live_of (verb ∷ words) =
@@ -283,6 +338,17 @@ migrate_of (verb ∷ source ∷ target ∷ []) =
     then Some (record { source = source; target = target }) else None
 migrate_of words = None
 
+-- the files of an `audit` command, which writes none
+abbrev pub audit_of : List (List ℕ) → Option AuditFiles
+audit_of (verb ∷ rules ∷ script ∷ capture ∷ journal ∷ []) =
+    let f : AuditFiles =
+    record {
+      inputs = record { rules = rules; script = script; capture = capture };
+      journal = journal;
+    } in
+    if bytes_eq verb (codes "audit") && are_audit_files f then Some f else None
+audit_of words = None
+
 -- the first that is there
 abbrev pub either : {A : Type 0} → Option A → Option A → Option A
 either (Some x) other = Some x
@@ -293,7 +359,7 @@ abbrev pub call : List (List ℕ) → Option Call
 call words =
     either (option_map Plays (play_of words)) (either (option_map Lists (list_of words))
     (either (option_map Generates (gen_of words)) (either (option_map Tries (trial_of words))
-    (option_map Migrates (migrate_of words)))))
+    (either (option_map Migrates (migrate_of words)) (option_map Audits (audit_of words))))))
 
 -- the same, of arguments as the program is given them, without its name
 abbrev pub call_of_words : List (String Global) → Option Call

@@ -5,6 +5,8 @@ use Rattle.text_lines.specs.Digits.{below}
 use Rattle.text_lines.specs.Numbers.{decimal_radix}
 use Rattle.text_lines.specs.Words.{◌>>=◌, byte, is_digit}
 use Rattle.packet_entry.specs.Numbers.{most_frames as most_records, most_places}
+use Rattle.hook_chain.specs.Numbers.{most_feeders}
+use Rattle.inspector_pool.specs.Numbers.{most_workers}
 
 -- a number with one digit more at its end, where that is a digit and the number has 64 bits
 abbrev pub with_digit : ℕ → ℕ → Option ℕ
@@ -35,3 +37,15 @@ abbrev pub places_of : List ℕ → Option ℕ
 places_of word = do
   n ← number_of word
   if nat_le 1 n && nat_le n most_places then Some n else None
+
+-- how many feeders: 1 at least
+abbrev pub feeders_of : List ℕ → Option ℕ
+feeders_of word = do
+  n ← number_of word
+  if nat_le 1 n && nat_le n most_feeders then Some n else None
+
+-- how many workers behind each port: 1 at least
+abbrev pub workers_of : List ℕ → Option ℕ
+workers_of word = do
+  n ← number_of word
+  if nat_le 1 n && nat_le n most_workers then Some n else None

@@ -4,7 +4,7 @@ ghost use Rattle.std.specs.Prelude.{◌≡◌, None, Some, map, MatchOption, IfS
 ghost use Rattle.std.specs.String.{string_bytes};
 ghost use Rattle.command_line.specs.Arguments as named;
 
-use crate::numerals::{count_of, number_of, places_of};
+use crate::numerals::{count_of, feeders_of, number_of, places_of, workers_of};
 
 /// The files that a run is made from, by the names that the arguments give them.
 #[derive(Clone, Copy, Debug, PartialEq, Eq)]
@@ -23,13 +23,26 @@ pub struct Play<'a> {
     pub journal: &'a str,
 }
 
-/// The files that `live` reads and writes, and over how many places.
+/// How many places, feeders and workers a run with threads has.
+#[derive(Clone, Copy, Debug, PartialEq, Eq)]
+pub struct RunSize {
+    /// How many places the queues have: 1 to 64.
+    pub places: u8,
+    /// How many feeders share out the frames: 1 to 16.
+    pub feeders: u32,
+    /// How many workers are behind each port: 1 to 16. One is no pool.
+    pub workers: u32,
+}
+
+/// The files that `live` reads and writes, and the size of its run.
 #[derive(Clone, Copy, Debug, PartialEq, Eq)]
 pub struct Live<'a> {
     pub files: Play<'a>,
-    /// How many places the queues have: 1 to 64.
-    pub places: u8,
+    pub size: RunSize,
 }
+
+/// The word of feeders or workers that are absent.
+const ONE: &str = "1";
 
 /// The files that `list` reads and writes.
 #[derive(Clone, Copy, Debug, PartialEq, Eq)]
@@ -61,6 +74,13 @@ pub struct Migration<'a> {
     pub target: &'a str,
 }
 
+/// The files that `audit` reads.
+#[derive(Clone, Copy, Debug, PartialEq, Eq)]
+pub struct Audit<'a> {
+    pub inputs: Inputs<'a>,
+    pub journal: &'a str,
+}
+
 /// A command, with the names of its files and its numbers.
 #[derive(Clone, Copy, Debug, PartialEq, Eq)]
 pub enum Command<'a> {
@@ -69,6 +89,7 @@ pub enum Command<'a> {
     Gen { files: Generation<'a> },
     Trial { sample: Sample },
     Migrate { files: Migration<'a> },
+    Audit { files: Audit<'a> },
 }
 
 /// The command that the arguments are; `None` where they are none.
@@ -89,11 +110,14 @@ pub fn command_of(words: &[String]) -> Option<Command<'_>>
     if let Some(sample) = trial_of(words) {
         return Some(Command::Trial { sample });
     }
-    let files = migrate_of(words)?;
-    Some(Command::Migrate { files })
+    if let Some(files) = migrate_of(words) {
+        return Some(Command::Migrate { files });
+    }
+    let files = audit_of(words)?;
+    Some(Command::Audit { files })
 }
 
-/// The files and the number of a `live` command; `None` where the arguments aren't one.
+/// The files and the size of a `live` command; `None` where the arguments aren't one.
 pub fn live_of(words: &[String]) -> Option<Live<'_>>
     ensures call { MatchOption result (named.live_call (map string_bytes words.now) ≡ None)
         (λ l. named.live_call (map string_bytes words.now)
@@ -108,33 +132,68 @@ pub fn live_of(words: &[String]) -> Option<Live<'_>>
     }
 }
 
-/// The files of a run and the number of places that these words are.
+/// The files of a run and its size that these words are.
 fn live_files_in(words: &[String]) -> Option<Live<'_>>
     ensures call { MatchOption result (named.live_files_in (map string_bytes words.now) ≡ None)
         (λ l. named.live_files_in (map string_bytes words.now) ≡ Some (named.live_files_of l)) }
     ensures allowed { IfSome result (λ l. named.IsLiveAllowed (named.live_files_of l)) }
 {
-    let [rules, script, capture, output, ledger, journal, places] = words else {
+    let [rules, script, capture, output, ledger, journal, size @ ..] = words else {
         return None;
     };
-    over_places(
+    sized(
         run_files_of(rules, script, capture, output, ledger, journal),
-        places.as_str(),
+        size,
     )
 }
 
-/// The files of a run, if they are some, with the number of places that a word gives.
-fn over_places<'a>(files: Option<Play<'a>>, word: &str) -> Option<Live<'a>>
+/// The files of a run, if they are some, with the size that words give.
+fn sized<'a>(files: Option<Play<'a>>, words: &[String]) -> Option<Live<'a>>
     ensures call { MatchOption result
-        (named.over_places (option_map named.files_of files.entry) word.now ≡ None)
-        (λ l. named.over_places (option_map named.files_of files.entry) word.now
+        (named.sized (option_map named.files_of files.entry) (map string_bytes words.now) ≡ None)
+        (λ l. named.sized (option_map named.files_of files.entry) (map string_bytes words.now)
         ≡ Some (named.live_files_of l)) }
     ensures allowed { IfSome files.entry (λ p. named.are_outputs_apart (named.files_of p) ≡ true) →
         IfSome result (λ l. named.IsLiveAllowed (named.live_files_of l)) }
 {
     let files = files?;
-    let places = places_of(word)?;
-    Some(Live { files, places })
+    let size = size_in(words)?;
+    Some(Live { files, size })
+}
+
+/// The size of a run that the words behind its files give. Those of the feeders and of the workers
+/// may be absent.
+fn size_in(words: &[String]) -> Option<RunSize>
+    ensures size { MatchOption result (named.size_in (map string_bytes words.now) ≡ None)
+        (λ z. named.size_in (map string_bytes words.now) ≡ Some (named.size_of z)) }
+    ensures allowed { IfSome result (λ z. named.IsSizeAllowed (named.size_of z)) }
+{
+    match words {
+        [places] => size_of(places.as_str(), ONE, ONE),
+        [places, feeders] => size_of(places.as_str(), feeders.as_str(), ONE),
+        [places, feeders, workers] => {
+            size_of(places.as_str(), feeders.as_str(), workers.as_str())
+        }
+        _ => None,
+    }
+}
+
+/// The size of a run that three words give.
+fn size_of(places: &str, feeders: &str, workers: &str) -> Option<RunSize>
+    ensures size { MatchOption result
+        (named.size_of_words places.now feeders.now workers.now ≡ None)
+        (λ z. named.size_of_words places.now feeders.now workers.now
+        ≡ Some (named.size_of z)) }
+    ensures allowed { IfSome result (λ z. named.IsSizeAllowed (named.size_of z)) }
+{
+    let places = places_of(places)?;
+    let feeders = feeders_of(feeders)?;
+    let workers = workers_of(workers)?;
+    Some(RunSize {
+        places,
+        feeders,
+        workers,
+    })
 }
 
 /// The files of a `play` command; `None` where the arguments aren't one.
@@ -266,6 +325,29 @@ fn migrate_of(words: &[String]) -> Option<Migration<'_>>
     };
     if verb.as_str() == "migrate" && is_file(files.source) && is_file(files.target) {
         Some(files)
+    } else {
+        None
+    }
+}
+
+/// The files of an `audit` command.
+fn audit_of(words: &[String]) -> Option<Audit<'_>>
+    ensures { MatchOption result (named.audit_of (map string_bytes words.now) ≡ None)
+        (λ a. named.audit_of (map string_bytes words.now) ≡ Some (named.audit_files_of a)) }
+{
+    let [verb, rules, script, capture, journal] = words else {
+        return None;
+    };
+    let audit = Audit {
+        inputs: Inputs {
+            rules: rules.as_str(),
+            script: script.as_str(),
+            capture: capture.as_str(),
+        },
+        journal: journal.as_str(),
+    };
+    if verb.as_str() == "audit" && are_inputs(&audit.inputs) && is_file(audit.journal) {
+        Some(audit)
     } else {
         None
     }

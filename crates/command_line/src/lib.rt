@@ -9,7 +9,8 @@ mod arguments;
 mod numerals;
 
 pub use arguments::{
-    Command, Generation, Inputs, Listing, Live, Migration, Play, Sample, command_of, live_of,
+    Audit, Command, Generation, Inputs, Listing, Live, Migration, Play, RunSize, Sample,
+    command_of, live_of,
 };
 
 #[cfg(test)]

@@ -2,6 +2,8 @@
 
 ghost use Rattle.std.specs.Prelude.{◌≡◌, ◌≤◌, IfSome};
 ghost use Rattle.packet_entry.specs.Numbers.{most_frames as most_records, most_places};
+ghost use Rattle.hook_chain.specs.Numbers.{most_feeders};
+ghost use Rattle.inspector_pool.specs.Numbers.{most_workers};
 ghost use Rattle.command_line.specs.Numerals as numerals;
 
 /// The radix of numbers.
@@ -12,6 +14,12 @@ const MAX_RECORDS: u64 = 200_000;
 
 /// The most places of a run with threads.
 const MAX_PLACES: u64 = 64;
+
+/// The most feeders of a run with threads.
+const MAX_FEEDERS: u64 = 16;
+
+/// The most workers behind each port of a run with threads.
+const MAX_WORKERS: u64 = 16;
 
 /// How many records a word asks for: 1 to 200,000.
 pub fn count_of(word: &str) -> Option<u32>
@@ -34,6 +42,32 @@ pub fn places_of(word: &str) -> Option<u8>
     let places = number_of(word)?;
     if 1 <= places && places <= MAX_PLACES {
         Some(places as u8)
+    } else {
+        None
+    }
+}
+
+/// How many feeders a word asks for: 1 to 16.
+pub fn feeders_of(word: &str) -> Option<u32>
+    ensures value { result ≡ numerals.feeders_of word.now }
+    ensures bounds { IfSome result (λ n. (1 ≤ n) × (n ≤ most_feeders)) }
+{
+    let feeders = number_of(word)?;
+    if 1 <= feeders && feeders <= MAX_FEEDERS {
+        Some(feeders as u32)
+    } else {
+        None
+    }
+}
+
+/// How many workers behind each port a word asks for: 1 to 16. One is no pool.
+pub fn workers_of(word: &str) -> Option<u32>
+    ensures value { result ≡ numerals.workers_of word.now }
+    ensures bounds { IfSome result (λ n. (1 ≤ n) × (n ≤ most_workers)) }
+{
+    let workers = number_of(word)?;
+    if 1 <= workers && workers <= MAX_WORKERS {
+        Some(workers as u32)
     } else {
         None
     }

@@ -1,7 +1,8 @@
 //! Arguments that are a command, and arguments that aren't.
 
 use crate::{
-    Command, Generation, Inputs, Listing, Live, Migration, Play, Sample, command_of, live_of,
+    Audit, Command, Generation, Inputs, Listing, Live, Migration, Play, RunSize, Sample,
+    command_of, live_of,
 };
 use std::alloc::{AllocError, Global};
 use std::process::Abort;
@@ -37,7 +38,7 @@ fn check(
 
 #[test]
 fn commands_are_read(rt: HostRuntime) -> Result<(), Fail> {
-    const ROWS: [(&[&str], Command<'static>); 8] = [
+    const ROWS: [(&[&str], Command<'static>); 9] = [
         (
             &["play", "r", "s", "c", "o", "l", "j"],
             Command::Play {
@@ -115,6 +116,15 @@ fn commands_are_read(rt: HostRuntime) -> Result<(), Fail> {
                 },
             },
         ),
+        (
+            &["audit", "r", "s", "c", "j"],
+            Command::Audit {
+                files: Audit {
+                    inputs: INPUTS,
+                    journal: "j",
+                },
+            },
+        ),
     ];
     let alloc = rt.alloc();
     for &(arguments, command) in &ROWS {
@@ -125,7 +135,7 @@ fn commands_are_read(rt: HostRuntime) -> Result<(), Fail> {
 
 #[test]
 fn other_arguments_are_no_command(rt: HostRuntime) -> Result<(), Fail> {
-    const ROWS: [&[&str]; 33] = [
+    const ROWS: [&[&str]; 37] = [
         &["play", "r", "s", "c", "o", "o", "j"],
         &["play", "r", "s", "c", "o", "l"],
         &["play", "r", "s", "c", "o", "l", "-"],
@@ -158,6 +168,10 @@ fn other_arguments_are_no_command(rt: HostRuntime) -> Result<(), Fail> {
         &["migrate", "-", "n"],
         &["migrate", "", "n"],
         &["migrate", "o", "n", "m"],
+        &["audit", "r", "s", "c"],
+        &["audit", "r", "s", "c", "-"],
+        &["audit", "r", "s", "", "j"],
+        &["audit", "r", "s", "c", "j", "o"],
         &[],
     ];
     let alloc = rt.alloc();
@@ -175,52 +189,94 @@ const FILES: Play<'static> = Play {
     journal: "j",
 };
 
-/// Arguments are this `live` command, or none.
+/// Arguments are a `live` command of this size, or none.
 fn check_live(
     rt: &impl Abort,
     alloc: Global,
     arguments: &[&str],
-    wanted: Option<Live<'static>>,
+    size: Option<RunSize>,
 ) -> Result<(), AllocError> {
     let words = words(alloc, arguments)?;
+    let wanted = match size {
+        Some(size) => Some(Live { files: FILES, size }),
+        None => None,
+    };
     assert!(rt; live_of(&words) == wanted);
     Ok(())
 }
 
+/// One place, one feeder and no pool.
+const ALONE: Option<RunSize> = Some(RunSize {
+    places: 1,
+    feeders: 1,
+    workers: 1,
+});
+
+/// As many places as may be.
+const WIDE: Option<RunSize> = Some(RunSize {
+    places: 64,
+    feeders: 1,
+    workers: 1,
+});
+
+/// Several feeders without a pool.
+const FED: Option<RunSize> = Some(RunSize {
+    places: 2,
+    feeders: 3,
+    workers: 1,
+});
+
+/// As many of all as may be.
+const MOST: Option<RunSize> = Some(RunSize {
+    places: 64,
+    feeders: 16,
+    workers: 16,
+});
+
 #[test]
-fn live_is_read_with_its_places(rt: HostRuntime) -> Result<(), Fail> {
-    const ROWS: [(&[&str], Option<Live<'static>>); 15] = [
+fn live_is_read_with_its_size(rt: HostRuntime) -> Result<(), Fail> {
+    const ROWS: [(&[&str], Option<RunSize>); 25] = [
+        (&["live", "r", "s", "c", "o", "l", "j", "1"], ALONE),
+        (&["live", "r", "s", "c", "o", "l", "j", "64"], WIDE),
+        (&["live", "r", "s", "c", "o", "l", "j", "1", "1"], ALONE),
         (
-            &["live", "r", "s", "c", "o", "l", "j", "1"],
-            Some(Live {
-                files: FILES,
-                places: 1,
-            }),
+            &["live", "r", "s", "c", "o", "l", "j", "1", "1", "1"],
+            ALONE,
         ),
+        (&["live", "r", "s", "c", "o", "l", "j", "2", "3"], FED),
         (
-            &["live", "r", "s", "c", "o", "l", "j", "64"],
-            Some(Live {
-                files: FILES,
-                places: 64,
-            }),
+            &["live", "r", "s", "c", "o", "l", "j", "64", "16", "16"],
+            MOST,
         ),
         (&["live", "r", "s", "c", "o", "l", "j", "0"], None),
         (&["live", "r", "s", "c", "o", "l", "j", "65"], None),
         (&["live", "r", "s", "c", "o", "l", "j", "01"], None),
         (&["live", "r", "s", "c", "o", "l", "j", "257"], None),
         (&["live", "r", "s", "c", "o", "l", "j", ""], None),
-        (&["live", "r", "s", "c", "o", "l", "j", "1", "1"], None),
+        (&["live", "r", "s", "c", "o", "l", "j", "1", "0"], None),
+        (&["live", "r", "s", "c", "o", "l", "j", "1", "17"], None),
+        (&["live", "r", "s", "c", "o", "l", "j", "1", ""], None),
+        (&["live", "r", "s", "c", "o", "l", "j", "1", "1", "0"], None),
+        (
+            &["live", "r", "s", "c", "o", "l", "j", "1", "1", "17"],
+            None,
+        ),
+        (
+            &["live", "r", "s", "c", "o", "l", "j", "1", "1", "1", "1"],
+            None,
+        ),
         (&["live", "r", "s", "c", "o", "l", "j"], None),
         (&["live", "r", "s", "c", "o", "l", "-", "1"], None),
         (&["live", "r", "s", "c", "o", "l", "o", "1"], None),
         (&["live", "r", "", "c", "o", "l", "j", "1"], None),
         (&["play", "r", "s", "c", "o", "l", "j", "1"], None),
+        (&["live", "r", "s", "c"], None),
         (&["live"], None),
         (&[], None),
     ];
     let alloc = rt.alloc();
-    for &(arguments, command) in &ROWS {
-        check_live(&rt, alloc, arguments, command)?;
+    for &(arguments, size) in &ROWS {
+        check_live(&rt, alloc, arguments, size)?;
     }
     Ok(())
 }

@@ -1,19 +1,22 @@
 -- How a command ends: facts by cases on why it stopped, and over a longer time.
 use Rattle.std.proofs.Common.{◌≡◌, ◌≤◌, ◌⊎◌, ◌∙◌, ℕ, List, Option, Some, None, Result, Ok, Err}
 use Rattle.std.proofs.Common.{OnOk, OnErr, refl, sym, ap, subst, inl, inr, arith, [], ◌∷◌, map}
-use Rattle.std.specs.Prelude.{IfErr, IfSome, IsErrAnd, IsSomeAnd}
+use Rattle.std.specs.Prelude.{IfErr, IfSome, IsErrAnd, IsSomeAnd, IsTrue}
 use Rattle.std.proofs.lemmas.Result.{IfErr-at_err, on_ok_weaker}
 use Rattle.host_io.specs.Host.{Rises, SameFiles}
 use Rattle.run_files.specs.declared.refusal.Refusal.{Refusal}
 use Rattle.run_files.specs.declared.refusal.Refusal.TheVariants as refusal
 use Rattle.run_files.specs.declared.stop.Stop.{Stop}
 use Rattle.run_files.specs.declared.stop.Stop.TheVariants as stop
-use Rattle.command_line.specs.Arguments.{Call, ReadFiles, inputs, PlayFiles}
+use Rattle.command_line.specs.Arguments.{Audits, Call, Generates, inputs, Lists, Lives, Migrates}
+use Rattle.command_line.specs.Arguments.{PlayFiles, Plays, ReadFiles, Tries}
+use Rattle.run_audit.specs.declared.finding.Finding.{Finding}
 use Rattle.run_files.specs.Causes.{AreRead, AreTaken, IsAnswered, IsRefused, IsTurnedDown}
 use Rattle.run_files.specs.Files.{AreWritten, Contents, Counts, IsPrinted, IsStoppedAfter, Stay}
 use Rattle.run_files.specs.Files.{Text}
 use Rattle.nfq_cli.specs.Ending.{IsEnded, Span}
-use Rattle.nfq_cli.specs.Headline.{Account, IsCutShort, IsWritten, run_texts, texts_as}
+use Rattle.nfq_cli.specs.Headline.{Account, IsCutShort, IsDone, IsFoundBy, IsWritten, run_texts}
+use Rattle.nfq_cli.specs.Headline.{texts_as}
 use Rattle.hook_chain.specs.Rules.{RuleTables}
 use Rattle.inspector_script.specs.Scripts.{ScriptValue}
 use Rattle.pcap_io.specs.declared.capture.Capture.{Capture}
@@ -63,7 +66,7 @@ abbrev IsThere : {A : Type 0} → Option A → Type 0
 IsThere (Some x) = Unit {0}
 IsThere None = ⊥
 
-some_is_no_none : {A : Type 0} (x : A) → Some x ≡ None → ⊥
+pub some_is_no_none : {A : Type 0} (x : A) → Some x ≡ None → ⊥
 some_is_no_none {A} x same = subst (λ (o : Option A). IsThere o) same tt
 
 pub none_read : (o : Option ReadFiles) (i : ReadFiles) → o ≡ Some i → o ≡ None → ⊥
@@ -103,6 +106,38 @@ refused_still c before after why same_tells same_old ended =
       write_fault = λ is. absurd (is_refusal why stop.WriteFault tt is);
       stopped = λ is. absurd (is_refusal why stop.WriteFault tt is);
       cut_short = λ is. absurd (is_refusal why stop.WriteFault tt is);
+    }
+
+-- only an audit finds anything, and it writes nothing
+audit_writes_nothing : (c : Call) (old before after : Contents) (f : Finding) →
+    IsFoundBy c old (Some f) → IsDone c before after
+audit_writes_nothing (Plays p) old before after f found = absurd (some_is_no_none f found)
+audit_writes_nothing (Lists l) old before after f found = absurd (some_is_no_none f found)
+audit_writes_nothing (Generates g) old before after f found = absurd (some_is_no_none f found)
+audit_writes_nothing (Tries s) old before after f found = absurd (some_is_no_none f found)
+audit_writes_nothing (Migrates m) old before after f found = absurd (some_is_no_none f found)
+audit_writes_nothing (Lives l) old before after f found = absurd (some_is_no_none f found)
+audit_writes_nothing (Audits a) old before after f found = tt
+
+-- what is printed of a finding doesn't change how the command ended
+pub found_still : (c : Call) (before after : Span) (f : Finding) →
+    before.tells ≡ after.tells → before.old ≡ after.old →
+    (IsTrue before.tells → IsFoundBy c before.old (Some f)) →
+    IsEnded {T = Option Finding} c before (Ok (Some f)) →
+    IsEnded {T = Option Finding} c after (Ok (Some f))
+found_still c before after f same_tells same_old found ended =
+    record {
+      done = λ t. audit_writes_nothing c before.old after.old after.new f
+          (found (rw same_tells t));
+      refused = tt;
+      exact = λ i other is_i t refused. ended.exact i other is_i (rw same_tells t)
+          (subst (λ (k : Contents). IsRefused i k other) (sym same_old) refused);
+      only = λ t taken. tt;
+      read_fault = λ is. absurd (made_is_not_refused (sym is));
+      unread = λ is. absurd (made_is_not_refused (sym is));
+      write_fault = λ is. absurd (made_is_not_refused (sym is));
+      stopped = λ is. absurd (made_is_not_refused (sym is));
+      cut_short = λ is. absurd (made_is_not_refused (sym is));
     }
 
 -- a call that fails in writing or for want of memory alone ..
@@ -179,6 +214,20 @@ is_write_fault stop.ReadFault is = absurd (omega (arith, is))
 is_write_fault stop.WriteFault is = refl
 is_write_fault (stop.Refused w) is = absurd (is_no_3 w is)
 is_write_fault stop.NoMemory is = absurd (omega (arith, is))
+
+never_11 : (w : Refusal) → status_of_refusal w ≡ 11 → ⊥
+never_11 (refusal.Capture f) is = omega (arith, is)
+never_11 (refusal.Rules n) is = omega (arith, is)
+never_11 (refusal.Script n) is = omega (arith, is)
+never_11 (refusal.TooLarge l) is = omega (arith, is)
+never_11 (refusal.Journal n) is = omega (arith, is)
+
+-- what stops a command is no finding
+pub stops_never_with_11 : (s : Stop) → status_of s ≡ 11 → ⊥
+stops_never_with_11 stop.ReadFault is = omega (arith, is)
+stops_never_with_11 stop.WriteFault is = omega (arith, is)
+stops_never_with_11 (stop.Refused w) is = never_11 w is
+stops_never_with_11 stop.NoMemory is = omega (arith, is)
 
 by_refusal : (o : Option ReadFiles) (w : Refusal) (old_count new_count : Counts)
     (old new : Contents) → IsSomeAnd o (λ i. IsRefused i old w) →

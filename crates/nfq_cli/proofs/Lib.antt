@@ -1,5 +1,7 @@
 mod Numbering
 mod Endings
 mod Forming
+mod Living
 mod Commands
 mod Opening
+mod Auditing

@@ -1,10 +1,11 @@
 //! The commands: the arguments say which, it is done, and its status is answered.
 
 ghost use Rattle.std.specs.Prelude.{◌≡◌, ◌⊎◌, ◌≤◌, ◌≢◌, ◌↔◌, None, Some};
-ghost use Rattle.std.specs.Prelude.{IsTrue, IfSome, IsSomeAnd, OnOk, OnErr, IsErrOf};
+ghost use Rattle.std.specs.Prelude.{IsTrue, IfOk, IfSome, IsSomeAnd, OnOk, OnErr, IsErrOf};
 ghost use Rattle.host_io.specs.Host.{IsLater, SameFiles, ChangesOnly};
 ghost use Rattle.run_files.specs.declared.refusal.Refusal.{Refusal as ARefusal};
-ghost use Rattle.command_line.specs.Arguments.{Call, call_of, call_of_words, Generates, GenFiles};
+ghost use Rattle.command_line.specs.Arguments.{AuditFiles, Audits, Call, call_of, call_of_words};
+ghost use Rattle.command_line.specs.Arguments.{Generates, GenFiles, ToldRun};
 ghost use Rattle.command_line.specs.Arguments.{inputs, IsAllowed, Lists, ListFiles};
 ghost use Rattle.command_line.specs.Arguments.{MigrateFiles, Migrates, outputs, PlayFiles, Plays};
 ghost use Rattle.command_line.specs.Arguments.{ReadFiles, Sample, standard_output, Tries};
@@ -12,11 +13,16 @@ ghost use Rattle.run_files.specs.Causes.{AreTaken, IsAnswered, IsRefused, IsTurn
 ghost use Rattle.run_files.specs.Files.{IsPrinted, IsStopped, OthersStay};
 ghost use Rattle.run_files.specs.Files.{ReadFaultRose, WriteFaultRose};
 ghost use Rattle.nfq_cli.specs.Ending.{IsEnded, span};
-ghost use Rattle.nfq_cli.specs.Headline.{IsCut, IsGenerated, IsListed, IsMigrated, IsPlayed};
-ghost use Rattle.nfq_cli.specs.Headline.{IsTried};
+ghost use Rattle.run_audit.specs.declared.finding.Finding.{Finding as AFinding};
+ghost use Rattle.run_audit.specs.Printed as finding;
+ghost use Rattle.nfq_cli.specs.Headline as headline;
+ghost use Rattle.nfq_cli.specs.Headline.{Finds, IsAmiss, IsAtEnd, IsAudited, IsCut, IsFoundBy};
+ghost use Rattle.nfq_cli.specs.Headline.{IsGenerated, IsListed, IsMigrated, IsOnlyFoundBy};
+ghost use Rattle.nfq_cli.specs.Headline.{IsPlayed, IsTried};
 ghost use Rattle.run_files.specs.Printed.{line_of, usage_line};
 ghost use Rattle.run_files.specs.Statuses.{IfRefused, IsOfRefusal};
 
+use crate::audit::audit_files;
 use crate::generation::generate;
 use crate::list::list_files;
 use crate::migration::migrate;
@@ -25,13 +31,14 @@ use crate::trial::try_out;
 use command_line::{Command, command_of};
 use host_io::Host;
 use packet_entry::NoMemory;
-use run_files::status::{DONE, USAGE};
+use run_audit::Finding;
+use run_files::status::{DONE, NO_RUN, USAGE};
 use run_files::{Refusal, Stop, print, print_usage};
 use std::alloc::Global;
 
 /// Does the command that the arguments are, without the program's name, and answers its status.
 pub fn play<H: Host>(alloc: Global, words: &[String], host: &mut H) -> u8
-    ensures statuses { (result ≤ 8) ⊎ (result ≡ 10) }
+    ensures statuses { (result ≤ 8) ⊎ (result ≡ 10) ⊎ (result ≡ 11) }
 
     // 1 comes exactly where the arguments aren't a command, and then the usage line is printed.
     ensures usage { (result ≡ 1) ↔ (call_of_words words.now ≡ None) }
@@ -94,12 +101,32 @@ pub fn play<H: Host>(alloc: Global, words: &[String], host: &mut H) -> u8
         call_of_words words.now ≡ Some (Migrates m) →
         IsTrue (H.tells host.old) →
         IsMigrated m (H.content host.old) (H.content host.new) }
-    // A command, and inputs in their grammars and limits, give 0, unless memory ran out or the
-    // host had a fault.
+    // `audit` ends with 0 where its journal tells a run on the inputs ..
+    ensures audited { result ≡ 0 → (a : AuditFiles) → call_of_words words.now ≡ Some (Audits a) →
+        IsTrue (H.tells host.old) → IsAudited a (H.content host.old) }
+    // .. and such files give no other status, unless memory ran out or a read failed. It ends with
+    // 11 where a check finds something of what the journal tells, whose line is printed ..
+    ensures amiss { result ≡ 11 → (c : Call) → call_of_words words.now ≡ Some c →
+        IsTrue (H.tells host.old) → IsAmiss c (H.write_faults host.old) (H.write_faults host.new)
+        (H.content host.old) (H.content host.new) }
+    ensures passes { (a : AuditFiles) → call_of_words words.now ≡ Some (Audits a) →
+        IsTrue (H.tells host.old) → IsAudited a (H.content host.old) →
+        (result ≡ 0) ⊎ (result ≡ 8) ⊎ ((result ≡ 2) × IsUnread (ToldRun a)
+        (H.read_faults host.old) (H.read_faults host.new) (H.content host.old)) }
+    // .. and there it does, with the same exceptions.
+    ensures finds { (a : AuditFiles) (f : AFinding) →
+        call_of_words words.now ≡ Some (Audits a) →
+        IsTrue (H.tells host.old) → Finds a (H.content host.old) f →
+        ((result ≡ 11) × IsPrinted (finding.line_of f)
+        (H.write_faults host.old) (H.write_faults host.new) (H.content host.new))
+        ⊎ (result ≡ 8) ⊎ ((result ≡ 2) × IsUnread (ToldRun a)
+        (H.read_faults host.old) (H.read_faults host.new) (H.content host.old)) }
+    // A command, and inputs in their grammars and limits, give 0, or 11 of an audit, unless memory
+    // ran out or the host had a fault.
     ensures complete { (c : Call) → call_of_words words.now ≡ Some c →
         IsTrue (H.tells host.old) →
         IfSome (inputs c) (λ i. AreTaken i (H.content host.old)) →
-        (result ≡ 0) ⊎ (result ≡ 8)
+        IsAtEnd c result ⊎ (result ≡ 8)
         ⊎ IsSomeAnd (inputs c) (λ i.
         ReadFaultRose i (H.read_faults host.old) (H.read_faults host.new))
         ⊎ WriteFaultRose (outputs c) (H.write_faults host.old) (H.write_faults host.new) }
@@ -120,13 +147,27 @@ pub fn play<H: Host>(alloc: Global, words: &[String], host: &mut H) -> u8
         return USAGE;
     };
     match carry_out(alloc, &command, host) {
-        Ok(()) => DONE,
+        Ok(found) => status_at_end(found),
         Err(stop) => stop.status(),
     }
 }
 
-/// Does the command, and prints why an input is refused.
-fn carry_out<H: Host>(alloc: Global, command: &Command<'_>, host: &mut H) -> Result<(), Stop>
+/// The status of a command that came to its end, with what an audit found.
+fn status_at_end(found: Option<Finding>) -> u8
+    ensures { result ≡ headline.status_at_end found }
+{
+    match found {
+        None => DONE,
+        Some(_) => NO_RUN,
+    }
+}
+
+/// Does the command, and prints why an input is refused, or what an audit found.
+fn carry_out<H: Host>(
+    alloc: Global,
+    command: &Command<'_>,
+    host: &mut H,
+) -> Result<Option<Finding>, Stop>
     requires allowed { IsAllowed (call_of command.now) }
     ensures ended { IsEnded (call_of command.now)
         (span H.tells H.content H.read_faults H.write_faults host.old host.new) result }
@@ -136,8 +177,17 @@ fn carry_out<H: Host>(alloc: Global, command: &Command<'_>, host: &mut H) -> Res
         ChangesOnly standard_output (H.content host.old) (H.content host.new)) }
     ensures quiet { IsErrOf result Stop.ReadFault ⊎ IsErrOf result Stop.NoMemory →
         SameFiles (H.content host.old) (H.content host.new) }
-    ensures others { OnOk result
-        (OthersStay (outputs (call_of command.now)) (H.content host.old) (H.content host.new)) }
+    ensures found { IfOk result (λ found. IsTrue (H.tells host.old) →
+        IsFoundBy (call_of command.now) (H.content host.old) found) }
+    ensures finds { IfOk result (λ found. IsTrue (H.tells host.old) →
+        IsOnlyFoundBy (call_of command.now) (H.content host.old) found) }
+    ensures reported { IfOk result (λ found. IfSome found (λ f. IsTrue (H.tells host.old) →
+        IsPrinted (finding.line_of f)
+        (H.write_faults host.old) (H.write_faults host.new) (H.content host.new))) }
+    ensures touched { IfOk result (λ found. IfSome found (λ _.
+        ChangesOnly standard_output (H.content host.old) (H.content host.new))) }
+    ensures others { IfOk result (λ found. found ≡ None →
+        OthersStay (outputs (call_of command.now)) (H.content host.old) (H.content host.new)) }
     ensures others_stopped { IsErrOf result Stop.WriteFault →
         OthersStay (outputs (call_of command.now)) (H.content host.old) (H.content host.new) }
     ensures later { IsLater H.tells H.read_faults H.write_faults host.old host.new }
@@ -150,7 +200,11 @@ fn carry_out<H: Host>(alloc: Global, command: &Command<'_>, host: &mut H) -> Res
         Err(Stop::ReadFault) => Err(Stop::ReadFault),
         Err(Stop::WriteFault) => Err(Stop::WriteFault),
         Err(Stop::NoMemory) => Err(Stop::NoMemory),
-        Ok(()) => Ok(()),
+        Ok(Some(finding)) => {
+            print_finding(alloc, finding, host)?;
+            Ok(Some(finding))
+        }
+        Ok(None) => Ok(None),
     }
 }
 
@@ -171,22 +225,47 @@ pub(crate) fn print_refusal<H: Host>(
     Ok(())
 }
 
-/// Hands the command to the function that does it.
-fn dispatch<H: Host>(alloc: Global, command: &Command<'_>, host: &mut H) -> Result<(), Stop>
+/// Prints what an audit found. Without memory for the line nothing is printed.
+fn print_finding<H: Host>(alloc: Global, found: Finding, host: &mut H) -> Result<(), NoMemory>
+    ensures printed { OnOk result (IsTrue (H.tells host.old) → IsPrinted (finding.line_of found)
+        (H.write_faults host.old) (H.write_faults host.new) (H.content host.new)) }
+    ensures files { ChangesOnly standard_output (H.content host.old) (H.content host.new) }
+    ensures quiet { OnErr result (SameFiles (H.content host.old) (H.content host.new)) }
+    ensures later { IsLater H.tells H.read_faults H.write_faults host.old host.new }
+{
+    let line = found.line(alloc)?;
+    print(host, &line);
+    Ok(())
+}
+
+/// Hands the command to the function that does it. Answers what an audit found.
+fn dispatch<H: Host>(
+    alloc: Global,
+    command: &Command<'_>,
+    host: &mut H,
+) -> Result<Option<Finding>, Stop>
     requires allowed { IsAllowed (call_of command.now) }
     ensures ended { IsEnded (call_of command.now)
         (span H.tells H.content H.read_faults H.write_faults host.old host.new) result }
+    ensures found { IfOk result (λ found. IsTrue (H.tells host.old) →
+        IsFoundBy (call_of command.now) (H.content host.old) found) }
+    ensures finds { IfOk result (λ found. IsTrue (H.tells host.old) →
+        IsOnlyFoundBy (call_of command.now) (H.content host.old) found) }
     ensures untouched { OnErr result (¬ IsErrOf result Stop.WriteFault →
         SameFiles (H.content host.old) (H.content host.new)) }
+    ensures seen { IfOk result (λ found. IfSome found (λ _.
+        SameFiles (H.content host.old) (H.content host.new))) }
     ensures others { OthersStay (outputs (call_of command.now))
         (H.content host.old) (H.content host.new) }
     ensures later { IsLater H.tells H.read_faults H.write_faults host.old host.new }
 {
     match command {
-        Command::Play { files } => play_files(alloc, files, host),
-        Command::List { files } => list_files(alloc, files, host),
-        Command::Gen { files } => generate(alloc, files, host),
-        Command::Trial { sample } => try_out(alloc, *sample, host),
-        Command::Migrate { files } => migrate(alloc, files, host),
+        Command::Play { files } => play_files(alloc, files, host)?,
+        Command::List { files } => list_files(alloc, files, host)?,
+        Command::Gen { files } => generate(alloc, files, host)?,
+        Command::Trial { sample } => try_out(alloc, *sample, host)?,
+        Command::Migrate { files } => migrate(alloc, files, host)?,
+        Command::Audit { files } => return audit_files(alloc, files, host),
     }
+    Ok(None)
 }

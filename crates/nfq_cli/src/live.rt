@@ -9,8 +9,9 @@ ghost use Rattle.pcap_io.specs.Text.{IsHeld};
 ghost use Rattle.inspector_script.specs.Scripts.{IsScript};
 ghost use Rattle.histories.specs.History.{AreLegal};
 ghost use Rattle.fate_ledger.specs.Released.{released};
-ghost use Rattle.command_line.specs.Arguments.{Call, IsLiveAllowed, inputs, live_call_of_words};
-ghost use Rattle.command_line.specs.Arguments.{live_files_of, LiveFiles, Lives, outputs};
+ghost use Rattle.command_line.specs.Arguments.{Call, IsLiveAllowed, IsSizeAllowed, inputs};
+ghost use Rattle.command_line.specs.Arguments.{live_call_of_words, live_files_of, LiveFiles, Lives};
+ghost use Rattle.command_line.specs.Arguments.{outputs, size_of};
 ghost use Rattle.command_line.specs.Arguments.{play_outputs, ReadFiles, standard_output};
 ghost use Rattle.run_files.specs.declared.refusal.Refusal.{Refusal as ARefusal};
 ghost use Rattle.run_files.specs.Causes.{AreTaken, IsAnswered, IsRefused, IsTurnedDown, IsUnread};
@@ -19,22 +20,21 @@ ghost use Rattle.run_files.specs.Files.{ReadFaultRose, WriteFaultRose};
 ghost use Rattle.run_files.specs.Outputs.{fates_of};
 ghost use Rattle.run_files.specs.Printed.{line_of, usage_line};
 ghost use Rattle.run_files.specs.Statuses.{IfRefused, IsOfRefusal};
-ghost use Rattle.live_work.specs.Numbers.{one_feeder, one_worker};
 ghost use Rattle.nfq_live.specs.Run.{IsOpenedFor, tables_of};
-ghost use Rattle.nfq_cli.specs.Account.{AreAccounted};
 ghost use Rattle.nfq_cli.specs.Ending.{IsEnded, span};
-ghost use Rattle.nfq_cli.specs.Headline.{IsCut, IsLived};
+ghost use Rattle.nfq_cli.specs.Headline.{IsAccountedOf, IsCut, IsLived};
 
 use crate::account::{a_run_is_accounted_for, released_frames_can_be_written};
 use crate::command::print_refusal;
 use crate::play::write_run;
-use command_line::{Live, live_of};
+use command_line::{Live, RunSize, live_of};
 use histories::Histories;
 use hook_chain::Tables;
 use host_io::Host;
+use inspector_pool::{JobGate, OpenJobGate};
 use inspector_script::Script;
 use journals::histories_fit;
-use nfq_live::run_workers;
+use nfq_live::run_pools;
 use packet_entry::NoMemory;
 use pcap_io::Capture;
 use plane::{Gate, Opened, Plane};
@@ -122,23 +122,89 @@ pub fn live<R: Threads + Wait + Sync, H: Host, G: Gate>(
         OthersStay (outputs c) (H.content host.old) (H.content host.new) }
     ensures later { IsLater H.tells H.read_faults H.write_faults host.old host.new }
 {
+    live_pools(rt, alloc, words, host, gate, &OpenJobGate)
+}
+
+/// The same, where `jobs` is told of each job of the pools.
+pub fn live_pools<R: Threads + Wait + Sync, H: Host, G: Gate, J: JobGate>(
+    rt: &R,
+    alloc: Global,
+    words: &[String],
+    host: &mut H,
+    gate: &G,
+    jobs: &J,
+) -> u8
+    ensures statuses { (result ≤ 8) ⊎ (result ≡ 10) }
+
+    ensures usage { (result ≡ 1) ↔ (live_call_of_words words.now ≡ None) }
+    ensures usage_printed { result ≡ 1 → IsTrue (H.tells host.old) → IsPrinted usage_line
+        (H.write_faults host.old) (H.write_faults host.new) (H.content host.new) }
+
+    ensures read_fault { result ≡ 2 → (c : Call) → live_call_of_words words.now ≡ Some c →
+        IsSomeAnd (inputs c) (λ i.
+        ReadFaultRose i (H.read_faults host.old) (H.read_faults host.new)) }
+    ensures write_fault { result ≡ 3 → (c : Call) → live_call_of_words words.now ≡ Some c →
+        WriteFaultRose (outputs c) (H.write_faults host.old) (H.write_faults host.new) }
+    ensures unread { result ≡ 2 → (c : Call) → live_call_of_words words.now ≡ Some c →
+        IsTrue (H.tells host.old) → IsSomeAnd (inputs c) (λ i.
+        IsUnread i (H.read_faults host.old) (H.read_faults host.new) (H.content host.old)) }
+    ensures stopped { result ≡ 3 → (c : Call) → live_call_of_words words.now ≡ Some c →
+        IsStopped (outputs c) (H.write_faults host.old) (H.write_faults host.new)
+        (H.content host.old) (H.content host.new) }
+    ensures cut_short { result ≡ 3 → (c : Call) → live_call_of_words words.now ≡ Some c →
+        IsTrue (H.tells host.old) →
+        IsCut c (H.write_faults host.old) (H.write_faults host.new) (H.content host.old)
+        (H.content host.new) }
+
+    ensures refused { IsOfRefusal result → (c : Call) → live_call_of_words words.now ≡ Some c →
+        IsTrue (H.tells host.old) → IsSomeAnd (inputs c) (λ i.
+        IsTurnedDown i result (H.write_faults host.old) (H.write_faults host.new)
+        (H.content host.old) (H.content host.new)) }
+    ensures exact { (c : Call) (i : ReadFiles) (why : ARefusal) →
+        live_call_of_words words.now ≡ Some c → inputs c ≡ Some i →
+        IsTrue (H.tells host.old) → IsRefused i (H.content host.old) why →
+        IsAnswered why result (H.write_faults host.old) (H.write_faults host.new)
+        (H.content host.new) ⊎ (result ≡ 8) ⊎ ((result ≡ 2) × IsUnread i
+        (H.read_faults host.old) (H.read_faults host.new) (H.content host.old)) }
+
+    ensures lived { result ≡ 0 → (l : LiveFiles) → live_call_of_words words.now ≡ Some (Lives l) →
+        IsTrue (H.tells host.old) →
+        IsLived l (H.content host.old) (H.content host.new) }
+    ensures complete { (c : Call) → live_call_of_words words.now ≡ Some c →
+        IsTrue (H.tells host.old) →
+        IfSome (inputs c) (λ i. AreTaken i (H.content host.old)) →
+        (result ≡ 0) ⊎ (result ≡ 8)
+        ⊎ IsSomeAnd (inputs c) (λ i.
+        ReadFaultRose i (H.read_faults host.old) (H.read_faults host.new))
+        ⊎ WriteFaultRose (outputs c) (H.write_faults host.old) (H.write_faults host.new) }
+
+    ensures untouched { result ≢ 0 → result ≢ 3 →
+        ChangesOnly standard_output (H.content host.old) (H.content host.new) }
+    ensures quiet { (result ≡ 2) ⊎ (result ≡ 8) →
+        SameFiles (H.content host.old) (H.content host.new) }
+    ensures others { (result ≡ 0) ⊎ (result ≡ 3) → (c : Call) →
+        live_call_of_words words.now ≡ Some c →
+        OthersStay (outputs c) (H.content host.old) (H.content host.new) }
+    ensures later { IsLater H.tells H.read_faults H.write_faults host.old host.new }
+{
     let Some(command) = live_of(words) else {
         print_usage(host);
         return USAGE;
     };
-    match carry_out(rt, alloc, &command, host, gate) {
+    match carry_out(rt, alloc, &command, host, gate, jobs) {
         Ok(()) => DONE,
         Err(stop) => stop.status(),
     }
 }
 
 /// Does the command, and prints why an input is refused.
-fn carry_out<R: Threads + Wait + Sync, H: Host, G: Gate>(
+fn carry_out<R: Threads + Wait + Sync, H: Host, G: Gate, J: JobGate>(
     rt: &R,
     alloc: Global,
     command: &Live<'_>,
     host: &mut H,
     gate: &G,
+    jobs: &J,
 ) -> Result<(), Stop>
     requires allowed { IsLiveAllowed (live_files_of command.now) }
     ensures ended { IsEnded (Lives (live_files_of command.now))
@@ -156,7 +222,7 @@ fn carry_out<R: Threads + Wait + Sync, H: Host, G: Gate>(
         (H.content host.new) }
     ensures later { IsLater H.tells H.read_faults H.write_faults host.old host.new }
 {
-    match live_files(rt, alloc, command, host, gate) {
+    match live_files(rt, alloc, command, host, gate, jobs) {
         Err(Stop::Refused { why }) => {
             print_refusal(alloc, why, host)?;
             Err(Stop::Refused { why })
@@ -169,12 +235,13 @@ fn carry_out<R: Threads + Wait + Sync, H: Host, G: Gate>(
 }
 
 /// Reads the inputs, makes the run and writes the outputs.
-fn live_files<R: Threads + Wait + Sync, H: Host, G: Gate>(
+fn live_files<R: Threads + Wait + Sync, H: Host, G: Gate, J: JobGate>(
     rt: &R,
     alloc: Global,
     command: &Live<'_>,
     host: &mut H,
     gate: &G,
+    jobs: &J,
 ) -> Result<(), Stop>
     requires allowed { IsLiveAllowed (live_files_of command.now) }
     ensures ended { IsEnded (Lives (live_files_of command.now))
@@ -191,35 +258,45 @@ fn live_files<R: Threads + Wait + Sync, H: Host, G: Gate>(
         script,
         capture,
     } = made;
-    let histories = run_of(rt, alloc, command.places, &script, tables, &capture, gate)?;
+    let size = command.size;
+    let histories = run_of(rt, alloc, size, &script, tables, &capture, gate, jobs)?;
     write_run(alloc, &command.files, &capture, histories, host)
 }
 
-/// Runs a script over the packets of a capture with threads, over so many places; each of them is
+/// Runs a script over the packets of a capture with threads, in a run of this size; each of them is
 /// accounted for in the histories. What is released can be written as a capture.
-fn run_of<R: Threads + Wait + Sync, G: Gate>(
+fn run_of<R: Threads + Wait + Sync, G: Gate, J: JobGate>(
     rt: &R,
     alloc: Global,
-    places: u8,
+    size: RunSize,
     script: &Script,
     tables: Tables,
     capture: &Capture,
     gate: &G,
+    jobs: &J,
 ) -> Result<Histories, NoMemory>
-    requires places { (1 ≤ places) × (places ≤ most_places) }
+    requires size { IsSizeAllowed (size_of size) }
     requires script { IsScript script.now }
     requires held { IsHeld capture.now }
     requires frames { length capture.now.frames ≤ most_frames }
     ensures account { IfOk result
-        (AreAccounted one_worker one_feeder tables script.now capture.now) }
+        (IsAccountedOf (size_of size) tables script.now capture.now) }
     ensures fit { IfOk result
         (λ h. All (λ l. length l.payload ≤ longest_packet) (fates_of capture.now h)) }
     ensures held { IfOk result (λ h. IsHeld (released capture.now (fates_of capture.now h))) }
 {
     a_run_is_accounted_for();
     released_frames_can_be_written();
-    let opened = open(alloc, places, script, tables)?;
-    let histories = run_workers(rt, alloc, opened, script, capture, gate)?;
+    let RunSize {
+        places,
+        feeders,
+        workers,
+    } = size;
+    let fanned = tables.with_feeders(feeders);
+    let opened = open(alloc, places, script, fanned)?;
+    let histories = run_pools(
+        rt, alloc, opened, script, capture, feeders, workers, gate, jobs,
+    )?;
     histories_fit(&histories);
     Ok(histories)
 }

@@ -3,10 +3,12 @@
 //! journal. `live` does so with threads, whose queues are behind locks. `list` makes the run of
 //! `play` up to where the ports end, and writes how the queues stand. `gen` writes inputs that are
 //! made from a number, and `trial` makes the run of `play` on these in memory and prints how many
-//! packets had each fate. `migrate` writes a journal of either version in that of today.
+//! packets had each fate. `migrate` writes a journal of either version in that of today,
+//! and `audit` judges whether a journal tells a run on its inputs.
 #![tactic(auto)]
 
 mod account;
+mod audit;
 mod command;
 mod generation;
 mod list;

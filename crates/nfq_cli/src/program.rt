@@ -7,7 +7,8 @@ ghost use Rattle.std.specs.String.{string_bytes};
 ghost use Rattle.std.specs.Vec.Iter.{into_iter_items};
 ghost use Rattle.host_io.specs.Host.{IsLater, SameFiles, ChangesOnly};
 ghost use Rattle.run_files.specs.declared.refusal.Refusal.{Refusal};
-ghost use Rattle.command_line.specs.Arguments.{Call, call_of_arguments, Generates, GenFiles};
+ghost use Rattle.command_line.specs.Arguments.{AuditFiles, Audits, Call, call_of_arguments};
+ghost use Rattle.command_line.specs.Arguments.{Generates, GenFiles, ToldRun};
 ghost use Rattle.command_line.specs.Arguments as named;
 ghost use Rattle.command_line.specs.Arguments.{inputs, Lists, ListFiles, LiveFiles, Lives};
 ghost use Rattle.command_line.specs.Arguments.{MigrateFiles, Migrates, outputs};
@@ -16,8 +17,10 @@ ghost use Rattle.command_line.specs.Arguments.{standard_output, Tries};
 ghost use Rattle.run_files.specs.Causes.{AreTaken, IsAnswered, IsRefused, IsTurnedDown, IsUnread};
 ghost use Rattle.run_files.specs.Files.{IsPrinted, IsStopped, OthersStay};
 ghost use Rattle.run_files.specs.Files.{ReadFaultRose, WriteFaultRose};
-ghost use Rattle.nfq_cli.specs.Headline.{IsCut, IsGenerated, IsListed, IsLived, IsMigrated};
-ghost use Rattle.nfq_cli.specs.Headline.{IsPlayed, IsTried};
+ghost use Rattle.run_audit.specs.declared.finding.Finding.{Finding};
+ghost use Rattle.run_audit.specs.Printed as finding;
+ghost use Rattle.nfq_cli.specs.Headline.{Finds, IsAmiss, IsAtEnd, IsAudited, IsCut, IsGenerated};
+ghost use Rattle.nfq_cli.specs.Headline.{IsListed, IsLived, IsMigrated, IsPlayed, IsTried};
 ghost use Rattle.run_files.specs.Printed.{usage_line};
 ghost use Rattle.run_files.specs.Statuses.{IsOfRefusal};
 
@@ -42,7 +45,7 @@ pub fn program<R: Threads + Wait + Sync, H: Host>(
     arguments: Result<Args, Error>,
     host: &mut H,
 ) -> u8
-    ensures statuses { (result ≤ 8) ⊎ (result ≡ 10) }
+    ensures statuses { (result ≤ 8) ⊎ (result ≡ 10) ⊎ (result ≡ 11) }
 
     // 1 comes only where the arguments aren't a command, and there 1 or 8 comes.
     ensures usage { result ≡ 1 → call_of_arguments arguments ≡ None }
@@ -99,10 +102,27 @@ pub fn program<R: Threads + Wait + Sync, H: Host>(
         call_of_arguments arguments ≡ Some (Migrates m) →
         IsTrue (H.tells host.old) →
         IsMigrated m (H.content host.old) (H.content host.new) }
+    ensures audited { result ≡ 0 → (a : AuditFiles) →
+        call_of_arguments arguments ≡ Some (Audits a) →
+        IsTrue (H.tells host.old) → IsAudited a (H.content host.old) }
+    ensures amiss { result ≡ 11 → (c : Call) → call_of_arguments arguments ≡ Some c →
+        IsTrue (H.tells host.old) → IsAmiss c (H.write_faults host.old) (H.write_faults host.new)
+        (H.content host.old) (H.content host.new) }
+    ensures passes { (a : AuditFiles) → call_of_arguments arguments ≡ Some (Audits a) →
+        IsTrue (H.tells host.old) → IsAudited a (H.content host.old) →
+        (result ≡ 0) ⊎ (result ≡ 8) ⊎ ((result ≡ 2) × IsUnread (ToldRun a)
+        (H.read_faults host.old) (H.read_faults host.new) (H.content host.old)) }
+    ensures finds { (a : AuditFiles) (f : Finding) →
+        call_of_arguments arguments ≡ Some (Audits a) →
+        IsTrue (H.tells host.old) → Finds a (H.content host.old) f →
+        ((result ≡ 11) × IsPrinted (finding.line_of f)
+        (H.write_faults host.old) (H.write_faults host.new) (H.content host.new))
+        ⊎ (result ≡ 8) ⊎ ((result ≡ 2) × IsUnread (ToldRun a)
+        (H.read_faults host.old) (H.read_faults host.new) (H.content host.old)) }
     ensures complete { (c : Call) → call_of_arguments arguments ≡ Some c →
         IsTrue (H.tells host.old) →
         IfSome (inputs c) (λ i. AreTaken i (H.content host.old)) →
-        (result ≡ 0) ⊎ (result ≡ 8)
+        IsAtEnd c result ⊎ (result ≡ 8)
         ⊎ IsSomeAnd (inputs c) (λ i.
         ReadFaultRose i (H.read_faults host.old) (H.read_faults host.new))
         ⊎ WriteFaultRose (outputs c) (H.write_faults host.old) (H.write_faults host.new) }

@@ -1,10 +1,12 @@
 //! Runs of the commands over a machine in memory. What they expect was written out by hand, but for
 //! generated inputs. Inputs at the limits are played by the built program.
 
+mod audited;
 mod faulted;
 mod lived;
 mod migrated;
 mod raced;
+mod sized;
 mod tried;
 mod worked;
 

@@ -20,7 +20,7 @@ use Rattle.histories.specs.declared.histories.Histories.{Histories}
 use Rattle.journal_reading.specs.declared.fault.JournalFault.{JournalFault}
 use Rattle.journal_reading.specs.declared.fault.JournalFault.TheVariants as journal
 use Rattle.journal_reading.specs.JournalFile.{Answers, IsFirstRefused, IsJournal, IsRefusedAt}
-use Rattle.journal_reading.specs.JournalFile.{version_of}
+use Rattle.journals.specs.declared.version.Version.{Version}
 use Rattle.run_files.specs.Numbers.{text_limit, capture_limit, journal_limit}
 use Rattle.run_files.specs.declared.refusal.Limit.{Limit}
 use Rattle.run_files.specs.declared.refusal.Limit.TheVariants as limit
@@ -28,7 +28,7 @@ use Rattle.run_files.specs.declared.refusal.Refusal.{Refusal}
 use Rattle.run_files.specs.declared.refusal.Refusal.TheVariants as refusal
 use Rattle.run_files.specs.declared.stop.Stop.{Stop}
 use Rattle.run_files.specs.declared.stop.Stop.TheVariants as stop
-use Rattle.run_files.specs.Inputs.{Saying, RulesSay, ScriptSays, CaptureSays, JournalSays, Said}
+use Rattle.run_files.specs.Inputs.{Saying, RulesSay, ScriptSays, CaptureSays, JournalSaysIn, Said}
 use Rattle.run_files.specs.Statuses.{IfStopRefuses, of_rules, of_script, of_capture, of_journal}
 
 -- ---- results that differ
@@ -261,47 +261,47 @@ capture_refused text (fault.TooLong frame length) small only exact said says =
 
 -- ---- journals
 
-pub journal_taken : (text : List ℕ) (taken : Histories) → length text ≤ journal_limit →
-    ((h : Histories) → IsJournal (version_of text) text h → Answers (Ok taken) h) →
-    ((line : ℕ) → IsFirstRefused (version_of text) text line → IsRefusedAt (Ok taken) line) →
-    (said : Result Histories Refusal) → JournalSays text said → said ≡ Ok taken
-journal_taken text taken small only stuck (Ok h) says = ap Ok (sym (only h says.1))
-journal_taken text taken small only stuck (Err (refusal.Journal n)) says =
+pub journal_taken : (v : Version) (text : List ℕ) (taken : Histories) → length text ≤ journal_limit →
+    ((h : Histories) → IsJournal v text h → Answers (Ok taken) h) →
+    ((line : ℕ) → IsFirstRefused v text line → IsRefusedAt (Ok taken) line) →
+    (said : Result Histories Refusal) → JournalSaysIn v text said → said ≡ Ok taken
+journal_taken v text taken small only stuck (Ok h) says = ap Ok (sym (only h says.1))
+journal_taken v text taken small only stuck (Err (refusal.Journal n)) says =
     absurd (stuck n says.1)
-journal_taken text taken small only stuck (Err (refusal.TooLarge limit.Journal)) says =
+journal_taken v text taken small only stuck (Err (refusal.TooLarge limit.Journal)) says =
     absurd (omega (arith, small, says))
-journal_taken text taken small only stuck (Err (refusal.TooLarge limit.Rules)) says = absurd says
-journal_taken text taken small only stuck (Err (refusal.TooLarge limit.Script)) says = absurd says
-journal_taken text taken small only stuck (Err (refusal.TooLarge limit.Capture)) says =
+journal_taken v text taken small only stuck (Err (refusal.TooLarge limit.Rules)) says = absurd says
+journal_taken v text taken small only stuck (Err (refusal.TooLarge limit.Script)) says = absurd says
+journal_taken v text taken small only stuck (Err (refusal.TooLarge limit.Capture)) says =
     absurd says
-journal_taken text taken small only stuck (Err (refusal.TooLarge limit.Records)) says =
+journal_taken v text taken small only stuck (Err (refusal.TooLarge limit.Records)) says =
     absurd says
-journal_taken text taken small only stuck (Err (refusal.Rules n)) says = absurd says
-journal_taken text taken small only stuck (Err (refusal.Script n)) says = absurd says
-journal_taken text taken small only stuck (Err (refusal.Capture f)) says = absurd says
+journal_taken v text taken small only stuck (Err (refusal.Rules n)) says = absurd says
+journal_taken v text taken small only stuck (Err (refusal.Script n)) says = absurd says
+journal_taken v text taken small only stuck (Err (refusal.Capture f)) says = absurd says
 
-pub journal_refused : (text : List ℕ) (why : JournalFault) → length text ≤ journal_limit →
-    ((h : Histories) → IsJournal (version_of text) text h → Answers (Err why) h) →
-    ((line : ℕ) → IsFirstRefused (version_of text) text line → IsRefusedAt (Err why) line) →
-    (said : Result Histories Refusal) → JournalSays text said →
+pub journal_refused : (v : Version) (text : List ℕ) (why : JournalFault) → length text ≤ journal_limit →
+    ((h : Histories) → IsJournal v text h → Answers (Err why) h) →
+    ((line : ℕ) → IsFirstRefused v text line → IsRefusedAt (Err why) line) →
+    (said : Result Histories Refusal) → JournalSaysIn v text said →
     IfStopRefuses (of_journal why) (λ w. said ≡ Err w)
-journal_refused text journal.NoMemory small only stuck said says = tt
-journal_refused text (journal.Bad number) small only stuck (Ok h) says = absurd (only h says.1)
-journal_refused text (journal.Bad number) small only stuck (Err (refusal.Journal n)) says =
+journal_refused v text journal.NoMemory small only stuck said says = tt
+journal_refused v text (journal.Bad number) small only stuck (Ok h) says = absurd (only h says.1)
+journal_refused v text (journal.Bad number) small only stuck (Err (refusal.Journal n)) says =
     ap (λ (m : ℕ). Err (refusal.Journal m)) (sym (stuck n says.1))
-journal_refused text (journal.Bad number) small only stuck (Err (refusal.TooLarge limit.Journal))
+journal_refused v text (journal.Bad number) small only stuck (Err (refusal.TooLarge limit.Journal))
     says = absurd (omega (arith, small, says))
-journal_refused text (journal.Bad number) small only stuck (Err (refusal.TooLarge limit.Rules))
+journal_refused v text (journal.Bad number) small only stuck (Err (refusal.TooLarge limit.Rules))
     says = absurd says
-journal_refused text (journal.Bad number) small only stuck (Err (refusal.TooLarge limit.Script))
+journal_refused v text (journal.Bad number) small only stuck (Err (refusal.TooLarge limit.Script))
     says = absurd says
-journal_refused text (journal.Bad number) small only stuck (Err (refusal.TooLarge limit.Capture))
+journal_refused v text (journal.Bad number) small only stuck (Err (refusal.TooLarge limit.Capture))
     says = absurd says
-journal_refused text (journal.Bad number) small only stuck (Err (refusal.TooLarge limit.Records))
+journal_refused v text (journal.Bad number) small only stuck (Err (refusal.TooLarge limit.Records))
     says = absurd says
-journal_refused text (journal.Bad number) small only stuck (Err (refusal.Rules n)) says =
+journal_refused v text (journal.Bad number) small only stuck (Err (refusal.Rules n)) says =
     absurd says
-journal_refused text (journal.Bad number) small only stuck (Err (refusal.Script n)) says =
+journal_refused v text (journal.Bad number) small only stuck (Err (refusal.Script n)) says =
     absurd says
-journal_refused text (journal.Bad number) small only stuck (Err (refusal.Capture f)) says =
+journal_refused v text (journal.Bad number) small only stuck (Err (refusal.Capture f)) says =
     absurd says

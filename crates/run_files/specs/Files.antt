@@ -1,7 +1,8 @@
 -- What the files of a command hold, and how many faults each has had, as a host tells it.
 use Rattle.std.specs.Prelude.{◌≡◌, ◌≢◌, ◌⊎◌, ℕ, ⊤, List, [], ◌∷◌, map, Option, Some}
 use Rattle.host_io.specs.Host.{Rises}
-use Rattle.command_line.specs.Arguments.{ReadFiles, RunInputs, OneJournal, standard_output}
+use Rattle.command_line.specs.Arguments.{InputFiles, ReadFiles, RunInputs, OneJournal}
+use Rattle.command_line.specs.Arguments.{ToldRun, standard_output}
 
 -- what each name holds
 abbrev pub Contents : Type 0
@@ -11,12 +12,18 @@ Contents = List ℕ → Option (List ℕ)
 abbrev pub Counts : Type 0
 Counts = List ℕ → ℕ
 
--- the count of read faults of one of the files that are read rose
-abbrev pub ReadFaultRose : ReadFiles → Counts → Counts → Type 0
-ReadFaultRose (RunInputs i) old new =
+-- the count of read faults of one of the inputs of a run rose
+abbrev pub InputFaultRose : InputFiles → Counts → Counts → Type 0
+InputFaultRose i old new =
     Rises (old i.rules) (new i.rules) ⊎ Rises (old i.script) (new i.script)
     ⊎ Rises (old i.capture) (new i.capture)
+
+-- the count of read faults of one of the files that are read rose
+abbrev pub ReadFaultRose : ReadFiles → Counts → Counts → Type 0
+ReadFaultRose (RunInputs i) old new = InputFaultRose i old new
 ReadFaultRose (OneJournal name) old new = Rises (old name) (new name)
+ReadFaultRose (ToldRun a) old new =
+    InputFaultRose a.inputs old new ⊎ Rises (old a.journal) (new a.journal)
 
 -- the count of write faults of one of these names rose
 abbrev pub WriteFaultRose : List (List ℕ) → Counts → Counts → Type 0

@@ -9,6 +9,8 @@ use Rattle.pcap_io.specs.Text.{IsCapture}
 use Rattle.pcap_io.specs.Reading.{IsFault}
 use Rattle.packet_entry.specs.Numbers.{most_frames}
 use Rattle.histories.specs.declared.histories.Histories.{Histories}
+use Rattle.journals.specs.declared.version.Version.{Version}
+use Rattle.journals.specs.declared.version.Version.TheVariants.{Second}
 use Rattle.journal_reading.specs.JournalFile.{IsJournal, version_of}
 use Rattle.journal_reading.specs.JournalFile as journal
 use Rattle.run_files.specs.Numbers.{text_limit, capture_limit, journal_limit}
@@ -54,14 +56,22 @@ CaptureSays text (Err (refusal.TooLarge limit.Records)) =
     (length text ≤ capture_limit) × HasManyFrames text
 CaptureSays text (Err other) = ⊥
 
--- a journal, of at most 536,870,912 bytes, of the version that its first line names: its histories,
--- or the first line that may not stand or that is missing at the end
+-- a journal of this version, of at most 536,870,912 bytes: its histories, or the first line that
+-- may not stand or that is missing at the end
+abbrev pub JournalSaysIn : Version → Saying Histories
+JournalSaysIn version text (Ok h) = (length text ≤ journal_limit) × IsJournal version text h
+JournalSaysIn version text (Err (refusal.Journal line)) =
+    (length text ≤ journal_limit) × journal.IsFirstRefused version text line
+JournalSaysIn version text (Err (refusal.TooLarge limit.Journal)) = journal_limit < length text
+JournalSaysIn version text (Err other) = ⊥
+
+-- a journal of the version that its first line names
 abbrev pub JournalSays : Saying Histories
-JournalSays text (Ok h) = (length text ≤ journal_limit) × IsJournal (version_of text) text h
-JournalSays text (Err (refusal.Journal line)) =
-    (length text ≤ journal_limit) × journal.IsFirstRefused (version_of text) text line
-JournalSays text (Err (refusal.TooLarge limit.Journal)) = journal_limit < length text
-JournalSays text (Err other) = ⊥
+JournalSays text said = JournalSaysIn (version_of text) text said
+
+-- a journal of the version that is written today
+abbrev pub TodaysJournalSays : Saying Histories
+TodaysJournalSays text said = JournalSaysIn Second text said
 
 -- the file is there, and says this
 abbrev pub Said : {V : Type 0} → Saying V → Option (List ℕ) → Result V Refusal → Type 0

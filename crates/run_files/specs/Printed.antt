@@ -11,11 +11,12 @@ use Rattle.run_files.specs.declared.refusal.Refusal.TheVariants as refusal
 abbrev pub usage_line : List ℕ
 usage_line =
     codes "usage: play RULES SCRIPT IN OUT LEDGER JOURNAL"
-    ++ codes " | live RULES SCRIPT IN OUT LEDGER JOURNAL PLACES"
+    ++ codes " | live RULES SCRIPT IN OUT LEDGER JOURNAL PLACES [FEEDERS [POOL]]"
     ++ codes " | list RULES SCRIPT IN OUT"
     ++ codes " | gen NUMBER COUNT RULES SCRIPT IN"
     ++ codes " | trial NUMBER COUNT"
-    ++ codes " | migrate OLD NEW\n"
+    ++ codes " | migrate OLD NEW"
+    ++ codes " | audit RULES SCRIPT IN JOURNAL\n"
 
 -- what is wrong with a capture; no file's fault is that memory ran out
 abbrev pub fault_text : CaptureFault → List ℕ

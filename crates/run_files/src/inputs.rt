@@ -49,16 +49,23 @@ pub struct Made {
 pub fn read_inputs<H: Host>(alloc: Global, inputs: &Inputs<'_>, host: &mut H) -> Result<Made, Stop>
     ensures read { IfOk result (λ m. IsTrue (H.tells host.old) →
         AreRead (inputs_of inputs.now) (H.content host.old) m.tables m.script m.capture) }
+    ensures alone { IfOk result (λ m. (tables : RuleTables) (script : ScriptValue)
+        (capture : ACapture) → IsTrue (H.tells host.old) →
+        AreRead (inputs_of inputs.now) (H.content host.old) tables script capture →
+        (tables ≡ m.tables) × (script ≡ m.script) × (capture ≡ m.capture)) }
     ensures script { IfOk result (λ m. IsScript m.script) }
     ensures frames { IfOk result (λ m. length m.capture.frames ≤ most_frames) }
     ensures held { IfOk result (λ m. IsHeld m.capture) }
     ensures refused { IfRefused result (λ why. IsTrue (H.tells host.old) →
         IsRefused (RunInputs (inputs_of inputs.now)) (H.content host.old) why) }
     ensures exact { (why : ARefusal) → IsTrue (H.tells host.old) →
-        IsRefused (RunInputs (inputs_of inputs.now)) (H.content host.old) why → Agrees result (Err why) }
+        IsRefused (RunInputs (inputs_of inputs.now)) (H.content host.old) why →
+        Agrees result (Err why) }
     ensures only { IsTrue (H.tells host.old) →
-        AreTaken (RunInputs (inputs_of inputs.now)) (H.content host.old) → IfRefused result (λ _. ⊥) }
-    ensures read_fault { IsErrOf result Stop.ReadFault → ReadFaultRose (RunInputs (inputs_of inputs.now))
+        AreTaken (RunInputs (inputs_of inputs.now)) (H.content host.old) →
+        IfRefused result (λ _. ⊥) }
+    ensures read_fault { IsErrOf result Stop.ReadFault →
+        ReadFaultRose (RunInputs (inputs_of inputs.now))
         (H.read_faults host.old) (H.read_faults host.new) }
     ensures unread { IsErrOf result Stop.ReadFault → IsTrue (H.tells host.old) →
         IsUnread (RunInputs (inputs_of inputs.now))

@@ -50,6 +50,17 @@ impl JournalFile {
         } = histories;
         let tail = journal_tail(alloc, &logs)?;
         drop(logs);
+        JournalFile::of_entries(alloc, entries, tail)
+    }
+
+    /// The same, where what stands behind the entries has been spelled.
+    pub(crate) fn of_entries(
+        alloc: Global,
+        entries: Entries,
+        tail: Vec<u8>,
+    ) -> Result<JournalFile, NoMemory>
+        ensures { IfOk result (λ file. file ≡ journal_of entries tail.items) }
+    {
         let (longest, all) = rooms(&entries).ok_or(NoMemory)?;
         // Each place in the file fits its number.
         let _size = all.checked_add(PART + tail.len()).ok_or(NoMemory)?;

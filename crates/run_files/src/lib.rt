@@ -3,7 +3,8 @@
 //!
 //! [`read_inputs`] answers what a run is made from, or a [`Stop`]: why the command ends before its
 //! end, with its exit status ([`status`]). A [`Refusal`] has the line that is printed of it.
-//! [`read_journal_file`] answers the histories that a journal of either version tells.
+//! [`read_journal_file`] answers the histories that a journal of either version tells, and
+//! [`read_told_run`] what a run is made from with those of its journal, of version 2.
 //! [`outputs_of`] takes all memory that the writing of the outputs wants, so that none is taken once
 //! a file has been opened.
 #![tactic(auto)]
@@ -18,6 +19,7 @@ mod printing;
 mod refusal;
 pub mod status;
 mod stop;
+mod told_run;
 
 pub use capture_file::CaptureFile;
 pub use inputs::{Made, read_inputs};
@@ -27,6 +29,7 @@ pub use outputs::{Outputs, outputs_of};
 pub use printing::{STANDARD_OUTPUT, print, print_usage};
 pub use refusal::{Limit, Refusal};
 pub use stop::Stop;
+pub use told_run::{ToldRun, read_told_run};
 
 #[cfg(test)]
 mod tests;

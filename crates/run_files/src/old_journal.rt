@@ -16,7 +16,7 @@ use journal_reading::read_either_journal;
 use std::alloc::Global;
 
 /// The most bytes that a journal may have.
-const MAX_JOURNAL: u64 = 536_870_912;
+pub(crate) const MAX_JOURNAL: u64 = 536_870_912;
 
 /// Reads a journal of the version that its first line names, of version 1 where it names neither.
 pub fn read_journal_file<H: Host>(

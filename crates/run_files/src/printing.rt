@@ -13,8 +13,10 @@ pub const STANDARD_OUTPUT: &str = "-";
 
 /// All commands with their arguments.
 const USAGE_LINE: &str = "usage: play RULES SCRIPT IN OUT LEDGER JOURNAL \
-    | live RULES SCRIPT IN OUT LEDGER JOURNAL PLACES | list RULES SCRIPT IN OUT \
-    | gen NUMBER COUNT RULES SCRIPT IN | trial NUMBER COUNT | migrate OLD NEW\n";
+    | live RULES SCRIPT IN OUT LEDGER JOURNAL PLACES [FEEDERS [POOL]] \
+    | list RULES SCRIPT IN OUT | gen NUMBER COUNT RULES SCRIPT IN | trial NUMBER COUNT \
+    | migrate OLD NEW \
+    | audit RULES SCRIPT IN JOURNAL\n";
 
 /// Prints a line. That it can't be printed changes no status, and so nothing is answered.
 pub fn print<H: Host>(host: &mut H, line: &str)

@@ -29,3 +29,6 @@ pub const NO_MEMORY: u8 = 8;
 
 /// The journal that is read is refused.
 pub const BAD_JOURNAL: u8 = 10;
+
+/// The journal that is audited tells no run of the inputs.
+pub const NO_RUN: u8 = 11;

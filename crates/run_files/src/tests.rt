@@ -182,11 +182,11 @@ fn a_capture_of_two_parts_is_written(rt: HostRuntime) -> Result<(), Fail> {
 #[test]
 fn the_usage_is_printed(rt: HostRuntime) -> Result<(), Fail> {
     const USAGE: &str = "usage: play RULES SCRIPT IN OUT LEDGER JOURNAL | live RULES SCRIPT IN OUT \
-        LEDGER JOURNAL PLACES | list RULES SCRIPT IN OUT | gen NUMBER COUNT RULES SCRIPT IN | \
-        trial NUMBER COUNT | migrate OLD NEW\n";
+        LEDGER JOURNAL PLACES [FEEDERS [POOL]] | list RULES SCRIPT IN OUT | \
+        gen NUMBER COUNT RULES SCRIPT IN | trial NUMBER COUNT | migrate OLD NEW | audit RULES SCRIPT IN JOURNAL\n";
     let alloc = rt.alloc();
     let mut host = MemoryHost::new(alloc);
-    host.room(alloc, "-", 200)?;
+    host.room(alloc, "-", 270)?;
     print_usage(&mut host);
     assert!(rt; host.get("-") == Some(USAGE.as_bytes()));
     Ok(())

@@ -12,24 +12,36 @@ use std::sync::Wait;
 use std::test::Fail;
 use std::thread::Threads;
 
-/// The status of `live r s c o l j` over so many places.
+/// The words of `live r s c o l j` with these of its size.
+pub(super) fn live_words(alloc: Global, size: &str) -> Result<Vec<String>, AllocError> {
+    let mut all = words(alloc, &["live", "r", "s", "c", "o", "l", "j"])?;
+    for word in size.split(' ') {
+        all.push(String::from_str(alloc, word)?)?;
+    }
+    Ok(all)
+}
+
+/// The status of this command.
 pub(super) fn lived<R: Threads + Wait + Sync, G: Gate>(
     rt: &R,
     alloc: Global,
     host: &mut MemoryHost,
     gate: &G,
-    places: &str,
+    size: &str,
 ) -> Result<u8, AllocError> {
-    let words = words(alloc, &["live", "r", "s", "c", "o", "l", "j", places])?;
+    let words = live_words(alloc, size)?;
     Ok(live(rt, alloc, &words, host, gate))
 }
 
 #[test]
 fn other_words_are_no_live_command(rt: HostRuntime) -> Result<(), Fail> {
-    const ROWS: [&[&str]; 5] = [
+    const ROWS: [&[&str]; 8] = [
         &["live", "r", "s", "c", "o", "l", "j", "0"],
         &["live", "r", "s", "c", "o", "l", "j", "65"],
         &["live", "r", "s", "c", "o", "l", "j", "01"],
+        &["live", "r", "s", "c", "o", "l", "j", "1", "17"],
+        &["live", "r", "s", "c", "o", "l", "j", "1", "1", "17"],
+        &["live", "r", "s", "c", "o", "l", "j", "1", "1", "1", "1"],
         &["live", "r", "s", "c", "o", "l", "j"],
         &["play", "r", "s", "c", "o", "l", "j"],
     ];
@@ -166,15 +178,15 @@ port 7
 > 1 2 3
 ";
 
-/// Makes a run over so many places, and compares what it leaves.
+/// Makes a run of this size, and compares what it leaves.
 fn check_lived<R: Threads + Wait + Sync + Abort>(
     rt: &R,
     alloc: Global,
     run: &Run,
-    places: &str,
+    size: &str,
 ) -> Result<(), Fail> {
     let mut host = host_of(alloc, run)?;
-    assert_eq!(rt; lived(rt, alloc, &mut host, &OpenGate, places)?, 0);
+    assert_eq!(rt; lived(rt, alloc, &mut host, &OpenGate, size)?, 0);
     has(rt, &host, "l", run.ledger.as_bytes());
     has(rt, &host, "o", &run.output);
     has_lines(rt, host.get("j").ok_or("no journal")?, &run.journal);
@@ -186,10 +198,10 @@ fn check_lived<R: Threads + Wait + Sync + Abort>(
 fn check_all<R: Threads + Wait + Sync + Abort>(
     rt: &R,
     alloc: Global,
-    places: &str,
+    size: &str,
 ) -> Result<(), Fail> {
     for text in RUNS.split("\n\n") {
-        check_lived(rt, alloc, &read(alloc, text)?, places)?;
+        check_lived(rt, alloc, &read(alloc, text)?, size)?;
     }
     Ok(())
 }
@@ -212,6 +224,11 @@ fn at_eight_places_what_no_thread_can_change_is_as_written(rt: HostRuntime) -> R
 #[test]
 fn at_64_places_what_no_thread_can_change_is_as_written(rt: HostRuntime) -> Result<(), Fail> {
     check_all(&rt, rt.alloc(), "64")
+}
+
+#[test]
+fn with_a_pool_what_no_thread_can_change_is_as_written(rt: HostRuntime) -> Result<(), Fail> {
+    check_all(&rt, rt.alloc(), "2 1 3")
 }
 
 /// 32 ports, each with a queue of its own that gets one packet.

@@ -19,7 +19,7 @@ const RECORD_LENGTH: usize = 36;
 const PROTOCOL_AT: usize = 25;
 
 /// A capture of packets of these protocols, packet `n` captured at second `n`.
-fn capture_of(alloc: Global, protocols: &[u8]) -> Result<Vec<u8>, AllocError> {
+pub(super) fn capture_of(alloc: Global, protocols: &[u8]) -> Result<Vec<u8>, AllocError> {
     let mut bytes = Vec::from_slice(alloc, &HEADER)?;
     let mut number = 0u8;
     for protocol in protocols {
@@ -32,7 +32,7 @@ fn capture_of(alloc: Global, protocols: &[u8]) -> Result<Vec<u8>, AllocError> {
 }
 
 /// A word of a line, by its place.
-fn word(line: &str, at: usize) -> &str {
+pub(super) fn word(line: &str, at: usize) -> &str {
     line.split(' ').nth(at).unwrap_or("")
 }
 
@@ -156,12 +156,12 @@ impl Gate for Pauses {
     fn answered(&self, _place: u8) {}
 }
 
-/// Twenty-five runs over so many places. Port 7 sends what is TCP on to queue 1, where port 8 drops the
+/// Twenty-five runs of this size. Port 7 sends what is TCP on to queue 1, where port 8 drops the
 /// packet that comes second, which one that is.
 fn check_paused<R: Threads + Wait + Sync + Abort>(
     rt: &R,
     alloc: Global,
-    places: &str,
+    size: &str,
     shift: u8,
 ) -> Result<(), Fail> {
     const PORTS: &str = "port 7\nopen config 0 bind params packet 0\n\
@@ -176,7 +176,7 @@ fn check_paused<R: Threads + Wait + Sync + Abort>(
             looks: AtomicU64::new(0),
             shift,
         };
-        assert_eq!(rt; lived(rt, alloc, &mut host, &gate, places)?, 0);
+        assert_eq!(rt; lived(rt, alloc, &mut host, &gate, size)?, 0);
         assert_eq!(rt; check_fates(rt, alloc, &host, &input)?, 5);
     }
     Ok(())
@@ -222,6 +222,16 @@ fn runs_at_eight_places_with_long_pauses_are_right(rt: HostRuntime) -> Result<()
     check_paused(&rt, rt.alloc(), "8", 0)
 }
 
+#[test]
+fn runs_of_three_feeders_are_right(rt: HostRuntime) -> Result<(), Fail> {
+    check_paused(&rt, rt.alloc(), "2 3", 4)
+}
+
+#[test]
+fn runs_of_feeders_and_pools_are_right(rt: HostRuntime) -> Result<(), Fail> {
+    check_paused(&rt, rt.alloc(), "8 16 3", 4)
+}
+
 /// A mailbox of one letter, and 1,000 frames. In one of at most 20 runs a notice finds no room.
 #[test]
 fn refusals_for_want_of_room_are_told(rt: HostRuntime) -> Result<(), Fail> {
@@ -258,7 +268,7 @@ struct Beside {
 }
 
 /// How often the gate looks whether the message was answered.
-const LOOKS: u32 = 10_000_000;
+pub(super) const LOOKS: u32 = 10_000_000;
 
 impl Gate for Beside {
     fn inside<R: Wait>(&self, _rt: &R, place: u8) {

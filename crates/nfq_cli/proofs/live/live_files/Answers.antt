@@ -2,16 +2,15 @@ use Rattle.std.proofs.Common.{◌∙◌, rules}
 use Rattle.nfq_cli.proofs.Endings.{cut_of, none_is_refused, refused_by}
 use Rattle.nfq_cli.proofs.Endings.{writing_only_leaves, written_of}
 use Rattle.nfq_cli.proofs.Endings.{writing_only_reads_nothing, writing_only_refuses_nothing}
-use Rattle.nfq_cli.specs.Account.{AreAccounted}
-use Rattle.live_work.specs.Numbers.{one_feeder, one_worker}
-use Rattle.command_line.specs.Arguments.{files_of}
+use Rattle.nfq_cli.specs.Headline.{IsAccountedOf}
+use Rattle.command_line.specs.Arguments.{files_of, size_of}
 use Rattle.nfq_cli.proofs.live.live_files.Goals as goal
 
 pub returns-clause-ended : goal.returns-clause-ended
 returns-clause-ended g c =
     record {
-      done = written_of (AreAccounted one_worker one_feeder) (files_of c.args.command.now.files)
-          c.write_run.result _ _
+      done = written_of (IsAccountedOf (size_of c.args.command.now.size))
+          (files_of c.args.command.now.files) c.write_run.result _ _
           (g.H.Host.content c.args.host.now) (g.H.Host.content c.write_run.new.host)
           c.in_ok-made.made.tables c.in_ok-made.made.script c.in_ok-made.made.capture
           c.in_ok-histories.histories (λ t. c.in_ok-made.ensures.later.tells_same ∙ t)
@@ -29,8 +28,8 @@ returns-clause-ended g c =
       write_fault = search rules;
       stopped = search rules;
       cut_short = λ is t.
-          cut_of (AreAccounted one_worker one_feeder) (files_of c.args.command.now.files)
-          (g.H.Host.write_faults c.args.host.now)
+          cut_of (IsAccountedOf (size_of c.args.command.now.size))
+          (files_of c.args.command.now.files) (g.H.Host.write_faults c.args.host.now)
           (g.H.Host.write_faults c.read_inputs.new.host)
           (g.H.Host.write_faults c.write_run.new.host) (g.H.Host.content c.args.host.now)
           (g.H.Host.content c.read_inputs.new.host) (g.H.Host.content c.write_run.new.host)

@@ -1,13 +1,15 @@
 use Rattle.std.proofs.Common.{◌≡◌, List, drop, Option, Result, Ok, Err, None, Some, ap, sym, ◌∙◌}
-use Rattle.std.proofs.Common.{inl, map, String, Global, Bool, true, false}
+use Rattle.std.proofs.Common.{◌≤◌, ◌⊎◌, ℕ, arith, inl, inr, map, String, Global, Bool, true, false}
 use Rattle.std.specs.Prelude.{IsOkAnd}
 use Rattle.std.specs.String.{string_bytes}
 use Rattle.std.specs.Vec.Iter.{into_iter_items}
 use Rattle.std.specs.declared.vec.IntoIter.{IntoIter}
-use Rattle.command_line.specs.Arguments.{Call, call_of_arguments, call_of_words, Generates}
+use Rattle.command_line.specs.Arguments.{Audits, Call, call_of_arguments, call_of_words, Generates}
 use Rattle.command_line.specs.Arguments.{is_live, Lists, live_call_of_words, Lives, Migrates}
 use Rattle.command_line.specs.Arguments.{Plays, program_call, Tries}
-use Rattle.nfq_cli.proofs.Commands.{another_is_no_live, live_is_no_other, to_another, to_live}
+use Rattle.nfq_cli.proofs.Auditing.{at_end_or}
+use Rattle.nfq_cli.proofs.Commands.{another_is_no_live, from_another, live_is_no_other}
+use Rattle.nfq_cli.proofs.Commands.{to_another, to_live}
 use Rattle.nfq_cli.proofs.program.program.Goals as goal
 
 -- words that are the arguments after the program's name are the command that the arguments are ..
@@ -37,6 +39,16 @@ another_command : {E : Type 0} (arguments : Result (IntoIter (String Global) Glo
 another_command arguments words there o b here same is_b other is =
     to_another there o (sym is_b ∙ other)
     (ap program_call here ∙ same_command arguments words o same is)
+
+-- and where words that aren't `live` are no other command, the arguments are none
+no_command : {E : Type 0} (arguments : Result (IntoIter (String Global) Global) E)
+    (words there : List (String Global)) (b : Bool) → there ≡ words →
+    IsOkAnd arguments (λ args. words ≡ drop 1 (into_iter_items args)) →
+    b ≡ is_live (map string_bytes there) → b ≡ false → call_of_words there ≡ None →
+    call_of_arguments arguments ≡ None
+no_command (Ok args) words there b here same is_b other none =
+    ap program_call (sym same ∙ sym here) ∙ from_another there None (sym is_b ∙ other) none
+no_command (Err e) words there b here same is_b other none = absurd same
 
 pub returns-then-is_live-clause-no_command : goal.returns-then-is_live-clause-no_command
 returns-then-is_live-clause-no_command g c = λ is.
@@ -140,10 +152,11 @@ returns-then-is_live-clause-migrated g c = λ is_0 f is t.
 
 pub returns-then-is_live-clause-complete : goal.returns-then-is_live-clause-complete
 returns-then-is_live-clause-complete g c = λ k is t taken.
-    c.live.ensures.complete k
+    at_end_or k c.live.result _
+    (c.live.ensures.complete k
     (live_command c.args.arguments c.in-Ok.words.items c.as_slice-words.result.now (Some k)
     c.is_live.result c.as_slice-words.ensures.value c.in-Ok.ensures.ok c.is_live.ensures
-    c.if-is_live.true is) t taken
+    c.if-is_live.true is) t taken)
 
 pub returns-then-is_live-clause-others : goal.returns-then-is_live-clause-others
 returns-then-is_live-clause-others g c = λ ended k is.
@@ -151,6 +164,12 @@ returns-then-is_live-clause-others g c = λ ended k is.
     (live_command c.args.arguments c.in-Ok.words.items c.as_slice-words.result.now (Some k)
     c.is_live.result c.as_slice-words.ensures.value c.in-Ok.ensures.ok c.is_live.ensures
     c.if-is_live.true is)
+
+pub returns-in-Ok-clause-usage : goal.returns-in-Ok-clause-usage
+returns-in-Ok-clause-usage g c = λ is_1.
+    no_command c.args.arguments c.in-Ok.words.items c.as_slice-words.result.now c.is_live.result
+    c.as_slice-words.ensures.value c.in-Ok.ensures.ok c.is_live.ensures c.if-is_live.false
+    (c.play.ensures.usage.0 is_1)
 
 pub returns-in-Ok-clause-no_command : goal.returns-in-Ok-clause-no_command
 returns-in-Ok-clause-no_command g c = λ is.
@@ -269,3 +288,66 @@ returns-in-Ok-clause-others g c = λ ended k is.
     (another_command c.args.arguments c.in-Ok.words.items c.as_slice-words.result.now (Some k)
     c.is_live.result c.as_slice-words.ensures.value c.in-Ok.ensures.ok c.is_live.ensures
     c.if-is_live.false is)
+
+pub returns-then-is_live-clause-audited : goal.returns-then-is_live-clause-audited
+returns-then-is_live-clause-audited g c = λ is_0 a is t.
+    absurd (live_is_no_other (map string_bytes c.as_slice-words.result.now) (Audits a)
+    (live_command c.args.arguments c.in-Ok.words.items c.as_slice-words.result.now (Some (Audits a))
+    c.is_live.result c.as_slice-words.ensures.value c.in-Ok.ensures.ok c.is_live.ensures
+    c.if-is_live.true is))
+
+pub returns-then-is_live-clause-passes : goal.returns-then-is_live-clause-passes
+returns-then-is_live-clause-passes g c = λ a is t audited.
+    absurd (live_is_no_other (map string_bytes c.as_slice-words.result.now) (Audits a)
+    (live_command c.args.arguments c.in-Ok.words.items c.as_slice-words.result.now (Some (Audits a))
+    c.is_live.result c.as_slice-words.ensures.value c.in-Ok.ensures.ok c.is_live.ensures
+    c.if-is_live.true is))
+
+pub returns-then-is_live-clause-finds : goal.returns-then-is_live-clause-finds
+returns-then-is_live-clause-finds g c = λ a f is t found.
+    absurd (live_is_no_other (map string_bytes c.as_slice-words.result.now) (Audits a)
+    (live_command c.args.arguments c.in-Ok.words.items c.as_slice-words.result.now (Some (Audits a))
+    c.is_live.result c.as_slice-words.ensures.value c.in-Ok.ensures.ok c.is_live.ensures
+    c.if-is_live.true is))
+
+pub returns-in-Ok-clause-audited : goal.returns-in-Ok-clause-audited
+returns-in-Ok-clause-audited g c = λ is_0 a is t.
+    c.play.ensures.audited is_0 a
+    (another_command c.args.arguments c.in-Ok.words.items c.as_slice-words.result.now
+    (Some (Audits a)) c.is_live.result c.as_slice-words.ensures.value c.in-Ok.ensures.ok c.is_live.ensures
+    c.if-is_live.false is) t
+
+pub returns-in-Ok-clause-passes : goal.returns-in-Ok-clause-passes
+returns-in-Ok-clause-passes g c = λ a is t audited.
+    c.play.ensures.passes a
+    (another_command c.args.arguments c.in-Ok.words.items c.as_slice-words.result.now
+    (Some (Audits a)) c.is_live.result c.as_slice-words.ensures.value c.in-Ok.ensures.ok c.is_live.ensures
+    c.if-is_live.false is) t audited
+
+pub returns-in-Ok-clause-finds : goal.returns-in-Ok-clause-finds
+returns-in-Ok-clause-finds g c = λ a f is t found.
+    c.play.ensures.finds a f
+    (another_command c.args.arguments c.in-Ok.words.items c.as_slice-words.result.now
+    (Some (Audits a)) c.is_live.result c.as_slice-words.ensures.value c.in-Ok.ensures.ok c.is_live.ensures
+    c.if-is_live.false is) t found
+
+pub returns-in-Ok-clause-amiss : goal.returns-in-Ok-clause-amiss
+returns-in-Ok-clause-amiss g c = λ is_11 k is t.
+    c.play.ensures.amiss is_11 k
+    (another_command c.args.arguments c.in-Ok.words.items c.as_slice-words.result.now (Some k)
+    c.is_live.result c.as_slice-words.ensures.value c.in-Ok.ensures.ok c.is_live.ensures
+    c.if-is_live.false is) t
+
+widely : {n : ℕ} → (n ≤ 8) ⊎ (n ≡ 10) → (n ≤ 8) ⊎ (n ≡ 10) ⊎ (n ≡ 11)
+widely (inl few) = inl few
+widely (inr is) = inr (inl is)
+
+no_11 : {n : ℕ} → (n ≤ 8) ⊎ (n ≡ 10) → n ≡ 11 → ⊥
+no_11 (inl few) is = omega (arith, few, is)
+no_11 (inr ten) is = omega (arith, ten, is)
+
+pub returns-then-is_live-clause-statuses : goal.returns-then-is_live-clause-statuses
+returns-then-is_live-clause-statuses g c = widely c.live.ensures.statuses
+
+pub returns-then-is_live-clause-amiss : goal.returns-then-is_live-clause-amiss
+returns-then-is_live-clause-amiss g c = λ is_11 k is t. absurd (no_11 c.live.ensures.statuses is_11)

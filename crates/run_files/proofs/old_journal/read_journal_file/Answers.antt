@@ -5,7 +5,7 @@ use Rattle.run_files.proofs.old_journal.read_journal_file.Goals as goal
 
 pub returns-in-Ok-clause-only : goal.returns-in-Ok-clause-only
 returns-in-Ok-clause-only g c = λ said t says.
-    journal_taken c.in_ok-bytes.bytes.items c.in-Ok.histories c.in_ok-bytes.ensures.within
+    journal_taken _ c.in_ok-bytes.bytes.items c.in-Ok.histories c.in_ok-bytes.ensures.within
     (rw (sym c.deref.ensures.value) c.in-Ok.ensures.only)
     (rw (sym c.deref.ensures.value) c.in-Ok.ensures.stuck) said
     (subst (λ (file : Option (List ℕ)). Said JournalSays file said)
@@ -14,7 +14,7 @@ returns-in-Ok-clause-only g c = λ said t says.
 pub returns-clause-only : goal.returns-clause-only
 returns-clause-only g c = λ said t says.
     rw c.of_journal.ensures
-    (journal_refused c.in_ok-bytes.bytes.items c.in-Err.fault c.in_ok-bytes.ensures.within
+    (journal_refused _ c.in_ok-bytes.bytes.items c.in-Err.fault c.in_ok-bytes.ensures.within
     (rw (sym c.deref.ensures.value) c.in-Err.ensures.only)
     (rw (sym c.deref.ensures.value) c.in-Err.ensures.stuck) said
     (subst (λ (file : Option (List ℕ)). Said JournalSays file said)

@@ -1,11 +1,13 @@
 use Rattle.std.proofs.Common.{ap, subst, sym, Err, ◌∙◌, Option}
-use Rattle.std.specs.Prelude.{IsSomeAnd}
-use Rattle.command_line.specs.Arguments.{Call, live_files_of, Lives, ReadFiles, inputs}
-use Rattle.run_files.specs.Causes.{IsTurnedDown, IsUnread}
+use Rattle.std.specs.Prelude.{◌≡◌, ◌⊎◌, IfSome, IsSomeAnd}
+use Rattle.command_line.specs.Arguments.{Call, live_files_of, Lives, ReadFiles, inputs, outputs}
+use Rattle.run_files.specs.Causes.{AreTaken, IsTurnedDown, IsUnread}
+use Rattle.run_files.specs.Files.{ReadFaultRose, WriteFaultRose}
 use Rattle.run_files.specs.Statuses.{IsOfRefusal}
 use Rattle.nfq_cli.specs.Headline.{IsCut, IsDone}
 use Rattle.nfq_cli.proofs.Endings.{answered, is_write_fault, once_told, same_call, turned_down}
-use Rattle.nfq_cli.proofs.live.live.Goals as goal
+use Rattle.nfq_cli.proofs.Living.{no_memory_or_a_fault}
+use Rattle.nfq_cli.proofs.live.live_pools.Goals as goal
 
 pub returns-in-Ok-clause-exact : goal.returns-in-Ok-clause-exact
 returns-in-Ok-clause-exact g c = λ k i why is_k is_i t refused.
@@ -55,3 +57,18 @@ returns-in-Err-clause-exact g c = λ k i why is_k is_i t refused.
     (g.H.Host.read_faults c.args.host.now)
     (g.H.Host.read_faults c.carry_out.new.host) (g.H.Host.content c.args.host.now))) there
     (c.in-Err.ensures.ended.unread (ap Err is) t)))
+
+pub returns-in-Err-clause-complete : goal.returns-in-Err-clause-complete
+returns-in-Err-clause-complete g c = λ k is_k t taken.
+    let same = same_call _ k _ is_k c.in-Some.ensures.call in
+    subst (λ (j : Call). (c.status.result ≡ 0) ⊎ (c.status.result ≡ 8)
+    ⊎ IsSomeAnd (inputs j) (λ i. ReadFaultRose i (g.H.Host.read_faults c.args.host.now)
+    (g.H.Host.read_faults c.carry_out.new.host))
+    ⊎ WriteFaultRose (outputs j) (g.H.Host.write_faults c.args.host.now)
+    (g.H.Host.write_faults c.carry_out.new.host)) same
+    (no_memory_or_a_fault c.in-Err.stop c.status.result _ _ c.status.ensures
+    (c.in-Err.ensures.ended.only t
+    (subst (λ (j : Call). IfSome (inputs j) (λ i. AreTaken i (g.H.Host.content c.args.host.now)))
+    (sym same) taken))
+    (λ is. c.in-Err.ensures.ended.read_fault (ap Err is))
+    (λ is. c.in-Err.ensures.ended.write_fault (ap Err is)))
