@@ -69,6 +69,9 @@ fn a_pool_answers_as_its_port_does(rt: HostRuntime) -> Result<(), Fail> {
     let mut host = host(alloc, RULES, SCRIPT, &input)?;
     assert_eq!(rt; lived(&rt, alloc, &mut host, &OpenGate, "1 1 4")?, 0);
     let mut output = capture_of(alloc, &[6])?;
+    if input.len() < 132 {
+        return Err("no third frame".into());
+    }
     output.extend_from_slice(&input[96..132])?;
     has(&rt, &host, "o", &output);
     check_ledger(
