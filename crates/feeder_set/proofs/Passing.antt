@@ -1,9 +1,11 @@
 -- Turns at each place, one after the other, and the packet of a frame.
 use Rattle.std.proofs.Common.{◌≡◌, ◌≢◌, ◌<◌, ◌+◌, ℕ, zero, suc, List, [], ◌∷◌, ◌++◌, length}
-use Rattle.std.proofs.Common.{refl, sym, ap, ◌∙◌, subst, arith, inl, inr, Bool, true, false, cond}
+use Rattle.std.proofs.Common.{refl, sym, ap, ◌∙◌, subst, arith, inl, inr}
+use Rattle.std.specs.BTreeMap.{BTreeMap, get}
+use Rattle.std.specs.Ordering.{nat_cmp}
 use Rattle.std.specs.Prelude.{Option, Some, None, Result, Ok, Err, OnOk, All}
-use Rattle.std.specs.Prelude.{slice_get, slice_set, option_map, nat_eq, filter}
-use Rattle.std.proofs.lemmas.Bool.{cases_Bool, eqb-true, eqb-false, eq-eqb}
+use Rattle.std.specs.Prelude.{slice_get, slice_set, option_map, nat_eq, unwrap_or}
+use Rattle.std.proofs.lemmas.Bool.{cases_Bool, eqb-true, eqb-false}
 use Rattle.std.proofs.lemmas.Option.{slice_get_within, get_or_from_slice_get}
 use Rattle.packet_entry.specs.declared.packet.Card.{Card}
 use Rattle.ip_fields.specs.declared.frame.LinkCut.{LinkCut}
@@ -12,7 +14,9 @@ use Rattle.pcap_io.specs.declared.capture.Capture.{Capture}
 use Rattle.pcap_io.specs.declared.capture.Frame.{Frame}
 use Rattle.script_lines.specs.declared.line.Down.{Down}
 use Rattle.made_runs.specs.Entering.{card_at, card_of}
-use Rattle.made_runs.specs.Feeder.{is_after}
+use Rattle.inspector_script.specs.Scripts.{ScriptValue}
+use Rattle.made_runs.specs.Feeder.{downs_after}
+use Rattle.port_scripts.specs.Downs.{AreDownsOf}
 use Rattle.packet_moves.specs.declared.fed.Fed.{Fed}
 use Rattle.locked_place.specs.Turns.{GoesDownIn}
 use Rattle.place_rows.specs.Rows.{Known, TurnsOne, TurnedUpTo}
@@ -20,7 +24,7 @@ use Rattle.place_turns.specs.Moving.{IsFed}
 use Rattle.plane.specs.declared.plane.Plane.{Plane}
 use Rattle.plane.specs.Passes.{FeederView, IsFeederOf}
 use Rattle.plane.specs.Planes.{places_of, setting_of}
-use Rattle.feeder_set.specs.Steps.{Feeds, FallsAt, Falls, AllFall}
+use Rattle.feeder_set.specs.Steps.{Feeds, FallsAt, AllFall}
 
 -- ---- turns at each place
 
@@ -115,45 +119,23 @@ card_fed plane o card old new became is moved fed of =
 
 -- ---- the lines of a frame's number
 
--- a line by itself, whether it is due or not
-one_due : (plane : Plane) (d : Down) (b : Bool) (old new : FeederView) → b ≡ true →
-    Falls plane d.device old new → AllFall plane (cond b (d ∷ []) []) old new
-one_due plane d true old new is falls = (new, (falls, refl))
-one_due plane d false old new is falls = absurd (cc is)
+-- the lines that stand by a number are those that are due after its frame
+pub lines_of : (by_frame : BTreeMap ℕ (List Down)) (script : ScriptValue) (number : ℕ)
+    (o : Option (List Down)) → AreDownsOf script by_frame → o ≡ get nat_cmp by_frame number →
+    unwrap_or o [] ≡ downs_after script number
+lines_of by_frame script number o are is =
+    ap (λ (p : Option (List Down)). unwrap_or p []) is ∙ are number
 
-pub line_due : {X E : Type 0} (r : Result X E) (plane : Plane) (number : ℕ) (d : Down)
-    (old new : FeederView) → d.after ≡ number → OnOk r (Falls plane d.device old new) →
-    OnOk r (AllFall plane (filter (is_after number) (d ∷ [])) old new)
-line_due (Ok x) plane number d old new is falls =
-    one_due plane d (is_after number d) old new (eq-eqb d.after number is) falls
-line_due (Err e) plane number d old new is falls = tt
+pub fall_of : {X E : Type 0} (r : Result X E) (plane : Plane) (due ds : List Down)
+    (old new : FeederView) → due ≡ ds → OnOk r (AllFall plane due old new) →
+    OnOk r (AllFall plane ds old new)
+fall_of (Ok x) plane due ds old new same all =
+    subst (λ (l : List Down). AllFall plane l old new) same all
+fall_of (Err e) plane due ds old new same all = tt
 
-pub line_not_due : (plane : Plane) (number : ℕ) (d : Down) (pass : FeederView) → d.after ≢ number →
-    AllFall plane (filter (is_after number) (d ∷ [])) pass pass
-line_not_due plane number d pass isnt =
-    subst (λ (b : Bool). AllFall plane (cond b (d ∷ []) []) pass pass) (sym differs) refl
-  where
-    differs : is_after number d ≡ false
-    differs = elim (cases_Bool (is_after number d)) [
-      | inl h ↦ absurd (isnt (eqb-true d.after number h))
-      | inr h ↦ h
-    ]
-
--- and with those behind it
-both_due : (plane : Plane) (d : Down) (ds : List Down) (b : Bool) (old mid new : FeederView) →
-    AllFall plane (cond b (d ∷ []) []) old mid → AllFall plane ds mid new →
-    AllFall plane (cond b (d ∷ ds) ds) old new
-both_due plane d ds true old mid new one rest =
-    (one.0, (one.1.0, subst (λ (p : FeederView). AllFall plane ds p new) one.1.1 rest))
-both_due plane d ds false old mid new one rest =
-    subst (λ (p : FeederView). AllFall plane ds p new) one rest
-
-pub lines_due : (plane : Plane) (number : ℕ) (d : Down) (ds : List Down) (old mid new : FeederView) →
-    AllFall plane (filter (is_after number) (d ∷ [])) old mid →
-    AllFall plane (filter (is_after number) ds) mid new →
-    AllFall plane (filter (is_after number) (d ∷ ds)) old new
-lines_due plane number d ds old mid new one rest =
-    both_due plane d (filter (is_after number) ds) (is_after number d) old mid new one rest
+pub no_line : (plane : Plane) (ds : List Down) (pass : FeederView) → [] ≡ ds →
+    AllFall plane ds pass pass
+no_line plane ds pass none = subst (λ (l : List Down). AllFall plane l pass pass) none refl
 
 -- ---- a frame of a list
 

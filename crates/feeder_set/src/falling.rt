@@ -1,15 +1,16 @@
 //! Devices that go down after a frame.
 
-ghost use Rattle.std.specs.Prelude.{◌≡◌, ◌∷◌, [], filter, OnOk};
-ghost use Rattle.made_runs.specs.Feeder.{downs_after, is_after};
+ghost use Rattle.std.specs.Prelude.{◌≡◌, OnOk};
+ghost use Rattle.made_runs.specs.Feeder.{downs_after};
 ghost use Rattle.plane.specs.Passes.{IsFeederOf};
 ghost use Rattle.place_turns.specs.Trails.{parts_of};
+ghost use Rattle.port_scripts.specs.Downs.{AreDownsOf};
 ghost use Rattle.feeder_set.specs.Steps.{Falls, AllFall};
 
-use inspector_script::Script;
+use inspector_script::{Downs, Script};
 use packet_entry::NoMemory;
 use plane::{FeederPass, Plane};
-use script_lines::Down;
+use port_scripts::DownsByFrame;
 use std::sync::Wait;
 
 /// A device goes down at each place, from place 0 on.
@@ -25,25 +26,22 @@ fn fall<R: Wait>(rt: &R, plane: &Plane, pass: &mut FeederPass, device: u32) -> R
     Ok(())
 }
 
-/// The device of a line goes down, where it does so after the frame with this number.
-fn fall_where_due<R: Wait>(
+/// The devices of these lines go down, in their order.
+fn fall_all<R: Wait>(
     rt: &R,
     plane: &Plane,
     pass: &mut FeederPass,
-    down: Down,
-    number: u32,
+    downs: &Downs,
 ) -> Result<(), NoMemory>
     requires { IsFeederOf plane.now pass.old }
     ensures pass { IsFeederOf plane.now pass.new }
     ensures parts { parts_of pass.new.trail.known ≡ parts_of pass.old.trail.known }
-    ensures fall { OnOk result (AllFall plane.now
-        (filter (is_after number) (down ∷ [])) pass.old pass.new) }
+    ensures fall { OnOk result (AllFall plane.now downs.now pass.old pass.new) }
 {
-    if down.after == number {
-        fall(rt, plane, pass, down.device)
-    } else {
-        Ok(())
+    for down in downs {
+        fall(rt, plane, pass, down.device)?;
     }
+    Ok(())
 }
 
 /// The devices go down that do so after the frame with this number, in the order of the script's
@@ -53,16 +51,18 @@ pub(crate) fn fall_after<R: Wait>(
     plane: &Plane,
     pass: &mut FeederPass,
     script: &Script,
+    downs: &DownsByFrame,
     number: u32,
 ) -> Result<(), NoMemory>
-    requires { IsFeederOf plane.now pass.old }
+    requires pass { IsFeederOf plane.now pass.old }
+    requires downs { AreDownsOf script.now downs.now }
     ensures pass { IsFeederOf plane.now pass.new }
     ensures parts { parts_of pass.new.trail.known ≡ parts_of pass.old.trail.known }
     ensures fall { OnOk result (AllFall plane.now (downs_after script.now number)
         pass.old pass.new) }
 {
-    for down in script.downs() {
-        fall_where_due(rt, plane, pass, *down, number)?;
+    match downs.get(&number) {
+        Some(due) => fall_all(rt, plane, pass, due),
+        None => Ok(()),
     }
-    Ok(())
 }

@@ -6,6 +6,7 @@ ghost use Rattle.packet_entry.specs.Numbers.{longest_packet, most_frames};
 ghost use Rattle.plane.specs.Numbers.{most_fed};
 ghost use Rattle.plane.specs.Passes.{IsFeederOf};
 ghost use Rattle.place_turns.specs.Trails.{parts_of};
+ghost use Rattle.port_scripts.specs.Downs.{AreDownsOf};
 ghost use Rattle.feeder_set.specs.Shares.{first_of};
 ghost use Rattle.feeder_set.specs.Steps.{Steps};
 
@@ -16,6 +17,7 @@ use inspector_script::Script;
 use packet_entry::NoMemory;
 use pcap_io::Capture;
 use plane::{FeederPass, Gate, Plane};
+use port_scripts::{DownsByFrame, downs_by_frame};
 use std::alloc::Global;
 use std::marker::Model;
 use std::sync::Wait;
@@ -57,7 +59,8 @@ impl Feeder {
     /// after it, each at every place; `false` exactly where the share has no frame left. The
     /// capture has at most 200,000 frames of at most 262,144 bytes each. After `NoMemory` the frame
     /// may have been fed, and some of the devices may have gone down at some places; the feeder
-    /// isn't to be stepped again.
+    /// isn't to be stepped again. Each call goes over all `down` lines of the script; whoever steps
+    /// often takes [`Feeder::step_by`].
     pub fn step<R: Wait, G: Gate>(
         &mut self,
         rt: &R,
@@ -79,12 +82,42 @@ impl Feeder {
         ensures next { IsNextOf self.new.share self.new.next }
         ensures err { OnErr result (self.new ≡ self.old) }
     {
+        // What a feeder keeps is known of one that was looked at, also where memory runs out.
+        let _share = &self.share;
+        let downs = downs_by_frame(alloc, script)?;
+        self.step_by(rt, alloc, plane, pass, script, &downs, capture, gate)
+    }
+
+    /// [`Feeder::step`], where the script's `down` lines are found by the frame's number.
+    pub fn step_by<R: Wait, G: Gate>(
+        &mut self,
+        rt: &R,
+        alloc: Global,
+        plane: &Plane,
+        pass: &mut FeederPass,
+        script: &Script,
+        downs: &DownsByFrame,
+        capture: &Capture,
+        gate: &G,
+    ) -> Result<bool, NoMemory>
+        requires pass { IsFeederOf plane.now pass.old }
+        requires downs { AreDownsOf script.now downs.now }
+        requires few { length pass.old.fed < most_fed }
+        requires frames { length capture.now.frames ≤ most_frames }
+        requires bytes { All (λ f. length f.bytes ≤ longest_packet) capture.now.frames }
+        ensures pass { IsFeederOf plane.now pass.new }
+        ensures parts { parts_of pass.new.trail.known ≡ parts_of pass.old.trail.known }
+        ensures stepped { IfOk result (Steps plane.now
+            script.now capture.now self.old self.new pass.old pass.new) }
+        ensures next { IsNextOf self.new.share self.new.next }
+        ensures err { OnErr result (self.new ≡ self.old) }
+    {
         let number = self.next;
         let Some(frame) = capture.frames.get(number as usize - 1) else {
             return Ok(false);
         };
         feed_frame(rt, alloc, plane, gate, pass, capture, number, frame)?;
-        fall_after(rt, plane, pass, script, number)?;
+        fall_after(rt, plane, pass, script, downs, number)?;
         self.next = number + self.share.feeders;
         Ok(true)
     }

@@ -1,5 +1,6 @@
 -- The packets of a share, frame by frame.
-use Rattle.std.proofs.Common.{◌≡◌, ◌≤◌, ◌<◌, ◌+◌, ◌-◌, ◌∙◌, ◌++◌, ◌∷◌, [], ℕ, zero, suc, List, Option}
+use Rattle.std.proofs.Common.{◌≡◌, ◌≤◌, ◌<◌, ◌+◌, ◌-◌, ◌∙◌, ◌++◌, ◌∷◌, [], ℕ, zero, suc, List}
+use Rattle.std.proofs.Common.{Option}
 use Rattle.std.proofs.Common.{Some, None, Bool, true, false, ap, append_assoc, append-nil, arith}
 use Rattle.std.proofs.Common.{drop, length, refl, subst, sym}
 use Rattle.std.specs.Prelude.{filter, option_to_list, slice_get}
@@ -86,7 +87,8 @@ passed_over s c number zero fs others =
 passed_over s c number (suc count) [] others = refl
 passed_over s c number (suc count) (f ∷ fs) others =
     let more : number + 1 + count ≡ number + suc count = omega arith in
-    filter-append (is_of_share s) (option_to_list (card_of c number f)) (cards_from c (number + 1) fs)
+    filter-append (is_of_share s) (option_to_list (card_of c number f))
+    (cards_from c (number + 1) fs)
     ∙ ap (λ (l : List Card). l ++ filter (is_of_share s) (cards_from c (number + 1) fs))
     (no_card s c number f (card_of c number f) refl (others number (omega arith) (omega arith)))
     ∙ passed_over s c (number + 1) count fs

@@ -1,4 +1,5 @@
--- A feeder goes through its share: a frame is fed, and then the devices go down that do so after it.
+-- A feeder goes through its share: a frame is fed, and then the devices go down that do so after
+-- it.
 use Rattle.std.proofs.Common.{◌≡◌, ◌<◌, ◌≤◌, ◌+◌, ◌-◌, ◌∙◌, ◌++◌, ◌∷◌, [], ℕ, List, Option, Some}
 use Rattle.std.proofs.Common.{None, ap, append-nil, append_assoc, arith, inl, inr, length, refl}
 use Rattle.std.proofs.Common.{subst, sym, zero, suc}

@@ -6,8 +6,7 @@ use Rattle.packet_entry.specs.Numbers as shared
 abbrev pub most_frames : ℕ
 most_frames = shared.most_frames
 
--- each port's answers are worked out by the inspector alone, which is no pool; and one feeder feeds
--- all frames
+-- one worker is the inspector alone, which is no pool; one feeder feeds all frames
 abbrev pub one_worker : ℕ
 one_worker = 1
 

@@ -1,4 +1,5 @@
--- What one of several feeders does: the frames of its share are fed, and devices go down after each.
+-- What one of several feeders does: the frames of its share are fed, and devices go down after
+-- each.
 use Rattle.std.specs.Prelude.{◌<◌, ℕ, Bool, List, filter}
 use Rattle.packet_entry.specs.declared.packet.Card.{Card}
 use Rattle.pcap_io.specs.declared.capture.Capture.{Capture}
@@ -20,8 +21,8 @@ is_of_share s card = is_share s.feeders s.number card.number
 abbrev pub share_cards : Share → Capture → List Card
 share_cards s capture = filter (is_of_share s) (cards capture)
 
--- A feeder went through its share of so many frames, behind what all feeders had seen at each place.
--- What it appended is its own.
+-- A feeder went through its share of so many frames, behind what all feeders had seen at each
+-- place. What it appended is its own.
 pub record SharePasses (script : ScriptValue) (places : ℕ) (s : Share) (frames : ℕ)
     (front now : Shares) : Type 0 where
   pub time : ℕ

@@ -23,7 +23,7 @@ use live_runs::the_feeder_keeps_its_time;
 use packet_entry::NoMemory;
 use pcap_io::Capture;
 use plane::{FeederPass, Gate, Plane};
-use port_scripts::DownsByFrame;
+use port_scripts::{DownsByFrame, downs_by_frame};
 use script_lines::Down;
 use shared_feeding::{a_feeder_keeps_its_share, lines_of_a_share_add_up};
 use std::alloc::Global;
@@ -173,11 +173,13 @@ fn feed_share<R: Wait, G: Gate>(
     each_frame_is_one_shares();
     feeders_feed_their_passes();
     the_feeder_keeps_its_time();
+    let downs = downs_by_frame(alloc, script)?;
     let mut feeder = Feeder::new(share);
     // Each step goes on by a frame at least.
     for _step in 0..capture.frames.len() {
         hold_back(plane, &mut feeding.gauge);
-        if !feeder.step(rt, alloc, plane, &mut feeding.pass, script, capture, gate)? {
+        let pass = &mut feeding.pass;
+        if !feeder.step_by(rt, alloc, plane, pass, script, &downs, capture, gate)? {
             return Ok(());
         }
     }

@@ -23,8 +23,8 @@ use std::sync::Wait;
 pub(crate) const LAST_LOOK: u32 = 100_000;
 
 /// A port looks into its mailbox: a notice that it finds is received and answered. Whether there
-/// was one. That is a look of a port with a pool behind it, too, which it doesn't use. `NoMemory`
-/// leaves a part of its answer sent.
+/// was one. A port with a pool behind it may look so too. `NoMemory` leaves a part of its answer
+/// sent.
 pub fn look<R: Wait, G: Gate>(
     rt: &R,
     alloc: Global,

@@ -1,60 +1,38 @@
 -- The program's words are a `live` command or one of the others.
-use Rattle.std.proofs.Common.{◌≡◌, ◌∙◌, ap, sym, subst, ℕ, List, Option, Some, None, map}
-use Rattle.std.proofs.Common.{String, Global, Bool, true, false}
-use Rattle.std.specs.Prelude.{if◌then◌else◌, option_map}
+use Rattle.std.proofs.Common.{◌≡◌, ◌∙◌, ap, sym, subst, refl, List, Option, Some, None, drop, map}
+use Rattle.std.proofs.Common.{Result, Ok, Err, String, Global, Bool, true, false}
+use Rattle.std.specs.Prelude.{if◌then◌else◌, IsErr, IsOkAnd, option_map}
 use Rattle.std.specs.String.{string_bytes}
-use Rattle.command_line.specs.Arguments.{audit_of, AuditFiles, Audits}
-use Rattle.command_line.specs.Arguments.{Call, call, call_of_words, either, gen_of, Generates}
-use Rattle.command_line.specs.Arguments.{GenFiles, is_live, list_of, Lists, ListFiles, live_call}
-use Rattle.command_line.specs.Arguments.{live_call_of_words, live_of, LiveFiles, Lives, migrate_of}
-use Rattle.command_line.specs.Arguments.{MigrateFiles, Migrates, play_of, PlayFiles, Plays}
-use Rattle.command_line.specs.Arguments.{program_call, Sample, trial_of, Tries}
+use Rattle.std.specs.Vec.Iter.{into_iter_items}
+use Rattle.std.specs.declared.vec.IntoIter.{IntoIter}
+use Rattle.command_line.specs.Arguments.{Audits, Call, call_of_arguments, call_of_words, Generates}
+use Rattle.command_line.specs.Arguments.{is_live, live_call_of_words, live_of, LiveFiles, Lists}
+use Rattle.command_line.specs.Arguments.{Lives, Migrates, Plays, program_call, Tries}
 
-pub to_live : (words : List (String Global)) (o : Option Call) →
-    is_live (map string_bytes words) ≡ true → program_call words ≡ o →
-    live_call_of_words words ≡ o
-to_live words o first is =
-    sym (ap (λ (b : Bool). if b then live_call_of_words words else call_of_words words) first) ∙ is
+pub to_live : (words : List (String Global)) → is_live (map string_bytes words) ≡ true →
+    live_call_of_words words ≡ program_call words
+to_live words first =
+    sym (ap (λ (b : Bool). if b then live_call_of_words words else call_of_words words) first)
 
-pub to_another : (words : List (String Global)) (o : Option Call) →
-    is_live (map string_bytes words) ≡ false → program_call words ≡ o → call_of_words words ≡ o
-to_another words o other is =
-    sym (ap (λ (b : Bool). if b then live_call_of_words words else call_of_words words) other) ∙ is
+pub to_another : (words : List (String Global)) → is_live (map string_bytes words) ≡ false →
+    call_of_words words ≡ program_call words
+to_another words other =
+    sym (ap (λ (b : Bool). if b then live_call_of_words words else call_of_words words) other)
 
-pub from_another : (words : List (String Global)) (o : Option Call) →
-    is_live (map string_bytes words) ≡ false → call_of_words words ≡ o → program_call words ≡ o
-from_another words o other is =
-    ap (λ (b : Bool). if b then live_call_of_words words else call_of_words words) other ∙ is
+-- words that are the arguments after the program's name are the command that the arguments are
+pub same_arguments : {E : Type 0} (arguments : Result (IntoIter (String Global) Global) E)
+    (words there : List (String Global)) → there ≡ words →
+    IsOkAnd arguments (λ args. words ≡ drop 1 (into_iter_items args)) →
+    program_call there ≡ call_of_arguments arguments
+same_arguments (Ok args) words there here same = ap program_call (here ∙ same)
+same_arguments (Err e) words there here same = absurd same
 
--- what isn't `live`
-abbrev IsAnother : Option Call → Type 0
-IsAnother (Some (Plays f)) = Unit {0}
-IsAnother (Some (Lists f)) = Unit {0}
-IsAnother (Some (Generates g)) = Unit {0}
-IsAnother (Some (Tries s)) = Unit {0}
-IsAnother (Some (Migrates m)) = Unit {0}
-IsAnother (Some (Lives l)) = ⊥
-IsAnother (Some (Audits a)) = Unit {0}
-IsAnother None = Unit {0}
+pub no_arguments : {E : Type 0} (arguments : Result (IntoIter (String Global) Global) E) →
+    IsErr arguments → call_of_arguments arguments ≡ None
+no_arguments (Ok args) none = absurd none
+no_arguments (Err e) none = refl
 
-others : (p : Option PlayFiles) (l : Option ListFiles) (g : Option GenFiles) (t : Option Sample)
-    (m : Option MigrateFiles) (a : Option AuditFiles) → IsAnother (either (option_map Plays p)
-    (either (option_map Lists l) (either (option_map Generates g) (either (option_map Tries t)
-    (either (option_map Migrates m) (option_map Audits a))))))
-others (Some p) l g t m a = tt
-others None (Some l) g t m a = tt
-others None None (Some g) t m a = tt
-others None None None (Some t) m a = tt
-others None None None None (Some m) a = tt
-others None None None None None (Some a) = tt
-others None None None None None None = tt
-
-pub another_is_no_live : (words : List (List ℕ)) (l : LiveFiles) → call words ≡ Some (Lives l) → ⊥
-another_is_no_live words l is =
-    subst IsAnother is
-    (others (play_of words) (list_of words) (gen_of words) (trial_of words) (migrate_of words)
-    (audit_of words))
-
+-- `live` is no other command
 abbrev pub IsLiveAlone : Option Call → Type 0
 IsLiveAlone (Some (Plays f)) = ⊥
 IsLiveAlone (Some (Lists f)) = ⊥
@@ -69,6 +47,6 @@ alone : (l : Option LiveFiles) → IsLiveAlone (option_map Lives l)
 alone (Some l) = tt
 alone None = tt
 
-pub live_is_no_other : (words : List (List ℕ)) (k : Call) → live_call words ≡ Some k →
+pub live_alone : (words : List (String Global)) (k : Call) → live_call_of_words words ≡ Some k →
     IsLiveAlone (Some k)
-live_is_no_other words k is = subst IsLiveAlone is (alone (live_of words))
+live_alone words k is = subst IsLiveAlone is (alone (live_of (map string_bytes words)))

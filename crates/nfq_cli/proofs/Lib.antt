@@ -5,3 +5,4 @@ mod Living
 mod Commands
 mod Opening
 mod Auditing
+mod Statuses

@@ -12,7 +12,7 @@ ghost use Rattle.command_line.specs.Arguments.{ReadFiles, Sample, standard_outpu
 ghost use Rattle.run_files.specs.Causes.{AreTaken, IsAnswered, IsRefused, IsTurnedDown, IsUnread};
 ghost use Rattle.run_files.specs.Files.{IsPrinted, IsStopped, OthersStay};
 ghost use Rattle.run_files.specs.Files.{ReadFaultRose, WriteFaultRose};
-ghost use Rattle.nfq_cli.specs.Ending.{IsEnded, span};
+ghost use Rattle.nfq_cli.specs.Ending.{IsAnswer, IsEnded, span};
 ghost use Rattle.run_audit.specs.declared.finding.Finding.{Finding as AFinding};
 ghost use Rattle.run_audit.specs.Printed as finding;
 ghost use Rattle.nfq_cli.specs.Headline as headline;
@@ -101,18 +101,19 @@ pub fn play<H: Host>(alloc: Global, words: &[String], host: &mut H) -> u8
         call_of_words words.now ≡ Some (Migrates m) →
         IsTrue (H.tells host.old) →
         IsMigrated m (H.content host.old) (H.content host.new) }
-    // `audit` ends with 0 where its journal tells a run on the inputs ..
+    // `audit` ends with 0 only where its journal tells a run on the inputs ..
     ensures audited { result ≡ 0 → (a : AuditFiles) → call_of_words words.now ≡ Some (Audits a) →
         IsTrue (H.tells host.old) → IsAudited a (H.content host.old) }
-    // .. and such files give no other status, unless memory ran out or a read failed. It ends with
-    // 11 where a check finds something of what the journal tells, whose line is printed ..
-    ensures amiss { result ≡ 11 → (c : Call) → call_of_words words.now ≡ Some c →
-        IsTrue (H.tells host.old) → IsAmiss c (H.write_faults host.old) (H.write_faults host.new)
-        (H.content host.old) (H.content host.new) }
+    // .. and such files give no other status, unless memory ran out or a read failed.
     ensures passes { (a : AuditFiles) → call_of_words words.now ≡ Some (Audits a) →
         IsTrue (H.tells host.old) → IsAudited a (H.content host.old) →
         (result ≡ 0) ⊎ (result ≡ 8) ⊎ ((result ≡ 2) × IsUnread (ToldRun a)
         (H.read_faults host.old) (H.read_faults host.new) (H.content host.old)) }
+    // It ends with 11 only where a check finds something of what the journal tells, whose line is
+    // printed ..
+    ensures amiss { result ≡ 11 → (c : Call) → call_of_words words.now ≡ Some c →
+        IsTrue (H.tells host.old) → IsAmiss c (H.write_faults host.old) (H.write_faults host.new)
+        (H.content host.old) (H.content host.new) }
     // .. and there it does, with the same exceptions.
     ensures finds { (a : AuditFiles) (f : AFinding) →
         call_of_words words.now ≡ Some (Audits a) →
@@ -140,6 +141,18 @@ pub fn play<H: Host>(alloc: Global, words: &[String], host: &mut H) -> u8
     ensures others { (result ≡ 0) ⊎ (result ≡ 3) → (c : Call) →
         call_of_words words.now ≡ Some c →
         OthersStay (outputs c) (H.content host.old) (H.content host.new) }
+    ensures later { IsLater H.tells H.read_faults H.write_faults host.old host.new }
+    // All of this as one fact, for whoever hands it on.
+    ensures answer { IsAnswer (call_of_words words.now)
+        (span H.tells H.content H.read_faults H.write_faults host.old host.new) result }
+{
+    status_of_words(alloc, words, host)
+}
+
+/// The status of the command that the words are.
+fn status_of_words<H: Host>(alloc: Global, words: &[String], host: &mut H) -> u8
+    ensures answer { IsAnswer (call_of_words words.now)
+        (span H.tells H.content H.read_faults H.write_faults host.old host.new) result }
     ensures later { IsLater H.tells H.read_faults H.write_faults host.old host.new }
 {
     let Some(command) = command_of(words) else {

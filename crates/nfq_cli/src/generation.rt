@@ -4,7 +4,8 @@ ghost use Rattle.std.specs.Prelude.{◌≡◌, IsTrue, IfOk, OnOk, OnErr, IsErrO
 ghost use Rattle.host_io.specs.Host.{IsLater, SameFiles};
 ghost use Rattle.pcap_io.specs.Text.{capture_text};
 ghost use Rattle.generated.specs.Captures.{generated_capture};
-ghost use Rattle.command_line.specs.Arguments.{are_inputs_apart, gen_files_of, gen_outputs, Generates};
+ghost use Rattle.command_line.specs.Arguments.{are_inputs_apart, gen_files_of, gen_outputs};
+ghost use Rattle.command_line.specs.Arguments.{Generates};
 ghost use Rattle.command_line.specs.Arguments.{input_names, inputs_of, IsGenAllowed, IsSample};
 ghost use Rattle.command_line.specs.Arguments.{sample_of};
 ghost use Rattle.run_files.specs.Files.{AreWritten, IsStopped, IsStoppedAfter, OthersStay};

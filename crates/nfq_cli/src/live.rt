@@ -21,7 +21,7 @@ ghost use Rattle.run_files.specs.Outputs.{fates_of};
 ghost use Rattle.run_files.specs.Printed.{line_of, usage_line};
 ghost use Rattle.run_files.specs.Statuses.{IfRefused, IsOfRefusal};
 ghost use Rattle.nfq_live.specs.Run.{IsOpenedFor, tables_of};
-ghost use Rattle.nfq_cli.specs.Ending.{IsEnded, span};
+ghost use Rattle.nfq_cli.specs.Ending.{IsAnswer, IsEnded, span};
 ghost use Rattle.nfq_cli.specs.Headline.{IsAccountedOf, IsCut, IsLived};
 
 use crate::account::{a_run_is_accounted_for, released_frames_can_be_written};
@@ -45,7 +45,8 @@ use std::sync::Wait;
 use std::thread::Threads;
 
 /// Does the command `live` where the arguments, without the program's name, are one, and answers
-/// its status. The gate is told of each turn, and of the answer to each request.
+/// its status. The gate is told of each turn that feeds a packet or carries out a message, and of
+/// the answer to each request.
 pub fn live<R: Threads + Wait + Sync, H: Host, G: Gate>(
     rt: &R,
     alloc: Global,
@@ -121,6 +122,9 @@ pub fn live<R: Threads + Wait + Sync, H: Host, G: Gate>(
         live_call_of_words words.now ≡ Some c →
         OthersStay (outputs c) (H.content host.old) (H.content host.new) }
     ensures later { IsLater H.tells H.read_faults H.write_faults host.old host.new }
+    // All of this as one fact, for whoever hands it on.
+    ensures answer { IsAnswer (live_call_of_words words.now)
+        (span H.tells H.content H.read_faults H.write_faults host.old host.new) result }
 {
     live_pools(rt, alloc, words, host, gate, &OpenJobGate)
 }
@@ -185,6 +189,25 @@ pub fn live_pools<R: Threads + Wait + Sync, H: Host, G: Gate, J: JobGate>(
     ensures others { (result ≡ 0) ⊎ (result ≡ 3) → (c : Call) →
         live_call_of_words words.now ≡ Some c →
         OthersStay (outputs c) (H.content host.old) (H.content host.new) }
+    ensures later { IsLater H.tells H.read_faults H.write_faults host.old host.new }
+    ensures answer { IsAnswer (live_call_of_words words.now)
+        (span H.tells H.content H.read_faults H.write_faults host.old host.new) result }
+{
+    live_status(rt, alloc, words, host, gate, jobs)
+}
+
+/// The status of the command `live` that the words are.
+fn live_status<R: Threads + Wait + Sync, H: Host, G: Gate, J: JobGate>(
+    rt: &R,
+    alloc: Global,
+    words: &[String],
+    host: &mut H,
+    gate: &G,
+    jobs: &J,
+) -> u8
+    ensures statuses { (result ≤ 8) ⊎ (result ≡ 10) }
+    ensures answer { IsAnswer (live_call_of_words words.now)
+        (span H.tells H.content H.read_faults H.write_faults host.old host.new) result }
     ensures later { IsLater H.tells H.read_faults H.write_faults host.old host.new }
 {
     let Some(command) = live_of(words) else {

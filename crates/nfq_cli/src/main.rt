@@ -1,6 +1,6 @@
 //! `nfq`: the command line. `play` reads rules, a script and a capture, runs the packets of the
 //! capture through the queues on one thread, and writes the released frames, a ledger and a
-//! journal. `live` does so with threads, whose queues are behind locks. `list` makes the run of
+//! journal. `live` does so with threads, over queues behind locks. `list` makes the run of
 //! `play` up to where the ports end, and writes how the queues stand. `gen` writes inputs that are
 //! made from a number, and `trial` makes the run of `play` on these in memory and prints how many
 //! packets had each fate. `migrate` writes a journal of either version in that of today,

@@ -13,12 +13,13 @@ ghost use Rattle.command_line.specs.Arguments as named;
 ghost use Rattle.command_line.specs.Arguments.{inputs, Lists, ListFiles, LiveFiles, Lives};
 ghost use Rattle.command_line.specs.Arguments.{MigrateFiles, Migrates, outputs};
 ghost use Rattle.command_line.specs.Arguments.{PlayFiles, Plays, ReadFiles, Sample};
-ghost use Rattle.command_line.specs.Arguments.{standard_output, Tries};
+ghost use Rattle.command_line.specs.Arguments.{program_call, standard_output, Tries};
 ghost use Rattle.run_files.specs.Causes.{AreTaken, IsAnswered, IsRefused, IsTurnedDown, IsUnread};
 ghost use Rattle.run_files.specs.Files.{IsPrinted, IsStopped, OthersStay};
 ghost use Rattle.run_files.specs.Files.{ReadFaultRose, WriteFaultRose};
 ghost use Rattle.run_audit.specs.declared.finding.Finding.{Finding};
 ghost use Rattle.run_audit.specs.Printed as finding;
+ghost use Rattle.nfq_cli.specs.Ending.{IsAnswer, IsOut, span};
 ghost use Rattle.nfq_cli.specs.Headline.{Finds, IsAmiss, IsAtEnd, IsAudited, IsCut, IsGenerated};
 ghost use Rattle.nfq_cli.specs.Headline.{IsListed, IsLived, IsMigrated, IsPlayed, IsTried};
 ghost use Rattle.run_files.specs.Printed.{usage_line};
@@ -136,20 +137,46 @@ pub fn program<R: Threads + Wait + Sync, H: Host>(
         OthersStay (outputs c) (H.content host.old) (H.content host.new) }
     ensures later { IsLater H.tells H.read_faults H.write_faults host.old host.new }
 {
+    status_of_arguments(rt, alloc, arguments, host)
+}
+
+/// The status of the command that the arguments are.
+fn status_of_arguments<R: Threads + Wait + Sync, H: Host>(
+    rt: &R,
+    alloc: Global,
+    arguments: Result<Args, Error>,
+    host: &mut H,
+) -> u8
+    ensures answer { IsAnswer (call_of_arguments arguments)
+        (span H.tells H.content H.read_faults H.write_faults host.old host.new) result
+        ⊎ IsOut (span H.tells H.content H.read_faults H.write_faults host.old host.new) result }
+    ensures later { IsLater H.tells H.read_faults H.write_faults host.old host.new }
+{
     match words_of(alloc, arguments) {
-        Ok(words) => {
-            let words = words.as_slice();
-            if is_live(words) {
-                live(rt, alloc, words, host, &OpenGate)
-            } else {
-                play(alloc, words, host)
-            }
-        }
+        Ok(words) => status_of_any(rt, alloc, words.as_slice(), host),
         Err(NoWords::NoMemory) => NO_MEMORY,
         Err(NoWords::NoText) => {
             print_usage(host);
             USAGE
         }
+    }
+}
+
+/// The status of the command that the words are, with threads or without.
+fn status_of_any<R: Threads + Wait + Sync, H: Host>(
+    rt: &R,
+    alloc: Global,
+    words: &[String],
+    host: &mut H,
+) -> u8
+    ensures answer { IsAnswer (program_call words.now)
+        (span H.tells H.content H.read_faults H.write_faults host.old host.new) result }
+    ensures later { IsLater H.tells H.read_faults H.write_faults host.old host.new }
+{
+    if is_live(words) {
+        live(rt, alloc, words, host, &OpenGate)
+    } else {
+        play(alloc, words, host)
     }
 }
 

@@ -143,8 +143,7 @@ enum Fault {
 }
 
 /// A run of these words, in which this call of the host has a fault, ends with this status, and
-/// leaves no file of these names. The rules are refused where they are `x`, or have a fan-out
-/// without a balance.
+/// leaves no file of these names. The rules are refused where they are `x`.
 fn check(rt: &impl Abort, alloc: Global, row: &Row) -> Result<(), Fail> {
     let input = capture(alloc)?;
     let mut host = host(alloc, row.rules, SCRIPT, &input)?;
@@ -172,13 +171,10 @@ const PLAY: &[&str] = &["play", "r", "s", "c", "o", "l", "j"];
 
 const LIST: &[&str] = &["list", "r", "s", "c", "o"];
 
-const FANOUT_ALONE: &str =
-    "*filter\n-A FORWARD -j NFQUEUE --queue-num 0 --queue-cpu-fanout\nCOMMIT\n";
-
 /// Each input takes two reads: the first write is call 7. `gen` and `trial` read nothing.
 #[test]
 fn faults_of_the_host_end_a_command(rt: HostRuntime) -> Result<(), Fail> {
-    const ROWS: [Row; 8] = [
+    const ROWS: [Row; 7] = [
         Row {
             command: PLAY,
             rules: RULES,
@@ -200,14 +196,6 @@ fn faults_of_the_host_end_a_command(rt: HostRuntime) -> Result<(), Fail> {
             rules: "x",
             fault: Fault::Fails,
             call: 3,
-            status: 5,
-            missing: &["o", "l", "j"],
-        },
-        Row {
-            command: PLAY,
-            rules: FANOUT_ALONE,
-            fault: Fault::Fails,
-            call: 4,
             status: 5,
             missing: &["o", "l", "j"],
         },

@@ -124,8 +124,8 @@ module _ (script : ScriptValue) (places : ℕ) (size : Size) (place : ℕ) (met 
 
 -- ---- the port that ends
 
-module _ (script : ScriptValue) (places : ℕ) (size : Size) (place port : ℕ) (is : is_port script port ≡ true)
-    (here : place_in port script.ports ≡ place) where
+module _ (script : ScriptValue) (places : ℕ) (size : Size) (place port : ℕ)
+    (is : is_port script port ≡ true) (here : place_in port script.ports ≡ place) where
   its_own : (q : ℕ) → is_port script q ≡ true → place_in q script.ports ≡ place → q ≡ port
   its_own q in_script there = same_place q port script.ports in_script is (there ∙ sym here)
 
@@ -142,8 +142,8 @@ module _ (script : ScriptValue) (places : ℕ) (size : Size) (place port : ℕ) 
     notes = e.notes;
     stands = e.stands;
     ended = e.ended;
-    this = λ q in_script there. subst (λ (p : ℕ). IsDoing size.workers script places (Ending place) p
-        (e.notes p) (e.met p) later (passes_of m p)) (sym (its_own q in_script there)) does;
+    this = λ q in_script there. subst (λ (p : ℕ). IsDoing size.workers script places (Ending place)
+        p (e.notes p) (e.met p) later (passes_of m p)) (sym (its_own q in_script there)) does;
     others = λ q in_script other. subst (λ (p : Pass). IsDoing size.workers script places
         (Ending place) q (e.notes q) (e.met q) (e.stands q) p)
         (sym (one.others q (other_than q other))) (e.others q in_script other);
@@ -242,16 +242,16 @@ module _ (script : ScriptValue) (places : ℕ) (size : Size) (place port : ℕ) 
 
 -- ---- all ports look
 
-pub ends_look : (script : ScriptValue) (places : ℕ) (size : Size) (place : ℕ) (due : List Due) (c m : Crew) →
-    AllLookOn script places c m → Ends script places size place (idle due) c →
+pub ends_look : (script : ScriptValue) (places : ℕ) (size : Size) (place : ℕ) (due : List Due)
+    (c m : Crew) → AllLookOn script places c m → Ends script places size place (idle due) c →
     Ends script places size place (idle due) m
 ends_look script places size place due c m looks e = record {
   met = e.met;
   notes = e.notes;
   stands = e.stands;
   ended = e.ended;
-  this = λ q is there. (looks.each size.workers q (e.is_open q is there)).on (Ending place) (e.notes q)
-      (e.met q) due tt (e.this q is there);
+  this = λ q is there. (looks.each size.workers q (e.is_open q is there)).on (Ending place)
+      (e.notes q) (e.met q) due tt (e.this q is there);
   others = λ q is other. by q is other (cases_Bool (e.stands q).is_open);
   feeder = same_feeder c m looks.alone.feeding ∙ e.feeder;
   shut = λ q is closed.
@@ -277,8 +277,8 @@ ends_look script places size place due c m looks e = record {
         let i = idle_if_open script places size place e.met e.notes e.stands e.ended q is opens in
         subst (λ (t : Stand). IsDoing size.workers script places (Ending place) q (e.notes q)
         (e.met q) t (passes_of m q)) (sym i.is)
-        ((looks.each size.workers q (e.are_open q is other ∙ opens)).on (Ending place) (e.notes q) (e.met q)
-        i.ends tt
+        ((looks.each size.workers q (e.are_open q is other ∙ opens)).on (Ending place) (e.notes q)
+        (e.met q) i.ends tt
         (subst (λ (t : Stand). IsDoing size.workers script places (Ending place) q (e.notes q)
         (e.met q) t (passes_of c q)) i.is (e.others q is other)))
     by q is other (inr closed) =

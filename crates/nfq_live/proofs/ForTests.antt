@@ -1,5 +1,6 @@
 -- For tests alone: a plane that is opened with a script's ports, mail and key is opened for it.
-use Rattle.std.proofs.Common.{◌≡◌, ◌≢◌, ◌<◌, ℕ, List, [], ◌∷◌, length, suc, ap, subst, sym, inl, inr}
+use Rattle.std.proofs.Common.{◌≡◌, ◌≢◌, ◌<◌, ℕ, List, [], ◌∷◌, length, suc, ap, subst, sym, inl}
+use Rattle.std.proofs.Common.{inr}
 use Rattle.std.proofs.Common.{Err, IfOk, Ok, Result, AllPairs, slice_index_or, arith}
 use Rattle.hook_chain.specs.Rules.{RuleTables}
 use Rattle.inspector_script.specs.Scripts.{IsScript, ScriptValue}

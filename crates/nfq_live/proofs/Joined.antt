@@ -1,5 +1,6 @@
 -- The shares of all feeders, joined: what is known of the place then, and which packets were fed.
-use Rattle.std.proofs.Common.{◌≡◌, ◌<◌, ◌≤◌, ◌+◌, ◌-◌, ◌%◌, ◌∙◌, ◌++◌, ◌∷◌, ◌⊎◌, [], ℕ, suc, List, Bool}
+use Rattle.std.proofs.Common.{◌≡◌, ◌<◌, ◌≤◌, ◌+◌, ◌-◌, ◌%◌, ◌∙◌, ◌++◌, ◌∷◌, ◌⊎◌, [], ℕ, suc, List}
+use Rattle.std.proofs.Common.{Bool}
 use Rattle.std.proofs.Common.{Option, Some, None, true, false, ap, arith, inl, inr, length, refl}
 use Rattle.std.proofs.Common.{subst, sym, zero}
 use Rattle.std.specs.Prelude.{◌==◌, ◌||◌, filter, if◌then◌else◌, option_to_list, sum_by}

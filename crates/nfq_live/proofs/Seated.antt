@@ -84,13 +84,15 @@ pub all_stay : (workers : ℕ) (script : ScriptValue) (plane : Plane) (old new :
 all_stay workers script plane [] [] did = tt
 all_stay workers script plane [] (n ∷ ns) did = absurd did
 all_stay workers script plane (o ∷ os) [] did = absurd did
-all_stay workers script plane (o ∷ os) (n ∷ ns) did = (did.0.stays, all_stay workers script plane os ns did.1)
+all_stay workers script plane (o ∷ os) (n ∷ ns) did =
+    (did.0.stays, all_stay workers script plane os ns did.1)
 
 abbrev IsWell : Inspector → Type 0
 IsWell i = i.failed ≡ false
 
 pub all_went_on : (workers : ℕ) (script : ScriptValue) (plane : Plane) (old new : List Inspector) →
-    AllZip (IsInspected workers script plane) old new → All (λ (i : Inspector). i.failed ≡ false) new →
+    AllZip (IsInspected workers script plane) old new →
+    All (λ (i : Inspector). i.failed ≡ false) new →
     AllZip (WentOn workers script (places_of plane)) (passes_at old) (passes_at new)
 all_went_on workers script plane [] [] did well = tt
 all_went_on workers script plane [] (n ∷ ns) did well = absurd did
@@ -100,8 +102,10 @@ all_went_on workers script plane (o ∷ os) (n ∷ ns) did well = (
   all_went_on workers script plane os ns did.1 (All-tail IsWell n ns well),
 )
 
-pub all_have_minds : (workers : ℕ) (script : ScriptValue) (plane : Plane) (old new : List Inspector) →
-    AllZip (IsInspected workers script plane) old new → All (λ (i : Inspector). i.failed ≡ false) new →
+pub all_have_minds : (workers : ℕ) (script : ScriptValue) (plane : Plane)
+    (old new : List Inspector) →
+    AllZip (IsInspected workers script plane) old new →
+    All (λ (i : Inspector). i.failed ≡ false) new →
     AllZip (IsMind script) (passes_at new) (minds_at new)
 all_have_minds workers script plane [] [] did well = tt
 all_have_minds workers script plane [] (n ∷ ns) did well = absurd did
@@ -144,7 +148,8 @@ seated_from script plane seats ports minds passes_are minds_are of kept =
     (subst (λ (l : List PortView). AllZip (IsMind script) l (minds_at seats)) (sym passes_are)
     (subst (λ (l : List Mind). AllZip (IsMind script) ports l) (sym minds_are) kept))
 
-pub as_many_seats : (workers : ℕ) (script : ScriptValue) (plane : Plane) (before after : List Inspector)
+pub as_many_seats : (workers : ℕ) (script : ScriptValue) (plane : Plane)
+    (before after : List Inspector)
     (ports : List PortView) → AllZip (IsInspected workers script plane) before after →
     passes_at before ≡ ports → length after ≡ length ports
 as_many_seats workers script plane before after ports did are =
@@ -163,7 +168,8 @@ pub went_back : {X : Type 0} (back none items : List X) → none ≡ [] → back
 went_back {X} back none items empty is =
     sym (is ∙ ap (λ (l : List X). l ++ items) empty)
 
-pub stay_at_seats : (workers : ℕ) (script : ScriptValue) (plane : Plane) (before after : List Inspector)
+pub stay_at_seats : (workers : ℕ) (script : ScriptValue) (plane : Plane)
+    (before after : List Inspector)
     (ports back : List PortView) → passes_at before ≡ ports → passes_at after ≡ back →
     AllZip (IsInspected workers script plane) before after → AllZip (StaysPort plane) ports back
 stay_at_seats workers script plane before after ports back were are did =
@@ -171,17 +177,19 @@ stay_at_seats workers script plane before after ports back were are did =
     (subst (λ (l : List PortView). AllZip (StaysPort plane) (passes_at before) l) are
     (all_stay workers script plane before after did))
 
-pub went_at_seats : (workers : ℕ) (script : ScriptValue) (plane : Plane) (before after : List Inspector)
+pub went_at_seats : (workers : ℕ) (script : ScriptValue) (plane : Plane)
+    (before after : List Inspector)
     (ports back : List PortView) → passes_at before ≡ ports → passes_at after ≡ back →
     AllZip (IsInspected workers script plane) before after →
     All (λ (i : Inspector). i.failed ≡ false) after →
     AllZip (WentOn workers script (places_of plane)) ports back
 went_at_seats workers script plane before after ports back were are did well =
     subst (λ (l : List PortView). AllZip (WentOn workers script (places_of plane)) l back) were
-    (subst (λ (l : List PortView). AllZip (WentOn workers script (places_of plane)) (passes_at before) l)
-    are (all_went_on workers script plane before after did well))
+    (subst (λ (l : List PortView). AllZip (WentOn workers script (places_of plane))
+    (passes_at before) l) are (all_went_on workers script plane before after did well))
 
-pub minds_from_seats : (workers : ℕ) (script : ScriptValue) (plane : Plane) (before after : List Inspector)
+pub minds_from_seats : (workers : ℕ) (script : ScriptValue) (plane : Plane)
+    (before after : List Inspector)
     (ports : List PortView) (minds : List Mind) → passes_at after ≡ ports →
     minds_at after ≡ minds → AllZip (IsInspected workers script plane) before after →
     All (λ (i : Inspector). i.failed ≡ false) after → AllZip (IsMind script) ports minds

@@ -1,5 +1,5 @@
--- The feeders' passes have together the parts of the locks that the first one's had alone, while they
--- are split, while they feed, and while they are joined.
+-- The feeders' passes have together the parts of the locks that the first one's had alone, while
+-- they are split, while they feed, and while they are joined.
 use Rattle.std.proofs.Common.{◌≡◌, ◌<◌, ◌+◌, ◌∙◌, ◌++◌, ◌∷◌, [], ℕ, zero, suc, List, ap, append-nil}
 use Rattle.std.proofs.Common.{append_assoc, arith, false, length, map, refl, subst, sym, true}
 use Rattle.std.specs.Prelude.{◌&&◌, ◌||◌, All, Bool, not, slice_get, slice_index_or}

@@ -131,8 +131,8 @@ closed_received law sums ports places port old new shut was =
 -- ---- how a port has ended
 
 -- one port of them
-pub record StopsAs (workers : ℕ) (script : ScriptValue) (places place p : ℕ) (was : List Note) (met : Pass)
-    (stood : Stand) (c : Crew) : Type 0 where
+pub record StopsAs (workers : ℕ) (script : ScriptValue) (places place p : ℕ) (was : List Note)
+    (met : Pass) (stood : Stand) (c : Crew) : Type 0 where
   pub now : List Note
   pub stand : Stand
   pub port : is_port script p ≡ true → IsPort workers script places p now stand (passes_of c p)
@@ -148,8 +148,8 @@ no_port : {X : Type 0} (script : ScriptValue) (p : ℕ) → is_port script p ≡
 no_port script p not is = let wrong : true ≡ false = sym is ∙ not in absurd (cc)
 
 -- no port of the script
-stops_none : (workers : ℕ) (script : ScriptValue) (places place p : ℕ) (was : List Note) (met : Pass)
-    (stood : Stand) (c : Crew) → is_port script p ≡ false →
+stops_none : (workers : ℕ) (script : ScriptValue) (places place p : ℕ) (was : List Note)
+    (met : Pass) (stood : Stand) (c : Crew) → is_port script p ≡ false →
     StopsAs workers script places place p was met stood c
 stops_none workers script places place p was met stood c not = record {
   now = [];
@@ -163,7 +163,8 @@ stops_none workers script places place p was met stood c not = record {
 }
 
 -- one that another's end left as it was
-stops_other : GoesLaw → (workers : ℕ) (script : ScriptValue) (places place p : ℕ) (was : List Note) (met : Pass)
+stops_other : GoesLaw → (workers : ℕ) (script : ScriptValue) (places place p : ℕ) (was : List Note)
+    (met : Pass)
     (stood : Stand) (c : Crew) → is_port script p ≡ true → place_in p script.ports ≢ place →
     IsDoing workers script places (Ending place) p was met stood (passes_of c p) →
     is_open_in c p ≡ stood.is_open → StopsAs workers script places place p was met stood c
@@ -180,7 +181,8 @@ stops_other law workers script places place p was met stood c is apart does open
 }
 
 -- the one that ended, and is open still
-stops_open : GoesLaw → (workers : ℕ) (script : ScriptValue) (places place p : ℕ) (was : List Note) (met : Pass)
+stops_open : GoesLaw → (workers : ℕ) (script : ScriptValue) (places place p : ℕ) (was : List Note)
+    (met : Pass)
     (stood : Stand) (c : Crew) → is_port script p ≡ true → place_in p script.ports ≡ place →
     IsDoing workers script places (Ending place) p was met (side (AtEnd []) [])
     (passes_of c p) → is_open_in c p ≡ true → StopsAs workers script places place p was met stood c
@@ -205,7 +207,8 @@ stops_shut : ClosesLaw → ClosedLaw → (workers : ℕ) (script : ScriptValue) 
     Shuts places p (passes_of c p) (passes_of m p) →
     ((k : ℕ) → places ≤ k → (passes_of m p).shares k ≡ (passes_of c p).shares k) →
     is_open_in m p ≡ false → StopsAs workers script places place p was met stood m
-stops_shut closes closed workers script places place p was met stood c m some is here does shuts beyond
+stops_shut closes closed workers script places place p was met stood c m some is here does
+    shuts beyond
     gone =
     let a : IsDoing workers script places (Ending (place_in p script.ports)) p was met
     (side (AtEnd []) (Still Close ∷ [])) (passes_of c p) =
@@ -266,18 +269,18 @@ stops_so law script places size place c e =
         stops_none size.workers script places place p (e.notes p) (e.met p) (e.stands p) c not
     by p (inl is) (inl h) =
         let here = eqb-true (place_in p script.ports) place h in
-        stops_open law size.workers script places place p (e.notes p) (e.met p) (e.stands p) c is here
-        (e.this p is here) (e.is_open p is here)
+        stops_open law size.workers script places place p (e.notes p) (e.met p) (e.stands p) c
+        is here (e.this p is here) (e.is_open p is here)
     by p (inl is) (inr h) =
         let apart = eqb-false (place_in p script.ports) place h in
-        stops_other law size.workers script places place p (e.notes p) (e.met p) (e.stands p) c is apart
-        (e.others p is apart) (e.are_open p is apart)
+        stops_other law size.workers script places place p (e.notes p) (e.met p) (e.stands p) c
+        is apart (e.others p is apart) (e.are_open p is apart)
 
 -- the port has closed
 pub shuts_so : GoesLaw → ClosesLaw → ClosedLaw → (script : ScriptValue)
-    (places : ℕ) (size : Size) (place port : ℕ) (c m : Crew) → 0 < places → is_port script port ≡ true →
-    place_in port script.ports ≡ place → EndsTo script places size place (Close ∷ []) c →
-    OneShuts places port c m →
+    (places : ℕ) (size : Size) (place port : ℕ) (c m : Crew) → 0 < places →
+    is_port script port ≡ true → place_in port script.ports ≡ place → EndsTo script places size
+    place (Close ∷ []) c → OneShuts places port c m →
     ((k : ℕ) → places ≤ k → (passes_of m port).shares k ≡ (passes_of c port).shares k) →
     passes_of m feeder_number ≡ passes_of c feeder_number →
     HasStopped script places size place m
@@ -313,15 +316,15 @@ shuts_so goes closes closed script places size place port c m some is_in at_plac
     by p (inl is) (inl h) =
         let here = eqb-true (place_in p script.ports) place h in
         let i = its p (same_place p port script.ports is is_in (here ∙ sym at_place)) in
-        stops_shut closes closed size.workers script places place p (e.notes p) (e.met p) (e.stands p) c m some
-        is here (e.this p is here) i.0 i.1 i.2
+        stops_shut closes closed size.workers script places place p (e.notes p) (e.met p)
+        (e.stands p) c m some is here (e.this p is here) i.0 i.1 i.2
     by p (inl is) (inr h) =
         let apart = eqb-false (place_in p script.ports) place h in
         let other : p ≢ port =
         λ same. apart (ap (λ (q : ℕ). place_in q script.ports) same ∙ at_place) in
-        stops_other goes size.workers script places place p (e.notes p) (e.met p) (e.stands p) m is apart
-        (subst (λ (q : Pass). IsDoing size.workers script places (Ending place) p (e.notes p)
-        (e.met p) (e.stands p) q) (sym (shut.others p other)) (e.others p is apart))
+        stops_other goes size.workers script places place p (e.notes p) (e.met p) (e.stands p) m
+        is apart (subst (λ (q : Pass). IsDoing size.workers script places (Ending place) p
+        (e.notes p) (e.met p) (e.stands p) q) (sym (shut.others p other)) (e.others p is apart))
         (shut.stay p other ∙ e.are_open p is apart)
 
 -- ---- the meeting behind an end
@@ -381,8 +384,8 @@ at_meeting laws script places size place port c n some is_in at_place s met open
     mine p same gone =
         subst (λ (sum : ℕ). WasSent size.workers script places p sum (passes_of n))
         (subst (λ (q : ℕ). IsReceived script.ports places n q) (sym same) received)
-        (laws.closed size.workers script places p (Ending place) (passes_of n) s.now s.stands meeting
-        gone)
+        (laws.closed size.workers script places p (Ending place) (passes_of n) s.now s.stands
+        meeting gone)
 
     theirs : (p : ℕ) → is_port script p ≡ true → place_in p script.ports ≢ place →
         (s.stands p).is_open ≡ false →
@@ -431,8 +434,8 @@ owes_none script places size place met notes stands ended port is =
         owes_nothing (all_due (closing script (place_in port script.ports))) (stands port)
         (ended.behind port is most)
 
-pub ends_begin : BeginsDoingLaw → (script : ScriptValue) (places : ℕ) (size : Size) (place : ℕ) (c : Crew) →
-    IsAtMeeting script places size place c →
+pub ends_begin : BeginsDoingLaw → (script : ScriptValue) (places : ℕ) (size : Size) (place : ℕ)
+    (c : Crew) → IsAtMeeting script places size place c →
     EndsTo script places size place (closing script place) c
 ends_begin law script places size place c m = record {
   met = passes_of c;

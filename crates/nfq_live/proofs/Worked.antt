@@ -99,7 +99,8 @@ pass_of_port feeder ports p other =
     ap (λ (b : Bool). if b then feeder_pass feeder else pass_among ports p) other
 
 -- the port's pass among those of several that went on, or another of which the same is known
-goes_one : (workers : ℕ) (script : ScriptValue) (places p : ℕ) (o q : PortView) (a b : Pass) (t : Bool) →
+goes_one : (workers : ℕ) (script : ScriptValue) (places p : ℕ) (o q : PortView) (a b : Pass)
+    (t : Bool) →
     (o.port == p) ≡ t → WentOn workers script places o q → GoesOn workers script places p a b →
     GoesOn workers script places p (if o.port == p then port_pass o else a)
     (if q.port == p then port_pass q else b)
@@ -170,8 +171,8 @@ record IsThrough (workers : ℕ) (script : ScriptValue) (places p : ℕ) (was : 
       Went workers script Working p was now old.shares new.shares
   pub none : is_port script p ≡ false → now ≡ []
 
-through_port : LooksLaw → (workers : ℕ) (script : ScriptValue) (places p : ℕ) (was : List Note) (t : Stand)
-    (old new : Pass) → is_port script p ≡ true → t ≡ opened script p →
+through_port : LooksLaw → (workers : ℕ) (script : ScriptValue) (places p : ℕ) (was : List Note)
+    (t : Stand) (old new : Pass) → is_port script p ≡ true → t ≡ opened script p →
     GoesOn workers script places p old new → IsPort workers script places p was t old →
     IsThrough workers script places p was t old new
 through_port law workers script places p was t old new port stood goes is =
@@ -186,8 +187,8 @@ through_port law workers script places p was t old new port stood goes is =
       none = λ no. let wrong : true ≡ false = sym port ∙ no in absurd (cc wrong);
     }
 
-through : LooksLaw → (workers : ℕ) (script : ScriptValue) (places p : ℕ) (was : List Note) (t : Stand)
-    (old new : Pass) (b : Bool) → is_port script p ≡ b →
+through : LooksLaw → (workers : ℕ) (script : ScriptValue) (places p : ℕ) (was : List Note)
+    (t : Stand) (old new : Pass) (b : Bool) → is_port script p ≡ b →
     (is_port script p ≡ true → t ≡ opened script p) →
     (is_port script p ≡ true → GoesOn workers script places p old new) →
     (is_port script p ≡ true → IsPort workers script places p was t old) →

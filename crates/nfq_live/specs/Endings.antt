@@ -33,7 +33,7 @@ abbrev pub HasEnded : Stand → Type 0
 HasEnded t = (t ≡ idle []) ⊎ (t ≡ shut_stand)
 
 -- What was known at the last meeting, where the ports before this place have ended and the others
--- wait to: all size had been fed, with all lines that take effect, and what all passes sent to a
+-- wait to: all frames had been fed, with all lines that take effect, and what all passes sent to a
 -- closed port is what it received.
 pub record HaveEnded (script : ScriptValue) (places : ℕ) (size : Size) (place : ℕ) (met : ℕ → Pass)
     (notes : ℕ → List Note) (stands : ℕ → Stand) : Type 0 where
@@ -49,8 +49,8 @@ pub record HaveEnded (script : ScriptValue) (places : ℕ) (size : Size) (place 
 
 -- While the port at a place ends: it stands so, each other port as at the last meeting, each having
 -- answered its notices since; and the feeder and the closed ports have done nothing since.
-pub record Ends (script : ScriptValue) (places : ℕ) (size : Size) (place : ℕ) (mine : Stand) (c : Crew)
-    : Type 0 where
+pub record Ends (script : ScriptValue) (places : ℕ) (size : Size) (place : ℕ) (mine : Stand)
+    (c : Crew) : Type 0 where
   pub met : ℕ → Pass
   pub notes : ℕ → List Note
   pub stands : ℕ → Stand
@@ -71,7 +71,8 @@ pub record Ends (script : ScriptValue) (places : ℕ) (size : Size) (place : ℕ
 
 -- The port at a place has ended, and the others stand as at the last meeting: what is known of
 -- each before all meet.
-pub record HasStopped (script : ScriptValue) (places : ℕ) (size : Size) (place : ℕ) (c : Crew) : Type 0 where
+pub record HasStopped (script : ScriptValue) (places : ℕ) (size : Size) (place : ℕ) (c : Crew)
+    : Type 0 where
   pub met : ℕ → Pass
   pub was : ℕ → List Note
   pub stood : ℕ → Stand
@@ -100,8 +101,8 @@ EndsTo script places size place asks c =
 
 -- It is to send these messages of its end, and then owes these. Before the first of them it has
 -- just taken up their ask.
-pub record EndsCutting (script : ScriptValue) (places : ℕ) (size : Size) (place : ℕ) (ms : List NetlinkMessage)
-    (ds : List Due) (c : Crew) : Type 0 where
+pub record EndsCutting (script : ScriptValue) (places : ℕ) (size : Size) (place : ℕ)
+    (ms : List NetlinkMessage) (ds : List Due) (c : Crew) : Type 0 where
   pub fresh : Bool
   pub some : fresh ≡ true → is_some_due (map Message ms) ≡ true
   pub short : All AsksWell ms
@@ -113,14 +114,15 @@ abbrev pub closing_left : Bool → List Ask
 closing_left closes = if closes then Close ∷ [] else []
 
 -- The ports before this place have ended, and all passes have just met.
-pub record IsAtMeeting (script : ScriptValue) (places : ℕ) (size : Size) (place : ℕ) (c : Crew) : Type 0 where
+pub record IsAtMeeting (script : ScriptValue) (places : ℕ) (size : Size) (place : ℕ) (c : Crew)
+    : Type 0 where
   pub notes : ℕ → List Note
   pub stands : ℕ → Stand
   pub ended : HaveEnded script places size place (passes_of c) notes stands
   pub are_open : (port : ℕ) → is_port script port ≡ true →
       is_open_in c port ≡ (stands port).is_open
 
--- ---- what the calls of an end do, however many size there were
+-- ---- what the calls of an end do, whatever the size of the run
 
 -- Of the messages that bytes are cut into, these are left, and then these are due.
 pub record CutsEndTo (script : ScriptValue) (places place : ℕ) (bytes : List ℕ)

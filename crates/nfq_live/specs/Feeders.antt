@@ -91,8 +91,8 @@ pub record HaveAllFed (feeders : ℕ) (script : ScriptValue) (capture : Capture)
   pub grows : (k : ℕ) → Grows IsFeeders (shares_in old k) (shares_in new k)
   pub cards : AreTheSame new.fed (cards capture)
 
--- The first feeder's pass has taken the others' in again: it has its parts of the locks. All fed, or
--- failed for want of memory.
+-- The first feeder's pass has taken the others' in again: it has its parts of the locks. All fed,
+-- or failed for want of memory.
 pub record HaveFedAll (feeders : ℕ) (script : ScriptValue) (capture : Capture) (plane : Plane)
     (old new : Feeding) : Type 0 where
   pub stays : StaysFeeder plane old.pass new.pass

@@ -1,4 +1,4 @@
-//! Ports that end, in the script's order, once all size have passed.
+//! Ports that end, in the script's order, once all frames have passed.
 
 ghost use Rattle.std.specs.Prelude.{◌≡◌, ◌<◌, ◌^◌, ℕ, suc, length, slice_index_or};
 ghost use Rattle.std.specs.Prelude.{All, IfOk, OnOk};

@@ -26,8 +26,8 @@ use std::sync::Wait;
 use std::thread::{self, Threads, join_mut};
 use turn_lock::{a_part_is_known_by_its_ways, parts_are_put_together_in_any_order};
 
-/// Passes for the feeders beside the first are split off its own, so that there are so many feeders.
-/// There is room for all. `NoMemory` leaves those that were split.
+/// Passes for the feeders beside the first are split off its own, so that there are so many
+/// feeders. There is room for all. `NoMemory` leaves those that were split.
 pub(crate) fn split_all(
     alloc: Global,
     plane: &Plane,
@@ -90,8 +90,8 @@ fn it_may_change_threads<T: Send>()
     ensures { IsSend T.row }
 {}
 
-/// Whoever feeds may go from thread to thread. Found here, with nothing else in sight: where threads
-/// begin, the search for it would be long.
+/// Whoever feeds may go from thread to thread. Found here, with nothing else in sight: where
+/// threads begin, the search for it would be long.
 pub(crate) fn feeders_may_change_threads()
     ensures { IsSend the_row }
 {

@@ -97,8 +97,9 @@ fn go<R: Threads + Wait + Sync, G: Gate, J: JobGate>(
 /// does so alone. What happened is a run of the script, in which every notice was received and no
 /// packet is lost. It is legal, and sound for the packets of the capture. Rules that fan out by
 /// feeder do so by the number of feeders that the plane's tables have. `NoMemory` also where memory
-/// ran out between two queues, so that a packet was lost. The gate is told of each turn, and of the
-/// answer to each request; `jobs` of each job of a pool.
+/// ran out between two queues, so that a packet was lost. The gate is told of each turn
+/// that feeds a packet or carries out a message, and of the answer to each request; `jobs` of each
+/// job of a pool.
 pub fn run_pools<R: Threads + Wait + Sync, G: Gate, J: JobGate>(
     rt: &R,
     alloc: Global,

@@ -36,8 +36,8 @@ const MANY_QUEUES: &[u8] = b"*filter\n-A FORWARD -j NFQUEUE --queue-balance 1:8\
 const BY_FEEDER: &[u8] =
     b"*filter\n-A FORWARD -j NFQUEUE --queue-balance 0:1 --queue-cpu-fanout\nCOMMIT\n";
 
-/// Two requests, a queue each, and a verdict for each packet; a device goes down after frames of two
-/// feeders.
+/// Two requests, a queue each, and a verdict for each packet; a device goes down after frames of
+/// two feeders.
 const TWO_QUEUES: &[u8] = b"down 5 after 3\ndown 6 after 4\nport 7
 open config 0 bind params packet 0\nopen config 1 bind params packet 0
 on any do verdict this accept this\n";

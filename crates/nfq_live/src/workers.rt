@@ -50,8 +50,8 @@ pub(crate) struct Inspector {
     pub(crate) failed: bool,
 }
 
-/// An inspector answers its port's notices until none has come for long, with so many workers behind
-/// it: one is the inspector alone, and more are a pool.
+/// An inspector answers its port's notices until none has come for long, with so many workers
+/// behind it: one is the inspector alone, and more are a pool.
 fn inspect_with<R: Threads + Wait + Sync, G: Gate, J: JobGate>(
     rt: &R,
     alloc: Global,
@@ -185,7 +185,8 @@ fn work_beside<R: Threads + Wait + Sync, G: Gate, J: JobGate>(
         },
         &mut ||
             requires { IsSync G.row × IsSync R.row × IsSync J.row × (one_worker ≤ pool)
-                × (pool ≤ most_workers) × All (λ i. IsSeated script.now plane.now i) inspectors.now }
+                × (pool ≤ most_workers) × All (λ i. IsSeated script.now plane.now i) inspectors.now
+                }
         { inspect_all(rt, alloc, plane, gate, jobs, script, pool, inspectors) },
     );
 }
@@ -285,8 +286,8 @@ fn split_and_work<R: Threads + Wait + Sync, G: Gate, J: JobGate>(
     feeding.failed = feeding.failed | !well;
 }
 
-/// Room for all passes while they work: for the feeders beside the first, a seat for each inspector,
-/// and the lists to which these go back.
+/// Room for all passes while they work: for the feeders beside the first, a seat for each
+/// inspector, and the lists to which these go back.
 #[derive(Drop)]
 pub(crate) struct Room {
     pub(crate) helpers: Vec<Feeding>,

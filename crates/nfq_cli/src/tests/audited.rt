@@ -74,10 +74,6 @@ const THIRD_ARRIVES: &str =
 
 const BINDS: &str = "M 0 7 1 config 0 cmd 1 = 0 0";
 
-const ACCEPTS_FIRST: &str = "M 0 7 3 verdict 0 1 1 = 0 1";
-
-const DROPS_SECOND: &str = "M 0 7 4 verdict 0 0 2 = 0 1";
-
 const ACCEPTS_THIRD: &str = "M 0 7 5 verdict 0 1 3 = 0 1";
 
 const SAYS_SO_OF_FIRST: &str = "S 3 verdict 0 1 1 = -";

@@ -1,6 +1,6 @@
-//! Each command with a fault at each call of the host in turn. At status 2 each output is as it was;
-//! at 3 the outputs before the one that couldn't be written are whole, and those behind it are as
-//! they were.
+//! Each command with a fault at each call of the host in turn. At status 2 each output is as it
+//! was; at 3 the outputs before the one that couldn't be written are whole, and those behind it are
+//! as they were.
 
 use super::migrated::OLD_JOURNAL;
 use super::worked::{RUNS, Run, host_of, read};
@@ -178,8 +178,8 @@ fn check<R: Threads + Wait + Sync + Abort>(
 const ANSWERED: &str = "packets 1 2 3\nport 7\nopened\n\
     on id 2 do verdict this drop this\non any do verdict this accept this";
 
-/// Of the worked runs: a full queue, a queue that is unbound, a device that goes down, packets behind
-/// link headers, and a port that closes.
+/// Of the worked runs: a full queue, a queue that is unbound, a device that goes down, packets
+/// behind link headers, and a port that closes.
 const WORKED: [usize; 5] = [0, 13, 14, 20, 21];
 
 /// Of those with threads: one packet, and a port that closes; and an unbound queue.

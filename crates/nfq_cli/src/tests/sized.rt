@@ -2,7 +2,7 @@
 
 use super::lived::{live_words, lived};
 use super::raced::{LOOKS, capture_of, word};
-use super::{RULES, SCRIPT, capture, has, host};
+use super::{RULES, SCRIPT, capture, has, host, lacks, played};
 use crate::live::live_pools;
 use host_io::MemoryHost;
 use inspector_pool::JobGate;
@@ -79,6 +79,20 @@ fn a_pool_answers_as_its_port_does(rt: HostRuntime) -> Result<(), Fail> {
         &host,
         "record fate queue\n1 accept 0\n2 drop 0\n3 accept 0\n",
     )
+}
+
+/// Without a balance there is nothing to fan out, so the line is bad.
+#[test]
+fn a_fanout_needs_a_balance(rt: HostRuntime) -> Result<(), Fail> {
+    const FANOUT_ALONE: &str = "*filter\n\
+        -A FORWARD -j NFQUEUE --queue-num 0 --queue-cpu-fanout\nCOMMIT\n";
+    let alloc = rt.alloc();
+    let input = capture(alloc)?;
+    let mut host = host(alloc, FANOUT_ALONE, SCRIPT, &input)?;
+    assert_eq!(rt; played(alloc, &mut host)?, 5);
+    has(&rt, &host, "-", b"rules refused: line 2\n");
+    lacks(&rt, &host, &["o", "l", "j"]);
+    Ok(())
 }
 
 /// A gate that counts its calls.
@@ -172,8 +186,8 @@ impl Gate for ThirdTurns {
     fn answered(&self, _place: u8) {}
 }
 
-/// What no clause says: that feeders feed at once. Each of two feeds one frame, each to a queue at a
-/// place of its own. In one of at most 20 runs both are at it together.
+/// What no clause says: that feeders feed at once. Each of two feeds one frame, each to a queue at
+/// a place of its own. In one of at most 20 runs both are at it together.
 #[test]
 fn feeders_feed_beside_each_other(rt: HostRuntime) -> Result<(), Fail> {
     const RULES_BY_FEEDER: &str = "*filter\n\

@@ -1,4 +1,5 @@
-use Rattle.std.proofs.Common.{◌≡◌, ◌≤◌, ◌<◌, ◌+◌, ◌∙◌, ◌++◌, [], List, ap, arith, false, length, refl, subst}
+use Rattle.std.proofs.Common.{◌≡◌, ◌≤◌, ◌<◌, ◌+◌, ◌∙◌, ◌++◌, [], List, ap, arith, false, length}
+use Rattle.std.proofs.Common.{refl, subst}
 use Rattle.std.proofs.Common.{sym}
 use Rattle.packet_entry.specs.declared.packet.Card.{Card}
 use Rattle.plane.specs.Passes.{FeederView}
@@ -8,7 +9,8 @@ use Rattle.feeder_set.specs.Steps.{PassesNext, Steps}
 use Rattle.live_work.specs.Feeding.{shares_in}
 use Rattle.live_work.specs.Sharing.{SharePasses, share_cards}
 use Rattle.live_work.proofs.Kept.{feeder_here, feeder_stays}
-use Rattle.live_work.proofs.Passed.{fed_all, fed_next, few_more, left_cards, left_first, next_within}
+use Rattle.live_work.proofs.Passed.{fed_all, fed_next, few_more, left_cards, left_first}
+use Rattle.live_work.proofs.Passed.{next_within}
 use Rattle.live_work.proofs.Shared.{IsUpTo, ShareLaws, up_to_first, up_to_last, up_to_next}
 use Rattle.live_work.proofs.feeding.feed_share.Goals as goal
 
@@ -60,20 +62,20 @@ loop-step-preserved g c =
     let capture = c.args.capture.now in
     let s = c.args.share in
     let was = c.loop-step.feeder in
-    let now = c.step.new.self in
+    let now = c.step_by.new.self in
     let old = c.loop-step.feeding.pass in
-    let new = c.step.new.pass in
+    let new = c.step_by.new.pass in
     let goes : PassesNext plane script capture was now old new =
     subst (λ b. Steps plane script capture was now old new b) c.if-not-branch.false
-    c.in_ok-step.ensures.stepped in
+    c.in_ok-step_by.ensures.stepped in
     let within = next_within plane script capture was now s old new c.loop-step.invariant.share
     goes c.loop-step.invariant.next in
     record {
       stays = feeder_stays plane c.args.feeding.now.pass old new c.loop-step.invariant.stays
-          c.step.ensures.pass c.step.ensures.parts;
+          c.step_by.ensures.pass c.step_by.ensures.parts;
       looks = record { looks = c.hold_back.ensures.looks };
       share = within.0;
-      next = c.step.ensures.next;
+      next = c.step_by.ensures.next;
       many = omega (arith, within.2, c.loop-step.invariant.many, c.requires.feeders.0);
       near = omega (arith, within.1, within.2);
       few = few_more plane script capture was now old new c.loop-step._step goes
@@ -98,8 +100,12 @@ loop-step-preserved g c =
         all = c.lines_of_a_share_add_up.ensures.all;
       }) plane script capture was now s (shares_in c.args.feeding.now.pass) old new
           c.loop-step.invariant.share c.requires.number c.loop-step.invariant.stays.of goes
-          c.step.ensures.pass c.loop-step.invariant.up;
+          c.step_by.ensures.pass c.loop-step.invariant.up;
     }
+
+pub returns-in_err-downs-clause-stays : goal.returns-in_err-downs-clause-stays
+returns-in_err-downs-clause-stays g c =
+    feeder_here c.args.plane.now c.args.feeding.now.pass c.requires.pass
 
 pub returns-then-not-branch-clause-on : goal.returns-then-not-branch-clause-on
 returns-then-not-branch-clause-on g c =
@@ -107,11 +113,11 @@ returns-then-not-branch-clause-on g c =
     let capture = c.args.capture.now in
     let frames = length capture.frames in
     let s = c.args.share in
-    let none : Steps plane c.args.script.now capture c.loop-step.feeder c.step.new.self
-    c.loop-step.feeding.pass c.step.new.pass false =
-    subst (λ b. Steps plane c.args.script.now capture c.loop-step.feeder c.step.new.self
-    c.loop-step.feeding.pass c.step.new.pass b) c.if-not-branch.true
-    c.in_ok-step.ensures.stepped in
+    let none : Steps plane c.args.script.now capture c.loop-step.feeder c.step_by.new.self
+    c.loop-step.feeding.pass c.step_by.new.pass false =
+    subst (λ b. Steps plane c.args.script.now capture c.loop-step.feeder c.step_by.new.self
+    c.loop-step.feeding.pass c.step_by.new.pass b) c.if-not-branch.true
+    c.in_ok-step_by.ensures.stepped in
     subst (λ (p : FeederView). SharePasses c.args.script.now (places_of plane) s frames
     (shares_in c.args.feeding.now.pass) (shares_in p)) (sym none.1.1)
     (up_to_last (record {
@@ -137,11 +143,11 @@ pub returns-then-not-branch-clause-fed : goal.returns-then-not-branch-clause-fed
 returns-then-not-branch-clause-fed g c =
     let plane = c.args.plane.now in
     let capture = c.args.capture.now in
-    let none : Steps plane c.args.script.now capture c.loop-step.feeder c.step.new.self
-    c.loop-step.feeding.pass c.step.new.pass false =
-    subst (λ b. Steps plane c.args.script.now capture c.loop-step.feeder c.step.new.self
-    c.loop-step.feeding.pass c.step.new.pass b) c.if-not-branch.true
-    c.in_ok-step.ensures.stepped in
+    let none : Steps plane c.args.script.now capture c.loop-step.feeder c.step_by.new.self
+    c.loop-step.feeding.pass c.step_by.new.pass false =
+    subst (λ b. Steps plane c.args.script.now capture c.loop-step.feeder c.step_by.new.self
+    c.loop-step.feeding.pass c.step_by.new.pass b) c.if-not-branch.true
+    c.in_ok-step_by.ensures.stepped in
     ap (λ (p : FeederView). p.fed) none.1.1
     ∙ fed_all c.args.share capture c.loop-step.feeder.next c.loop-step.feeding.pass.fed none.0
     c.loop-step.invariant.fed

@@ -12,8 +12,8 @@ behind-rest-requires g c =
     c.args.pass.now.port c.loop-look.rest.now (port_pass c.loop-look.pass)
     (port_pass c.message_unread.new.pass) c.in_ok-used.used
     (speaks c.ports_speak_by_their_passes.ensures.sends c.args.plane.now
-    (first_message c.loop-look.rest.now) c.args.pass.now c.loop-look.pass c.message_unread.new.pass _ _
-    c.in_ok-used.used c.loop-look.invariant.stays (c.in_ok-used.ensures.sent []).1
+    (first_message c.loop-look.rest.now) c.args.pass.now c.loop-look.pass c.message_unread.new.pass
+    _ _ c.in_ok-used.used c.loop-look.invariant.stays (c.in_ok-used.ensures.sent []).1
     c.message_unread.ensures.receiver.0)
 
 pub returns-then-used-eq0-clause-sent : goal.returns-then-used-eq0-clause-sent
@@ -25,8 +25,8 @@ returns-then-used-eq0-clause-sent g c =
     c.in_ok-used.used (some_place c.args.plane.now) c.loop-look-test.true
     (omega (arith, c.if-used-eq0.true))
     (speaks c.ports_speak_by_their_passes.ensures.sends c.args.plane.now
-    (first_message c.loop-look.rest.now) c.args.pass.now c.loop-look.pass c.message_unread.new.pass _ _
-    c.in_ok-used.used c.loop-look.invariant.stays (c.in_ok-used.ensures.sent []).1
+    (first_message c.loop-look.rest.now) c.args.pass.now c.loop-look.pass c.message_unread.new.pass
+    _ _ c.in_ok-used.used c.loop-look.invariant.stays (c.in_ok-used.ensures.sent []).1
     c.message_unread.ensures.receiver.0) c.loop-look.invariant.sent
 
 pub loop-look-preserved : goal.loop-look-preserved
@@ -48,7 +48,8 @@ loop-look-preserved g c = record {
       (port_pass c.message_unread.new.pass) c.in_ok-used.used (some_place c.args.plane.now)
       c.loop-look-test.true (omega (arith, c.if-used-eq0.false))
       (speaks c.ports_speak_by_their_passes.ensures.sends c.args.plane.now
-      (first_message c.loop-look.rest.now) c.args.pass.now c.loop-look.pass c.message_unread.new.pass _ _
+      (first_message c.loop-look.rest.now) c.args.pass.now c.loop-look.pass
+      c.message_unread.new.pass _ _
       c.in_ok-used.used c.loop-look.invariant.stays (c.in_ok-used.ensures.sent []).1
       c.message_unread.ensures.receiver.0) c.behind-rest.ensures.value c.loop-look.invariant.sent;
 }

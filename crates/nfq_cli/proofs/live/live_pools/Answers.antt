@@ -1,74 +1,59 @@
-use Rattle.std.proofs.Common.{ap, subst, sym, Err, ◌∙◌, Option}
-use Rattle.std.specs.Prelude.{◌≡◌, ◌⊎◌, IfSome, IsSomeAnd}
-use Rattle.command_line.specs.Arguments.{Call, live_files_of, Lives, ReadFiles, inputs, outputs}
-use Rattle.run_files.specs.Causes.{AreTaken, IsTurnedDown, IsUnread}
-use Rattle.run_files.specs.Files.{ReadFaultRose, WriteFaultRose}
-use Rattle.run_files.specs.Statuses.{IsOfRefusal}
-use Rattle.nfq_cli.specs.Headline.{IsCut, IsDone}
-use Rattle.nfq_cli.proofs.Endings.{answered, is_write_fault, once_told, same_call, turned_down}
-use Rattle.nfq_cli.proofs.Living.{no_memory_or_a_fault}
+use Rattle.command_line.specs.Arguments.{Lives}
+use Rattle.nfq_cli.proofs.Commands.{live_alone}
+use Rattle.nfq_cli.proofs.Statuses.{live_ends, of_call, only_printed, quietly_ended, usage_comes}
+use Rattle.nfq_cli.proofs.Statuses.{usage_is, usage_is_printed}
 use Rattle.nfq_cli.proofs.live.live_pools.Goals as goal
 
-pub returns-in-Ok-clause-exact : goal.returns-in-Ok-clause-exact
-returns-in-Ok-clause-exact g c = λ k i why is_k is_i t refused.
-    let same = same_call _ k _ is_k c.in-Some.ensures.call in
-    absurd (c.in-Ok.ensures.ended.exact i why (ap inputs same ∙ is_i) t refused)
+pub returns-clause-usage : goal.returns-clause-usage
+returns-clause-usage g c =
+    (usage_comes _ _ _ c.live_status.ensures.answer, usage_is _ _ _ c.live_status.ensures.answer)
 
-pub returns-in-Ok-clause-lived : goal.returns-in-Ok-clause-lived
-returns-in-Ok-clause-lived g c = λ is_0 f is_f t.
-    let same = same_call _ _ _ is_f c.in-Some.ensures.call in
-    subst (λ (k : Call). IsDone k (g.H.Host.content c.args.host.now)
-    (g.H.Host.content c.carry_out.new.host)) same (c.in-Ok.ensures.ended.done t)
+pub returns-clause-usage_printed : goal.returns-clause-usage_printed
+returns-clause-usage_printed g c = usage_is_printed _ _ _ c.live_status.ensures.answer
 
-pub returns-in-Err-clause-cut_short : goal.returns-in-Err-clause-cut_short
-returns-in-Err-clause-cut_short g c = λ is_3 k is_k t.
-    let same = same_call _ k _ is_k c.in-Some.ensures.call in
-    let is = is_write_fault c.in-Err.stop (sym c.status.ensures ∙ is_3) in
-    subst (λ (k : Call). IsCut k (g.H.Host.write_faults c.args.host.now)
-    (g.H.Host.write_faults c.carry_out.new.host) (g.H.Host.content c.args.host.now)
-    (g.H.Host.content c.carry_out.new.host)) same (c.in-Err.ensures.ended.cut_short (ap Err is) t)
+pub returns-clause-untouched : goal.returns-clause-untouched
+returns-clause-untouched g c = only_printed _ _ _ c.live_status.ensures.answer
 
-pub returns-in-Err-clause-refused : goal.returns-in-Err-clause-refused
-returns-in-Err-clause-refused g c = λ of k is_k t.
-    let same = same_call _ k _ is_k c.in-Some.ensures.call in
-    let down = turned_down (inputs (Lives (live_files_of c.in-Some.command))) c.in-Err.stop
-    (g.H.Host.write_faults c.args.host.now) (g.H.Host.write_faults c.carry_out.new.host)
-    (g.H.Host.content c.args.host.now) (g.H.Host.content c.carry_out.new.host)
-    (subst IsOfRefusal c.status.ensures of)
-    (once_told c.in-Err.stop _ _ c.in-Err.ensures.ended.refused t)
-    (once_told c.in-Err.stop _ _ c.in-Err.ensures.printed t) in
-    subst (λ (k : Call). IsSomeAnd (inputs k) (λ i. IsTurnedDown i c.status.result
-    (g.H.Host.write_faults c.args.host.now) (g.H.Host.write_faults c.carry_out.new.host)
-    (g.H.Host.content c.args.host.now) (g.H.Host.content c.carry_out.new.host))) same
-    (rw c.status.ensures down)
+pub returns-clause-quiet : goal.returns-clause-quiet
+returns-clause-quiet g c = quietly_ended _ _ _ c.live_status.ensures.answer
 
-pub returns-in-Err-clause-exact : goal.returns-in-Err-clause-exact
-returns-in-Err-clause-exact g c = λ k i why is_k is_i t refused.
-    let same = same_call _ k _ is_k c.in-Some.ensures.call in
-    let there = ap inputs same ∙ is_i in
-    rw c.status.ensures
-    (answered why c.in-Err.stop (g.H.Host.write_faults c.args.host.now)
-    (g.H.Host.write_faults c.carry_out.new.host) (g.H.Host.content c.carry_out.new.host)
-    (IsUnread i (g.H.Host.read_faults c.args.host.now)
-    (g.H.Host.read_faults c.carry_out.new.host) (g.H.Host.content c.args.host.now))
-    (c.in-Err.ensures.ended.exact i why there t refused)
-    (once_told c.in-Err.stop _ _ c.in-Err.ensures.printed t)
-    (λ is. subst (λ (o : Option ReadFiles). IsSomeAnd o (λ j. IsUnread j
-    (g.H.Host.read_faults c.args.host.now)
-    (g.H.Host.read_faults c.carry_out.new.host) (g.H.Host.content c.args.host.now))) there
-    (c.in-Err.ensures.ended.unread (ap Err is) t)))
+pub returns-clause-read_fault : goal.returns-clause-read_fault
+returns-clause-read_fault g c = λ is_2 k is.
+    (of_call _ _ _ k is c.live_status.ensures.answer).read_fault is_2
 
-pub returns-in-Err-clause-complete : goal.returns-in-Err-clause-complete
-returns-in-Err-clause-complete g c = λ k is_k t taken.
-    let same = same_call _ k _ is_k c.in-Some.ensures.call in
-    subst (λ (j : Call). (c.status.result ≡ 0) ⊎ (c.status.result ≡ 8)
-    ⊎ IsSomeAnd (inputs j) (λ i. ReadFaultRose i (g.H.Host.read_faults c.args.host.now)
-    (g.H.Host.read_faults c.carry_out.new.host))
-    ⊎ WriteFaultRose (outputs j) (g.H.Host.write_faults c.args.host.now)
-    (g.H.Host.write_faults c.carry_out.new.host)) same
-    (no_memory_or_a_fault c.in-Err.stop c.status.result _ _ c.status.ensures
-    (c.in-Err.ensures.ended.only t
-    (subst (λ (j : Call). IfSome (inputs j) (λ i. AreTaken i (g.H.Host.content c.args.host.now)))
-    (sym same) taken))
-    (λ is. c.in-Err.ensures.ended.read_fault (ap Err is))
-    (λ is. c.in-Err.ensures.ended.write_fault (ap Err is)))
+pub returns-clause-write_fault : goal.returns-clause-write_fault
+returns-clause-write_fault g c = λ is_3 k is.
+    (of_call _ _ _ k is c.live_status.ensures.answer).write_fault is_3
+
+pub returns-clause-unread : goal.returns-clause-unread
+returns-clause-unread g c = λ is_2 k is t.
+    (of_call _ _ _ k is c.live_status.ensures.answer).unread is_2 t
+
+pub returns-clause-stopped : goal.returns-clause-stopped
+returns-clause-stopped g c = λ is_3 k is.
+    (of_call _ _ _ k is c.live_status.ensures.answer).stopped is_3
+
+pub returns-clause-cut_short : goal.returns-clause-cut_short
+returns-clause-cut_short g c = λ is_3 k is t.
+    (of_call _ _ _ k is c.live_status.ensures.answer).cut_short is_3 t
+
+pub returns-clause-refused : goal.returns-clause-refused
+returns-clause-refused g c = λ of k is t.
+    (of_call _ _ _ k is c.live_status.ensures.answer).refused of t
+
+pub returns-clause-exact : goal.returns-clause-exact
+returns-clause-exact g c = λ k i why is is_i t refused.
+    (of_call _ _ _ k is c.live_status.ensures.answer).exact i why is_i t refused
+
+pub returns-clause-lived : goal.returns-clause-lived
+returns-clause-lived g c = λ is_0 l is t.
+    (of_call _ _ _ (Lives l) is c.live_status.ensures.answer).done is_0 t
+
+pub returns-clause-complete : goal.returns-clause-complete
+returns-clause-complete g c = λ k is t taken.
+    live_ends k c.live_status.result _ (live_alone _ k is)
+    ((of_call _ _ _ k is c.live_status.ensures.answer).complete t taken)
+
+pub returns-clause-others : goal.returns-clause-others
+returns-clause-others g c = λ ends k is.
+    (of_call _ _ _ k is c.live_status.ensures.answer).others ends

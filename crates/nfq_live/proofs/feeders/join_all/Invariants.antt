@@ -21,6 +21,6 @@ invariant-loop-helper l = record {
       all ≡ l.initial.pass.fed ++ fed_by l.fn.helpers.items;
   joined : (all : Shares) → AllJoin (shares_in l.pass) (into_iter_items l.helper-iterator) all →
       AllJoin (shares_in l.initial.pass) l.fn.helpers.items all;
-  well : l.well ≡ true → All (λ (h : Feeding). h.failed ≡ false) (into_iter_items l.helper-iterator) →
-      All (λ (h : Feeding). h.failed ≡ false) l.fn.helpers.items;
+  well : l.well ≡ true → All (λ (h : Feeding). h.failed ≡ false) (into_iter_items l.helper-iterator)
+      → All (λ (h : Feeding). h.failed ≡ false) l.fn.helpers.items;
 }

@@ -54,8 +54,8 @@ returns-clause-made g c =
     c.requires.opened.setting refl c.go-outcome.ensures.crew closed
     c.queues_are_short.ensures in
     live_run c.nothing_is_sent_to_a_closed_port.ensures.at_last
-    c.a_run_with_threads_is_made_by_its_script.ensures.made_by_all c.args.pool c.args.feeders script (places_of plane)
-    c.args.capture.now crew h (some_place plane) c.in_ok-outcome.ensures.ended
+    c.a_run_with_threads_is_made_by_its_script.ensures.made_by_all c.args.pool c.args.feeders script
+    (places_of plane) c.args.capture.now crew h (some_place plane) c.in_ok-outcome.ensures.ended
     c.in_ok-outcome.ensures.received run
 
 pub returns-clause-sound : goal.returns-clause-sound
@@ -89,7 +89,8 @@ returns-clause-short g c =
     c.requires.opened.setting refl c.go-outcome.ensures.crew closed
     c.queues_are_short.ensures in
     short_for c.a_run_with_threads_is_made_by_its_script.ensures.short script (places_of plane)
-    (size_of c.args.pool c.args.feeders c.args.capture.now) crew h (some_place plane) c.in_ok-outcome.ensures.ended run
+    (size_of c.args.pool c.args.feeders c.args.capture.now) crew h (some_place plane)
+    c.in_ok-outcome.ensures.ended run
 
 pub returns-clause-grouped : goal.returns-clause-grouped
 returns-clause-grouped g c =

@@ -16,6 +16,7 @@ returns-clause-each g c =
     subst (λ (l : List Inspector). AllZip (IsInspected c.args.pool script plane) old l)
     (sym (refilled c.args.seats.now.len new old (omega (arith, same, lent.ensures.len))
     (omega (arith, same, lent.ensures.len, c.work_beside.ensures.len))))
-    (subst (λ (l : List Inspector). AllZip (IsInspected c.args.pool script plane) l new) lent.ensures.value
+    (subst (λ (l : List Inspector). AllZip (IsInspected c.args.pool script plane) l new)
+    lent.ensures.value
     (all_zip (IsInspected c.args.pool script plane) lent.result.now new c.work_beside.ensures.len
     c.work_beside.ensures.each))

@@ -78,8 +78,8 @@ loop-at-preserved g c =
         };
         each = λ workers port is.
             list_looks c.what_a_port_does_adds_up.ensures.next_look workers
-            c.args.plane.now c.args.script.now (places_of c.args.plane.now) c.args.self.now c.loop-at.self
-            (slice_set c.loop-at.self.ports.items c.loop-at.at c.look.new.pass)
+            c.args.plane.now c.args.script.now (places_of c.args.plane.now) c.args.self.now
+            c.loop-at.self (slice_set c.loop-at.self.ports.items c.loop-at.at c.look.new.pass)
             c.index_mut-pass.result.now c.look.new.pass goes
             (c.in_ok-found.ensures.on workers) port (c.loop-at.invariant.on.each workers port is);
       };

@@ -78,10 +78,11 @@ returns-clause-sent g c =
     says_first c.args.plane.now places (slice_index_or crew.ports.items c.args.at d).port front
     crew.feeding.pass crew.ports.items news crew.closed.items old new used goes
     (its_number crew.ports.items c.args.at d old c.requires.within c.index_mut-pass.ensures.value)
-    (speaks c.ports_speak_by_their_passes.ensures.sends c.args.plane.now front old old new [] after used
-    (port_here c.args.plane.now old
+    (speaks c.ports_speak_by_their_passes.ensures.sends c.args.plane.now front old old new [] after
+    used (port_here c.args.plane.now old
     (port_there c.args.plane.now crew c.args.at old c.requires.crew c.requires.within
-    c.index_mut-pass.ensures.value)) sent c.message_unread.ensures.receiver.0)) c.message_unread.ensures.sent
+    c.index_mut-pass.ensures.value)) sent c.message_unread.ensures.receiver.0))
+    c.message_unread.ensures.sent
 
 pub returns-clause-others : goal.returns-clause-others
 returns-clause-others g c = λ d.

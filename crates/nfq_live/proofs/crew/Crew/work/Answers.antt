@@ -29,8 +29,8 @@ returns-clause-met g c =
       meeting = c.a_stage_ends_where_all_meet.ensures.meeting;
       feeder = c.a_stage_ends_where_all_meet.ensures.feeds;
       meets = c.a_place_stays_fed_by_all.ensures.meets;
-    }) c.args.pool c.args.feeders script capture plane c.args.self.now mid new c.requires.order c.requires.crew
-    c.requires.ready (c.work_in.ensures.worked c.if-not-work_in.false) met
+    }) c.args.pool c.args.feeders script capture plane c.args.self.now mid new c.requires.order
+    c.requires.crew c.requires.ready (c.work_in.ensures.worked c.if-not-work_in.false) met
     c.meet.ensures.numbers) c.meet.ensures.met
 
 pub returns-clause-minds : goal.returns-clause-minds

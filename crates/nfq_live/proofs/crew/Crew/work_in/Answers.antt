@@ -33,8 +33,8 @@ split_and_work-requires-clause-seated g c κs within =
 pub unseat_all-well-requires-clause-room : goal.unseat_all-well-requires-clause-room
 unseat_all-well-requires-clause-room g c =
     let ports = c.args.self.now.ports.items in
-    let seats = as_many_seats c.args.pool c.args.script.now c.args.plane.now c.seat_all.new.seats.items
-    c.split_and_work.new.seats.items ports c.split_and_work.ensures.each
+    let seats = as_many_seats c.args.pool c.args.script.now c.args.plane.now
+    c.seat_all.new.seats.items c.split_and_work.new.seats.items ports c.split_and_work.ensures.each
     (passes_taken c.seat_all.new.seats.items c.args.room.seats.items
     c.replace-open_ports.result.items ports c.requires.room.no_seats c.seat_all.ensures.passes
     (ap (λ v. v.items) c.replace-open_ports.ensures.value)) in
@@ -44,8 +44,8 @@ unseat_all-well-requires-clause-room g c =
 pub unseat_all-well-requires-clause-more_room : goal.unseat_all-well-requires-clause-more_room
 unseat_all-well-requires-clause-more_room g c =
     let ports = c.args.self.now.ports.items in
-    let seats = as_many_seats c.args.pool c.args.script.now c.args.plane.now c.seat_all.new.seats.items
-    c.split_and_work.new.seats.items ports c.split_and_work.ensures.each
+    let seats = as_many_seats c.args.pool c.args.script.now c.args.plane.now
+    c.seat_all.new.seats.items c.split_and_work.new.seats.items ports c.split_and_work.ensures.each
     (passes_taken c.seat_all.new.seats.items c.args.room.seats.items
     c.replace-open_ports.result.items ports c.requires.room.no_seats c.seat_all.ensures.passes
     (ap (λ v. v.items) c.replace-open_ports.ensures.value)) in

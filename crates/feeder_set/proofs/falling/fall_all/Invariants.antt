@@ -1,16 +1,13 @@
 use Rattle.std.proofs.Common.{◌≡◌}
-use Rattle.std.specs.Prelude.{filter}
-use Rattle.made_runs.specs.Feeder.{downs_after, is_after}
 use Rattle.place_turns.specs.Trails.{parts_of}
 use Rattle.plane.specs.Passes.{FeederView, IsFeederOf}
 use Rattle.feeder_set.specs.Steps.{AllFall}
-use Rattle.feeder_set.proofs.falling.fall_after.Given as goal
+use Rattle.feeder_set.proofs.falling.fall_all.Given as goal
 
 abbrev pub invariant-loop-down : goal.invariant-loop-down
 invariant-loop-down g l = record {
   pass : IsFeederOf l.plane l.pass;
   parts : parts_of l.pass.trail.known ≡ parts_of l.initial.pass.trail.known;
-  on : (new : FeederView) →
-      AllFall l.plane (filter (is_after l.number) l.down-iterator) l.pass new →
-      AllFall l.plane (downs_after l.script l.number) l.initial.pass new;
+  on : (new : FeederView) → AllFall l.plane l.down-iterator l.pass new →
+      AllFall l.plane l.downs l.initial.pass new;
 }

@@ -1,0 +1,36 @@
+use Rattle.std.proofs.Common.{◌≤◌, ◌≡◌, ◌⊎◌, ℕ, refl, subst, sym}
+use Rattle.command_line.specs.Arguments.{live_call_of_words, live_files_of, Lives}
+use Rattle.nfq_cli.specs.Ending.{span}
+use Rattle.nfq_cli.proofs.Statuses.{at_a_stop, at_its_end_alone, of_command, of_none, stops_with}
+use Rattle.nfq_cli.proofs.live.live_status.Goals as goal
+
+pub returns-in-None-clause-answer : goal.returns-in-None-clause-answer
+returns-in-None-clause-answer g c =
+    of_none (live_call_of_words c.args.words.now) _ _ c.in-None.ensures.call (record {
+      is = refl;
+      printed = c.print_usage.ensures.printed;
+      files = c.print_usage.ensures.files;
+    })
+
+pub returns-in-Ok-clause-answer : goal.returns-in-Ok-clause-answer
+returns-in-Ok-clause-answer g c =
+    of_command (live_call_of_words c.args.words.now) (Lives (live_files_of c.in-Some.command)) _ _
+    c.in-Some.ensures.call
+    (at_its_end_alone (live_files_of c.in-Some.command)
+    (span g.H.Host.tells g.H.Host.content g.H.Host.read_faults
+    g.H.Host.write_faults c.args.host.now c.carry_out.new.host)
+    0 refl c.in-Ok.ensures.ended c.in-Ok.ensures.others)
+
+pub returns-in-Err-clause-answer : goal.returns-in-Err-clause-answer
+returns-in-Err-clause-answer g c =
+    of_command (live_call_of_words c.args.words.now) (Lives (live_files_of c.in-Some.command)) _ _
+    c.in-Some.ensures.call
+    (at_a_stop (Lives (live_files_of c.in-Some.command))
+    (span g.H.Host.tells g.H.Host.content g.H.Host.read_faults
+    g.H.Host.write_faults c.args.host.now c.carry_out.new.host)
+    c.in-Err.stop c.status.result c.status.ensures c.in-Err.ensures.ended c.in-Err.ensures.printed
+    c.in-Err.ensures.untouched c.in-Err.ensures.quiet c.in-Err.ensures.others_stopped)
+
+pub returns-in-Err-clause-statuses : goal.returns-in-Err-clause-statuses
+returns-in-Err-clause-statuses g c =
+    subst (λ (n : ℕ). (n ≤ 8) ⊎ (n ≡ 10)) (sym c.status.ensures) (stops_with c.in-Err.stop)
