@@ -29,7 +29,7 @@ same_arguments (Err e) words there here same = absurd same
 
 pub no_arguments : {E : Type 0} (arguments : Result (IntoIter (String Global) Global) E) →
     IsErr arguments → call_of_arguments arguments ≡ None
-no_arguments (Ok args) none = absurd none
+no_arguments (Ok args) none = absurd (cc none)
 no_arguments (Err e) none = refl
 
 -- `live` is no other command

@@ -1,7 +1,7 @@
 -- What a status says of a command, from how the command ended; and each fact of it.
-use Rattle.std.proofs.Common.{◌≡◌, ◌∙◌, ◌≤◌, ◌⊎◌, ℕ, Option, Some, None, Result, Ok, Err, refl}
+use Rattle.std.proofs.Common.{◌≡◌, ◌≤◌, ◌⊎◌, ℕ, Option, Some, None, Result, Ok, Err, refl}
 use Rattle.std.proofs.Common.{inl, inr, ap, arith, sym, subst}
-use Rattle.std.specs.Prelude.{◌↔◌, IfErr, IfOk, IfSome, IsSomeAnd, IsTrue}
+use Rattle.std.specs.Prelude.{IfErr, IfSome, IsSomeAnd, IsTrue}
 use Rattle.host_io.specs.Host.{ChangesOnly, SameFiles}
 use Rattle.command_line.specs.Arguments.{AuditFiles, Audits, Call, Generates, inputs, Lists}
 use Rattle.command_line.specs.Arguments.{LiveFiles, Lives, Migrates, outputs, Plays, ReadFiles}
@@ -11,8 +11,7 @@ use Rattle.run_files.specs.declared.refusal.Refusal.TheVariants as refusal
 use Rattle.run_files.specs.declared.stop.Stop.{Stop}
 use Rattle.run_files.specs.declared.stop.Stop.TheVariants as stop
 use Rattle.run_files.specs.Causes.{IsUnread}
-use Rattle.run_files.specs.Files.{Contents, Counts, IsPrinted, OthersStay, ReadFaultRose}
-use Rattle.run_files.specs.Files.{WriteFaultRose}
+use Rattle.run_files.specs.Files.{Contents, IsPrinted, OthersStay}
 use Rattle.run_files.specs.Printed.{line_of, usage_line}
 use Rattle.run_files.specs.Statuses.{IfStopRefuses, IsOfRefusal, status_of, status_of_refusal}
 use Rattle.run_audit.specs.declared.finding.Finding.{Finding}
@@ -311,6 +310,7 @@ by_its_stop {T} c s e ended printed touched quiet others =
         (status_of e ≡ 2) ⊎ (status_of e ≡ 8) → SameFiles s.old s.new
     quietly e quiet (inl is) = quiet (inl (ap Err (is_read_fault e is)))
     quietly e quiet (inr is) = quiet (inr (ap Err (is_no_memory e is)))
+
     then_others : (e : Stop) → (◌≡◌ {A = Result T Stop} (Err e) (Err stop.WriteFault) →
         OthersStay (outputs c) s.old s.new) → (status_of e ≡ 0) ⊎ (status_of e ≡ 3) →
         OthersStay (outputs c) s.old s.new

@@ -185,8 +185,7 @@ fn work_beside<R: Threads + Wait + Sync, G: Gate, J: JobGate>(
         },
         &mut ||
             requires { IsSync G.row × IsSync R.row × IsSync J.row × (one_worker ≤ pool)
-                × (pool ≤ most_workers) × All (λ i. IsSeated script.now plane.now i) inspectors.now
-                }
+                × (pool ≤ most_workers) × All (λ i. IsSeated script.now plane.now i) inspectors.now }
         { inspect_all(rt, alloc, plane, gate, jobs, script, pool, inspectors) },
     );
 }

@@ -7,9 +7,11 @@ pub returns-clause-statuses : goal.returns-clause-statuses
 returns-clause-statuses g c = which_statuses _ _ _ c.status_of_words.ensures.answer
 
 pub returns-clause-usage : goal.returns-clause-usage
-returns-clause-usage g c =
-    (usage_comes _ _ _ c.status_of_words.ensures.answer, usage_is _ _ _
-    c.status_of_words.ensures.answer)
+returns-clause-usage g c = (
+  usage_comes _ _ _ c.status_of_words.ensures.answer,
+  usage_is _ _ _
+      c.status_of_words.ensures.answer,
+)
 
 pub returns-clause-usage_printed : goal.returns-clause-usage_printed
 returns-clause-usage_printed g c = usage_is_printed _ _ _ c.status_of_words.ensures.answer

@@ -4,9 +4,9 @@ use Rattle.nfq_cli.specs.Ending.{span}
 use Rattle.nfq_cli.proofs.Statuses.{at_a_stop, at_its_end, of_command, of_none}
 use Rattle.nfq_cli.proofs.command.status_of_words.Goals as goal
 
-pub returns-in-None-clause-answer : goal.returns-in-None-clause-answer
-returns-in-None-clause-answer g c =
-    of_none (call_of_words c.args.words.now) _ _ c.in-None.ensures.call (record {
+pub returns-in_default-clause-answer : goal.returns-in_default-clause-answer
+returns-in_default-clause-answer g c =
+    of_none (call_of_words c.args.words.now) _ _ c.in_default.ensures.call (record {
       is = refl;
       printed = c.print_usage.ensures.printed;
       files = c.print_usage.ensures.files;

@@ -51,7 +51,7 @@ returns-clause-lived g c = λ is_0 l is t.
 
 pub returns-clause-complete : goal.returns-clause-complete
 returns-clause-complete g c = λ k is t taken.
-    live_ends k c.live_pools.result _ (live_alone _ k is)
+    live_ends k c.live_pools.result _ (live_alone c.args.words.now k is)
     ((of_call _ _ _ k is c.live_pools.ensures.answer).complete t taken)
 
 pub returns-clause-others : goal.returns-clause-others

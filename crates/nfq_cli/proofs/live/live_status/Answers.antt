@@ -4,9 +4,9 @@ use Rattle.nfq_cli.specs.Ending.{span}
 use Rattle.nfq_cli.proofs.Statuses.{at_a_stop, at_its_end_alone, of_command, of_none, stops_with}
 use Rattle.nfq_cli.proofs.live.live_status.Goals as goal
 
-pub returns-in-None-clause-answer : goal.returns-in-None-clause-answer
-returns-in-None-clause-answer g c =
-    of_none (live_call_of_words c.args.words.now) _ _ c.in-None.ensures.call (record {
+pub returns-in_default-clause-answer : goal.returns-in_default-clause-answer
+returns-in_default-clause-answer g c =
+    of_none (live_call_of_words c.args.words.now) _ _ c.in_default.ensures.call (record {
       is = refl;
       printed = c.print_usage.ensures.printed;
       files = c.print_usage.ensures.files;

@@ -1,4 +1,4 @@
-use Rattle.std.proofs.Common.{inl, inr, refl}
+use Rattle.std.proofs.Common.{ap, Err, inl, inr, refl}
 use Rattle.command_line.specs.Arguments.{call_of_arguments, program_call}
 use Rattle.nfq_cli.proofs.Commands.{no_arguments, same_arguments}
 use Rattle.nfq_cli.proofs.Statuses.{of_none, of_other}
@@ -16,7 +16,8 @@ returns-in-Err-NoMemory-clause-answer g c = inr (record { is = refl; files = λ 
 pub returns-in-Err-NoText-clause-answer : goal.returns-in-Err-NoText-clause-answer
 returns-in-Err-NoText-clause-answer g c =
     inl (of_none (call_of_arguments c.args.arguments) _ _
-    (no_arguments c.args.arguments c.in-Err-NoText.ensures.no_text) (record {
+    (no_arguments c.args.arguments
+    (c.in-Err-NoText.ensures.no_text (ap Err c.in-Err-NoText.field-0-is))) (record {
       is = refl;
       printed = c.print_usage.ensures.printed;
       files = c.print_usage.ensures.files;
