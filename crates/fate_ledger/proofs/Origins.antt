@@ -16,10 +16,12 @@ use Rattle.hook_chain.specs.Route.{next, onward_of}
 use Rattle.nfqa_msgs.specs.RequestReading.{PayloadFits}
 use Rattle.queue_core.specs.declared.event.Event.{Event}
 use Rattle.queue_core.specs.declared.event.Event.TheVariants.{Arrive, Ask, PortClosed, DeviceDown}
+use Rattle.queue_core.specs.Holding.{Property, AllLeave}
 use Rattle.queue_core.specs.Step.{Way, Gone, Open, Decided, Stepped, step}
 use Rattle.histories.specs.declared.entry.Entry.{Entry}
 use Rattle.histories.specs.declared.histories.Lost.{Lost}
 use Rattle.histories.specs.History.{history, replay}
+use Rattle.histories.specs.Holding.{appended}
 use Rattle.histories.specs.Moves.{Move, moves_after, move_after}
 use Rattle.histories.specs.Journeys.{Arrival, asked_by, asked_by_some, entering, going_on, asks}
 use Rattle.histories.specs.Journeys.{came, arrival_of, times_came, AreSound}
@@ -27,8 +29,7 @@ use Rattle.fate_ledger.specs.declared.happening.Happening.{Happening}
 use Rattle.fate_ledger.specs.declared.fate.Fate.{Fate}
 use Rattle.fate_ledger.specs.Fates.{happens, happens_after, happenings_after, departing}
 use Rattle.fate_ledger.specs.Fates.{fate_by_request}
-use Rattle.fate_ledger.proofs.Holding.{Known, Stays, Fits, AllFit, AllLeave, step_good}
-use Rattle.fate_ledger.proofs.Holding.{state_all, append_fits}
+use Rattle.fate_ledger.proofs.Holding.{Stays, Fits, Fitting, AllFit, leaving_fits}
 use Rattle.fate_ledger.proofs.Waiting.{once}
 
 -- ---- sums of nothing
@@ -49,14 +50,14 @@ module _ (test : ℕ → List ℕ → Bool)
     (given : (number : ℕ) (bytes : List ℕ) → length bytes ≤ longest_payload →
     test number bytes ≡ true) where
   -- it holds of a packet
-  abbrev pub Holds : Known
+  abbrev pub Holds : Property
   Holds c = test c.number c.bytes ≡ true
 
   -- it holds where this is its visit, and where this is its next one
-  abbrev At : ℕ → Known
+  abbrev At : ℕ → Property
   At visit c = c.visit ≡ visit → test c.number c.bytes ≡ true
 
-  abbrev Before : ℕ → Known
+  abbrev Before : ℕ → Property
   Before visit c = c.visit + 1 ≡ visit → test c.number c.bytes ≡ true
 
   pub holds_stays : Stays Holds
@@ -129,10 +130,9 @@ module _ (test : ℕ → List ℕ → Bool)
           sum_by-cons (λ (m : Move). count_by (wrong visit) (asks tables key m))
               (move_after before e) (moves_after (before ++ e ∷ []) es),
           asks_right visit (step (replay (history e.queue before)) e.event).left
-              (step_good (Before visit) (before_stays visit) (replay (history e.queue before))
-              e.event fit.0 (state_all (Before visit) (before_stays visit) before e.queue so)).1,
+              (leaving_fits (Before visit) (before_stays visit) before e.queue e.event so fit.0),
           moves_right visit (before ++ e ∷ []) es
-              (append_fits (Before visit) (before_stays visit) before (e ∷ []) so (fit.0, tt))
+              (appended (Fitting (Before visit)) before (e ∷ []) so (fit.0, tt))
               fit.1,
         )
 
@@ -187,7 +187,7 @@ module _ (test : ℕ → List ℕ → Bool)
             moves_right visit [] es tt fit,
           ))
 
-      weaker : (F G : Known) → ((c : Card) → F c → G c) → (gs : List Entry) → AllFit F gs →
+      weaker : (F G : Property) → ((c : Card) → F c → G c) → (gs : List Entry) → AllFit F gs →
           AllFit G gs
       weaker F G less [] fit = tt
       weaker F G less (e ∷ gs) fit = (by e.event fit.0, weaker F G less gs fit.1)
@@ -262,7 +262,6 @@ module _ (test : ℕ → List ℕ → Bool)
   happenings_right before (e ∷ es) so fit =
       both_right (happens_after before e) (happenings_after (before ++ e ∷ []) es)
       (happens_right e.queue _ e.event (step (replay (history e.queue before)) e.event) fit.0
-      (step_good Holds holds_stays (replay (history e.queue before)) e.event fit.0
-      (state_all Holds holds_stays before e.queue so)).1)
+      (leaving_fits Holds holds_stays before e.queue e.event so fit.0))
       (happenings_right (before ++ e ∷ []) es
-      (append_fits Holds holds_stays before (e ∷ []) so (fit.0, tt)) fit.1)
+      (appended (Fitting Holds) before (e ∷ []) so (fit.0, tt)) fit.1)

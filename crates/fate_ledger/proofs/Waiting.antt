@@ -1,17 +1,15 @@
 -- A packet whose last event is an arrival that was taken waits; any other left in its last event's
 -- step.
 use Rattle.std.proofs.Common.{◌≡◌, ◌≢◌, ℕ, ◌+◌, ◌<◌, ◌≤◌, List, [], ◌∷◌, ◌++◌, length, map}
-use Rattle.std.proofs.Common.{Option, Some, None, Bool, true, false, cond, refl, sym, ap, ◌∙◌}
+use Rattle.std.proofs.Common.{Option, None, Bool, true, false, cond, refl, sym, ap, ◌∙◌}
 use Rattle.std.proofs.Common.{arith}
 use Rattle.std.proofs.Common.{inl, inr, ◌⊎◌, append_assoc, subst}
-use Rattle.std.specs.Prelude.{◌==◌, ◌&&◌, not, Contains}
+use Rattle.std.specs.Prelude.{◌==◌, ◌&&◌, Contains}
 use Rattle.std.specs.List.{AllByRecursion}
 use Rattle.std.proofs.lemmas.Bool.{cases_Bool, eq-eqb, and_parts, eqb-true, false_from_ne_true}
 use Rattle.std.proofs.lemmas.List.Sums.{sum_by-append, sum_by-cons}
 use Rattle.std.proofs.lemmas.List.Elements.{recursion_from_All}
 use Rattle.packet_entry.specs.declared.packet.Card.{Card}
-use Rattle.packet_entry.specs.Numbers.{last_visit}
-use Rattle.nfqa_msgs.specs.Numbers.{copy_none}
 use Rattle.nfqa_msgs.specs.declared.request.Request.{Request}
 use Rattle.nfqa_msgs.specs.declared.request.Request.TheVariants as request
 use Rattle.hook_chain.specs.declared.chain.Decision.TheVariants as decision
@@ -20,10 +18,11 @@ use Rattle.queue_core.specs.declared.event.Event.TheVariants.{Arrive, Ask, PortC
 use Rattle.queue_core.specs.declared.event.Reply.TheVariants.{Arrived}
 use Rattle.queue_core.specs.declared.offers.Outcome.{Outcome}
 use Rattle.queue_core.specs.declared.offers.Outcome.TheVariants as outcome
-use Rattle.queue_core.specs.State.{Bound, fails_open}
-use Rattle.queue_core.specs.Step.{Way, Gone, Open, Decided, Stepped, step, arrive_bound}
-use Rattle.queue_core.specs.Step.{arrive_in_time, is_full}
+use Rattle.queue_core.specs.State.{Bound}
+use Rattle.queue_core.specs.Step.{Way, Gone, Open, Decided, Stepped, step}
 use Rattle.queue_core.specs.Laws.{times, waiting_in, arriving, leaving_in, TellsArrival, stays_in}
+use Rattle.queue_core.specs.Laws.{way_by}
+use Rattle.queue_core.specs.Walk.{walk_arrivals}
 use Rattle.queue_core.specs.Laws.{Tells as CountsLeft}
 use Rattle.histories.specs.declared.entry.Entry.{Entry}
 use Rattle.histories.specs.History.{history, replay, replay_from, is_of, IsStep, AreLegal}
@@ -37,7 +36,6 @@ use Rattle.std.proofs.lemmas.List.{append-nil}
 use Rattle.fate_ledger.specs.Laws.{IsLastEvent, Tells, Leaves, step_after, is_visit}
 use Rattle.fate_ledger.specs.Laws.{AreApart, Waits, LeftThere}
 use Rattle.fate_ledger.proofs.Underway.{history_on, own_on, other_on, step_at, replay_on}
-use Rattle.fate_ledger.proofs.Tables.{either}
 
 -- ---- an arrival's step
 
@@ -45,25 +43,12 @@ use Rattle.fate_ledger.proofs.Tables.{either}
 abbrev AtMost : Card → Stepped → Type 0
 AtMost card s = (s.left ≡ []) ⊎ ((way : Way) × (s.left ≡ (card, way) ∷ []))
 
-at_most_bound : (q : Bound) (card : Card) (room : Bool) → AtMost card (arrive_bound q card room)
-at_most_bound q card room =
-    either (AtMost card) (q.mode == copy_none) _ _ (inr (Gone, refl))
-    (either (AtMost card) (is_full q && fails_open q) _ _ (inr (Open, refl))
-    (either (AtMost card) (is_full q) _ _ (inr (Gone, refl))
-    (either (AtMost card) (not room && fails_open q) _ _ (inr (Open, refl))
-    (either (AtMost card) (not room) _ _ (inr (Gone, refl)) (inl refl)))))
-
-at_most_in_time : (q : Option Bound) (card : Card) (bypass room : Bool) →
-    AtMost card (arrive_in_time q card bypass room)
-at_most_in_time None card true room = inr (Open, refl)
-at_most_in_time None card false room = inr (Gone, refl)
-at_most_in_time (Some q) card bypass room = at_most_bound q card room
-
 at_most : (q : Option Bound) (card : Card) (bypass room : Bool) →
     AtMost card (step q (Arrive card bypass room))
-at_most q card bypass room =
-    either (AtMost card) (card.visit == last_visit) _ _ (inr (Gone, refl))
-    (at_most_in_time q card bypass room)
+at_most = walk_arrivals (λ card room s. AtMost card s) (record {
+  leaves = λ q card room o stays timely. inr (way_by o, refl);
+  joins = λ b card room early had. inl refl;
+})
 
 -- ---- counts
 

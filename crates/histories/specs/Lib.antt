@@ -14,3 +14,4 @@ pub mod Lengths
 pub mod Letters
 pub mod Logs
 pub mod Priorities
+pub mod Holding

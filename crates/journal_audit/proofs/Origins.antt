@@ -14,29 +14,30 @@ use Rattle.hook_chain.specs.declared.chain.Decision.TheVariants.{Accept}
 use Rattle.hook_chain.specs.Route.{next, onward_of}
 use Rattle.queue_core.specs.declared.event.Event.{Event}
 use Rattle.queue_core.specs.declared.event.Event.TheVariants.{Arrive, Ask, PortClosed, DeviceDown}
+use Rattle.queue_core.specs.Holding.{Property, AllLeave}
 use Rattle.queue_core.specs.Step.{Way, Gone, Open, Decided, step}
 use Rattle.histories.specs.declared.entry.Entry.{Entry}
 use Rattle.histories.specs.declared.histories.Lost.{Lost}
 use Rattle.histories.specs.History.{history, replay}
+use Rattle.histories.specs.Holding.{appended}
 use Rattle.histories.specs.Moves.{Move, moves_after, move_after}
 use Rattle.histories.specs.Journeys.{Arrival, asked_by, asked_by_some, entering, going_on, asks}
 use Rattle.histories.specs.Journeys.{came, arrival_of, times_came, AreSound}
 use Rattle.logs_audit.specs.Stays.{is_packets}
-use Rattle.journal_audit.proofs.Keeping.{Known, Stays, Fits, AllFit, AllLeave, step_good, state_all}
-use Rattle.journal_audit.proofs.Keeping.{append_fits}
+use Rattle.journal_audit.proofs.Keeping.{Stays, Fits, Fitting, AllFit, leaving_fits}
 
 abbrev once : Bool → ℕ
 once b = cond b 1 0
 
 -- it holds of a packet
-abbrev Holds : Known
+abbrev Holds : Property
 Holds c = is_packets c ≡ true
 
 -- it holds where this is its visit, and where this is its next one
-abbrev At : ℕ → Known
+abbrev At : ℕ → Property
 At visit c = c.visit ≡ visit → is_packets c ≡ true
 
-abbrev Before : ℕ → Known
+abbrev Before : ℕ → Property
 Before visit c = c.visit + 1 ≡ visit → is_packets c ≡ true
 
 holds_stays : Stays Holds
@@ -107,10 +108,9 @@ module _ (tables : RuleTables) (key : ℕ) where
         sum_by-cons (λ (m : Move). count_by (wrong visit) (asks tables key m))
             (move_after before e) (moves_after (before ++ e ∷ []) es),
         asks_right visit (step (replay (history e.queue before)) e.event).left
-            (step_good (Before visit) (before_stays visit) (replay (history e.queue before))
-            e.event fit.0 (state_all (Before visit) (before_stays visit) before e.queue so)).1,
+            (leaving_fits (Before visit) (before_stays visit) before e.queue e.event so fit.0),
         moves_right visit (before ++ e ∷ []) es
-            (append_fits (Before visit) (before_stays visit) before (e ∷ []) so (fit.0, tt))
+            (appended (Fitting (Before visit)) before (e ∷ []) so (fit.0, tt))
             fit.1,
       )
 
@@ -165,7 +165,7 @@ module _ (tables : RuleTables) (key : ℕ) where
           moves_right visit [] es tt fit,
         ))
 
-    weaker : (F G : Known) → ((c : Card) → F c → G c) → (gs : List Entry) → AllFit F gs →
+    weaker : (F G : Property) → ((c : Card) → F c → G c) → (gs : List Entry) → AllFit F gs →
         AllFit G gs
     weaker F G less [] fit = tt
     weaker F G less (e ∷ gs) fit = (by e.event fit.0, weaker F G less gs fit.1)

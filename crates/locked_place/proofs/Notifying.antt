@@ -1,17 +1,18 @@
 -- What an arrival puts into mailboxes.
 use Rattle.std.proofs.Common.{◌≡◌, ◌≢◌, ℕ, ◌+◌, List, [], ◌∷◌, ◌++◌, Option, Some, None, Bool, true}
 use Rattle.std.proofs.Common.{false, refl, sym, ap, ◌∙◌, append-nil, subst, inl, inr, arith, length}
-use Rattle.std.specs.Prelude.{IfSome, IsSome, option_map, ◌==◌, ◌&&◌, ◌||◌, not, if◌then◌else◌}
+use Rattle.std.specs.Prelude.{IfSome, IsSome, option_map, ◌==◌, ◌||◌}
 use Rattle.std.proofs.lemmas.Bool.{cases_Bool, eqb-true, eqb-false, eq-eqb, ne_eqb}
 use Rattle.packet_entry.specs.declared.packet.Card.{Card}
 use Rattle.packet_entry.specs.declared.letter.Letter.{Letter}
 use Rattle.packet_entry.specs.Numbers.{last_visit}
 use Rattle.nfqa_msgs.specs.Numbers.{copy_none}
 use Rattle.queue_core.specs.State.{Bound, fails_open}
-use Rattle.queue_core.specs.Step.{Stepped, step, next_id, is_decided_early, is_full}
-use Rattle.queue_core.specs.Step.{arrive_in_time}
+use Rattle.queue_core.specs.Step.{step, next_id, is_decided_early}
 use Rattle.queue_core.specs.WithOffer.{letter_of}
+use Rattle.queue_core.specs.declared.event.Event.{Event}
 use Rattle.queue_core.specs.declared.event.Event.TheVariants.{Arrive}
+use Rattle.queue_core.specs.Owners.{IsOwned, IsAsked, owned_after}
 use Rattle.queue_core.specs.declared.event.Reply.{Reply}
 use Rattle.queue_core.specs.declared.event.Reply.TheVariants.{Arrived}
 use Rattle.queue_core.specs.declared.offers.Outcome.{Outcome}
@@ -31,11 +32,6 @@ use Rattle.locked_place.specs.Views.{AreNotified, port_of}
 use Rattle.locked_place.proofs.Listing.{Laws, once, letters_on, lacking_on, state_own, state_other}
 
 -- ---- the step of an arrival
-pub either : (P : Stepped → Type 0) (b : Bool) (s t : Stepped) → P s → P t →
-    P (if b then s else t)
-either P true s t p q = p
-either P false s t p q = q
-
 first_false : (a b : Bool) → (a || b) ≡ false → a ≡ false
 first_false true b is = is
 first_false false b is = refl
@@ -126,26 +122,20 @@ notified_on laws es e olds news told is has = record {
               (sym (state_other laws es e queue other)) (told.known queue)
         ]
 
--- ---- arrivals
--- an arrival leaves its queue's port as it is
-port_stays : (P : ℕ → Type 0) (q : Option Bound) (card : Card) (bypass room : Bool) →
-    IfSome (port_of q) P → IfSome (port_of (step q (Arrive card bypass room)).state) P
-port_stays P q card bypass room has =
-    either (λ s. IfSome (port_of s.state) P) (card.visit == last_visit) _ _ has
-    (in_time q bypass has)
+-- a step leaves its queue bound to the port that it was bound to, or to the one that asks
+pub port_after : (P : ℕ → Type 0) (q : Option Bound) (e : Event) → IsAsked P e →
+    IfSome (port_of q) P → IfSome (port_of (step q e).state) P
+port_after P q e by has = of_port (step q e).state (owned_after P q e by (owned q has))
   where
-    in_time : (q : Option Bound) (bypass : Bool) → IfSome (port_of q) P →
-        IfSome (port_of (arrive_in_time q card bypass room).state) P
-    in_time None false has = tt
-    in_time None true has = tt
-    in_time (Some b) bypass has =
-        let Has : Stepped → Type 0 = λ s. IfSome (port_of s.state) P in
-        either Has (b.mode == copy_none) _ _ has
-        (either Has (is_full b && fails_open b) _ _ has
-        (either Has (is_full b) _ _ has
-        (either Has (not room && fails_open b) _ _ has
-        (either Has (not room) _ _ has has))))
+    owned : (q : Option Bound) → IfSome (port_of q) P → IsOwned P q
+    owned None has = tt
+    owned (Some b) has = has
 
+    of_port : (q : Option Bound) → IsOwned P q → IfSome (port_of q) P
+    of_port None has = tt
+    of_port (Some b) has = has
+
+-- ---- arrivals
 -- nothing is put in, and nothing comes back
 pub follows_same : (p : Point) (port : ℕ) (o : Option SenderView) → letters_at port p ≡ [] →
     lacks_at port p ≡ false → o ≡ option_map (following p port) o
@@ -201,7 +191,7 @@ turned_away laws es a o back senders told away =
     letters_under port q (record { queue = a.queue; event = arrive a true; reply = r })) away.reply
     ∙ no_letters port q a.queue a true o tells)
     (no_lack port q a.queue a e.reply))
-    (port_stays (λ p. IsSome (senders p)) q a.card a.bypass true (told.known a.queue))
+    (port_after (λ p. IsSome (senders p)) q (arrive a true) tt (told.known a.queue))
 
 -- the port of a notice that is offered has a sender
 pub has_sender : (es : List Entry) (a : Arrival) (port : ℕ) (letter : Letter)
@@ -277,7 +267,7 @@ module _ (laws : Laws) (es : List Entry) (a : Arrival) (q : Bound)
             ∙ follows_same (at room) p (olds p) (letter_other p room (eqb_no p other))
             (lack_other p room (eqb_no p other))
       ])
-      (port_stays (λ p. IsSome (olds p)) (state_of es a.queue) a.card a.bypass room
+      (port_after (λ p. IsSome (olds p)) (state_of es a.queue) (arrive a room) tt
       (told.known a.queue))
     where
       eqb_no : (p : ℕ) → (p == q.port) ≡ false → p ≢ q.port

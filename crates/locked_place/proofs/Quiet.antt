@@ -2,11 +2,10 @@
 -- their port or absent.
 use Rattle.std.proofs.Common.{◌≡◌, ℕ, List, [], ◌∷◌, ◌++◌, Option, Some, None, Bool, true, false}
 use Rattle.std.proofs.Common.{refl, sym, subst, append-nil, append_assoc, inl, inr}
-use Rattle.std.specs.Prelude.{flat_map, IfSome, IsSome, if◌then◌else◌, ◌==◌, ◌||◌}
+use Rattle.std.specs.Prelude.{flat_map, IfSome, IsSome, if◌then◌else◌, ◌==◌}
 use Rattle.std.proofs.lemmas.Bool.{cases_Bool}
-use Rattle.nfqa_msgs.specs.Numbers.{input_device, output_device}
 use Rattle.queue_core.specs.State.{Bound}
-use Rattle.queue_core.specs.Step.{step, flushed, untouched}
+use Rattle.queue_core.specs.Step.{step}
 use Rattle.queue_core.specs.declared.event.Event.TheVariants.{PortClosed, DeviceDown}
 use Rattle.queue_core.specs.declared.event.Reply.{Reply}
 use Rattle.mailbox.specs.Views.{SenderView}
@@ -17,7 +16,7 @@ use Rattle.locked_place.specs.Points.{point_after}
 use Rattle.histories.specs.Letters.{letters_under, lacks_under}
 use Rattle.locked_place.specs.Views.{AreNotified, port_of}
 use Rattle.locked_place.proofs.Listing.{Laws}
-use Rattle.locked_place.proofs.Notifying.{either, notified_on, follows_same}
+use Rattle.locked_place.proofs.Notifying.{port_after, notified_on, follows_same}
 
 record IsQuiet (e : Entry) : Type 1 where
   letters : (port : ℕ) (q : Option Bound) → letters_under port q e ≡ []
@@ -73,18 +72,6 @@ down_lacks port None queue device reply = refl
 down_lacks port (Some b) queue device reply =
     elim (cases_Bool (port == b.port)) [ inl h ↦ rw h refl | inr h ↦ rw h refl ]
 
-closed_port : (closed : ℕ) (P : ℕ → Type 0) (q : Option Bound) → IfSome (port_of q) P →
-    IfSome (port_of (step q (PortClosed closed)).state) P
-closed_port closed P None has = tt
-closed_port closed P (Some b) has = tt
-
-down_port : (device : ℕ) (P : ℕ → Type 0) (q : Option Bound) → IfSome (port_of q) P →
-    IfSome (port_of (step q (DeviceDown device)).state) P
-down_port device P None has = tt
-down_port device P (Some b) has =
-    either (λ s. IfSome (port_of s.state) P)
-    ((device == input_device) || (device == output_device)) (flushed b) (untouched (Some b)) has has
-
 closing_quiet : (port queue : ℕ) (q : Option Bound) → AreQuiet (closing_of port queue q)
 closing_quiet port queue None = tt
 closing_quiet port queue (Some b) = by_port (b.port == port)
@@ -95,7 +82,7 @@ closing_quiet port queue (Some b) = by_port (b.port == port)
       record {
         letters = λ p q. closed_letters p q queue port _;
         lacks = λ p q. closed_lacks p q queue port _;
-        ports = closed_port port;
+        ports = λ P q. port_after P q (PortClosed port) tt;
       },
       tt,
     )
@@ -107,7 +94,7 @@ down_quiet device queue (Some b) = (
   record {
     letters = λ p q. down_letters p q queue device _;
     lacks = λ p q. down_lacks p q queue device _;
-    ports = down_port device;
+    ports = λ P q. port_after P q (DeviceDown device) tt;
   },
   tt,
 )

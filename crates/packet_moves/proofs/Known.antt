@@ -4,7 +4,7 @@ use Rattle.packet_entry.specs.declared.packet.Card.{Card}
 use Rattle.hook_chain.specs.Rules.{RuleTables}
 use Rattle.queue_core.specs.declared.event.Event.{Event}
 use Rattle.queue_core.specs.State.{Bound}
-use Rattle.queue_core.specs.Step.{ConfigAsk, config, port_closed, device_down}
+use Rattle.queue_core.specs.Step.{port_closed, device_down}
 use Rattle.queue_core.specs.Laws.{IsConserving, AllAreGone}
 use Rattle.histories.specs.declared.histories.Lost.{Lost}
 use Rattle.histories.specs.declared.entry.Entry.{Entry}
@@ -14,8 +14,6 @@ use Rattle.histories.specs.Journeys.{Arrival, IsSoundBut, entering, asks, came, 
 
 pub record Laws : Type 0 where
   pub conserves : (q : Option Bound) (e : Event) → IsConserving q e
-  pub config_gone : (q : Option Bound) (port : ℕ) (ask : ConfigAsk) →
-      AllAreGone (config q port ask)
   pub port_gone : (q : Option Bound) → AllAreGone (port_closed q)
   pub device_gone : (q : Option Bound) (device : ℕ) → AllAreGone (device_down q device)
   pub is_move : (es : List Entry) (e : Entry) →

@@ -1,17 +1,19 @@
 -- Each move keeps histories legal and sound.
 use Rattle.std.proofs.Common.{◌≡◌, ◌≢◌, ◌≤◌, ◌<◌, ◌⊎◌, ◌+◌, ℕ, zero, suc, List, [], ◌∷◌, ◌++◌}
-use Rattle.std.proofs.Common.{Option, Some, None, Bool, true, false, refl, sym, ap, ◌∙◌, subst, inl}
+use Rattle.std.proofs.Common.{Option, Some, None, Bool, true, refl, sym, ap, ◌∙◌, subst, inl}
 use Rattle.std.proofs.Common.{inr, arith, append-nil}
-use Rattle.std.specs.Prelude.{flat_map, ◌==◌, ◌&&◌, not, if◌then◌else◌}
-use Rattle.std.proofs.lemmas.Bool.{cases_Bool, eqb-false}
+use Rattle.std.specs.Prelude.{flat_map}
+use Rattle.std.proofs.lemmas.Bool.{eqb-false}
 use Rattle.packet_entry.specs.declared.packet.Card.{Card}
 use Rattle.packet_entry.specs.Numbers.{last_visit}
-use Rattle.nfqa_msgs.specs.Numbers.{copy_none}
 use Rattle.hook_chain.specs.declared.chain.Next.{Next}
 use Rattle.hook_chain.specs.declared.chain.Next.TheVariants.{Released, To}
-use Rattle.queue_core.specs.State.{Bound, fails_open}
-use Rattle.queue_core.specs.Step.{Stepped, Way, Gone, Open, Decided, arrive, arrive_in_time}
-use Rattle.queue_core.specs.Step.{arrive_bound, is_full}
+use Rattle.queue_core.specs.State.{Bound}
+use Rattle.queue_core.specs.declared.offers.Outcome.{Outcome}
+use Rattle.queue_core.specs.declared.offers.Outcome.TheVariants as outcome
+use Rattle.queue_core.specs.Laws.{way_by}
+use Rattle.queue_core.specs.Walk.{IsTimely, left_at_once, walk_arrivals}
+use Rattle.queue_core.specs.Step.{Stepped, Way, Gone, Open, Decided, arrive}
 use Rattle.histories.specs.declared.entry.Entry.{Entry}
 use Rattle.histories.specs.History.{AreLegal}
 use Rattle.histories.specs.Moves.{moves, move_after}
@@ -27,11 +29,6 @@ use Rattle.packet_moves.specs.Moving.{arrival_to, arrived, turned_away, room_for
 use Rattle.packet_moves.specs.Moving.{settled, carry, carry_on, losing}
 use Rattle.packet_moves.specs.Soundness.{IsSound}
 use Rattle.packet_moves.proofs.Known.{Laws}
-
--- what holds of both lines holds of the table
-pub either : (P : Stepped → Type 0) (b : Bool) (s t : Stepped) → P s → P t → P (if b then s else t)
-either P true s t p q = p
-either P false s t p q = q
 
 room_early : (s : Setting) (w : World) (q : Option Bound) (card : Card) →
     is_decided_early q card ≡ true → has_room s w q card ≡ true
@@ -70,35 +67,22 @@ pub record LeavesOne (card : Card) (s : Stepped) : Type 0 where
   pub one : (s.left ≡ []) ⊎ ((way : Way) × (s.left ≡ (card, way) ∷ [])
       × ((way ≡ Gone) ⊎ ((way ≡ Open) × (card.visit ≢ last_visit))))
 
-abbrev one_gone : (card : Card) (s : Stepped) → s.left ≡ (card, Gone) ∷ [] → LeavesOne card s
-one_gone card s is = record { one = inr (Gone, is, inl refl) }
-
-abbrev one_open : (card : Card) (s : Stepped) → card.visit ≢ last_visit →
-    s.left ≡ (card, Open) ∷ [] → LeavesOne card s
-one_open card s early is = record { one = inr (Open, is, inr (refl, early)) }
+one_leaves : (card : Card) (q : Option Bound) (o : Outcome) → IsTimely card (way_by o) →
+    LeavesOne card (left_at_once q o card)
+one_leaves card q outcome.Bypassed early =
+    record { one = inr (Open, refl, inr (refl, eqb-false card.visit last_visit early)) }
+one_leaves card q outcome.OverflowOpen early =
+    record { one = inr (Open, refl, inr (refl, eqb-false card.visit last_visit early)) }
+one_leaves card q (outcome.UserFullOpen id) early =
+    record { one = inr (Open, refl, inr (refl, eqb-false card.visit last_visit early)) }
+one_leaves card q other timely = record { one = inr (Gone, refl, inl refl) }
 
 pub leaves_one : (q : Option Bound) (card : Card) (bypass room : Bool) →
     LeavesOne card (arrive q card bypass room)
-leaves_one q card bypass room =
-    elim (cases_Bool (card.visit == last_visit)) [
-      | inl last ↦ rw last (one_gone card _ refl)
-      | inr early ↦ rw early (in_time (eqb-false card.visit last_visit early) q bypass)
-    ]
-  where
-    bound : card.visit ≢ last_visit → (b : Bound) → LeavesOne card (arrive_bound b card room)
-    bound early b =
-        either (LeavesOne card) (b.mode == copy_none) _ _ (one_gone card _ refl)
-        (either (LeavesOne card) (is_full b && fails_open b) _ _ (one_open card _ early refl)
-        (either (LeavesOne card) (is_full b) _ _ (one_gone card _ refl)
-        (either (LeavesOne card) (not room && fails_open b) _ _ (one_open card _ early refl)
-        (either (LeavesOne card) (not room) _ _ (one_gone card _ refl)
-        (record { one = inl refl })))))
-
-    in_time : card.visit ≢ last_visit → (q : Option Bound) (bypass : Bool) →
-        LeavesOne card (arrive_in_time q card bypass room)
-    in_time early None false = one_gone card _ refl
-    in_time early None true = one_open card _ early refl
-    in_time early (Some b) bypass = bound early b
+leaves_one = walk_arrivals (λ card room s. LeavesOne card s) (record {
+  leaves = λ q card room o stays timely. one_leaves card q o timely;
+  joins = λ b card room early had. record { one = inl refl };
+})
 
 -- ---- to rest or end
 

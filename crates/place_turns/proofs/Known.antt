@@ -4,8 +4,8 @@ use Rattle.packet_entry.specs.declared.packet.Card.{Card}
 use Rattle.nfqa_msgs.specs.declared.request.Request.{Request}
 use Rattle.queue_core.specs.declared.event.Event.TheVariants.{Arrive, Ask}
 use Rattle.queue_core.specs.State.{Bound}
-use Rattle.queue_core.specs.Step.{ConfigAsk, config, step}
-use Rattle.queue_core.specs.Laws.{AllAreGone, times, waiting_in}
+use Rattle.queue_core.specs.Step.{step}
+use Rattle.queue_core.specs.Laws.{times, waiting_in}
 use Rattle.histories.specs.declared.entry.Entry.{Entry}
 use Rattle.histories.specs.declared.histories.Lost.{Lost}
 use Rattle.histories.specs.Happenings.{all_handed}
@@ -40,6 +40,4 @@ pub record Laws : Type 0 where
       times (λ number visit. is_out_of_time visit) (waiting_in q) ≡ 0 →
       AreInTime (all_handed (step q (Ask port call request)).left)
   pub in_time : (es : List Entry) → AreLegal es → WaitInTime es
-  pub config_gone : (q : Option Bound) (port : ℕ) (ask : ConfigAsk) →
-      AllAreGone (config q port ask)
   pub front : (es more : List Entry) → IsLegal (es ++ more) → IsLegal es

@@ -16,7 +16,6 @@ ghost use Rattle.place_turns.specs.Messages.{Sends};
 use histories::each_front_of_a_legal_history_is_legal;
 use packet_moves::{histories_stay_sound, what_goes_on_is_in_time};
 use place_rows::rows_stay_balanced;
-use queue_core::what_is_flushed_is_destroyed;
 
 /// Passes stay balanced, call by call.
 pub fn passes_stay_balanced()
@@ -32,7 +31,6 @@ pub fn passes_stay_balanced()
     ensures looked { (s : Setting) (entered : List Card) (old new : Trail) → MayLook old new →
         IsBalanced s entered old.known old.lost → IsBalanced s entered new.known new.lost }
 {
-    what_is_flushed_is_destroyed();
     what_goes_on_is_in_time();
     each_front_of_a_legal_history_is_legal();
     histories_stay_sound();

@@ -1,9 +1,9 @@
--- The tables of the step, line by line: what each of their lines says holds of what they give.
+-- What holds of every step, each by a list of leaves: what it is of each shape of outcome.
 use Rattle.std.proofs.Common.{◌≡◌, ◌≢◌, ◌<◌, ℕ, ◌+◌, List, [], ◌∷◌, ◌++◌, length, map, drop}
 use Rattle.std.proofs.Common.{Option, Some, None, Bool, true, false, cond, refl, sym, ap, ◌∙◌}
 use Rattle.std.proofs.Common.{arith}
 use Rattle.std.proofs.Common.{inl, inr, subst}
-use Rattle.std.specs.Prelude.{nat_eq, is_some, is_none, ◌&&◌, ◌||◌, ◌==◌, not, unwrap_or, All}
+use Rattle.std.specs.Prelude.{nat_eq, not, All}
 use Rattle.std.specs.Map.{lookup, remove_entry, keys_of}
 use Rattle.std.specs.List.{IsDistinct, AllByRecursion}
 use Rattle.std.specs.Cmp.{nat_eq_equiv}
@@ -14,11 +14,6 @@ use Rattle.std.proofs.lemmas.List.Elements.{All-nil, All-from_recursion}
 use Rattle.std.proofs.lemmas.Map.Keys.{IsDistinct-push}
 use Rattle.std.proofs.lemmas.Map.Entries.{length-keys_of}
 use Rattle.packet_entry.specs.declared.packet.Card.{Card}
-use Rattle.packet_entry.specs.Numbers.{last_visit}
-use Rattle.nfqa_msgs.specs.Numbers.{copy_none, copy_meta, copy_packet, command_bind}
-use Rattle.nfqa_msgs.specs.Numbers.{command_unbind, command_pf_bind, command_pf_unbind}
-use Rattle.nfqa_msgs.specs.Numbers.{input_device, output_device, eperm}
-use Rattle.nfqa_headers.specs.declared.params.Params.{Params}
 use Rattle.nfqa_headers.specs.declared.verdict_header.Head.{Head}
 use Rattle.nfqa_msgs.specs.declared.request.Request.{Request}
 use Rattle.nfqa_msgs.specs.declared.request.Request.TheVariants as request
@@ -26,69 +21,22 @@ use Rattle.queue_core.specs.declared.event.Event.{Event}
 use Rattle.queue_core.specs.declared.event.Event.TheVariants as event
 use Rattle.queue_core.specs.Numbers.{id_count}
 use Rattle.queue_core.specs.Ids.{is_id}
-use Rattle.queue_core.specs.Decision.{Edit, is_verdict}
-use Rattle.queue_core.specs.State.{Bound, bound_to, configured, params_set, maximum_set, flags_set}
-use Rattle.queue_core.specs.State.{fails_open}
+use Rattle.queue_core.specs.State.{Bound}
 use Rattle.queue_core.specs.Share.{share}
-use Rattle.queue_core.specs.Step.{Stepped, Way, Gone, step, arrive_bound, arrive_in_time}
-use Rattle.queue_core.specs.Step.{config, ConfigAsk, unbind, is_command, has_unknown_flags}
-use Rattle.queue_core.specs.Step.{has_refused_flags, is_bound_elsewhere, set_up, verdict, batch}
-use Rattle.queue_core.specs.Step.{verdict_under, batch_under}
-use Rattle.queue_core.specs.Step.{carried_out, shared_out, card_under, leaving, batch_edit, next_id}
-use Rattle.queue_core.specs.Step.{port_closed, device_down, is_full, all_gone, taken, unchanged}
-use Rattle.queue_core.specs.Laws.{waiting_in, leaving_in, times, IsConserving, Tells}
-use Rattle.queue_core.specs.Laws.{TellsArrival, TellsAsk, TellsFlush}
+use Rattle.queue_core.specs.Step.{Stepped, Way, Gone, step, config, ConfigAsk, unchanged, leaving}
+use Rattle.queue_core.specs.Step.{batch_edit, next_id, port_closed, device_down, all_gone, taken}
+use Rattle.queue_core.specs.Laws.{waiting_in, arriving, leaving_in, times, IsConserving, Tells}
 use Rattle.queue_core.specs.Laws.{AllAreGone, IsUntouched, AreApart, HasIds}
+use Rattle.queue_core.specs.Walk.{Known, Shapes, walk_by_shape, asks_config, IsOwn}
 use Rattle.queue_core.proofs.FreeIds.{fresh_is_free}
 use Rattle.queue_core.proofs.Places.{apart_without, apart_dropped}
 use Rattle.queue_core.proofs.Shares.{share_first}
-
--- one test of a table: what holds of its line and of the lines after it holds of the table
-pub either : {X : Type 0} (P : X → Type 0) (b : Bool) (s t : X) → P s → P t → P (cond b s t)
-either P true s t h k = h
-either P false s t h k = k
-
--- what a config request asks for
-abbrev asking : Option ℕ → Option Params → Option ℕ → Option ℕ → Option ℕ → ConfigAsk
-asking command params maximum flags mask =
-    record {
-      command = command;
-      params = params;
-      maximum = maximum;
-      flags = flags;
-      mask = mask;
-    }
-
--- ---- what waits
-
-configured_waiting : (params : Option Params) (maximum flags mask : Option ℕ) (q : Bound) →
-    (configured params maximum flags mask q).waiting ≡ q.waiting
-configured_waiting params maximum flags mask q =
-    flags_waiting flags mask (maximum_set maximum (params_set params q)) ∙ params_waiting params
-  where
-    flags_waiting : (flags mask : Option ℕ) (q : Bound) →
-        (flags_set flags mask q).waiting ≡ q.waiting
-    flags_waiting None mask q = refl
-    flags_waiting (Some flags) None q = refl
-    flags_waiting (Some flags) (Some mask) q = refl
-
-    params_waiting : (params : Option Params) → (params_set params q).waiting ≡ q.waiting
-    params_waiting None = refl
-    params_waiting (Some p) =
-        either (λ (r : Bound). r.waiting ≡ q.waiting)
-        ((p.mode == copy_none) || (p.mode == copy_meta)) _ _ refl
-        (either (λ (r : Bound). r.waiting ≡ q.waiting) (p.mode == copy_packet) _ _ refl refl)
 
 -- ---- each packet stays or leaves
 
 -- 1 where the test passes
 abbrev once : Bool → ℕ
 once b = cond b 1 0
-
--- the packets with a number that wait afterwards or leave are those that waited or arrived
-abbrev Keeps : Option Bound → List Card → Stepped → Type 0
-Keeps q came s = (test : ℕ → ℕ → Bool) → times test (waiting_in s.state) + times test (leaving_in s)
-    ≡ times test (waiting_in q) + times test came
 
 times_on : (test : ℕ → ℕ → Bool) (xs ys : List Card) →
     times test (xs ++ ys) ≡ times test xs + times test ys
@@ -119,51 +67,6 @@ kept_waits q id card test =
     ∙ times_on test (map (λ (w : ℕ × Card). w.1) q.waiting) (card ∷ []) in
     omega (arith, pushed)
 
-keeps_arrival : (q : Bound) (card : Card) (room : Bool) →
-    Keeps (Some q) (card ∷ []) (arrive_bound q card room)
-keeps_arrival q card room =
-    either (Keeps (Some q) (card ∷ [])) (q.mode == copy_none) _ _ (λ test. refl)
-    (either (Keeps (Some q) (card ∷ [])) (is_full q && fails_open q) _ _ (λ test. refl)
-    (either (Keeps (Some q) (card ∷ [])) (is_full q) _ _ (λ test. refl)
-    (either (Keeps (Some q) (card ∷ [])) (not room && fails_open q) _ _ (λ test. refl)
-    (either (Keeps (Some q) (card ∷ [])) (not room) _ _ (λ test. refl)
-    (kept_waits q (next_id q) card)))))
-
-keeps_in_time : (q : Option Bound) (card : Card) (bypass room : Bool) →
-    Keeps q (card ∷ []) (arrive_in_time q card bypass room)
-keeps_in_time None card true room = λ test. refl
-keeps_in_time None card false room = λ test. refl
-keeps_in_time (Some q) card bypass room = keeps_arrival q card room
-
-keeps_unbind : (q : Option Bound) → Keeps q [] (unbind q)
-keeps_unbind None = λ test. refl
-keeps_unbind (Some q) = λ test. omega (arith, kept_gone test q)
-
-keeps_set_up : (q : Option Bound) (port : ℕ) (a : ConfigAsk) →
-    Keeps q [] (set_up (unwrap_or q (bound_to port)) a)
-keeps_set_up None port a = λ test.
-    ap (λ ws. times test (map (λ (w : ℕ × Card). w.1) ws) + 0)
-    (configured_waiting a.params a.maximum a.flags a.mask (bound_to port))
-keeps_set_up (Some q) port a = λ test.
-    ap (λ ws. times test (map (λ (w : ℕ × Card). w.1) ws) + 0)
-    (configured_waiting a.params a.maximum a.flags a.mask q)
-
-keeps_config : (q : Option Bound) (port : ℕ) (a : ConfigAsk) → Keeps q [] (config q port a)
-keeps_config q port a =
-    either (Keeps q [])
-    (is_command command_pf_bind a.command || is_command command_pf_unbind a.command) _ _
-    (λ test. refl)
-    (either (Keeps q []) (is_some a.flags && is_none a.mask) _ _ (λ test. refl)
-    (either (Keeps q []) (has_unknown_flags a.flags) _ _ (λ test. refl)
-    (either (Keeps q []) (has_refused_flags a.flags a.mask) _ _ (λ test. refl)
-    (either (Keeps q []) (is_bound_elsewhere q port) _ _ (λ test. refl)
-    (either (Keeps q []) (is_command command_bind a.command && is_some q) _ _ (λ test. refl)
-    (either (Keeps q []) (is_command command_unbind a.command) _ _ (keeps_unbind q)
-    (either (Keeps q []) (is_some a.command && not (is_command command_bind a.command)) _ _
-    (λ test. refl)
-    (either (Keeps q []) (is_none a.command && is_none q) _ _ (λ test. refl)
-    (keeps_set_up q port a)))))))))
-
 -- what is found under an id, and the others, are all
 found_and_others : (id : ℕ) (ws : List (ℕ × Card)) (card : Card) (test : ℕ → ℕ → Bool) →
     lookup (is_id id) ws ≡ Some card →
@@ -189,22 +92,6 @@ found_and_others id (w ∷ ws) card test h = elim (cases_Bool (is_id id w.0)) [
     found_here : Some w.1 ≡ Some card → w.1 ≡ card
     found_here e = cc
 
-keeps_carried : (q : Bound) (head : Head) (edit : Edit) (o : Option Card) →
-    card_under q head.id ≡ o → Keeps (Some q) [] (carried_out q head edit o)
-keeps_carried q head edit None e = λ test. refl
-keeps_carried q head edit (Some card) e = λ test.
-    omega (arith, found_and_others head.id q.waiting card test e)
-
-keeps_verdict : (q : Option Bound) (port : ℕ) (head : Option Head) (edit : Edit) →
-    Keeps q [] (verdict q port head edit)
-keeps_verdict None port head edit = λ test. refl
-keeps_verdict (Some q) port None edit = λ test. refl
-keeps_verdict (Some q) port (Some head) edit =
-    either (λ r. Keeps (Some q) [] (verdict_under r (Some q) edit)) (not (q.port == port)) _ _
-    (λ test. refl)
-    (either (λ r. Keeps (Some q) [] (verdict_under r (Some q) edit)) (not (is_verdict head.verdict))
-    _ _ (λ test. refl) (keeps_carried q head edit (card_under q head.id) refl))
-
 -- a packet that leaves by a batch keeps its number
 left_alike : (head : Head) (mark priority : Option ℕ) (ws : List (ℕ × Card)) (test : ℕ → ℕ → Bool) →
     times test (map (λ (l : Card × Way). l.0)
@@ -223,154 +110,87 @@ mapped_on : (xs ys : List (ℕ × Card)) →
 mapped_on [] ys = refl
 mapped_on (x ∷ xs) ys = ap (λ cs. x.1 ∷ cs) (mapped_on xs ys)
 
-keeps_shared : (q : Bound) (head : Head) (mark priority : Option ℕ) (ws : List (ℕ × Card)) →
-    ws ++ drop (length ws) q.waiting ≡ q.waiting →
-    Keeps (Some q) [] (shared_out q head mark priority ws)
-keeps_shared q head mark priority [] all = λ test. refl
-keeps_shared q head mark priority (w ∷ ws) all = λ test.
+kept_share : (q : Bound) (head : Head) (mark priority : Option ℕ) (ws : List (ℕ × Card))
+    (test : ℕ → ℕ → Bool) → ws ++ drop (length ws) q.waiting ≡ q.waiting →
+    times test (map (λ (w : ℕ × Card). w.1) (drop (length ws) q.waiting))
+    + times test (map (λ (l : Card × Way). l.0)
+    (map (λ (v : ℕ × Card). leaving head (batch_edit mark priority) v.1) ws))
+    ≡ times test (map (λ (w : ℕ × Card). w.1) q.waiting)
+kept_share q head mark priority ws test all =
     let parts : times test (map (λ (v : ℕ × Card). v.1) q.waiting) ≡ _ =
     ap (λ vs. times test (map (λ (v : ℕ × Card). v.1) vs)) (sym all)
-    ∙ ap (times test) (mapped_on (w ∷ ws) (drop (length (w ∷ ws)) q.waiting))
-    ∙ times_on test (map (λ (v : ℕ × Card). v.1) (w ∷ ws))
-    (map (λ (v : ℕ × Card). v.1) (drop (length (w ∷ ws)) q.waiting)) in
-    omega (arith, parts, left_alike head mark priority (w ∷ ws) test)
+    ∙ ap (times test) (mapped_on ws (drop (length ws) q.waiting))
+    ∙ times_on test (map (λ (v : ℕ × Card). v.1) ws)
+    (map (λ (v : ℕ × Card). v.1) (drop (length ws) q.waiting)) in
+    omega (arith, parts, left_alike head mark priority ws test)
 
 share_and_others : (ws : List (ℕ × Card)) (m : ℕ) → share ws m ++ drop (length (share ws m)) ws ≡ ws
 share_and_others ws m =
     ap (λ vs. vs ++ drop (length (share ws m)) ws) (sym (share_first ws m))
     ∙ take-append-drop (length (share ws m)) ws
 
-keeps_batch : (q : Option Bound) (port : ℕ) (head : Option Head) (mark priority : Option ℕ) →
-    Keeps q [] (batch q port head mark priority)
-keeps_batch None port head mark priority = λ test. refl
-keeps_batch (Some q) port None mark priority = λ test. refl
-keeps_batch (Some q) port (Some head) mark priority =
-    either (λ r. Keeps (Some q) [] (batch_under r (Some q) mark priority)) (not (q.port == port))
-    _ _
-    (λ test. refl)
-    (either (λ r. Keeps (Some q) [] (batch_under r (Some q) mark priority))
-    (not (is_verdict head.verdict))
-    _ _ (λ test. refl)
-    (keeps_shared q head mark priority (share q.waiting head.id)
-    (share_and_others q.waiting head.id)))
+-- the packets with a number that wait afterwards or leave are those that waited or arrived
+abbrev Conserves : Known
+Conserves q e s =
+    (test : ℕ → ℕ → Bool) → times test (waiting_in s.state) + times test (leaving_in s)
+    ≡ times test (waiting_in q) + times test (arriving e)
 
-keeps_port : (q : Option Bound) → Keeps q [] (port_closed q)
-keeps_port None = λ test. refl
-keeps_port (Some q) = λ test. omega (arith, kept_gone test q)
-
-keeps_device : (q : Option Bound) (device : ℕ) → Keeps q [] (device_down q device)
-keeps_device None device = λ test. refl
-keeps_device (Some q) device =
-    either (Keeps (Some q) []) ((device == input_device) || (device == output_device)) _ _
-    (λ test. omega (arith, kept_gone test q)) (λ test. refl)
+conserves : Shapes Conserves
+conserves = record {
+  leaves = λ q card bypass room o stays timely test. refl;
+  counts = λ b last dropped user_dropped card bypass room o stays timely test. refl;
+  joins = λ b card bypass room early had. kept_waits b (next_id b) card;
+  answered = λ q port call asked errno test. refl;
+  ends = λ b port call queue a own test. omega (arith, kept_gone test b);
+  binds = λ port call queue a mode range maximum flags test. refl;
+  sets_up = λ b port call queue a mode range maximum flags own test. refl;
+  decides = λ b port call queue head edit card own found test.
+      omega (arith, found_and_others head.id b.waiting card test found);
+  shares = λ b port call queue head mark priority w ws own is test.
+      omega (
+        arith,
+        kept_share b head mark priority (w ∷ ws) test
+            (subst (λ vs. vs ++ drop (length vs) b.waiting ≡ b.waiting) is
+            (share_and_others b.waiting head.id)),
+      );
+  none_closed = λ port test. refl;
+  closes = λ b port test. omega (arith, kept_gone test b);
+  none_down = λ q device test. refl;
+  flushes = λ b device test. omega (arith, kept_gone test b);
+}
 
 pub conserving : (q : Option Bound) (e : Event) → IsConserving q e
-conserving q (event.Arrive card bypass room) =
-    either (Keeps q (card ∷ [])) (card.visit == last_visit) _ _ (λ test. refl)
-    (keeps_in_time q card bypass room)
-conserving q (event.Ask port call (request.Config queue command params maximum flags mask)) =
-    keeps_config q port (asking command params maximum flags mask)
-conserving q (event.Ask port call (request.Verdict queue head mark payload priority)) =
-    keeps_verdict q port head _
-conserving q (event.Ask port call (request.Batch queue head mark priority)) =
-    keeps_batch q port head mark priority
-conserving q (event.PortClosed port) = keeps_port q
-conserving q (event.DeviceDown device) = keeps_device q device
+conserving = walk_by_shape Conserves conserves
 
 -- ---- how many left
-
-abbrev CountsArrival : Stepped → Type 0
-CountsArrival s = TellsArrival s.reply (length s.left)
-
-abbrev Counts : Stepped → Type 0
-Counts s = TellsAsk s.reply (length s.left)
-
-abbrev CountsFlush : Stepped → Type 0
-CountsFlush s = TellsFlush s.reply (length s.left)
 
 as_many_gone : (q : Bound) → length q.waiting ≡ length (all_gone q)
 as_many_gone q = sym (length-map q.waiting (λ (w : ℕ × Card). (w.1, Gone)))
 
-counts_in_time : (q : Option Bound) (card : Card) (bypass room : Bool) →
-    CountsArrival (arrive_in_time q card bypass room)
-counts_in_time None card true room = refl
-counts_in_time None card false room = refl
-counts_in_time (Some q) card bypass room =
-    either CountsArrival (q.mode == copy_none) _ _ refl
-    (either CountsArrival (is_full q && fails_open q) _ _ refl
-    (either CountsArrival (is_full q) _ _ refl
-    (either CountsArrival (not room && fails_open q) _ _ refl
-    (either CountsArrival (not room) _ _ refl refl))))
+abbrev Counts : Known
+Counts q e s = Tells e s.reply (length s.left)
 
-counts_unbind : (q : Option Bound) → Counts (unbind q)
-counts_unbind None = refl
-counts_unbind (Some q) = as_many_gone q
-
-counts_config : (q : Option Bound) (port : ℕ) (a : ConfigAsk) → Counts (config q port a)
-counts_config q port a =
-    either Counts
-    (is_command command_pf_bind a.command || is_command command_pf_unbind a.command) _ _ refl
-    (either Counts (is_some a.flags && is_none a.mask) _ _ refl
-    (either Counts (has_unknown_flags a.flags) _ _ refl
-    (either Counts (has_refused_flags a.flags a.mask) _ _ refl
-    (either Counts (is_bound_elsewhere q port) _ _ refl
-    (either Counts (is_command command_bind a.command && is_some q) _ _ refl
-    (either Counts (is_command command_unbind a.command) _ _ (counts_unbind q)
-    (either Counts (is_some a.command && not (is_command command_bind a.command)) _ _ refl
-    (either Counts (is_none a.command && is_none q) _ _ refl refl))))))))
-
-counts_carried : (q : Bound) (head : Head) (edit : Edit) (o : Option Card) →
-    Counts (carried_out q head edit o)
-counts_carried q head edit None = refl
-counts_carried q head edit (Some card) = refl
-
-counts_shared : (q : Bound) (head : Head) (mark priority : Option ℕ) (ws : List (ℕ × Card)) →
-    Counts (shared_out q head mark priority ws)
-counts_shared q head mark priority [] = refl
-counts_shared q head mark priority (w ∷ ws) =
-    sym (length-map (w ∷ ws) (λ (v : ℕ × Card). leaving head (batch_edit mark priority) v.1))
-
-counts_verdict : (q : Option Bound) (port : ℕ) (head : Option Head) (edit : Edit) →
-    Counts (verdict q port head edit)
-counts_verdict None port head edit = refl
-counts_verdict (Some q) port None edit = refl
-counts_verdict (Some q) port (Some head) edit =
-    either (λ r. Counts (verdict_under r (Some q) edit)) (not (q.port == port)) _ _ refl
-    (either (λ r. Counts (verdict_under r (Some q) edit)) (not (is_verdict head.verdict)) _ _ refl
-    (counts_carried q head edit (card_under q head.id)))
-
-counts_batch : (q : Option Bound) (port : ℕ) (head : Option Head) (mark priority : Option ℕ) →
-    Counts (batch q port head mark priority)
-counts_batch None port head mark priority = refl
-counts_batch (Some q) port None mark priority = refl
-counts_batch (Some q) port (Some head) mark priority =
-    either (λ r. Counts (batch_under r (Some q) mark priority)) (not (q.port == port)) _ _ refl
-    (either (λ r. Counts (batch_under r (Some q) mark priority))
-    (not (is_verdict head.verdict)) _ _ refl
-    (counts_shared q head mark priority (share q.waiting head.id)))
-
-counts_port : (q : Option Bound) → CountsFlush (port_closed q)
-counts_port None = refl
-counts_port (Some q) = as_many_gone q
-
-counts_device : (q : Option Bound) (device : ℕ) → CountsFlush (device_down q device)
-counts_device None device = refl
-counts_device (Some q) device =
-    either CountsFlush ((device == input_device) || (device == output_device)) _ _
-    (as_many_gone q) refl
+counts_each : Shapes Counts
+counts_each = record {
+  leaves = λ q card bypass room o stays timely. ap (λ n. n + 1) stays;
+  counts = λ b last dropped user_dropped card bypass room o stays timely. ap (λ n. n + 1) stays;
+  joins = λ b card bypass room early had. refl;
+  answered = λ q port call asked errno. refl;
+  ends = λ b port call queue a own. as_many_gone b;
+  binds = λ port call queue a mode range maximum flags. refl;
+  sets_up = λ b port call queue a mode range maximum flags own. refl;
+  decides = λ b port call queue head edit card own found. refl;
+  shares = λ b port call queue head mark priority w ws own is.
+      sym (length-map (w ∷ ws) (λ (v : ℕ × Card). leaving head (batch_edit mark priority) v.1));
+  none_closed = λ port. refl;
+  closes = λ b port. as_many_gone b;
+  none_down = λ q device. refl;
+  flushes = λ b device. as_many_gone b;
+}
 
 pub counting : (q : Option Bound) (e : Event) →
     Tells e (step q e).reply (length (step q e).left)
-counting q (event.Arrive card bypass room) =
-    either CountsArrival (card.visit == last_visit) _ _ refl (counts_in_time q card bypass room)
-counting q (event.Ask port call (request.Config queue command params maximum flags mask)) =
-    counts_config q port (asking command params maximum flags mask)
-counting q (event.Ask port call (request.Verdict queue head mark payload priority)) =
-    counts_verdict q port head _
-counting q (event.Ask port call (request.Batch queue head mark priority)) =
-    counts_batch q port head mark priority
-counting q (event.PortClosed port) = counts_port q
-counting q (event.DeviceDown device) = counts_device q device
+counting = walk_by_shape Counts counts_each
 
 -- ---- what no verdict decided
 
@@ -385,63 +205,89 @@ all_are_gone q = All-from_recursion _ (all_gone q) (each q.waiting)
 none_leaves : All (λ (l : Card × Way). l.1 ≡ Gone) []
 none_leaves = All-nil _
 
-unbind_destroys : (q : Option Bound) → AllAreGone (unbind q)
-unbind_destroys None = none_leaves
-unbind_destroys (Some q) = all_are_gone q
+-- what leaves by a config request, a closed port or a device is destroyed
+abbrev AskDestroys : Request → Stepped → Type 0
+AskDestroys (request.Config queue command params maximum flags mask) s = AllAreGone s
+AskDestroys (request.Verdict queue head mark payload priority) s = Unit {0}
+AskDestroys (request.Batch queue head mark priority) s = Unit {0}
+
+abbrev Destroys : Known
+Destroys q (event.Arrive card bypass room) s = Unit {0}
+Destroys q (event.Ask port call asked) s = AskDestroys asked s
+Destroys q (event.PortClosed port) s = AllAreGone s
+Destroys q (event.DeviceDown device) s = AllAreGone s
+
+answer_destroys : (q : Option Bound) (asked : Request) (errno : ℕ) →
+    AskDestroys asked (unchanged q errno)
+answer_destroys q (request.Config queue command params maximum flags mask) errno = none_leaves
+answer_destroys q (request.Verdict queue head mark payload priority) errno = tt
+answer_destroys q (request.Batch queue head mark priority) errno = tt
+
+destroys : Shapes Destroys
+destroys = record {
+  leaves = λ q card bypass room o stays timely. tt;
+  counts = λ b last dropped user_dropped card bypass room o stays timely. tt;
+  joins = λ b card bypass room early had. tt;
+  answered = λ q port call asked errno. answer_destroys q asked errno;
+  ends = λ b port call queue a own. all_are_gone b;
+  binds = λ port call queue a mode range maximum flags. none_leaves;
+  sets_up = λ b port call queue a mode range maximum flags own. none_leaves;
+  decides = λ b port call queue head edit card own found. tt;
+  shares = λ b port call queue head mark priority w ws own is. tt;
+  none_closed = λ port. none_leaves;
+  closes = λ b port. all_are_gone b;
+  none_down = λ q device. none_leaves;
+  flushes = λ b device. all_are_gone b;
+}
 
 pub config_destroys : (q : Option Bound) (port : ℕ) (a : ConfigAsk) → AllAreGone (config q port a)
-config_destroys q port a =
-    either AllAreGone
-    (is_command command_pf_bind a.command || is_command command_pf_unbind a.command) _ _
-    none_leaves
-    (either AllAreGone (is_some a.flags && is_none a.mask) _ _ none_leaves
-    (either AllAreGone (has_unknown_flags a.flags) _ _ none_leaves
-    (either AllAreGone (has_refused_flags a.flags a.mask) _ _ none_leaves
-    (either AllAreGone (is_bound_elsewhere q port) _ _ none_leaves
-    (either AllAreGone (is_command command_bind a.command && is_some q) _ _ none_leaves
-    (either AllAreGone (is_command command_unbind a.command) _ _ (unbind_destroys q)
-    (either AllAreGone (is_some a.command && not (is_command command_bind a.command)) _ _
-    none_leaves
-    (either AllAreGone (is_none a.command && is_none q) _ _ none_leaves none_leaves))))))))
+config_destroys q port a = walk_by_shape Destroys destroys q (asks_config port 0 0 a)
 
 pub port_destroys : (q : Option Bound) → AllAreGone (port_closed q)
-port_destroys None = none_leaves
-port_destroys (Some q) = all_are_gone q
+port_destroys q = walk_by_shape Destroys destroys q (event.PortClosed 0)
 
 pub device_destroys : (q : Option Bound) (device : ℕ) → AllAreGone (device_down q device)
-device_destroys None device = none_leaves
-device_destroys (Some q) device =
-    either AllAreGone ((device == input_device) || (device == output_device)) _ _
-    (all_are_gone q) none_leaves
+device_destroys q device = walk_by_shape Destroys destroys q (event.DeviceDown device)
 
 -- ---- another port
 
-untouched_by : (q : Bound) (errno : ℕ) →
-    IsUntouched (Some q) (unchanged (Some q) errno)
-untouched_by q errno = record { state = refl; left = refl }
+-- the queue is bound to another port
+abbrev IsOthers : Option Bound → ℕ → Type 0
+IsOthers None port = ⊥
+IsOthers (Some q) port = port ≢ q.port
 
-config_by_another : (q : Bound) (port : ℕ) (a : ConfigAsk) → not (q.port == port) ≡ true →
-    IsUntouched (Some q) (config (Some q) port a)
-config_by_another q port a other =
-    either (IsUntouched (Some q))
-    (is_command command_pf_bind a.command || is_command command_pf_unbind a.command) _ _
-    (untouched_by q 0)
-    (either (IsUntouched (Some q)) (is_some a.flags && is_none a.mask) _ _ (untouched_by q _)
-    (either (IsUntouched (Some q)) (has_unknown_flags a.flags) _ _ (untouched_by q _)
-    (either (IsUntouched (Some q)) (has_refused_flags a.flags a.mask) _ _ (untouched_by q _)
-    (rw other (untouched_by q eperm)))))
+abbrev Untouched : Known
+Untouched q (event.Ask port call asked) s = IsOthers q port → IsUntouched q s
+Untouched q e s = Unit {0}
+
+not_own : (b : Bound) (port : ℕ) → IsOwn b port → port ≢ b.port → ⊥
+not_own b port own other =
+    let wrong : false ≡ true = sym own ∙ ap not (ne_eqb b.port port (λ e. other (sym e))) in cc
+
+untouched : Shapes Untouched
+untouched = record {
+  leaves = λ q card bypass room o stays timely. tt;
+  counts = λ b last dropped user_dropped card bypass room o stays timely. tt;
+  joins = λ b card bypass room early had. tt;
+  answered = λ q port call asked errno other. record { state = refl; left = refl };
+  ends = λ b port call queue a own other. absurd (not_own b port own other);
+  binds = λ port call queue a mode range maximum flags other. absurd other;
+  sets_up = λ b port call queue a mode range maximum flags own other.
+      absurd (not_own b port own other);
+  decides = λ b port call queue head edit card own found other.
+      absurd (not_own b port own other);
+  shares = λ b port call queue head mark priority w ws own is other.
+      absurd (not_own b port own other);
+  none_closed = λ port. tt;
+  closes = λ b port. tt;
+  none_down = λ q device. tt;
+  flushes = λ b device. tt;
+}
 
 pub another_port : (q : Bound) (port call : ℕ) (asked : Request) → port ≢ q.port →
     IsUntouched (Some q) (step (Some q) (event.Ask port call asked))
-another_port q port call (request.Config queue command params maximum flags mask) other =
-    config_by_another q port (asking command params maximum flags mask)
-    (rw (ne_eqb q.port port (λ e. other (sym e))) refl)
-another_port q port call (request.Verdict queue None mark payload priority) other = untouched_by q _
-another_port q port call (request.Verdict queue (Some head) mark payload priority) other =
-    rw (ne_eqb q.port port (λ e. other (sym e))) (untouched_by q eperm)
-another_port q port call (request.Batch queue None mark priority) other = untouched_by q _
-another_port q port call (request.Batch queue (Some head) mark priority) other =
-    rw (ne_eqb q.port port (λ e. other (sym e))) (untouched_by q eperm)
+another_port q port call asked =
+    walk_by_shape Untouched untouched (Some q) (event.Ask port call asked)
 
 -- ---- ids that differ
 
@@ -455,103 +301,28 @@ apart_taken q card last few apart =
     (IsDistinct-push nat_eq_equiv (keys_of q.waiting) (next_id q) apart
     (fresh_is_free q.last (keys_of q.waiting) last (omega (arith, length-keys_of q.waiting, few))))
 
-apart_arrival : (q : Bound) (card : Card) (room : Bool) → q.last < id_count →
-    length q.waiting < id_count → Apart q.waiting → AreApart (arrive_bound q card room).state
-apart_arrival q card room last few apart =
-    either (λ (s : Stepped). AreApart s.state) (q.mode == copy_none) _ _ apart
-    (either (λ (s : Stepped). AreApart s.state) (is_full q && fails_open q) _ _ apart
-    (either (λ (s : Stepped). AreApart s.state) (is_full q) _ _ apart
-    (either (λ (s : Stepped). AreApart s.state) (not room && fails_open q) _ _ apart
-    (either (λ (s : Stepped). AreApart s.state) (not room) _ _ apart
-    (apart_taken q card last few apart)))))
+abbrev StayApart : Known
+StayApart q e s = HasIds q → AreApart q → AreApart s.state
 
-apart_in_time : (q : Option Bound) (card : Card) (bypass room : Bool) → HasIds q → AreApart q →
-    AreApart (arrive_in_time q card bypass room).state
-apart_in_time None card true room ids apart = tt
-apart_in_time None card false room ids apart = tt
-apart_in_time (Some q) card bypass room ids apart = apart_arrival q card room ids.0 ids.1 apart
-
-apart_unbind : (q : Option Bound) → AreApart (unbind q).state
-apart_unbind None = tt
-apart_unbind (Some q) = tt
-
-apart_set_up : (q : Option Bound) (port : ℕ) (a : ConfigAsk) → AreApart q →
-    AreApart (set_up (unwrap_or q (bound_to port)) a).state
+stays_apart : Shapes StayApart
 unfolding IsDistinct
-apart_set_up None port a apart =
-    subst Apart (sym (configured_waiting a.params a.maximum a.flags a.mask (bound_to port))) tt
-apart_set_up (Some q) port a apart =
-    subst Apart (sym (configured_waiting a.params a.maximum a.flags a.mask q)) apart
-
-apart_config : (q : Option Bound) (port : ℕ) (a : ConfigAsk) → AreApart q →
-    AreApart (config q port a).state
-apart_config q port a apart =
-    either (λ (s : Stepped). AreApart s.state)
-    (is_command command_pf_bind a.command || is_command command_pf_unbind a.command) _ _ apart
-    (either (λ (s : Stepped). AreApart s.state) (is_some a.flags && is_none a.mask) _ _ apart
-    (either (λ (s : Stepped). AreApart s.state) (has_unknown_flags a.flags) _ _ apart
-    (either (λ (s : Stepped). AreApart s.state) (has_refused_flags a.flags a.mask) _ _ apart
-    (either (λ (s : Stepped). AreApart s.state) (is_bound_elsewhere q port) _ _ apart
-    (either (λ (s : Stepped). AreApart s.state) (is_command command_bind a.command && is_some q) _ _
-    apart
-    (either (λ (s : Stepped). AreApart s.state) (is_command command_unbind a.command) _ _
-    (apart_unbind q)
-    (either (λ (s : Stepped). AreApart s.state)
-    (is_some a.command && not (is_command command_bind a.command)) _ _ apart
-    (either (λ (s : Stepped). AreApart s.state) (is_none a.command && is_none q) _ _ apart
-    (apart_set_up q port a apart)))))))))
-
-apart_carried : (q : Bound) (head : Head) (edit : Edit) (o : Option Card) → Apart q.waiting →
-    AreApart (carried_out q head edit o).state
-apart_carried q head edit None apart = apart
-apart_carried q head edit (Some card) apart = apart_without head.id q.waiting apart
-
-apart_shared : (q : Bound) (head : Head) (mark priority : Option ℕ) (ws : List (ℕ × Card)) →
-    Apart q.waiting → AreApart (shared_out q head mark priority ws).state
-apart_shared q head mark priority [] apart = apart
-apart_shared q head mark priority (w ∷ ws) apart = apart_dropped (length (w ∷ ws)) q.waiting apart
-
-apart_verdict : (q : Option Bound) (port : ℕ) (head : Option Head) (edit : Edit) → AreApart q →
-    AreApart (verdict q port head edit).state
-apart_verdict None port head edit apart = tt
-apart_verdict (Some q) port None edit apart = apart
-apart_verdict (Some q) port (Some head) edit apart =
-    either (λ r. AreApart (verdict_under r (Some q) edit).state) (not (q.port == port)) _ _ apart
-    (either (λ r. AreApart (verdict_under r (Some q) edit).state) (not (is_verdict head.verdict)) _
-    _ apart (apart_carried q head edit (card_under q head.id) apart))
-
-apart_batch : (q : Option Bound) (port : ℕ) (head : Option Head) (mark priority : Option ℕ) →
-    AreApart q →
-    AreApart (batch q port head mark priority).state
-apart_batch None port head mark priority apart = tt
-apart_batch (Some q) port None mark priority apart = apart
-apart_batch (Some q) port (Some head) mark priority apart =
-    either (λ r. AreApart (batch_under r (Some q) mark priority).state) (not (q.port == port)) _ _
-    apart
-    (either (λ r. AreApart (batch_under r (Some q) mark priority).state)
-    (not (is_verdict head.verdict)) _ _
-    apart (apart_shared q head mark priority (share q.waiting head.id) apart))
-
-apart_port : (q : Option Bound) → AreApart (port_closed q).state
-apart_port None = tt
-apart_port (Some q) = tt
-
-apart_device : (q : Option Bound) (device : ℕ) → AreApart q → AreApart (device_down q device).state
-unfolding IsDistinct
-apart_device None device apart = tt
-apart_device (Some q) device apart =
-    either (λ (s : Stepped). AreApart s.state)
-    ((device == input_device) || (device == output_device)) _ _ tt apart
+stays_apart = record {
+  leaves = λ q card bypass room o stays timely ids apart. apart;
+  counts = λ b last dropped user_dropped card bypass room o stays timely ids apart. apart;
+  joins = λ b card bypass room early had ids apart. apart_taken b card ids.0 ids.1 apart;
+  answered = λ q port call asked errno ids apart. apart;
+  ends = λ b port call queue a own ids apart. tt;
+  binds = λ port call queue a mode range maximum flags ids apart. tt;
+  sets_up = λ b port call queue a mode range maximum flags own ids apart. apart;
+  decides = λ b port call queue head edit card own found ids apart.
+      apart_without head.id b.waiting apart;
+  shares = λ b port call queue head mark priority w ws own is ids apart.
+      apart_dropped (length (w ∷ ws)) b.waiting apart;
+  none_closed = λ port ids apart. tt;
+  closes = λ b port ids apart. tt;
+  none_down = λ q device ids apart. apart;
+  flushes = λ b device ids apart. tt;
+}
 
 pub stay_apart : (q : Option Bound) (e : Event) → HasIds q → AreApart q → AreApart (step q e).state
-stay_apart q (event.Arrive card bypass room) ids apart =
-    either (λ (s : Stepped). AreApart s.state) (card.visit == last_visit) _ _ apart
-    (apart_in_time q card bypass room ids apart)
-stay_apart q (event.Ask port call (request.Config queue command params maximum flags mask)) ids
-    apart = apart_config q port (asking command params maximum flags mask) apart
-stay_apart q (event.Ask port call (request.Verdict queue head mark payload priority)) ids apart =
-    apart_verdict q port head _ apart
-stay_apart q (event.Ask port call (request.Batch queue head mark priority)) ids apart =
-    apart_batch q port head mark priority apart
-stay_apart q (event.PortClosed port) ids apart = apart_port q
-stay_apart q (event.DeviceDown device) ids apart = apart_device q device apart
+stay_apart = walk_by_shape StayApart stays_apart

@@ -10,3 +10,7 @@ pub mod WithOffer
 pub mod Calls
 pub mod Laws
 pub mod Lines
+pub mod Walk
+pub mod Holding
+pub mod Owners
+pub mod Closed

@@ -66,8 +66,9 @@ use Rattle.script_runs.specs.Schedule.{looked, round, emptied_in, received_in}
 use Rattle.script_runs.specs.Schedule.{opened_all, all_down, fed, frame_passed, frames_passed}
 use Rattle.made_runs.specs.Feeder.{downs_after}
 use Rattle.script_runs.specs.Schedule.{is_pause, ended_all, rounds_for}
-use Rattle.script_runs.proofs.Small.{IsSmall, AllFit, AllLeave, step_good, state_small}
-use Rattle.script_runs.proofs.Small.{append_fits}
+use Rattle.histories.specs.Holding.{appended}
+use Rattle.queue_core.specs.Holding.{AllLeave}
+use Rattle.script_runs.proofs.Small.{IsSmall, Fitting, AllFit, leaving_small}
 
 abbrev pub Bounded : World → Type 0
 Bounded w = AllFit w.entries
@@ -79,7 +80,7 @@ Stays then = (w : World) → Bounded w → Bounded (then w)
 abbrev AllHanded : List (Card × Decision) → Type 0
 AllHanded hs = AllByRecursion (λ (h : Card × Decision). IsSmall h.0) hs
 
-handed_small : (ls : List (Card × Way)) → AllLeave ls → AllHanded (all_handed ls)
+handed_small : (ls : List (Card × Way)) → AllLeave IsSmall ls → AllHanded (all_handed ls)
 handed_small [] all = tt
 handed_small (l ∷ ls) all = by l.0 l.1 all.0 (handed_small ls all.1)
   where
@@ -103,13 +104,12 @@ AllAsks asks = AllByRecursion IsAsk asks
 
 module _ (s : Setting) where
   arrived_fits : (w : World) (a : Arrival) → Bounded w → IsSmall a.card → Bounded (arrived s w a)
-  arrived_fits w a fit small = append_fits w.entries _ fit (small, tt)
+  arrived_fits w a fit small = appended Fitting w.entries _ fit (small, tt)
 
   turned_small : (w : World) (a : Arrival) → Bounded w → IsSmall a.card →
-      AllLeave (turned_away s w a)
+      AllLeave IsSmall (turned_away s w a)
   turned_small w a fit small =
-      (step_good (state_of w.entries a.queue) (arrive a (room_for s w a)) small
-      (state_small w.entries a.queue fit)).1
+      leaving_small w.entries a.queue (arrive a (room_for s w a)) fit small
 
   goes_fits : (on : Next → Carried) → ((route : Next) → Bounded (on route).world) → (w : World)
       (route : Option Next) → Bounded w → Bounded (goes_on on w route).world
@@ -119,7 +119,7 @@ module _ (s : Setting) where
   settled_fits : (on : World → Card → Next → Carried) →
       ((w : World) (card : Card) (route : Next) → Bounded w → IsSmall card →
       Bounded (on w card route).world) → (w : World) (left : List (Card × Way)) → Bounded w →
-      AllLeave left → Bounded (settled on s w left).world
+      AllLeave IsSmall left → Bounded (settled on s w left).world
   settled_fits on keeps w [] fit small = fit
   settled_fits on keeps w (l ∷ ls) fit small =
       goes_fits (on w l.0) (λ route. keeps w l.0 route fit small.0) w (route_after s l) fit
@@ -149,10 +149,9 @@ module _ (s : Setting) where
   out_fits port call (Refused errno) w asks fit = fit
   out_fits port call (Asked request) w asks fit =
       moved_fits (all_handed (asking w port call request).left) (with_ask w port call request)
-      (append_fits w.entries _ fit (asks, tt))
+      (appended Fitting w.entries _ fit (asks, tt))
       (handed_small (asking w port call request).left
-      (step_good (state_of w.entries (queue_of request)) (Ask port call request) asks
-      (state_small w.entries (queue_of request) fit)).1)
+      (leaving_small w.entries (queue_of request) (Ask port call request) fit asks))
 
   sends_fit : (then : World → World) → Stays then → (port : ℕ) (ms : List NetlinkMessage)
       (w : World) → AllAskWell ms → Bounded w → Bounded (all_sent then s port ms w)
@@ -171,7 +170,7 @@ closed_fits : (port : ℕ) (es : List Entry) (qs : List ℕ) →
     AllFit (flat_map (λ q. closing_of port q (state_of es q)) qs)
 closed_fits port es [] = tt
 closed_fits port es (q ∷ qs) =
-    append_fits (closing_of port q (state_of es q)) _ (one (state_of es q))
+    appended Fitting (closing_of port q (state_of es q)) _ (one (state_of es q))
     (closed_fits port es qs)
   where
     one : (state : Option Bound) → AllFit (closing_of port q state)
@@ -182,7 +181,8 @@ down_fits : (device : ℕ) (es : List Entry) (qs : List ℕ) →
     AllFit (flat_map (λ q. down_of device q (state_of es q)) qs)
 down_fits device es [] = tt
 down_fits device es (q ∷ qs) =
-    append_fits (down_of device q (state_of es q)) _ (one (state_of es q)) (down_fits device es qs)
+    appended Fitting (down_of device q (state_of es q)) _ (one (state_of es q))
+    (down_fits device es qs)
   where
     one : (state : Option Bound) → AllFit (down_of device q state)
     one None = tt
@@ -190,13 +190,14 @@ down_fits device es (q ∷ qs) =
 
 shuts_fit : (port : ℕ) → Stays (λ w. with_closed w port)
 shuts_fit port w fit =
-    append_fits w.entries (closings port w.entries) fit (closed_fits port w.entries every_number)
+    appended Fitting w.entries (closings port w.entries) fit
+    (closed_fits port w.entries every_number)
 
 falls_fit : (ds : List Down) → Stays (all_down ds)
 falls_fit [] w fit = fit
 falls_fit (d ∷ ds) w fit =
     falls_fit ds (without_device w d.device)
-    (append_fits w.entries (downs d.device w.entries) fit
+    (appended Fitting w.entries (downs d.device w.entries) fit
     (down_fits d.device w.entries every_number))
 
 -- ---- what a script asks for

@@ -20,7 +20,8 @@ use Rattle.inspector_script.specs.Scripts.{ScriptValue, IsScript, IsBlock}
 use Rattle.script_runs.specs.Schedule.{IsSolo, run, setting_of}
 use Rattle.histories.specs.Lengths.{AreShort}
 use Rattle.histories.specs.Lengths.{AreSmall}
-use Rattle.script_runs.proofs.Small.{Fits, AllFit, history_fits}
+use Rattle.histories.specs.Holding.{in_history}
+use Rattle.script_runs.proofs.Small.{Fits, Fitting, AllFit}
 use Rattle.script_runs.proofs.Bounded.{WordsFit, run_fits}
 
 -- entries whose histories are within bounds are so
@@ -60,7 +61,7 @@ module _ (fit : WordsFit) (script : ScriptValue) (tables : RuleTables) (c : Capt
       (recursion_from_All IsBlock script.blocks is.each) c
       (recursion_from_All (λ (f : Frame). length f.bytes ≤ longest_packet) c.frames frames) in
       each_fits h.entries (λ queue. subst AllFit (sym (solo.entries.same queue))
-      (history_fits queue (run script tables c).entries fits))
+      (in_history Fitting queue (run script tables c).entries fits))
 
   pub packets_small : AreSmall h.entries
   packets_small = All-from_recursion _ h.entries (small_each h.entries entries_fit)

@@ -1,21 +1,18 @@
 -- Arrivals: what leaves the queue at once, and the world then.
 use Rattle.std.proofs.Common.{◌≡◌, ℕ, List, [], ◌∷◌, ◌++◌, Option, Some, None, Bool}
 use Rattle.std.proofs.Common.{true, false, refl, sym, ap, ◌∙◌, rules}
-use Rattle.std.specs.Prelude.{◌==◌, ◌&&◌, not, if◌then◌else◌, option_map, IsSome}
+use Rattle.std.specs.Prelude.{option_map, IsSome}
 use Rattle.std.specs.Prelude.{Result, Ok, Err, OnOk, is_err}
 use Rattle.std.specs.BTreeMap.{BTreeMap, get}
 use Rattle.std.specs.Ordering.{nat_cmp}
 use Rattle.packet_entry.specs.declared.packet.Card.{Card}
 use Rattle.packet_entry.specs.declared.letter.Letter.{Letter}
-use Rattle.packet_entry.specs.Numbers.{last_visit}
-use Rattle.nfqa_msgs.specs.Numbers.{copy_none}
 use Rattle.hook_chain.specs.declared.chain.Next.{Next}
-use Rattle.queue_core.specs.declared.event.Reply.{Reply}
 use Rattle.queue_core.specs.declared.event.Reply.TheVariants.{Arrived}
 use Rattle.queue_core.specs.declared.offers.Outcome.{Outcome}
-use Rattle.queue_core.specs.State.{Bound, fails_open}
-use Rattle.queue_core.specs.Step.{Stepped, Way, Gone, Open, Decided, arrive, arrive_in_time}
-use Rattle.queue_core.specs.Step.{arrive_bound, is_decided_early, is_full}
+use Rattle.queue_core.specs.State.{Bound}
+use Rattle.queue_core.specs.Step.{Stepped, Way, Gone, Open, Decided, arrive}
+use Rattle.queue_core.specs.Step.{is_decided_early}
 use Rattle.histories.specs.Journeys.{Arrival}
 use Rattle.histories.specs.States.{state_of, entry_of}
 use Rattle.histories.specs.Happenings as happening
@@ -32,12 +29,8 @@ use Rattle.packet_moves.specs.Moving.{settled, goes_on, route_after, takes_one}
 use Rattle.packet_moves.specs.OnTheWay.{IsTurned}
 use Rattle.solo_plane.specs.PortView.{port_of, ports_of}
 use Rattle.queue_core.specs.Laws.{way_by}
+use Rattle.queue_core.specs.Walk.{HasRoom, walk_arrivals}
 use Rattle.solo_plane.specs.OnTheWay.{CameAs, came_to}
-
--- what holds of both lines holds of the table
-pub either : (P : Stepped → Type 0) (b : Bool) (s t : Stepped) → P s → P t → P (if b then s else t)
-either P true s t p q = p
-either P false s t p q = q
 
 -- what comes back of an arrival leaves by the way that its outcome says
 pub record TellsWay (card : Card) (s : Stepped) : Type 0 where
@@ -59,23 +52,10 @@ leaves_by card q p v is = record {
 
 pub tells_way : (q : Option Bound) (card : Card) (bypass room : Bool) →
     TellsWay card (arrive q card bypass room)
-tells_way q card bypass room =
-    either (TellsWay card) (card.visit == last_visit) _ _ (leaves_by card _ _ _ refl)
-    (in_time q bypass)
-  where
-    bound : (b : Bound) → TellsWay card (arrive_bound b card room)
-    bound b =
-        either (TellsWay card) (b.mode == copy_none) _ _ (leaves_by card _ _ _ refl)
-        (either (TellsWay card) (is_full b && fails_open b) _ _ (leaves_by card _ _ _ refl)
-        (either (TellsWay card) (is_full b) _ _ (leaves_by card _ _ _ refl)
-        (either (TellsWay card) (not room && fails_open b) _ _ (leaves_by card _ _ _ refl)
-        (either (TellsWay card) (not room) _ _ (leaves_by card _ _ _ refl)
-        (record { tells = λ o way reply left. absurd (cc) })))))
-
-    in_time : (q : Option Bound) (bypass : Bool) → TellsWay card (arrive_in_time q card bypass room)
-    in_time None false = leaves_by card _ _ _ refl
-    in_time None true = leaves_by card _ _ _ refl
-    in_time (Some b) bypass = bound b
+tells_way = walk_arrivals (λ card room s. TellsWay card s) (record {
+  leaves = λ q card room o stays timely. leaves_by card q o (way_by o) refl;
+  joins = λ b card room early had. record { tells = λ o way reply left. absurd (cc) };
+})
 
 -- ---- the world then
 
@@ -200,32 +180,16 @@ on_ok (Ok x) P h is = h
 on_ok (Err e) P h is = absurd (cc)
 
 -- what a queue takes had room
-pub record Leaves (s : Stepped) : Type 0 where
-  pub some : s.left ≡ [] → ⊥
+had_room : (room : Bool) → HasRoom room → room ≡ true
+had_room true had = refl
+had_room false had = absurd (cc)
 
 pub taken_had_room : (q : Option Bound) (card : Card) (bypass room : Bool) →
     (arrive q card bypass room).left ≡ [] → room ≡ true
-taken_had_room q card bypass true none = refl
-taken_had_room q card bypass false none = absurd (leaves.some none)
-  where
-    away : (q : Option Bound) (p : Reply) (v : Way) →
-        Leaves (record { state = q; reply = p; left = (card, v) ∷ [] })
-    away q p v = record { some = λ is. cc }
-
-    bound : (b : Bound) → Leaves (arrive_bound b card false)
-    bound b =
-        either Leaves (b.mode == copy_none) _ _ (away _ _ _)
-        (either Leaves (is_full b && fails_open b) _ _ (away _ _ _)
-        (either Leaves (is_full b) _ _ (away _ _ _)
-        (either Leaves (fails_open b) _ _ (away _ _ _) (away _ _ _))))
-
-    in_time : (q : Option Bound) (bypass : Bool) → Leaves (arrive_in_time q card bypass false)
-    in_time None false = away _ _ _
-    in_time None true = away _ _ _
-    in_time (Some b) bypass = bound b
-
-    leaves : Leaves (arrive q card bypass false)
-    leaves = either Leaves (card.visit == last_visit) _ _ (away _ _ _) (in_time q bypass)
+taken_had_room = walk_arrivals (λ card room s. s.left ≡ [] → room ≡ true) (record {
+  leaves = λ q card room o stays timely none. absurd (cc);
+  joins = λ b card room early had none. had_room room had;
+})
 
 -- a port whose mailbox takes one more is there
 pub port_is_there : (mail port : ℕ) (room : Bool) (ports : ℕ → Option Port)

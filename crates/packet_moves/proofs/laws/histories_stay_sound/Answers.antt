@@ -9,7 +9,6 @@ use Rattle.packet_moves.proofs.laws.histories_stay_sound.Goals as goal
 laws : goal.After-soundness_is_kept_move_by_move → Laws
 laws c = record {
   conserves = c.each_packet_stays_or_leaves.ensures;
-  config_gone = c.what_is_flushed_is_destroyed.ensures.config;
   port_gone = c.what_is_flushed_is_destroyed.ensures.port;
   device_gone = c.what_is_flushed_is_destroyed.ensures.device;
   is_move = c.an_entry_is_a_move.ensures;

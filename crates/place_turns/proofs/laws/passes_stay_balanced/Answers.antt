@@ -13,7 +13,6 @@ laws c = record {
   arrival = c.what_goes_on_is_in_time.ensures.arrival;
   request = c.what_goes_on_is_in_time.ensures.request;
   in_time = c.histories_stay_sound.ensures.in_time;
-  config_gone = c.what_is_flushed_is_destroyed.ensures.config;
   front = c.each_front_of_a_legal_history_is_legal.ensures;
 }
 
