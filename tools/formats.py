@@ -4,13 +4,13 @@ A journal is read line by line, so that one of any size can be. What isn't one i
 first bad line. Who waits in a queue is replayed from what the journal says: each arrival that was
 taken waits, and a reply says how many left. No rule of a queue is in here.
 """
+import os
 import re
-import struct
 import sys
 from collections import OrderedDict
 from dataclasses import dataclass, field
-from functools import lru_cache
-from ipaddress import ip_address
+
+from packets import IPV4, IPV6, Fragments, ends_of, ends_words, ethernet, vlan_words
 
 # ---- the names
 
@@ -20,10 +20,6 @@ MODES = {0: "NONE", 1: "META", 2: "PACKET"}
 FLAGS = {1: "fail-open", 2: "conntrack", 4: "gso", 8: "uid-gid", 16: "secctx"}
 ERRNOS = {1: "EPERM", 2: "ENOENT", 16: "EBUSY", 19: "ENODEV", 22: "EINVAL", 34: "ERANGE",
           95: "EOPNOTSUPP"}
-PROTOCOLS = {1: "ICMP", 2: "IGMP", 6: "TCP", 17: "UDP", 47: "GRE", 50: "ESP", 58: "ICMPv6",
-             132: "SCTP"}
-WITH_PORTS = {6, 17, 132}
-IPV4, IPV6 = 2048, 34525
 
 # what became of an arrival, but for `taken`
 OUTCOMES = {
@@ -104,9 +100,17 @@ class Entry:
     left: list = field(default_factory=list)
     named: tuple | None = None
     waiting: int = 0  # how many wait after it
+    link: bytes = b""
+    ends: tuple | None = None  # who sends the packet to whom
 
     def time(self):
         return self.seconds + self.micros / 1_000_000
+
+    def nanoseconds(self):
+        return (self.seconds * 1_000_000 + self.micros) * 1000
+
+    def vlans(self):
+        return ethernet(self.link).vlans()
 
 
 @dataclass
@@ -136,7 +140,7 @@ class Line:
 
 # ---- reading
 
-N = "(0|[1-9][0-9]*)"
+N = "(0|[1-9][0-9]{0,9})"  # at most 32 bits
 BYTES = "(-|(?:[0-9a-f]{2})+)"
 MARKS = f"(?: mark {N})?"
 ARRIVAL = re.compile(f"A {N} {N} {N} {N} ([yn]) ([yn]) {N} {N} {N} {N} {N} {BYTES} {BYTES} "
@@ -154,6 +158,7 @@ NOTICE = re.compile(f"R {N} {N} {N}")
 SENT = re.compile(f"S {N} (.*) = (?:-|{N})")
 LEDGER = re.compile(f"{N} ([a-z]+) (?:- -|{N} {N}) {N} {N} {N}")
 TITLE = "nfq-journal 2"
+LONGEST = 1 << 20  # bytes of a line: a frame has at most 262,144, at two digits a byte
 
 
 def number(text):
@@ -187,11 +192,11 @@ def request_of(text, raw=False):
 def entry_of(line):
     """The entry that a line is, without its place, or None."""
     if found := ARRIVAL.fullmatch(line):
-        (queue, packet, visit, table, _, _, mark, priority, seconds, micros, protocol, _, data,
+        (queue, packet, visit, table, _, _, mark, priority, seconds, micros, protocol, link, data,
          named, name, plain) = found.groups()
         return Entry("A", int(queue), 0, int(packet), int(visit), int(table), int(mark),
                      int(priority), int(seconds), int(micros), int(protocol), bytes_of(data),
-                     named or plain, number(name))
+                     named or plain, number(name), link=bytes_of(link))
     if (found := MESSAGE.fullmatch(line)) and (request := request_of(found[4])):
         queue, port, call, _, errno, taken = found.groups()
         if request.queue == int(queue):
@@ -233,18 +238,20 @@ def replay(entry, waits):
 
 
 def lines_of(name):
-    """The lines of a file, numbered from 1, without their ends; None for one without an end."""
+    """The lines of a file, numbered from 1, without their ends; None for one without an end, and
+    for a piece that is longer than any line of a journal."""
     try:
         with open(name, encoding="latin-1", newline="\n") as file:
-            for place, line in enumerate(file, 1):
+            for place, line in enumerate(iter(lambda: file.readline(LONGEST), ""), 1):
                 yield place, line[:-1] if line.endswith("\n") else None
-    except OSError as error:
-        raise Refused(f"{name}: {error.strerror}") from None
+    except (OSError, ValueError) as error:
+        raise Refused(f"{name}: {getattr(error, 'strerror', None) or error}") from None
 
 
 def read_journal(name):
     """The entries of a journal, queue by queue, and then the lines of the ports' logs."""
     place, queue, at, port, waits, is_closed, is_ended = 0, -1, 0, None, None, True, False
+    fragments = Fragments()
     for place, line in lines_of(name):
         if place == 1:
             if line == "nfq-journal 1":
@@ -272,6 +279,8 @@ def read_journal(name):
                 at += 1
                 found.at = at
                 found = found if replay(found, waits) else None
+            if found is not None and found.kind == "A":
+                meet(found, place, fragments)
         elif not is_closed:
             found = logged_of(line, port)
             is_closed = line == "X"
@@ -281,6 +290,13 @@ def read_journal(name):
     if not is_ended:
         raise Refused(f"{name}: cut short: the last line of a journal is `end`"
                       if place else f"{name}: empty, and no journal")
+
+
+def meet(arrival, place, fragments):
+    """Notes who sends an arrival's packet to whom; later fragments have their first one's ports."""
+    ends = ends_of(arrival.protocol, arrival.data)
+    fragments.learn(place, ends)
+    arrival.ends = fragments.follow(place, ends)
 
 
 def read_ledger(name):
@@ -301,53 +317,15 @@ def read_ledger(name):
         raise Refused(f"{name}: empty, and no ledger")
 
 
-def read_times(name):
-    """The times of a capture's frames, in seconds."""
-    try:
-        with open(name, "rb") as file:
-            head = file.read(24)
-            order = {b"\xd4\xc3\xb2\xa1": ("<", 1e6), b"\xa1\xb2\xc3\xd4": (">", 1e6),
-                     b"\x4d\x3c\xb2\xa1": ("<", 1e9), b"\xa1\xb2\x3c\x4d": (">", 1e9)}
-            if len(head) < 24 or head[:4] not in order:
-                raise Refused(f"{name}: not a pcap file")
-            end, unit = order[head[:4]]
-            while head := file.read(16):
-                if len(head) < 16:
-                    raise Refused(f"{name}: cut short")
-                seconds, parts, length, _ = struct.unpack(end + "IIII", head)
-                if len(file.read(length)) < length:
-                    raise Refused(f"{name}: cut short")
-                yield seconds + parts / unit
-    except OSError as error:
-        raise Refused(f"{name}: {error.strerror}") from None
-
-
 # ---- words
-
-
-@lru_cache(maxsize=4096)
-def address(data):
-    return str(ip_address(data))
 
 
 def flow(entry):
     """Who sends an arrival's packet to whom: `TCP 10.0.0.1:80 > 10.0.0.2:1024`."""
-    data = entry.data
-    if entry.protocol == IPV4 and len(data) >= 20:
-        ends = data[12:16], data[16:20]
-        protocol, header = data[9], (data[0] & 15) * 4
-        is_first = not (data[6] & 31 or data[7])
-    elif entry.protocol == IPV6 and len(data) >= 40:
-        ends = data[8:24], data[24:40]
-        protocol, header, is_first = data[6], 40, True
-    else:
+    ends = entry.ends or ends_of(entry.protocol, entry.data)
+    if ends is None:
         return {IPV4: "IPv4", IPV6: "IPv6"}.get(entry.protocol, f"type {entry.protocol}")
-    ends = [address(end) for end in ends]
-    if protocol in WITH_PORTS and is_first and len(data) >= header + 4:
-        ports = struct.unpack(">HH", data[header:header + 4])
-        ends = [f"[{end}]:{port}" if ":" in end else f"{end}:{port}"
-                for end, port in zip(ends, ports)]
-    return f"{PROTOCOLS.get(protocol, f'protocol {protocol}')} {ends[0]} > {ends[1]}"
+    return ends_words(ends)
 
 
 def verdict_words(value):
@@ -365,11 +343,11 @@ def verdict_words(value):
 
 def packets_words(pairs, what):
     """`packet 3 goes on`, or `packets 1, 2 and 3: goes on`."""
-    names = [str(packet) for packet, _ in pairs]
-    if len(names) == 1:
+    names = [str(packet) for packet, _ in (pairs if len(pairs) <= 8 else pairs[:4])]
+    if len(pairs) == 1:
         return f"packet {names[0]} {what}"
-    shown = ", ".join(names) if len(names) <= 8 else f"{', '.join(names[:4])} .. {names[-1]}"
-    return f"{len(names)} packets ({shown}), each {what}"
+    shown = ", ".join(names) if len(pairs) <= 8 else f"{', '.join(names)} .. {pairs[-1][0]}"
+    return f"{len(pairs)} packets ({shown}), each {what}"
 
 
 def flags_words(flags, mask):
@@ -425,7 +403,8 @@ def message_words(entry):
 
 def arrival_words(entry):
     """The packet of an arrival: `packet 2, TCP 10.0.0.1 > 10.0.0.2, 20 bytes`."""
-    words = f"packet {entry.packet}, {flow(entry)}, {len(entry.data)} bytes"
+    words = f"packet {entry.packet}, {vlan_words(entry.vlans())}{flow(entry)}, " \
+            f"{len(entry.data)} bytes"
     return words + "".join(f", {name} {value}" for name, value
                            in (("mark", entry.mark), ("priority", entry.priority)) if value)
 
@@ -459,20 +438,30 @@ def logged_words(line):
     return f"port {line.port}: message {line.call}: {queue}{request_words(line.request)}: {answer}"
 
 
-def concerns(entry, packet):
-    """Whether an entry is of this packet: it arrives, leaves, or a verdict names it."""
-    return (entry.kind == "A" and entry.packet == packet
-            or entry.named is not None and entry.named[0] == packet
-            or any(left == packet for left, _ in entry.left))
-
-
 def run_tool(main):
-    """Runs a tool: a file that isn't of its format is one line and status 1."""
+    """Runs a tool: what isn't of its format, or can't be written, is one line and status 1."""
+    name = os.path.basename(sys.argv[0])
+    if sys.stdout is None or sys.stderr is None:
+        sys.exit(1)
+    sys.stdout.reconfigure(encoding="utf-8", errors="surrogateescape")
     try:
         main()
         sys.stdout.flush()
+        return
     except Refused as why:
-        sys.exit(f"{sys.argv[0].rpartition('/')[2]}: {why}")
+        says = f"{name}: {why}"
     except BrokenPipeError:
-        sys.stderr.close()
-        sys.exit(1)
+        says = ""
+    except OSError as error:
+        says = f"{name}: {error.filename or 'standard output'}: {error.strerror or error}"
+    except MemoryError:
+        says = f"{name}: out of memory"
+    except KeyboardInterrupt:
+        says = ""
+    try:
+        sys.stdout.flush()
+    except OSError:  # nothing more can be written there, at the end neither
+        os.dup2(os.open(os.devnull, os.O_WRONLY), sys.stdout.fileno())
+    if says:
+        print(says, file=sys.stderr)
+    sys.exit(1)
