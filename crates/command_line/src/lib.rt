@@ -12,6 +12,3 @@ pub use arguments::{
     Audit, Command, Generation, Inputs, Listing, Live, Migration, Play, RunSize, Sample,
     command_of, live_of,
 };
-
-#[cfg(test)]
-mod tests;

@@ -34,6 +34,3 @@ pub use laws::{
 };
 pub use ledger::ledger_text;
 pub use released::released_capture;
-
-#[cfg(test)]
-mod tests;

@@ -38,17 +38,6 @@ absent : (q : Option Bound) → is_none q ≡ true → q ≡ None
 absent None is = refl
 absent (Some q) is = absurd (let wrong : false ≡ true = is in cc)
 
-pub closed_when_bound : (downs : List Down) (f : Fed) → IsKept downs f →
-    is_none f.queue ≡ false → Closes downs f f
-closed_when_bound downs f kept bound = record {
-  queue = refl;
-  kept = kept;
-  opened = λ none. absurd (let wrong : true ≡ false =
-      sym (ap (λ (q : Option Bound). is_none q) none) ∙ bound in cc);
-  goes = λ h fits. fits;
-  came = λ h fits. fits;
-}
-
 module _ (downs : List Down) (old new : Fed) (kept : IsKept downs old) (none_bound : old.queue ≡ None)
     (queue : new.queue ≡ old.queue) where
   abbrev left : List Down

@@ -1,3 +1,2 @@
 mod Passing
 mod Sharing
-mod ForTests

@@ -7,8 +7,6 @@ mod feeder;
 mod feeding;
 mod laws;
 mod share;
-#[cfg(test)]
-mod tests;
 
 pub use feeder::Feeder;
 pub use laws::each_frame_is_one_shares;

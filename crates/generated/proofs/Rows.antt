@@ -1,7 +1,6 @@
 -- Packets that stand one behind the other, and are cut out again.
-use Rattle.std.proofs.Common.{◌≡◌, ℕ, zero, suc, ◌+◌, ◌-◌, ◌<◌, ◌≤◌, List, [], ◌++◌, length, take}
+use Rattle.std.proofs.Common.{◌≡◌, ℕ, suc, ◌+◌, ◌-◌, ◌<◌, ◌≤◌, List, ◌++◌, length, take}
 use Rattle.std.proofs.Common.{drop, ap, sym, ◌∙◌, arith, append_assoc, length-append, length-drop}
-use Rattle.std.proofs.Common.{append-nil}
 use Rattle.std.specs.Prelude.{slice_range}
 use Rattle.std.proofs.lemmas.List.{drop-drop, drop_at, take-append-le, take_all}
 use Rattle.rand_core.specs.Steps.{stream_of, steps_u64_high}
@@ -41,14 +40,6 @@ filled_on number count given w old new within same grown so_far =
     ∙ ap (λ v. old ++ (packet v ++ after)) same
     ∙ ap (λ (bytes : List ℕ). old ++ bytes) (sym (next number count given within))
     ∙ so_far
-
-pub filled_all : (number count : ℕ) (bytes : List ℕ) →
-    bytes ++ packets_from number (count + 1) (count - count) ≡ packets_from number 1 count →
-    bytes ≡ packets_from number 1 count
-filled_all number count bytes so_far =
-    let none : count - count ≡ 0 = omega arith in
-    sym (append-nil bytes)
-    ∙ ap (λ n. bytes ++ packets_from number (count + 1) n) (sym none) ∙ so_far
 
 -- ---- cut out again
 

@@ -18,6 +18,3 @@ pub use laws::{
     captures_are_files, packets_are_ipv4, records_are_of_words, texts_are_files, words_are_outputs,
 };
 pub use texts::{rules_text, script_text};
-
-#[cfg(test)]
-mod tests;

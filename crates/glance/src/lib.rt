@@ -15,6 +15,3 @@ pub use laws::{readings_were_published, totals_stand_in_one_word};
 pub use pass::GlancePass;
 pub use totals::Totals;
 pub use writer::{Writer, Writers};
-
-#[cfg(test)]
-mod tests;

@@ -26,6 +26,3 @@ pub use laws::{
 pub use log::{AskWords, Did, Dids, PortLog};
 pub use queue_core::{Event, Reply};
 pub use requests::queue_of;
-
-#[cfg(test)]
-mod tests;

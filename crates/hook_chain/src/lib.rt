@@ -25,6 +25,3 @@ pub use reading::read_tables;
 pub use rule::{MarkTest, Pick, Rule};
 pub use tables::Tables;
 pub use text_lines::LineFault;
-
-#[cfg(test)]
-mod tests;

@@ -126,6 +126,3 @@ fn write_to<R: Files + Print>(runtime: &R, path: &str, at: u64, piece: &[u8]) ->
     file.seek(SeekFrom::Start(at))?;
     file.write(piece)
 }
-
-#[cfg(test)]
-mod tests;

@@ -14,6 +14,3 @@ pub use file_host::FileHost;
 pub use host::{Failed, Host};
 pub use memory_host::MemoryHost;
 pub use whole::{ReadStop, WriteFault, read_whole, write_on, write_whole};
-
-#[cfg(test)]
-mod tests;

@@ -4,7 +4,7 @@ use Rattle.std.proofs.Common.{set, refl, sym, ap, arith}
 use Rattle.std.proofs.lemmas.List.Elements.{All-cons, All-nil}
 use mathlib.Core.Option.{some, some-ne-none}
 use lib.ListN.{get_elem?}
-use Rattle.crossbeam_deque.specs.Tasks.{Pushes, Takes, Forks, Merges, FindsFew, Finds}
+use Rattle.crossbeam_deque.specs.Tasks.{Pushes, Takes, Forks, Merges, Finds}
 use Rattle.inspector_pool.specs.declared.deque.Tally.{Tally}
 use Rattle.inspector_pool.specs.Answers.{times}
 use Rattle.inspector_pool.specs.Rule.{tally, all_parts, first_tally, guest_tally, cut_tally}
@@ -154,7 +154,3 @@ finds id v views h at all x =
     (λ i u ne at_u. ap (times x)
     ((h.each i u at_u).idle (alone views id v at (omega arith) i u ne at_u))) in
     omega arith
-
-pub finds_few : (id : ℕ) (v : Tally) → FindsFew EachOnce 0 id v (AreAllTaken v)
-finds_few id v [] views none h at = finds id v views h at
-finds_few id v (x ∷ xs) views none h at = absurd (omega arith)

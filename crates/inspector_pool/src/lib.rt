@@ -18,6 +18,3 @@ pub use laws::{
 };
 pub use lists::{AsksList, Notices, Share, Shares};
 pub use pool::{LEAST_WORKERS, MOST_NOTICES, MOST_WORKERS, PoolAnswers, pool_answers};
-
-#[cfg(test)]
-mod tests;

@@ -22,6 +22,3 @@ pub use reading::read_script;
 pub use script::{Downs, Script};
 pub use script_lines::{Ask, Asks, Down};
 pub use text_lines::LineFault;
-
-#[cfg(test)]
-mod tests;

@@ -17,6 +17,3 @@ mod vlan;
 
 pub use frame::{LinkCut, link_cut};
 pub use packet::{IpFields, fields};
-
-#[cfg(test)]
-mod tests;

@@ -8,7 +8,6 @@ use Rattle.std.specs.Cmp.{nat_cmp_is}
 use Rattle.std.specs.declared.cmp.Ordering.{Ordering}
 use Rattle.std.specs.declared.cmp.Ordering.TheVariants.{Less, Equal, Greater}
 use Rattle.std.proofs.lemmas.Bool.{cases_Bool, eq-eqb, ne_eqb}
-use Rattle.std.proofs.lemmas.List.{append-nil}
 use Rattle.std.proofs.lemmas.Map.Lookups.{exact_unsigned}
 use Rattle.histories.specs.declared.entry.Entry.{Entry}
 use Rattle.histories.specs.History.{history}
@@ -85,10 +84,3 @@ underway_on entries rest others e old new first last found next watches finds is
       (first_on u.before e first found u.first_is
       (finds (history e.queue u.before) (u.watched e.queue)));
 }
-
--- at the end
-pub all_watched : (entries rest : List Entry) (queues : WatchedQueues) (first : Option Place1) →
-    rest ≡ [] → IsUnderway entries rest queues first → IsFirstOf entries first
-all_watched entries rest queues first none u =
-    subst (λ es. IsFirstOf es first)
-    (sym (u.split ∙ ap (λ es. u.before ++ es) none ∙ append-nil u.before)) u.first_is

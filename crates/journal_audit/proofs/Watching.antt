@@ -60,11 +60,6 @@ module _ (so_far : List Entry) (e : Entry) (w v : Watched) (is : IsWatched so_fa
       first_here so_far e v.length (longer ∙ ap (λ n. n + 1) is.length_is) (is.legal was).0
       (not_a_step was no_step)
 
--- what wasn't legal may be said to go on
-pub none_illegal : (so_far : List Entry) (e : Entry) (w : Watched) → IsWatched so_far w →
-    w.is_legal ≡ false → IsLegal so_far → IsLegal (so_far ++ e ∷ [])
-none_illegal so_far e w is was legal = absurd (is.illegal was legal)
-
 pub none_goes_on : (so_far : List Entry) (e : Entry) (w : Watched) → IsWatched so_far w →
     w.is_legal ≡ true → IsStep w.queue e → IsLegal so_far → IsLegal (so_far ++ e ∷ [])
 none_goes_on so_far e w is was one legal =

@@ -17,10 +17,3 @@ pub use first_illegal::{Place1, check_histories};
 pub use journeys_audit::check_journeys;
 pub use laws::{packets_of_a_capture_arrive, packets_of_a_capture_differ};
 pub use makers::check_makers;
-
-#[cfg(test)]
-mod feeder_tests;
-#[cfg(test)]
-mod journey_tests;
-#[cfg(test)]
-mod tests;

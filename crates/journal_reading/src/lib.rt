@@ -18,6 +18,3 @@ pub use laws::{
     no_line_of_a_journal_is_refused, values_have_journals_of_their_own,
 };
 pub use reading::{read_either_journal, read_journal, read_old_journal};
-
-#[cfg(test)]
-mod tests;

@@ -14,6 +14,3 @@ pub use fits::histories_fit;
 pub use line_room::entry_room;
 pub use version::Version;
 pub use writing::{append_entry, append_heading, journal_tail, journal_text};
-
-#[cfg(test)]
-mod tests;

@@ -190,9 +190,6 @@ visited zero is = absurd (or_last (nat_le last_visit 0) is)
     or_last false wrong = absurd (cc)
 visited (suc visit) is = omega arith
 
-none_handed_on : (hs : List (Card × Decision)) (e : Entry) → hs ≡ [] → IsHandedOn hs e → ⊥
-none_handed_on hs e none on = subst (λ gs. IsHandedOn gs e) none on
-
 module _ (laws : TurnLaws) (alone : LeaveAlone) (places : ℕ) (s : Setting) where
   all_move : (t : Trail) (hs : List (Card × Decision)) (u : Trail) → AreInTime hs →
       AreInPlace t.known → CarriesAll places s hs t u → Moves IsLater t u

@@ -120,16 +120,6 @@ heard_then (Opening place) answers t dids is = absurd answers
 heard_then Working answers t dids is = inr is
 heard_then (Ending place) answers t dids is = inr is
 
--- what is due of a port: it owes something, or answers wait, or neither
-heard_due : (stage : Stage) (t u : Stand) (dids : List Did) →
-    (((t.owed ≡ []) × (t.pending ≡ [])) → (u.owed ≡ []) × (u.pending ≡ [])) →
-    HasHeard stage t dids → HasHeard stage u dids
-heard_due (Opening place) t u dids so is = is
-heard_due Working t u dids so (inl none) = inl (so none)
-heard_due Working t u dids so (inr is) = inr is
-heard_due (Ending place) t u dids so (inl none) = inl (so none)
-heard_due (Ending place) t u dids so (inr is) = inr is
-
 -- the kind of a message that it may send
 kind_due : (stage : Stage) (ports : List ℕ) (port : ℕ) (x : Side) (m : NetlinkMessage)
     (ds : List Due) (fresh : Bool) (dids : List Did) → MaySpeak ports port stage x →

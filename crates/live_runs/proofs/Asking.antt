@@ -10,13 +10,12 @@ use Rattle.live_runs.specs.Doing.{IsQuiet}
 use Rattle.live_runs.specs.Meetings.{IsAsk}
 use Rattle.live_runs.specs.Seen.{EachIs, IsNone, Ours, OursAre, Seen, Shares, Theirs, TheirsAre}
 use Rattle.live_runs.specs.Seen.{all_theirs, entries, entry}
-use Rattle.live_runs.specs.Stages.{IsPlain, IsSegment}
+use Rattle.live_runs.specs.Stages.{IsSegment}
 use Rattle.live_runs.proofs.Covering.{clash, ours_at, theirs_by_index}
 use Rattle.live_runs.proofs.Fenced.{front_owned, segment_is, segment_owned}
 use Rattle.live_runs.proofs.Following.{segment}
 use Rattle.live_runs.proofs.Marks.{each_append, none_is, nothing_ours, ours_append, ours_as}
 use Rattle.live_runs.proofs.Marks.{theirs_front}
-use Rattle.live_runs.proofs.Plain.{asks_are_plain}
 
 -- where nobody else has anything of its own in a segment, all of it is this one's
 all_mine : (count : ℕ → Bool) (more : ℕ → List Seen) (segment : List Entry) (port : ℕ) →
@@ -91,8 +90,3 @@ module _ (count : ℕ → Bool) (places : ℕ) (old new : ℕ → ℕ → List S
 
   pub asks_on : (k : ℕ) → k < places → EachIs IsAsk (whole k ++ seg k)
   asks_on k below = each_append IsAsk (whole k) (seg k) (asks fronts k below) (segment_asks k below)
-
-  pub opening_plain : (ports : List ℕ) (early late : ℕ) (k : ℕ) → k < places →
-      EachIs (IsPlain ports early late) (seg k)
-  opening_plain ports early late k below =
-      asks_are_plain ports early late (seg k) (segment_asks k below)

@@ -5,17 +5,16 @@ use Rattle.std.proofs.Common.{sym, true, ℕ}
 use Rattle.std.proofs.lemmas.Bool.{cases_Bool}
 use Rattle.std.proofs.lemmas.Bool.Decides.{nat_tests}
 use Rattle.std.proofs.lemmas.List.Elements.{All-head, All-tail}
-use Rattle.std.specs.Prelude.{All, map}
+use Rattle.std.specs.Prelude.{map}
 use Rattle.netlink_codec.specs.Messages.{NetlinkMessage, first_message, has_message, pad}
 use Rattle.netlink_codec.specs.Messages.{told_length, told_message}
 use Rattle.inspector_script.specs.Scripts.{ScriptValue}
 use Rattle.made_runs.specs.Datagrams.{AsksWell, cut_in, with_those_behind}
 use Rattle.made_runs.specs.Log.{Due, Message, Note, is_some_due}
-use Rattle.made_runs.specs.NoticeTexts.{fits}
 use Rattle.live_runs.specs.Doing.{IsCutting, IsDoing}
 use Rattle.live_runs.specs.Passes.{Pass, Speaks, SpeaksFirst}
 use Rattle.live_runs.specs.Stages.{MaySpeak, Stage}
-use Rattle.live_runs.specs.Stands.{AtEnd, Now, Side, cut_side, cut_then, side}
+use Rattle.live_runs.specs.Stands.{AtEnd, Now, Side, cut_side, side}
 use Rattle.live_runs.proofs.Acting.{doing_speaks}
 use Rattle.live_runs.proofs.Known.{ClosingLaws, Conserve, LogLaws}
 
@@ -53,15 +52,6 @@ module _ (logs : LogLaws) (laws : ClosingLaws) (conserve : Conserve) (workers : 
 
   abbrev Done : Pass → Type 0
   Done pass = IsDoing workers script places stage port was start_at (side x ds) pass
-
-  pub cutting_begins : (ms : List NetlinkMessage) (pass : Pass) → All AsksWell ms →
-      IsDoing workers script places stage port was start_at (cut_then x ms ds) pass → Cut ms pass
-  cutting_begins ms pass fits is = record {
-    fresh = is_some_due (map Message ms);
-    some = λ so. so;
-    short = fits;
-    is = is;
-  }
 
   unfresh : (y : Side) (due : List Due) → cut_side y due false ≡ side y due
   unfresh (Now groups ends) due = refl

@@ -112,11 +112,6 @@ NextAskLaw = (workers : ℕ) (script : ScriptValue) (places port : ℕ) (asks le
     HasSent workers script places port words mid new →
     HasAsked workers script places port asks left old new
 
-pub none_said : NoAskLaw → (script : ScriptValue) (places port : ℕ) (asks : List Ask)
-    (pass : Pass) → SaysTo script places port asks asks pass pass
-none_said law script places port asks pass =
-    record { each = λ workers. law workers script places port asks pass }
-
 -- the next of them are words
 pub begins_so : (asks rest : List Ask) (ask : Ask) (words : AskWords) → asks ≡ ask ∷ rest →
     ask ≡ Words words → asks ≡ Words words ∷ rest
@@ -135,11 +130,6 @@ said_on law script places port asks left rest words begun old new steps so_far s
 pub words_on : (left rest : List Ask) (words : AskWords) → left ≡ Words words ∷ rest →
     AreWords left → AreWords rest
 words_on left rest words steps are = subst (λ (l : List Ask). AreWords l) steps are
-
-pub close_is_none : (left rest : List Ask) (ask : Ask) → left ≡ ask ∷ rest → ask ≡ Close →
-    AreWords left → ⊥
-close_is_none left rest ask steps is are =
-    subst (λ (l : List Ask). AreWords l) (steps ∙ ap (λ (a : Ask). a ∷ rest) is) are
 
 pub next_fits : (left rest : List Ask) (words : AskWords) → left ≡ Words words ∷ rest →
     All IsAsk left → IsWords words

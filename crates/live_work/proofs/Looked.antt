@@ -1,5 +1,10 @@
 -- A port looks into its mailbox: what is known after each look.
-use Rattle.std.proofs.Common.{◌≡◌, [], ℕ, List, Option, Some, None, ap, subst, sym}
+use Rattle.std.proofs.Common.{◌≡◌, ◌<◌, ◌+◌, ◌∙◌, [], ◌∷◌, ℕ, List, Option, Some, None, ap, refl}
+use Rattle.std.proofs.Common.{subst, sym, true, false, arith, length}
+use Rattle.std.specs.Prelude.{◌↔◌}
+use Rattle.std.proofs.lemmas.List.{length-append}
+use Rattle.mailbox.specs.declared.view.Post.{Post}
+use Rattle.mailbox.specs.Views.{ReceiverView}
 use Rattle.packet_entry.specs.declared.letter.Letter.{Letter}
 use Rattle.script_lines.specs.declared.ask.Ask.{Ask}
 use Rattle.inspector_script.specs.Scripts.{ScriptValue}
@@ -16,7 +21,8 @@ use Rattle.live_runs.specs.Passes.{Pass, Receives}
 use Rattle.live_passes.specs.Numbered.{StaysPort}
 use Rattle.live_passes.specs.Views.{port_pass}
 use Rattle.live_work.specs.Sending.{SaysTo}
-use Rattle.live_work.specs.Looking.{LooksOn}
+use Rattle.live_work.specs.Looking.{LooksOn, heard_by}
+use Rattle.live_work.specs.Minds.{HearsNothing}
 
 -- ---- the laws of looks
 
@@ -103,11 +109,28 @@ looks_both law script places a b c port one two workers = record {
       (two workers).on);
 }
 
--- the same with so many workers
-pub looks_on_by : NextLookLaw → (workers : ℕ) (script : ScriptValue) (places : ℕ)
-    (a b c : PortView) → b.port ≡ a.port → LooksOn workers script places a b →
-    LooksOn workers script places b c → LooksOn workers script places a c
-looks_on_by law workers script places a b c port one two = record {
-  on = law workers script places a.port (port_pass a) (port_pass b) (port_pass c) one.on
-      (subst (λ (p : ℕ). GoesOn workers script places p (port_pass b) (port_pass c)) port two.on);
-}
+-- ---- whether there was a notice
+
+-- a letter that is received is one more
+pub one_more_heard : (old new : PortView) (l : Letter) → view.Receives old new (Some l) →
+    heard_by new ≡ heard_by old + 1
+one_more_heard old new l got =
+    ap (λ (p : PortView). heard_by p) got.1
+    ∙ length-append old.receiver.received ((record { from = got.0; letter = l }) ∷ [])
+
+-- and messages receive nothing
+pub still_heard : (old new : PortView) → HearsNothing old new → heard_by new ≡ heard_by old
+still_heard old new none = ap (λ (r : ReceiverView). length r.received) none.receiver
+
+pub found_one : (old mid new : PortView) (l : Letter) → view.Receives old mid (Some l) →
+    HearsNothing mid new → (true ≡ true) ↔ (heard_by old < heard_by new)
+found_one old mid new l got none = (
+  λ same. omega (arith, one_more_heard old mid l got, still_heard mid new none),
+  λ less. refl,
+)
+
+pub found_none : (old new : PortView) → view.Receives old new None →
+    (false ≡ true) ↔ (heard_by old < heard_by new)
+found_none old new is =
+    let same : heard_by new ≡ heard_by old = ap (λ (p : PortView). heard_by p) is in
+    (λ wrong. absurd (cc wrong), λ less. absurd (omega (arith, less, same)))

@@ -149,25 +149,6 @@ hears_unread law script places m l ns start mid new told port receives was = rec
       (port_pass new) pool (was.waits workers pool) receives);
 }
 
--- nothing was received
-pub hears_nothing : (script : ScriptValue) (places : ℕ) (m : Machine) (ns : List Notice)
-    (b : Bool) (start mid new : PortView) → new.port ≡ mid.port →
-    port_pass new ≡ port_pass mid → HasReceived script places m ns b start mid →
-    HasReceived script places m ns b start new
-hears_nothing script places m ns b start mid new port same was = record {
-  port = port ∙ was.port;
-  waits = λ workers pool.
-      subst (λ (p : Pass). LeavesWaiting workers script places start.port (groups script m ns b)
-      (port_pass start) p) (sym same) (was.waits workers pool);
-}
-
-pub heard_none : NoneLaw → (script : ScriptValue) (places : ℕ) (m : Machine) (start : PortView) →
-    HasReceived script places m [] false start start
-heard_none law script places m start = record {
-  port = refl;
-  waits = λ workers pool. law workers script places start.port (port_pass start);
-}
-
 -- its answer closes nothing, as those before it
 pub words_more : (s : ScriptValue) (m : Machine) (ns : List Notice) (n : Notice) →
     All AreWords (answers s m.place m.received ns) →

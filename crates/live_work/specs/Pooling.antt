@@ -1,6 +1,7 @@
 -- How a port with a pool behind it goes on answering: it receives notices while their answers wait,
 -- and then sends these.
-use Rattle.std.specs.Prelude.{◌≡◌, ℕ, Bool, true, List, [], ◌∷◌, ◌++◌, map, if◌then◌else◌}
+use Rattle.std.specs.Prelude.{◌≡◌, ◌+◌, ℕ, Bool, true, List, [], ◌∷◌, ◌++◌, map, if◌then◌else◌}
+use Rattle.std.specs.Prelude.{length}
 use Rattle.nfqa_msgs.specs.declared.notice.Notice.{Notice}
 use Rattle.script_lines.specs.declared.ask.Ask.{Ask}
 use Rattle.inspector_script.specs.Scripts.{Machine, ScriptValue}
@@ -21,6 +22,10 @@ groups script m notices unread =
     if unread
     then map all_due (answers script m.place m.received notices) ++ [] ∷ []
     else map all_due (answers script m.place m.received notices)
+
+-- how many notices these are, with the one behind them that can't be read
+abbrev pub as_many_as : List Notice → Bool → ℕ
+as_many_as notices unread = if unread then length notices + 1 else length notices
 
 -- These notices were received, and one more where it couldn't be read; their answers wait.
 pub record HasReceived (script : ScriptValue) (places : ℕ) (m : Machine) (notices : List Notice)

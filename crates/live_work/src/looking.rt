@@ -1,11 +1,11 @@
 //! How a port looks into its mailbox and answers its notices.
 
-ghost use Rattle.std.specs.Prelude.{ℕ, OnOk};
+ghost use Rattle.std.specs.Prelude.{◌≡◌, ◌<◌, ◌↔◌, ℕ, true, IfOk, OnOk};
 ghost use Rattle.plane.specs.Passes.{IsPortOf};
 ghost use Rattle.plane.specs.Planes.{places_of};
 ghost use Rattle.live_work.specs.Minds.{IsMind};
 ghost use Rattle.live_passes.specs.Numbered.{StaysPort};
-ghost use Rattle.live_work.specs.Looking.{LooksOn};
+ghost use Rattle.live_work.specs.Looking.{LooksOn, heard_by};
 
 use crate::mind::Mind;
 use crate::sending::say_all;
@@ -40,6 +40,8 @@ pub fn look<R: Wait, G: Gate>(
     ensures mind { OnOk result (IsMind script.now pass.new mind.new) }
     ensures on { OnOk result ((workers : ℕ) →
         LooksOn workers script.now (places_of plane.now) pass.old pass.new) }
+    ensures found { IfOk result (λ found.
+        (found ≡ true) ↔ (heard_by pass.old < heard_by pass.new)) }
 {
     ports_speak_by_their_passes();
     what_a_port_does_adds_up();

@@ -1,6 +1,6 @@
 //! How a port answers its notices with a pool of workers behind it.
 
-ghost use Rattle.std.specs.Prelude.{◌≡◌, ◌≤◌, ◌<◌, ℕ, [], true, length, All, IfOk, OnOk};
+ghost use Rattle.std.specs.Prelude.{◌≡◌, ◌≤◌, ◌<◌, ◌+◌, ◌↔◌, ℕ, [], true, length, All, IfOk, OnOk};
 ghost use Rattle.script_lines.specs.Limits.{IsAsk};
 ghost use Rattle.inspector_pool.specs.Answers.{answers};
 ghost use Rattle.inspector_pool.specs.Numbers.{least_workers, most_notices, most_workers};
@@ -10,9 +10,9 @@ ghost use Rattle.port_scripts.specs.Words.{AreWords};
 ghost use Rattle.plane.specs.Passes.{IsPortOf};
 ghost use Rattle.plane.specs.Planes.{places_of};
 ghost use Rattle.live_passes.specs.Numbered.{StaysPort};
-ghost use Rattle.live_work.specs.Looking.{LooksOn};
+ghost use Rattle.live_work.specs.Looking.{LooksOn, heard_by};
 ghost use Rattle.live_work.specs.Minds.{IsMind};
-ghost use Rattle.live_work.specs.Pooling.{HasReceived, LeavesAnswers};
+ghost use Rattle.live_work.specs.Pooling.{HasReceived, LeavesAnswers, as_many_as};
 
 use crate::looking::LAST_LOOK;
 use crate::mind::Mind;
@@ -56,6 +56,8 @@ fn receive_batch<R: Wait>(
         mind.old.machine.place mind.old.machine.received b.notices)) }
     ensures received { IfOk result (λ b. HasReceived script.now (places_of plane.now)
         mind.old.machine b.notices b.unread pass.old pass.new) }
+    ensures heard { IfOk result (λ b. heard_by pass.new
+        ≡ heard_by pass.old + as_many_as b.notices b.unread) }
 {
     ports_speak_by_their_passes();
     a_pool_answers_in_groups();
@@ -113,6 +115,7 @@ fn send_answers<R: Wait, G: Gate>(
     requires pass { IsPortOf plane.now pass.old }
     requires mind { IsMind script.now pass.old mind.old }
     ensures stays { StaysPort plane.now pass.old pass.new }
+    ensures heard { heard_by pass.new ≡ heard_by pass.old }
     ensures mind { OnOk result (IsMind script.now pass.new mind.new) }
     ensures sent { OnOk result (LeavesAnswers script.now (places_of plane.now) answers []
         pass.old pass.new) }
@@ -146,6 +149,8 @@ pub fn look_by_pool<R: Threads + Wait + Sync, G: Gate, J: JobGate>(
     ensures stays { StaysPort plane.now pass.old pass.new }
     ensures mind { OnOk result (IsMind script.now pass.new mind.new) }
     ensures on { OnOk result (LooksOn workers script.now (places_of plane.now) pass.old pass.new) }
+    ensures found { IfOk result (λ found.
+        (found ≡ true) ↔ (heard_by pass.old < heard_by pass.new)) }
 {
     what_a_port_does_adds_up();
     a_pool_answers_in_groups();

@@ -5,4 +5,3 @@ pub mod Requesting
 pub mod Publishing
 pub mod Labels
 pub mod Results
-pub mod Only

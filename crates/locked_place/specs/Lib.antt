@@ -4,4 +4,3 @@ pub mod Shown
 pub mod Views
 pub mod Passes
 pub mod Turns
-pub mod Examples

@@ -17,6 +17,3 @@ pub use laws::{an_entry_is_a_point, senders_keep_up};
 pub use outlets::Outlets;
 pub use place::{Left, LockedPlace};
 pub use turns::{arrive, ask, close_port, device_down, put_lines};
-
-#[cfg(test)]
-mod tests;

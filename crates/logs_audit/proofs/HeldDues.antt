@@ -1,5 +1,5 @@
 -- What is due, as it is held: bytes and asks.
-use Rattle.std.proofs.Common.{◌≡◌, ◌∙◌, ◌<◌, ◌+◌, ℕ, List, [], ◌∷◌, ◌++◌, refl, sym, ap, subst}
+use Rattle.std.proofs.Common.{◌≡◌, ◌∙◌, ◌+◌, ℕ, List, [], ◌∷◌, ◌++◌, refl, sym, ap, subst}
 use Rattle.std.proofs.Common.{Bool, true, false, Option, Some, None, length, drop, arith}
 use Rattle.std.specs.Prelude.{All, map, slice_get, is_some, option_map, unwrap_or}
 use Rattle.std.proofs.lemmas.List.{drop-drop}
@@ -10,11 +10,11 @@ use Rattle.histories.specs.declared.log.AskWords.{AskWords}
 use Rattle.script_lines.specs.Limits.{IsAsk}
 use Rattle.script_lines.specs.declared.ask.Ask.{Ask}
 use Rattle.script_lines.specs.declared.ask.Ask.TheVariants.{Words, Close}
-use Rattle.made_runs.specs.Datagrams.{messages_in, bytes_of}
+use Rattle.made_runs.specs.Datagrams.{messages_in}
 use Rattle.made_runs.specs.Log.{Due, Still, Message, all_due, first_due}
 use Rattle.log_walks.specs.Walking.{IsLoggedAs, begun, settled}
 use Rattle.logs_audit.specs.declared.duties.Duties.{Duties}
-use Rattle.logs_audit.specs.Dues.{BeginWithWords, HasMessage, TakesUp, dues_of}
+use Rattle.logs_audit.specs.Dues.{BeginWithWords, HasMessage, dues_of}
 
 -- ---- a message that is due
 
@@ -82,33 +82,6 @@ settled_messages : (port call : ℕ) (ms : List NetlinkMessage) (ds : List Due) 
     settled port call (map Message ms ++ ds) ≡ begun ms (settled port call ds) ds
 settled_messages port call [] ds = refl
 settled_messages port call (m ∷ ms) ds = refl
-
--- nothing is taken up where a message is due, or no ask sends anything
-pub message_settled : (port call : ℕ) (d : Duties) → HasMessage d true →
-    dues_of d ≡ settled port call (dues_of d)
-message_settled port call d has =
-    let P : List Due → Type 0 = λ ds. ds ≡ settled port call ds in
-    subst P (sym has.2) refl
-
-pub words_settled : (port call : ℕ) (d : Duties) → HasMessage d false →
-    BeginWithWords d.asks false → dues_of d ≡ settled port call (dues_of d)
-words_settled port call d has none =
-    let P : List Due → Type 0 = λ ds. ds ≡ settled port call ds in
-    subst P (sym has) (sym (none port call))
-
-pub taken_up : (port call : ℕ) (old : Duties) (words : AskWords) (bytes : List ℕ)
-    (rest : List Ask) → HasMessage old false → old.asks ≡ Words words ∷ rest →
-    bytes ≡ bytes_of port call words →
-    TakesUp port call old (record { bytes = bytes; used = 0; asks = rest }) true
-taken_up port call old words bytes rest has asks is = (
-  ap (λ bs. settled port call (map Message (messages_in bs) ++ all_due rest)) is
-      ∙ settled_messages port call (messages_in (bytes_of port call words)) (all_due rest)
-      ∙ sym (ap (settled port call) (has ∙ ap all_due asks)),
-  shorter,
-)
-  where
-    shorter : length rest < length old.asks
-    shorter = let more = ap length asks in omega arith
 
 pub rest_held : (asks : List Ask) (words : AskWords) (rest : List Ask) → All IsAsk asks →
     asks ≡ Words words ∷ rest → All IsAsk rest

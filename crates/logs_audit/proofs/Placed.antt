@@ -1,12 +1,12 @@
 -- Ports, one after the other, and their logs.
 use Rattle.std.proofs.Common.{◌≡◌, ◌∙◌, ◌<◌, ◌^◌, ◌+◌, ℕ, zero, suc, List, [], ◌∷◌, ◌++◌, refl, sym}
 use Rattle.std.proofs.Common.{ap, subst, Bool, true, false, Option, Some, None, Result, Ok, Err}
-use Rattle.std.proofs.Common.{arith, get_or, length, take, ◌≤◌}
+use Rattle.std.proofs.Common.{arith, get_or, length, take}
 use Rattle.std.specs.Prelude.{All, IfOk, option_map, nat_eq, ◌==◌, ◌||◌, Vec, unwrap_or}
 use Rattle.std.specs.List.{AllByRecursion, list_any}
 use Rattle.std.specs.declared.alloc.Global.{Global}
 use Rattle.std.proofs.lemmas.Bool.{eqb-true}
-use Rattle.std.proofs.lemmas.List.{take_more, take_all}
+use Rattle.std.proofs.lemmas.List.{take_more}
 use Rattle.std.proofs.lemmas.List.Elements.{recursion_from_All}
 use Rattle.histories.specs.declared.histories.Histories.{Histories}
 use Rattle.histories.specs.declared.log.Did.{Did}
@@ -117,12 +117,6 @@ pub walked_stopped : (script : ScriptValue) (h : Histories) (i : ℕ) → HavePl
 walked_stopped script h i places within stuck =
     let at = placed_at script places i within in
     port_stuck script h i (get_or script.ports i 0) at.0 at.1 stuck
-
-pub walked_whole : (script : ScriptValue) (h : Histories) (i : ℕ) (ks : List PortKinds) →
-    length script.ports ≤ i → ArePortsWalked script h (take i script.ports) ks →
-    IsWalkedAll script h (Some ks)
-walked_whole script h i ks all walked =
-    subst (λ ps. ArePortsWalked script h ps ks) (take_all i script.ports all) walked
 
 -- ---- judged
 

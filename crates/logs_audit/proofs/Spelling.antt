@@ -15,7 +15,6 @@ use Rattle.histories.specs.declared.log.AskWords.{AskWords}
 use Rattle.histories.specs.declared.log.AskWords.TheVariants.{Plain, Raw}
 use Rattle.packet_moves.specs.Messages.{words_of}
 use Rattle.log_walks.specs.Telling.{IsOwn}
-use Rattle.logs_audit.specs.Dues.{IsSpelled}
 
 -- ---- words
 
@@ -79,35 +78,3 @@ asks_for_it front request_law reading port call request m port_fits call_fits fi
     ap decoded same ∙ request_law port call request fits
 
 -- ---- raw bytes
-
--- what is logged as bytes are a message's own bytes, and no spelling
-pub words_are_raw : (port call : ℕ) (whole : List ℕ) (d : Decoded) (bytes : List ℕ) →
-    words_of port call whole d ≡ Raw bytes →
-    (whole ≡ bytes) × (IsSpelled port call whole d → ⊥)
-words_are_raw port call whole Nothing bytes is = (ap (λ w. bytes_in w whole) is, λ s. s)
-words_are_raw port call whole (Refused errno) bytes is = (ap (λ w. bytes_in w whole) is, λ s. s)
-words_are_raw port call whole (Asked asked) bytes is =
-    by (bytes_eq whole (spelling port call asked)) refl is
-  where
-    by : (b : Bool) → bytes_eq whole (spelling port call asked) ≡ b →
-        cond b (Plain asked) (Raw whole) ≡ Raw bytes →
-        (whole ≡ bytes) × (whole ≡ spelling port call asked → ⊥)
-    by true test same = let wrong : Plain asked ≡ Raw bytes = same in absurd cc
-    by false test same = (
-      ap (λ w. bytes_in w whole) same,
-      λ s. let wrong : true ≡ false =
-          sym ((bytes_eq-Decides whole (spelling port call asked)).1 s) ∙ test in cc,
-    )
-
-pub raw_words : (port call : ℕ) (whole : List ℕ) (d : Decoded) (bytes : List ℕ) →
-    whole ≡ bytes → (IsSpelled port call whole d → ⊥) → words_of port call whole d ≡ Raw bytes
-raw_words port call whole Nothing bytes is other = ap (λ bs. Raw bs) is
-raw_words port call whole (Refused errno) bytes is other = ap (λ bs. Raw bs) is
-raw_words port call whole (Asked asked) bytes is other =
-    by (bytes_eq whole (spelling port call asked)) refl
-  where
-    by : (b : Bool) → bytes_eq whole (spelling port call asked) ≡ b →
-        cond b (Plain asked) (Raw whole) ≡ Raw bytes
-    by true test =
-        absurd (other ((bytes_eq-Decides whole (spelling port call asked)).0 test))
-    by false test = ap (λ bs. Raw bs) is

@@ -1,8 +1,8 @@
 -- The walk along a port's log, step by step.
-use Rattle.std.proofs.Common.{◌≡◌, ◌∙◌, ℕ, List, [], ◌∷◌, ◌++◌, sym, ap, subst, Bool, true}
+use Rattle.std.proofs.Common.{◌≡◌, ◌∙◌, ℕ, List, [], ◌++◌, sym, ap, subst, Bool, true}
 use Rattle.std.proofs.Common.{false}
-use Rattle.std.proofs.Common.{Option, Some, Result, Ok, Err}
-use Rattle.std.specs.Prelude.{IfOk, map}
+use Rattle.std.proofs.Common.{Option, Result, Ok, Err}
+use Rattle.std.specs.Prelude.{IfOk}
 use Rattle.histories.specs.declared.log.AskWords.{AskWords}
 use Rattle.histories.specs.declared.log.Did.{Did}
 use Rattle.histories.specs.declared.log.Did.TheVariants.{Sent}
@@ -12,10 +12,9 @@ use Rattle.made_runs.specs.Log.{Due, first_due, owed_then, ends_then}
 use Rattle.made_runs.specs.Order.{kind_by}
 use Rattle.log_walks.specs.Walking.{Known, Walk, AllGoOn, IsLoggedAs, ends_at, settled}
 use Rattle.log_walks.specs.Walking.{timed_of}
-use Rattle.log_walks.specs.Walking.{IsDone, IsWalked, beginning, ended, walked_all}
-use Rattle.logs_audit.specs.PortWalks.{GoesOver, IsWalkedWith, Steps}
+use Rattle.log_walks.specs.Walking.{walked_all}
+use Rattle.logs_audit.specs.PortWalks.{Steps}
 use Rattle.logs_audit.specs.PortWalks as port_walks
-use Rattle.makers_audit.specs.declared.kinds.KindAt.{KindAt}
 
 -- ---- a port that owes nothing sends a message of its end
 
@@ -70,60 +69,4 @@ module _ (known : Known) (script : ScriptValue) (place port : ℕ) where
     back = subst (AllGoOn known script place port start) same;
     leads = ap (walked_all known script place port start) (sym same);
   }
-
-  pub over_on : (start now new : Walk) (all rest behind : List Did) (d : Did) →
-      rest ≡ d ∷ behind → Steps known script place port d now new true →
-      IsGoingOver start now all rest → IsGoingOver start new all behind
-  over_on start now new all rest behind d is steps over = record {
-    on = λ goes. let more = subst (AllGoOn known script place port now) is (over.on goes) in
-        subst (λ w. AllGoOn known script place port w behind) (sym steps.1) more.1;
-    back = λ goes. over.back (subst (AllGoOn known script place port now) (sym is)
-        (steps.0, subst (λ w. AllGoOn known script place port w behind) steps.1 goes));
-    leads = over.leads ∙ ap (walked_all known script place port now) is
-        ∙ ap (λ w. walked_all known script place port w behind) (sym steps.1);
-  }
-
-  pub over_stopped : (start now new : Walk) (all rest behind : List Did) (d : Did) →
-      rest ≡ d ∷ behind → Steps known script place port d now new false →
-      IsGoingOver start now all rest → AllGoOn known script place port start all → ⊥
-  over_stopped start now new all rest behind d is stops over goes =
-      stops (subst (AllGoOn known script place port now) is (over.on goes)).0
-
-  pub over_done : (start now : Walk) (all rest : List Did) → rest ≡ [] →
-      IsGoingOver start now all rest → GoesOver known script place port all start now true
-  over_done start now all rest none over = (
-    over.back (subst (AllGoOn known script place port now) (sym none) tt),
-    sym (over.leads ∙ ap (walked_all known script place port now) none),
-  )
-
   -- ---- a whole log
-
-  pub not_over : (dids : List Did) (start new : Walk) → start ≡ beginning script place →
-      GoesOver known script place port dids start new false →
-      IsWalked known script place port dids → ⊥
-  not_over dids start new is stops walks =
-      stops (subst (λ w. AllGoOn known script place port w dids) (sym is) walks.goes)
-
-  led_to : (dids : List Did) (start new : Walk) → start ≡ beginning script place →
-      GoesOver known script place port dids start new true →
-      new ≡ ended known script place port dids
-  led_to dids start new is goes =
-      goes.1 ∙ ap (λ w. walked_all known script place port w dids) is
-
-  pub not_done : (dids : List Did) (start new : Walk) → start ≡ beginning script place →
-      GoesOver known script place port dids start new true → (IsDone port new → ⊥) →
-      IsWalked known script place port dids → ⊥
-  not_done dids start new is goes open_ walks =
-      open_ (subst (IsDone port) (sym (led_to dids start new is goes)) walks.done)
-
-  pub whole_walk : (dids : List Did) (start new : Walk) → start ≡ beginning script place →
-      GoesOver known script place port dids start new true → IsDone port new →
-      (kinds : List KindAt) → map port_walks.timed_of kinds ≡ new.timed →
-      IsWalkedWith known script place port dids (Some kinds)
-  whole_walk dids start new is goes done kinds same = (
-    record {
-      goes = subst (λ w. AllGoOn known script place port w dids) is goes.0;
-      done = subst (IsDone port) (led_to dids start new is goes) done;
-    },
-    same ∙ ap (λ (w : Walk). w.timed) (led_to dids start new is goes),
-  )

@@ -12,6 +12,3 @@ mod port_walk;
 
 pub use judging::{Judged, judge_logs};
 pub use laws::one_arrival_makes_one_notice;
-
-#[cfg(test)]
-mod tests;

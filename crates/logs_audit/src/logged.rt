@@ -8,10 +8,9 @@ ghost use Rattle.histories.specs.declared.log.AskWords.TheVariants.{Plain};
 ghost use Rattle.log_walks.specs.Telling as telling;
 ghost use Rattle.logs_audit.specs.Dues as dues;
 
-use crate::numbers::numbers_fit;
 use histories::AskWords;
 use netlink_codec::{Message, one_message_in_front};
-use nfqa_msgs::{Decoded, Request, is_spelling, spelling_decodes_to_its_request};
+use nfqa_msgs::{Decoded, Request, is_spelling, numbers_fit, spelling_decodes_to_its_request};
 
 /// The most bytes that a payload has.
 const LONGEST_PAYLOAD: usize = 65_531;

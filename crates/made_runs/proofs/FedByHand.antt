@@ -23,7 +23,7 @@ use Rattle.made_runs.specs.FedExamples.{opens_7, ends_7, no_kinds}
 
 -- ---- fed
 
-abbrev line : Down
+abbrev pub line : Down
 line = record { device = 5; after = 1 }
 
 pub whole_fed : (request : Request) → IsFed down_5 (whole request)
@@ -37,24 +37,24 @@ whole_fed request = record {
 }
 
 -- where no line is left, no device goes down
-abbrev AreNoDowns : List Entry → Type 0
+abbrev pub AreNoDowns : List Entry → Type 0
 AreNoDowns [] = Unit {0}
 AreNoDowns (e ∷ es) = IsNoDown e.event × AreNoDowns es
 
-no_more : (q : Option Bound) (is : List Item) → flat_map lines_of is ≡ [] → AreItemsFrom q is →
+pub no_more : (q : Option Bound) (is : List Item) → flat_map lines_of is ≡ [] → AreItemsFrom q is →
     AreNoDowns (flat_map entries_of is)
 no_more q [] none are = tt
 no_more q (Was e ∷ is) none are = (are.0, no_more (replay_from q (e ∷ [])) is none are.1)
 no_more q (Fell d e ∷ is) wrong are = absurd (cc)
 no_more q (Passed d ∷ is) wrong are = absurd (cc)
 
-rest_of : (d l : Down) (ds : List Down) → d ∷ ds ≡ l ∷ [] → ds ≡ []
+pub rest_of : (d l : Down) (ds : List Down) → d ∷ ds ≡ l ∷ [] → ds ≡ []
 rest_of d l ds is = cc
 
-first_is : (e x : Entry) (es xs : List Entry) → e ∷ es ≡ x ∷ xs → e ≡ x
+pub first_is : (e x : Entry) (es xs : List Entry) → e ∷ es ≡ x ∷ xs → e ≡ x
 first_is e x es xs is = cc
 
-no_arrival : (e : Entry) (number device : ℕ) → e ≡ arrives number → e.event ≡ DeviceDown device → ⊥
+pub no_arrival : (e : Entry) (number device : ℕ) → e ≡ arrives number → e.event ≡ DeviceDown device → ⊥
 no_arrival e number device same down =
     let wrong : Arrive (packet number) false true ≡ DeviceDown device =
     sym (ap (λ (e : Entry). e.event) same) ∙ down in

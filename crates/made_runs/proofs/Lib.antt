@@ -14,3 +14,5 @@ pub mod Written
 pub mod LoggedByHand
 pub mod FedByHand
 pub mod HeardByHand
+pub mod SharesByHand
+pub mod PooledByHand

@@ -43,6 +43,10 @@ shuts port = at_3 (PortClosed port) (Flushed 0)
 abbrev pub down_5 : List Down
 down_5 = record { device = 5; after = 1 } ∷ []
 
+-- device 5 goes down before all frames
+abbrev pub early_5 : List Down
+early_5 = record { device = 5; after = 0 } ∷ []
+
 -- devices 5 and 6 go down after frames 1 and 2, and device 7 before all frames
 abbrev pub three_downs : ScriptValue
 three_downs =

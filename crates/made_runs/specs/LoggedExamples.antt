@@ -4,7 +4,7 @@ use Rattle.std.specs.Prelude.{ℕ, false, List, [], ◌∷◌}
 use Rattle.netlink_codec.specs.Messages.{NetlinkMessage}
 use Rattle.histories.specs.declared.log.AskWords.TheVariants.{Raw}
 use Rattle.histories.specs.declared.histories.Histories.{Histories}
-use Rattle.script_lines.specs.declared.condition.Condition.TheVariants.{Every}
+use Rattle.script_lines.specs.declared.condition.Condition.TheVariants.{Any, Every}
 use Rattle.script_lines.specs.declared.template.Template.TheVariants as template
 use Rattle.inspector_script.specs.Scripts.{ScriptValue, held}
 use Rattle.packet_entry.specs.declared.letter.Letter.{Letter}
@@ -51,6 +51,18 @@ every_second =
     (record {
       opening = [];
       lines = record { conditions = Every 2 ∷ []; asks = template.Raw (header 1) ∷ [] } ∷ [];
+      closing = [];
+      closes = false;
+    } ∷ [])
+
+-- port 7 sends message 2 in answer to every second notice, and message 1 to any other
+abbrev pub one_and_two : ScriptValue
+one_and_two =
+    held 1 0 0 [] (7 ∷ [])
+    (record {
+      opening = [];
+      lines = record { conditions = Every 2 ∷ []; asks = template.Raw (header 2) ∷ [] }
+          ∷ record { conditions = Any ∷ []; asks = template.Raw (header 1) ∷ [] } ∷ [];
       closing = [];
       closes = false;
     } ∷ [])

@@ -12,18 +12,18 @@ ghost use Rattle.made_runs.specs.Examples.{another_asks, closing_script, one_clo
 ghost use Rattle.made_runs.specs.Examples.{one_request, two_closings};
 ghost use Rattle.made_runs.specs.Examples.{logging, notes_by_7, notes_of_7, run_of_7};
 ghost use Rattle.made_runs.specs.Examples.{silence_of_7};
-ghost use Rattle.made_runs.specs.FedExamples.{down_5, whole, kinds_of_7, opens_7, ends_7};
+ghost use Rattle.made_runs.specs.FedExamples.{down_5, early_5, whole, kinds_of_7, opens_7, ends_7};
 ghost use Rattle.made_runs.specs.FedExamples.{comes_again, no_kinds, three_downs};
 ghost use Rattle.made_runs.specs.FedExamples.{binds, asks, arrives, falls, shuts};
-ghost use Rattle.made_runs.specs.Feeder.{downs_in_effect, IsFed};
+ghost use Rattle.made_runs.specs.Feeder.{downs_in_effect, IsFed, IsFedBy};
 ghost use Rattle.made_runs.specs.Order.{Ends, IsOrdered, kind_at, Opens};
 ghost use Rattle.packet_entry.specs.declared.letter.Letter.{Letter};
 ghost use Rattle.histories.specs.declared.log.AskWords.{AskWords};
 ghost use Rattle.made_runs.specs.Run.{IsMadeBy};
-ghost use Rattle.made_runs.specs.Log.{Begun, Got, Spoke};
+ghost use Rattle.made_runs.specs.Log.{Begun, Got, Spoke, Turned};
 ghost use Rattle.made_runs.specs.Run.{LogHolds, PortsHold, RequestsHold};
 ghost use Rattle.made_runs.specs.LoggedExamples.{ending_script, every_second, header, message};
-ghost use Rattle.made_runs.specs.LoggedExamples.{no_logs};
+ghost use Rattle.made_runs.specs.LoggedExamples.{no_logs, one_and_two};
 ghost use Rattle.made_runs.specs.NoticeTexts.{told_exactly};
 ghost use Rattle.nfqa_msgs.specs.NoticeWriting.{Told};
 ghost use Rattle.made_runs.specs.LoggedExamples.{opening_script};
@@ -138,4 +138,33 @@ pub fn hearing_by_hand()
         AreRequests (bound 16 ∷ []) 7 (Spoke 1 m 0 ∷ []) → ⊥ }
     ensures unasked { (m : NetlinkMessage) → decoded m ≡ Asked binding →
         AreRequests [] 7 (Spoke 1 m 0 ∷ []) → ⊥ }
+{}
+
+/// Histories of one queue that two feeders fed, or can't have fed, written out. Frames of two shares
+/// come in any order, and those of one share in theirs. No device goes down without a line; no line
+/// has effect before its own frame; and one before all frames has none behind a frame.
+pub fn shares_by_hand()
+    ensures across { IsFedBy 2 [] (arrives 2 ∷ arrives 1 ∷ []) }
+    ensures within { IsFedBy 2 [] (arrives 3 ∷ arrives 1 ∷ []) → ⊥ }
+    ensures lineless { IsFedBy 2 [] (falls 5 ∷ []) → ⊥ }
+    ensures early { IsFedBy 2 down_5 (falls 5 ∷ arrives 1 ∷ []) → ⊥ }
+    ensures behind { IsFedBy 2 early_5 (arrives 1 ∷ falls 5 ∷ []) → ⊥ }
+{}
+
+/// Logs of a port whose answers a pool works out, written out. Two notices are received one behind the
+/// other, and then answered in their order, each by its message; without a pool the second isn't
+/// received before the first is answered; and the answer to the second isn't sent first.
+pub fn pooled_logs_by_hand()
+    ensures pooled { (l m : Letter) (one two : Told) → told_exactly l.bytes ≡ Some one →
+        told_exactly m.bytes ≡ Some two → IsLog 2 one_and_two 0 7
+        (Got l ∷ Got m ∷ Turned ∷ Begun ∷ Spoke 1 (message 1) 0
+        ∷ Turned ∷ Begun ∷ Spoke 2 (message 2) 0 ∷ [])
+        (Received l.queue l.number l.visit ∷ Received m.queue m.number m.visit
+        ∷ Sent 1 (Raw (header 1)) None ∷ Sent 2 (Raw (header 2)) None ∷ []) }
+    ensures alone { (l m : Letter) (told : Told) (notes : List Note) (dids : List Did) →
+        told_exactly l.bytes ≡ Some told →
+        IsLog 1 one_and_two 0 7 (Got l ∷ Got m ∷ notes) dids → ⊥ }
+    ensures order { (l m : Letter) (told : Told) (notes : List Note) (dids : List Did) →
+        told_exactly l.bytes ≡ Some told → IsLog 2 one_and_two 0 7
+        (Got l ∷ Got m ∷ Turned ∷ Begun ∷ Spoke 1 (message 2) 0 ∷ notes) dids → ⊥ }
 {}

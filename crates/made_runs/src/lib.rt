@@ -8,7 +8,8 @@ mod laws;
 mod underway;
 
 pub use by_hand::{
-    feeding_and_order_by_hand, hearing_by_hand, logs_by_hand, parts_by_hand, runs_of_one_port,
+    feeding_and_order_by_hand, hearing_by_hand, logs_by_hand, parts_by_hand, pooled_logs_by_hand,
+    runs_of_one_port, shares_by_hand,
 };
 pub use laws::{
     datagrams_are_short, each_log_is_what_is_told, each_port_has_its_place,

@@ -12,6 +12,3 @@ mod view;
 pub use mailbox::Mailbox;
 pub use receiver::Receiver;
 pub use sender::Sender;
-
-#[cfg(test)]
-mod tests;

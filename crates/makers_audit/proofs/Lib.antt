@@ -10,7 +10,6 @@ pub mod Passing
 pub mod Asking
 pub mod Pleas
 pub mod Answering
-pub mod Spelled
 pub mod Hearing
 pub mod Shutting
 pub mod Ranks

@@ -35,10 +35,6 @@ side_itself a =
     ap (λ o. is_eq (ordering_then o (nat_cmp a.queue a.queue))) (alike a.port)
     ∙ ap is_eq (alike a.queue)
 
-pub not_side : (a b : Side) → is_at (side_cmp a) b ≡ false → a ≡ b → ⊥
-not_side a b h same =
-    true_is_not_false (sym (side_itself a) ∙ subst (λ s. is_at (side_cmp a) s ≡ false) (sym same) h)
-
 pub other_port : (a b : Side) → (a.port ≡ b.port → ⊥) → is_at (side_cmp a) b ≡ false
 other_port a b differ = elim (cases_Bool (is_at (side_cmp a) b)) [
   | inl same ↦ absurd (differ (ap (λ (s : Side). s.port) (same_side a b same)))
@@ -54,27 +50,12 @@ other_queue a b differ = elim (cases_Bool (is_at (side_cmp a) b)) [
 -- ---- rows that are kept
 
 module _ {T : Type 0} where
-  more_kept : (o : Option (List T)) (xs : List T) (x : T) → row_in o ≡ xs ++ x ∷ [] → IsKept o
-  more_kept None xs x is = tt
-  more_kept (Some []) xs x is = nothing xs is
-    where
-      nothing : (ys : List T) → [] ≡ ys ++ x ∷ [] → ⊥
-      nothing [] e = absurd (cc)
-      nothing (y ∷ ys) e = absurd (cc)
-  more_kept (Some (y ∷ ys)) xs x is = tt
-
   each_kept : (at : Side) (old new : RowMap T) → KeepsOthers at old new →
       IsKept (get side_cmp new at) → AreKept old → AreKept new
   each_kept at old new others own kept s = elim (cases_Bool (is_at (side_cmp at) s)) [
     | inl here ↦ subst (λ b. IsKept (get side_cmp new b)) (same_side at s here) own
     | inr other ↦ subst IsKept (sym (others s other)) (kept s)
   ]
-
-  pub push_kept : (at : Side) (x : T) (old new : RowMap T) → Pushes at x old new → AreKept old →
-      AreKept new
-  push_kept at x old new pushes kept =
-      each_kept at old new pushes.others
-      (more_kept (get side_cmp new at) (row_at old at) x pushes.own) kept
 
   pub take_kept : (at : Side) (x : T) (old new : RowMap T) → Takes at x old new → AreKept old →
       AreKept new

@@ -10,10 +10,7 @@ use Rattle.queue_core.specs.declared.event.Event.TheVariants.{Arrive, Ask, PortC
 use Rattle.histories.specs.Numbers.{queue_count}
 use Rattle.histories.specs.declared.entry.Entry.{Entry}
 use Rattle.histories.specs.History.{history}
-use Rattle.inspector_script.specs.Scripts.{ScriptValue}
-use Rattle.made_runs.specs.Log.{Note}
-use Rattle.made_runs.specs.Order.{Kind, Answers, early_by, late_by, IsOrdered, AreOrdered}
-use Rattle.made_runs.specs.Order.{kinds_told}
+use Rattle.made_runs.specs.Order.{Kind, Answers, early_by, late_by, IsOrdered}
 use Rattle.made_runs.specs.Underway.{last_of}
 use Rattle.makers_audit.specs.declared.dealing.Side.{Side}
 use Rattle.makers_audit.specs.declared.dealing.MessageKind.{MessageKind}
@@ -21,7 +18,7 @@ use Rattle.makers_audit.specs.declared.dealing.MessageKind.TheVariants as messag
 use Rattle.makers_audit.specs.declared.order.Ranks.{Ranks}
 use Rattle.makers_audit.specs.Dealing.{RowMap, row_in, row_at, side, side_cmp, IsKept, AreKept}
 use Rattle.makers_audit.specs.Dealing.{Takes}
-use Rattle.makers_audit.specs.Kinds.{kind_of, kinds_of_row, kinds_at, AreKinds}
+use Rattle.makers_audit.specs.Kinds.{kind_of, kinds_of_row, kinds_at}
 use Rattle.makers_audit.specs.Ranking.{IsOrderedFrom, RankMap, early_in, late_in, early_at, late_at}
 use Rattle.makers_audit.specs.Ranking.{ranks_then, KeepsRanks, AreInOrder, NextKind, NoneLeft}
 use Rattle.makers_audit.proofs.Asking.{plea_in, own_plea, other_pleas}
@@ -231,24 +228,6 @@ from_none ports told h = (
   },
 )
 
-pub sequenced_begun : (ports : List ℕ) (rows : RowMap MessageKind) (entries rest : List Entry)
-    (ranks : RankMap) → rest ≡ entries → ((queue : ℕ) → get nat_cmp ranks queue ≡ None) →
-    AreKept rows → IsSequenced ports rows entries rest ranks rows
-sequenced_begun ports rows entries rest ranks all none kept = record {
-  each = λ queue short.
-      let told : ℕ → List Kind = λ port. kinds_at rows port queue in
-      subst (λ (gs : List Entry). IsOrdered ports told (history queue entries)
-      ↔ IsOrderedFrom ports (early_at ranks queue) (late_at ranks queue) told (history queue gs))
-      (sym all)
-      (subst (λ n. IsOrdered ports told (history queue entries)
-      ↔ IsOrderedFrom ports n (late_at ranks queue) told (history queue entries))
-      (sym (ap early_in (none queue)))
-      (subst (λ n. IsOrdered ports told (history queue entries)
-      ↔ IsOrderedFrom ports 0 n told (history queue entries)) (sym (ap late_in (none queue)))
-      (from_none ports told (history queue entries))));
-  kept = kept;
-}
-
 module _ (ports : List ℕ) (first : RowMap MessageKind) (entries rest others : List Entry)
     (e : Entry) (ranks : RankMap) (old : RowMap MessageKind) (front : rest ≡ e ∷ others)
     (u : IsSequenced ports first entries rest ranks old) where
@@ -369,27 +348,6 @@ sequenced_done ports first entries rest ranks rows none u = (
 )
 
 -- ---- the kinds that notes tell
-
-pub kinds_ordered : (script : ScriptValue) (notes : ℕ → List Note) (rows : RowMap MessageKind)
-    (es : List Entry) → AreKinds script notes rows →
-    AreInOrder script.ports rows es ↔ AreOrdered 1 script notes es
-kinds_ordered script notes rows es are = (
-  λ is queue short. changed queue (λ port. kinds_at rows port queue)
-      (λ port. kinds_told 1 script queue port (notes port)) (λ port. are.are port queue)
-      (is queue short),
-  λ is queue short. changed queue (λ port. kinds_told 1 script queue port (notes port))
-      (λ port. kinds_at rows port queue) (λ port. sym (are.are port queue)) (is queue short),
-)
-  where
-    changed : (queue : ℕ) (t v : ℕ → List Kind) → ((p : ℕ) → t p ≡ v p) →
-        IsOrdered script.ports t (history queue es) → IsOrdered script.ports v (history queue es)
-    changed queue t v same is = record {
-      marks = is.marks;
-      entries = is.entries;
-      kinds = λ p. is.kinds p ∙ same p;
-      early = is.early;
-      late = is.late;
-    }
 
 -- ---- what is left
 

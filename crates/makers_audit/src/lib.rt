@@ -26,6 +26,3 @@ pub use ports::are_ports;
 pub use queues::{Queues, replay};
 pub use requests::are_requests;
 pub use room::are_roomy;
-
-#[cfg(test)]
-mod tests;

@@ -20,6 +20,3 @@ pub use laws::{
     written_message_is_in_front,
 };
 pub use messages::{Message, next_message, put_message, put_split_message};
-
-#[cfg(test)]
-mod tests;

@@ -1,32 +1,15 @@
-//! `nfq`: the command line. `play` reads rules, a script and a capture, runs the packets of the
-//! capture through the queues on one thread, and writes the released frames, a ledger and a
-//! journal. `live` does so with threads, over queues behind locks. `list` makes the run of
-//! `play` up to where the ports end, and writes how the queues stand. `gen` writes inputs that are
-//! made from a number, and `trial` makes the run of `play` on these in memory and prints how many
-//! packets had each fate. `migrate` writes a journal of either version in that of today,
-//! and `audit` judges whether a journal tells a run on its inputs.
+//! `nfq`: the command line. The words after its name are a command of `commands`.
 #![tactic(auto)]
 
-mod account;
-mod audit;
-mod command;
-mod generation;
-mod list;
-mod live;
-mod migration;
-mod play;
-mod program;
-mod trial;
-
+use commands::program;
+pub use commands::{live, live_pools, play};
 use host_io::FileHost;
 use std::env;
 use std::process::ExitCode;
 
+/// Does the command that the arguments are, over the machine's files, and ends with its status.
 fn main(rt: HostRuntime) -> ExitCode {
     let arguments = env::args(&rt);
     let mut host = FileHost::new(&rt);
-    ExitCode::from(program::program(&rt, rt.alloc(), arguments, &mut host))
+    ExitCode::from(program(&rt, rt.alloc(), arguments, &mut host))
 }
-
-#[cfg(test)]
-mod tests;

@@ -1,13 +1,11 @@
 -- How many notices all passes sent to a port, and which of them were received.
-use Rattle.std.proofs.Common.{◌≡◌, ◌<◌, ◌≤◌, ◌⊎◌, ◌+◌, ◌∙◌, ◌++◌, ◌∷◌, ℕ, List, ap, arith}
+use Rattle.std.proofs.Common.{◌≡◌, ◌<◌, ◌≤◌, ◌⊎◌, ◌+◌, ◌∙◌, ◌++◌, ℕ, List, ap, arith}
 use Rattle.std.proofs.Common.{drop, inl, inr, length, map, min, subst, sym}
 use Rattle.std.specs.Prelude.{slice_index_or, sum_by}
 use Rattle.std.proofs.lemmas.Bool.{cases_lt}
-use Rattle.std.proofs.lemmas.List.{at_drop_all, length-map, map-append}
-use Rattle.std.proofs.lemmas.List.Sums.{sum_by-append, sum_by-cons}
+use Rattle.std.proofs.lemmas.List.{at_drop_all, length-map}
 use Rattle.mailbox.specs.declared.view.Post.{Post}
 use Rattle.inspector_script.specs.Scripts.{ScriptValue}
-use Rattle.place_rows.specs.Rows.{Known}
 use Rattle.place_rows.specs.Shares.{sent_in, sent_in_all}
 use Rattle.plane.specs.declared.plane.Plane.{Plane}
 use Rattle.plane.specs.Opening.{known_in}
@@ -18,7 +16,7 @@ use Rattle.live_runs.specs.Passes.{Pass}
 use Rattle.live_passes.specs.Numbered.{AreAll, passes_in, rows_in}
 use Rattle.nfq_live.specs.declared.crew.Crew.{Crew}
 use Rattle.live_work.specs.declared.mind.Mind.{Mind}
-use Rattle.nfq_live.specs.Crews.{AreReceived, HaveMinds, IsCrewOf, all_ports, all_sent}
+use Rattle.nfq_live.specs.Crews.{AreReceived, HaveMinds, IsCrewOf, all_sent}
 use Rattle.nfq_live.specs.Crews.{passes_of}
 use Rattle.live_work.specs.Minds.{IsMind}
 use Rattle.live_work.specs.Numbers.{most_counted}
@@ -36,23 +34,6 @@ CountsLaw = (plane : Plane) (feeder : FeederView) (ports closed : List PortView)
 -- what these ports sent to a port
 abbrev pub sent_by : ℕ → List PortView → ℕ
 sent_by port ps = sum_by (sent_in port) (map known_in ps)
-
-pub sent_more : (port : ℕ) (p : PortView) (ps : List PortView) →
-    sent_by port (p ∷ ps) ≡ sent_in port p.trail.known + sent_by port ps
-sent_more port p ps = sum_by-cons (sent_in port) p.trail.known (map known_in ps)
-
-pub sent_parts : (c : Crew) (port : ℕ) →
-    sent_in_all port (rows_in c.feeding.pass (all_ports c))
-    ≡ sent_in port c.feeding.pass.trail.known
-    + (sent_by port c.ports.items + sent_by port c.closed.items)
-sent_parts c port =
-    omega (
-      arith,
-      sum_by-cons (sent_in port) c.feeding.pass.trail.known (map known_in (all_ports c)),
-      ap (λ (l : List (List Known)). sum_by (sent_in port) l)
-          (map-append known_in c.ports.items c.closed.items),
-      sum_by-append (sent_in port) (map known_in c.ports.items) (map known_in c.closed.items),
-    )
 
 -- all were counted
 pub sent_end : (port sent i whole : ℕ) (ps : List PortView) → length ps ≤ i →

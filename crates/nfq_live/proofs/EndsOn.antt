@@ -358,11 +358,6 @@ cut_more count look rest more =
 -- the same script's port
 module _ (script : ScriptValue) (places place port : ℕ) (is : is_port script port ≡ true)
     (here : place_in port script.ports ≡ place) where
-  -- none was sent yet
-  pub cuts_none : (bytes : List ℕ) (c : Crew) →
-      CutsEndTo script places place bytes (messages_in bytes) c c
-  cuts_none bytes c = record { on = λ size ds e. e }
-
   sent_one : SendsOneLaw → (size : Size) (ds : List Due) (cut : List ℕ → List NetlinkMessage)
       (rest : List ℕ) (c n m : Crew) (used : ℕ) (front : Option (NetlinkMessage × ℕ)) →
       0 < places → 0 < used → OnePass port c n → AllLookOn script places n m →

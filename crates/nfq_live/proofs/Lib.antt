@@ -14,4 +14,3 @@ pub mod Ran
 pub mod Seated
 pub mod Staying
 pub mod Worked
-pub mod ForTests

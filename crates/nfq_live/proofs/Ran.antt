@@ -288,11 +288,6 @@ short_for law script places size c h some m closed =
     law size.workers script places script.mail (passes_of c) h m.notes m.stands some closed
     m.ended.meeting.are
 
--- of a result that went well
-pub went_ok : {X E : Type 0} (r : Result X E) (x : X) (P : Type 0) → r ≡ Ok x → OnOk r P → P
-went_ok (Ok y) x P is on = on
-went_ok (Err e) x P is on = absurd (cc)
-
 -- what holds whether it went well or not
 pub at_any : {X E : Type 0} (r : Result X E) (P : Type 0) → P → OnOk r P
 at_any (Ok y) P is = is

@@ -1,6 +1,6 @@
 -- The feeders' passes have together the parts of the locks that the first one's had alone, while
 -- they are split, while they feed, and while they are joined.
-use Rattle.std.proofs.Common.{◌≡◌, ◌<◌, ◌+◌, ◌∙◌, ◌++◌, ◌∷◌, [], ℕ, zero, suc, List, ap, append-nil}
+use Rattle.std.proofs.Common.{◌≡◌, ◌<◌, ◌+◌, ◌∙◌, ◌++◌, ◌∷◌, [], ℕ, zero, suc, List, ap}
 use Rattle.std.proofs.Common.{append_assoc, arith, false, length, map, refl, subst, sym, true}
 use Rattle.std.specs.Prelude.{◌&&◌, ◌||◌, All, Bool, not, slice_get, slice_index_or}
 use Rattle.std.proofs.lemmas.List.{map-append}
@@ -225,9 +225,6 @@ pub join_fed : (into after : FeederView) (h : Feeding) (hs : List Feeding) (all 
 join_fed into after h hs all joined rest =
     rest ∙ ap (λ (l : List Card). l ++ fed_by hs) joined.fed
     ∙ append_assoc into.fed h.pass.fed (fed_by hs)
-
-pub none_fed_more : (fed : List Card) → fed ≡ fed ++ fed_by []
-none_fed_more fed = sym (append-nil fed)
 
 -- ---- again alone
 

@@ -17,6 +17,3 @@ mod run;
 mod workers;
 
 pub use run::{run_feeders, run_pools, run_workers};
-
-#[cfg(test)]
-mod tests;

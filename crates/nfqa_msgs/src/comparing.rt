@@ -5,6 +5,7 @@ ghost use Rattle.std.specs.Prelude.{MatchOption};
 ghost use Rattle.netlink_codec.specs.Messages.{FitsHeader, message_text, message_with};
 
 use netlink_codec::{Message, next_message};
+use packet_entry::same_bytes;
 
 /// The bytes after the header, where all the bytes are one message with this header.
 pub(crate) fn body_in(
@@ -58,7 +59,7 @@ fn is_pair(bytes: &[u8], middle: &[u8], tail: &[u8]) -> bool
 {
     match behind(bytes, middle) {
         None => false,
-        Some(rest) => rest == tail,
+        Some(rest) => same_bytes(rest, tail),
     }
 }
 
@@ -67,5 +68,8 @@ fn behind<'a>(bytes: &'a [u8], front: &[u8]) -> Option<&'a [u8]>
     ensures { MatchOption result ((rest : List ℕ) → bytes.now ≢ front.now ++ rest)
         (λ rest. bytes.now ≡ front.now ++ rest.now) }
 {
-    bytes.strip_prefix(front)
+    if bytes.len() < front.len() || !same_bytes(&bytes[..front.len()], front) {
+        return None;
+    }
+    Some(&bytes[front.len()..])
 }

@@ -7,7 +7,8 @@ ghost use Rattle.nfqa_msgs.specs.RequestWriting.{FitsRequest, FitsHead, FitsPara
 
 use crate::{Head, Params, Request};
 
-pub(crate) fn fits_its_fields(request: &Request)
+/// Each number of a request fits its field, and its payload does.
+pub fn numbers_fit(request: &Request)
     requires { PayloadFits request.now }
     ensures { FitsRequest request.now }
 {

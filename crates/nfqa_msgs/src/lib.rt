@@ -22,6 +22,7 @@ mod request_reading;
 mod request_spelling;
 mod request_writing;
 
+pub use fields::numbers_fit;
 pub use laws::{
     notices_are_told_apart, packet_notices_are_told_apart, public_numbers,
     spelling_decodes_to_its_request,
@@ -38,6 +39,3 @@ pub use request::{Decoded, Request, share_payload};
 pub use request_reading::decode_request;
 pub use request_spelling::is_spelling;
 pub use request_writing::encode_request;
-
-#[cfg(test)]
-mod tests;

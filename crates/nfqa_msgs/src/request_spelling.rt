@@ -6,7 +6,7 @@ ghost use Rattle.nfqa_msgs.specs.RequestWriting.{spelling};
 
 use crate::Request;
 use crate::comparing::{body_in, is_in_pieces};
-use crate::fields::fits_its_fields;
+use crate::fields::numbers_fit;
 use crate::request_pieces::pieces_of;
 use crate::request_writing::{flags_of, kind_of};
 use netlink_codec::written_attributes_are_walked;
@@ -19,7 +19,7 @@ pub fn is_spelling(port: u32, call: u32, request: &Request, bytes: &[u8]) -> boo
     requires { PayloadFits request.now }
     ensures { IsTrue result ↔ (bytes.now ≡ spelling port call request.now) }
 {
-    fits_its_fields(request);
+    numbers_fit(request);
     // By the codec's law the body is short enough for a message.
     written_attributes_are_walked();
     let pieces = pieces_of(request);

@@ -6,7 +6,7 @@ ghost use Rattle.nfqa_msgs.specs.RequestReading.{PayloadFits};
 ghost use Rattle.nfqa_msgs.specs.RequestWriting.{FitsRequest, spelling, number_for, flags_for};
 
 use crate::Request;
-use crate::fields::fits_its_fields;
+use crate::fields::numbers_fit;
 use crate::request_pieces::pieces_of;
 use netlink_codec::put_split_message;
 use nfqa_headers::kinds::{
@@ -31,7 +31,7 @@ pub fn encode_request(
     // The request is one that its spelling decodes to.
     ensures fits { FitsRequest request.now }
 {
-    fits_its_fields(request);
+    numbers_fit(request);
     let pieces = pieces_of(request);
     put_split_message(
         out,

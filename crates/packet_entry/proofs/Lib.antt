@@ -1,1 +1,2 @@
 pub mod Cuts
+mod Lanes

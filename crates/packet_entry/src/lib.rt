@@ -9,6 +9,7 @@ mod laws;
 mod letter;
 mod no_memory;
 mod packet;
+mod same;
 mod sequence;
 mod stock;
 
@@ -19,8 +20,6 @@ pub use no_memory::NoMemory;
 pub use packet::{
     Card, ETHERNET_HEADER, IPV4, IPV6, MAX_FRAME, MAX_PAYLOAD, MAX_VISITS, Packet, VLAN_HEADER,
 };
+pub use same::same_bytes;
 pub use sequence::{IntoIter, Iter, Sequence};
 pub use stock::Stock;
-
-#[cfg(test)]
-mod tests;

@@ -24,6 +24,3 @@ pub use laws::{one_fault, one_value, read_back, same_bytes, value_or_fault};
 pub use reading::{read_capture, read_shared_capture};
 pub use record::put_record;
 pub use writing::{file_size, write_capture};
-
-#[cfg(test)]
-mod tests;

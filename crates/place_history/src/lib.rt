@@ -13,6 +13,3 @@ pub use histories::{
 };
 pub use place::{Lines, Place};
 pub use queue_core::{Event, Reply};
-
-#[cfg(test)]
-mod tests;

@@ -2,24 +2,22 @@
 use Rattle.std.proofs.Common.{◌≡◌, ◌≢◌, ◌<◌, ◌≤◌, ◌+◌, ◌⊎◌, ⊎_elim, ℕ, zero, suc, List, [], ◌∷◌}
 use Rattle.std.proofs.Common.{◌++◌}
 use Rattle.std.proofs.Common.{length, refl, sym, ap, ◌∙◌, subst, arith, inl, inr, map, take, get_or}
-use Rattle.std.specs.Prelude.{slice_get, slice_set, Option, Some, None, option_map, nat_eq}
+use Rattle.std.specs.Prelude.{slice_get, slice_set, Option, Some, option_map, nat_eq}
 use Rattle.std.specs.Prelude.{IfSome, IsSome}
 use Rattle.std.specs.BTreeMap.{BTreeMap, get}
 use Rattle.std.specs.Ordering.{nat_cmp}
-use Rattle.std.proofs.Math.Path.{fun_ext}
-use Rattle.std.proofs.lemmas.List.{length-set, length-map, length-append, map-append}
-use Rattle.std.proofs.lemmas.Option.{slice_get_within, slice_get_read, slice_get-map}
-use Rattle.std.proofs.lemmas.Bool.{cases_Bool, eqb-true, eqb-false, eq-eqb}
+use Rattle.std.proofs.lemmas.List.{length-set, map-append}
+use Rattle.std.proofs.lemmas.Option.{slice_get_within, slice_get_read}
+use Rattle.std.proofs.lemmas.Bool.{cases_Bool, eqb-true, eqb-false}
 use Rattle.mailbox.specs.Roles.{AreDistinct, In}
 use Rattle.mailbox.specs.Views.{MailboxView, SenderView, ReceiverView, opening_receiver}
 use Rattle.place_rows.specs.declared.ending.PortReceiver.{PortReceiver}
 use Rattle.place_rows.specs.declared.opening.Dealt.{Dealt}
 use Rattle.place_rows.specs.Lists.{Every}
 use Rattle.place_rows.specs.Rows.{sender_made}
-use Rattle.place_rows.specs.Opening.{IsGiven, AreDealt, AreSendersOf, HasNone, IsDealt, IsOpened}
+use Rattle.place_rows.specs.Opening.{IsGiven, AreDealt, IsDealt, IsOpened}
 use Rattle.place_rows.specs.Opening.{port_of, Holds}
 use Rattle.place_rows.proofs.Lists.{one_item, item_at, get_same, get_other, every_both}
-use Rattle.place_rows.proofs.Lists.{every_mapped}
 
 -- ---- senders of one port
 
@@ -52,11 +50,6 @@ none_dealt places port mailbox olds = record {
 
 module _ (places port : ℕ) (mailbox : MailboxView) (olds news : List (BTreeMap ℕ SenderView))
     (n : ℕ) (row row' : BTreeMap ℕ SenderView) where
-  -- the senders of this place before it was dealt one
-  was_row : DealtUpTo places n port mailbox olds news → n < length news → row ≡ get_or news n row →
-      slice_get news n ≡ Some row
-  was_row s there is = slice_get_read news (length news) n row refl there is
-
   pub one_dealt : DealtUpTo places n port mailbox olds news → 1 ≤ n → n < length news →
       row ≡ get_or news n row → IsGiven port (sender_made places n mailbox) row row' →
       DealtUpTo places (n + 1) port mailbox olds (slice_set news n row')

@@ -1,5 +1,5 @@
 -- Locks that are made one after the other, each with its first pass.
-use Rattle.std.proofs.Common.{◌≡◌, ◌≢◌, ◌<◌, ◌≤◌, ◌+◌, ℕ, zero, suc, List, [], ◌∷◌, ◌++◌, length}
+use Rattle.std.proofs.Common.{◌≡◌, ◌<◌, ◌+◌, ℕ, zero, suc, List, [], ◌∷◌, ◌++◌, length}
 use Rattle.std.proofs.Common.{refl, sym, ap, ◌∙◌, subst, arith, map, inl, inr}
 use Rattle.std.specs.Prelude.{slice_get, Option, Some, None, option_map, IfSome, nat_eq}
 use Rattle.std.specs.BTreeMap.{BTreeMap, get}
@@ -18,9 +18,8 @@ use Rattle.turn_lock.specs.declared.lock.TurnLock.{TurnLock}
 use Rattle.turn_lock.specs.Passes.{view_of, IsOf}
 use Rattle.histories.specs.declared.entry.Entry.{Entry}
 use Rattle.locked_place.specs.declared.outlets.Outlets.{Outlets}
-use Rattle.locked_place.specs.Views.{LockedView, PlaceLabel, label_of, as_made, senders_of}
+use Rattle.locked_place.specs.Views.{LockedView, PlaceLabel, label_of, as_made}
 use Rattle.locked_place.specs.Passes.{IsPassOf}
-use Rattle.place_rows.specs.Lists.{Every}
 use Rattle.place_rows.specs.Rows.{Known, ArePasses, IsKnown, label_at, sender_made, lock_of, id_of}
 use Rattle.place_rows.specs.Opening.{IsFirst, AreFirst}
 use Rattle.place_rows.proofs.Lists.{one_item, get_longer, get_seam}
@@ -125,12 +124,6 @@ module _ {g : Ghosts LockedView Entry} (named : ℕ → PlaceLabel)
               ) in
               are.known k v (sym (get_longer (map view_of row) (view_of pass ∷ []) k few) ∙ there))
         ];
-  }
-
-  pub no_locks : locks ≡ [] → row ≡ [] → ArePasses label_of named locks row
-  no_locks none too = record {
-    locks_are = ap (map lock_of) too ∙ sym (ap (map id_of) none);
-    known = λ k v at. absurd (cc (sym at ∙ ap (λ l. slice_get (map view_of l) k) too));
   }
 
 -- the first passes have the whole of their locks

@@ -167,32 +167,3 @@ pub record SendersDone (senders now : BTreeMap ℕ SenderView) (initial ports : 
     pub heard : Every IsHeard ports
     pub others : (port : ℕ) → times_in port initial ≡ 0 → get nat_cmp now port ≡ get nat_cmp
         senders port
-
-pub senders_end : (i : ℕ) (senders now : BTreeMap ℕ SenderView) (initial ports : List PortReceiver)
-    →
-    SendersJoined i senders now initial ports → length ports ≤ i →
-    SendersDone senders now initial ports
-senders_end i senders now initial ports s most =
-    let f = with_its_sender senders in
-    let none : s.rest ≡ [] = empty s.rest
-    (omega (
-      arith,
-      most,
-      ap length s.is,
-      length-append (map f s.done) s.rest,
-      length-map s.done f,
-      s.count,
-    )) in
-    let all : s.done ≡ initial =
-    sym (s.split ∙ ap (λ (l : List PortReceiver). s.done ++ l) none ∙ append-nil s.done) in
-    let ports_are : ports ≡ map f s.done =
-    s.is ∙ ap (λ (l : List PortReceiver). map f s.done ++ l) none ∙ append-nil (map f s.done) in
-    record {
-      is = ports_are ∙ ap (map f) all;
-      heard = subst (Every IsHeard) (sym ports_are) s.heard;
-      others = λ port zero_is. s.others port (ap (times_in port) all ∙ zero_is);
-    }
-  where
-    empty : (l : List PortReceiver) → length l ≤ 0 → l ≡ []
-    empty [] h = refl
-    empty (x ∷ l) h = absurd (omega arith)

@@ -9,4 +9,3 @@ mod Texts
 mod Beginning
 mod Gathering
 mod Going
-mod Only

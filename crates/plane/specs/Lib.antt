@@ -10,4 +10,3 @@ pub mod Closings
 pub mod Remaining
 pub mod Filling
 pub mod Listings
-pub mod Examples

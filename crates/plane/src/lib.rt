@@ -19,6 +19,3 @@ pub use packet_moves::{Fed, Refused};
 pub use place_turns::passes_stay_balanced;
 pub use plane::Plane;
 pub use port::{ClosedPort, FeederPass, PortPass};
-
-#[cfg(test)]
-mod tests;

@@ -5,23 +5,12 @@ use Rattle.std.proofs.lemmas.Bool.{eq-eqb}
 use Rattle.packet_entry.specs.declared.packet.Card.{Card}
 use Rattle.nfqa_headers.specs.declared.verdict_header.Head.{Head}
 use Rattle.queue_core.specs.declared.event.Reply.TheVariants.{Answer}
-use Rattle.queue_core.specs.Decision.{Edit, IsVerdict}
+use Rattle.queue_core.specs.Decision.{IsVerdict}
 use Rattle.queue_core.specs.State.{Bound}
 use Rattle.queue_core.specs.Share.{share}
-use Rattle.queue_core.specs.Step.{Stepped, verdict, batch, card_under, without, without_oldest}
+use Rattle.queue_core.specs.Step.{Stepped, verdict, batch, without_oldest}
 use Rattle.queue_core.specs.Step.{leaving, batch_edit, shared_out, Way}
 use Rattle.queue_core.specs.Calls.{hands_out, ways_of, handed_as, batch_handed}
-
--- a verdict that isn't refused finds what waits under its id
-pub verdict_found : (q : Bound) (head : Head) (edit : Edit) (card : Card) → IsVerdict head.verdict →
-    card_under q head.id ≡ Some card
-    → verdict (Some q) q.port (Some head) edit ≡ record {
-      state = Some (without q head.id);
-      reply = Answer 0 1;
-      left = leaving head edit card ∷ [];
-    }
-verdict_found q head edit card known found =
-    rw (eq-eqb q.port q.port refl, known, found) refl
 
 -- each packet of a share leaves as it is handed out
 same_ways : (head : Head) (mark priority : Option ℕ) (ws : List (ℕ × Card)) →

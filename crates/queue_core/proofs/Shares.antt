@@ -12,13 +12,6 @@ use Rattle.queue_core.specs.Ids.{after}
 use Rattle.queue_core.specs.Numbers.{id_count}
 use Rattle.queue_core.specs.Share.{share, distance, AscendFrom, AreIds, IsLongestBefore}
 
--- the share ends where an id is after the maximum
-pub share_stops : (ws more : List (ℕ × Card)) (w : ℕ × Card) (m : ℕ) → ws ≡ w ∷ more →
-    after w.0 m ≡ true → length (share ws m) ≡ 0
-share_stops ws more w m front is_after =
-    ap (λ vs. length (share vs m)) front
-    ∙ ap (λ b. length (cond b [] (w ∷ share more m))) is_after
-
 -- and goes on where it isn't
 pub share_goes_on : (ws more : List (ℕ × Card)) (w : ℕ × Card) (m : ℕ) → ws ≡ w ∷ more →
     after w.0 m ≡ false → length (share ws m) ≡ suc (length (share more m))

@@ -29,6 +29,3 @@ pub use laws::{
 pub use lines::{ConfigLine, config_line, ruling};
 pub use offers::{Begun, NoRoom, Outcome, Settled};
 pub use queue::{DEFAULT_MAXIMUM, Queue};
-
-#[cfg(test)]
-mod tests;

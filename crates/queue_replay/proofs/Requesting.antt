@@ -1,19 +1,18 @@
 -- What requests come to, and what they take.
 use Rattle.std.proofs.Common.{◌≡◌, ℕ, ◌+◌, List, [], ◌∷◌, length, drop, Option, Some, None}
-use Rattle.std.proofs.Common.{true, false, cond, refl, sym, ap, ◌∙◌, arith}
+use Rattle.std.proofs.Common.{true, false, cond, refl, sym, ap, ◌∙◌}
 use Rattle.std.specs.Prelude.{not}
 use Rattle.std.specs.Map.{lookup, remove_entry}
 use Rattle.std.proofs.lemmas.Bool.{eq-eqb}
 use Rattle.packet_entry.specs.declared.packet.Card.{Card}
 use Rattle.nfqa_headers.specs.declared.verdict_header.Head.{Head}
 use Rattle.nfqa_msgs.specs.Numbers.{eperm, einval}
-use Rattle.queue_core.specs.Ids.{is_id, after}
+use Rattle.queue_core.specs.Ids.{is_id}
 use Rattle.queue_core.specs.Decision.{Edit, IsVerdict, is_verdict}
 use Rattle.queue_core.specs.State.{Bound}
 use Rattle.queue_core.specs.Share.{share}
-use Rattle.queue_core.specs.Step.{Ruling, Refused, Allowed, refusal, verdict, verdict_under, batch}
+use Rattle.queue_core.specs.Step.{Ruling, Refused, Allowed, refusal, verdict, verdict_under}
 use Rattle.queue_core.specs.Step.{carried_out, card_under, without, without_oldest, shared_out}
-use Rattle.queue_core.specs.Step.{batch_under}
 
 -- ---- verdicts and batches that aren't refused
 
@@ -62,55 +61,10 @@ shared : (b : Bound) (h : Head) (mark priority : Option ℕ) (ws : List (ℕ × 
 shared b h mark priority [] = refl
 shared b h mark priority (w ∷ ws) = refl
 
--- and a batch without its share
-pub batch_leaves : (q : Option Bound) (port : ℕ) (head : Option Head) (h : Head) (b : Bound) →
-    refusal q port head ≡ Allowed b h → (mark priority : Option ℕ) →
-    (batch q port head mark priority).state
-    ≡ Some (without_oldest b (length (share b.waiting h.id)))
-batch_leaves q port head h b is mark priority =
-    ap (λ (r : Ruling). (batch_under r q mark priority).state) is
-    ∙ shared b h mark priority (share b.waiting h.id)
-
 -- ---- a share
-
--- an oldest that isn't after the maximum is of the share
-pub share_on : (ws others : List (ℕ × Card)) (id maximum : ℕ) (card : Card) →
-    ws ≡ (id, card) ∷ others → after id maximum ≡ false →
-    share ws maximum ≡ (id, card) ∷ share others maximum
-share_on ws others id maximum card first not_after =
-    ap (λ (vs : List (ℕ × Card)). share vs maximum) first
-    ∙ ap (λ t. cond t [] ((id, card) ∷ share others maximum)) not_after
-
--- and one that is after it ends the share
-pub share_ends : (ws others : List (ℕ × Card)) (id maximum : ℕ) (card : Card) →
-    ws ≡ (id, card) ∷ others → after id maximum ≡ true → share ws maximum ≡ []
-share_ends ws others id maximum card first is_after =
-    ap (λ (vs : List (ℕ × Card)). share vs maximum) first
-    ∙ ap (λ t. cond t [] ((id, card) ∷ share others maximum)) is_after
 
 -- so many were taken of the share, and so many are left of all
 pub record IsShared (old ws : List (ℕ × Card)) (maximum taken : ℕ) : Type 0 where
   pub count : taken + length (share ws maximum) ≡ length (share old maximum)
   pub others : drop (length (share ws maximum)) ws ≡ drop (length (share old maximum)) old
   pub left : taken + length ws ≡ length old
-
-pub one_shared : (old ws next rest : List (ℕ × Card)) (id maximum taken : ℕ) (card : Card) →
-    ws ≡ (id, card) ∷ rest → next ≡ drop 1 ws → after id maximum ≡ false →
-    IsShared old ws maximum taken → IsShared old next maximum (taken + 1)
-one_shared old ws next rest id maximum taken card first went not_after is =
-    let same : next ≡ rest = went ∙ ap (λ (vs : List (ℕ × Card)). drop 1 vs) first in
-    let whole = share_on ws rest id maximum card first not_after in
-    let shorter : length (share next maximum) ≡ length (share rest maximum) =
-    ap (λ (vs : List (ℕ × Card)). length (share vs maximum)) same in record {
-      count = omega (arith, is.count, ap (λ (vs : List (ℕ × Card)). length vs) whole, shorter);
-      others = ap (λ (vs : List (ℕ × Card)). drop (length (share vs maximum)) vs) same
-          ∙ sym (ap (λ (vs : List (ℕ × Card)). drop (length vs) ((id, card) ∷ rest)) whole)
-          ∙ sym (ap (λ (vs : List (ℕ × Card)). drop (length (share ws maximum)) vs) first)
-          ∙ is.others;
-      left = omega (
-        arith,
-        is.left,
-        ap (λ (vs : List (ℕ × Card)). length vs) first,
-        ap (λ (vs : List (ℕ × Card)). length vs) same,
-      );
-    }

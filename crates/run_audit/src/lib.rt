@@ -11,6 +11,3 @@ mod laws;
 pub use finding::Finding;
 pub use judging::audit;
 pub use laws::{a_finding_is_the_only_one, a_run_has_no_finding};
-
-#[cfg(test)]
-mod tests;

@@ -68,6 +68,11 @@ abbrev pub IfRefused : {T : Type 0} → Result T Stop → (Refusal → Type 0) �
 IfRefused (Ok x) P = Unit {0}
 IfRefused (Err s) P = IfStopRefuses s P
 
+-- what is refused is no journal
+abbrev pub IsOfInputs : Refusal → Type 0
+IsOfInputs (refusal.Journal number) = ⊥
+IsOfInputs other = Unit {0}
+
 -- it answered this, unless it stopped for another reason than a refusal
 abbrev pub Agrees : {T : Type 0} → Result T Stop → Result T Refusal → Type 0
 Agrees (Ok x) outcome = outcome ≡ Ok x

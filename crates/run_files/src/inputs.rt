@@ -16,7 +16,7 @@ ghost use Rattle.command_line.specs.Arguments.{inputs_of, RunInputs};
 ghost use Rattle.run_files.specs.Causes.{AreRead, AreTaken, IsRefused, IsUnread};
 ghost use Rattle.run_files.specs.Files.{ReadFaultRose};
 ghost use Rattle.run_files.specs.Inputs.{RulesSay, ScriptSays, CaptureSays, Said};
-ghost use Rattle.run_files.specs.Statuses.{Agrees, IfRefused};
+ghost use Rattle.run_files.specs.Statuses.{Agrees, IfRefused, IsOfInputs};
 
 use crate::refusal::Limit;
 use crate::stop::Stop;
@@ -56,6 +56,7 @@ pub fn read_inputs<H: Host>(alloc: Global, inputs: &Inputs<'_>, host: &mut H) ->
     ensures script { IfOk result (λ m. IsScript m.script) }
     ensures frames { IfOk result (λ m. length m.capture.frames ≤ most_frames) }
     ensures held { IfOk result (λ m. IsHeld m.capture) }
+    ensures kind { IfRefused result (λ why. IsOfInputs why) }
     ensures refused { IfRefused result (λ why. IsTrue (H.tells host.old) →
         IsRefused (RunInputs (inputs_of inputs.now)) (H.content host.old) why) }
     ensures exact { (why : ARefusal) → IsTrue (H.tells host.old) →
@@ -96,6 +97,7 @@ pub(crate) fn read_file<H: Host>(
         H.content host.old name.now ≡ Some bytes.items) }
     ensures within { IfOk result (λ bytes. length bytes.items ≤ most) }
     ensures why { IfRefused result (λ why. why ≡ refusal.TooLarge limit) }
+    ensures kind { IfRefused result (λ why. IsOfInputs why) }
     ensures refused { IfRefused result (λ _. IsTrue (H.tells host.old) →
         IsSomeAnd (H.content host.old name.now) (λ text. most < length text)) }
     ensures read_fault { IsErrOf result Stop.ReadFault →
@@ -114,6 +116,7 @@ pub(crate) fn read_file<H: Host>(
 fn read_rules<H: Host>(alloc: Global, name: &str, host: &mut H) -> Result<Tables, Stop>
     ensures found { IfOk result (λ tables. IsTrue (H.tells host.old) →
         Said RulesSay (H.content host.old name.now) (Ok tables)) }
+    ensures kind { IfRefused result (λ why. IsOfInputs why) }
     ensures refused { IfRefused result (λ why. IsTrue (H.tells host.old) →
         Said RulesSay (H.content host.old name.now) (Err why)) }
     ensures only { (said : Result RuleTables ARefusal) → IsTrue (H.tells host.old) →
@@ -136,6 +139,7 @@ fn read_script_file<H: Host>(alloc: Global, name: &str, host: &mut H) -> Result<
     ensures found { IfOk result (λ script. IsTrue (H.tells host.old) →
         Said ScriptSays (H.content host.old name.now) (Ok script)) }
     ensures script { IfOk result IsScript }
+    ensures kind { IfRefused result (λ why. IsOfInputs why) }
     ensures refused { IfRefused result (λ why. IsTrue (H.tells host.old) →
         Said ScriptSays (H.content host.old name.now) (Err why)) }
     ensures only { (said : Result ScriptValue ARefusal) → IsTrue (H.tells host.old) →
@@ -159,6 +163,7 @@ fn read_capture_file<H: Host>(alloc: Global, name: &str, host: &mut H) -> Result
         Said CaptureSays (H.content host.old name.now) (Ok capture)) }
     ensures frames { IfOk result (λ capture. length capture.frames ≤ most_frames) }
     ensures held { IfOk result IsHeld }
+    ensures kind { IfRefused result (λ why. IsOfInputs why) }
     ensures refused { IfRefused result (λ why. IsTrue (H.tells host.old) →
         Said CaptureSays (H.content host.old name.now) (Err why)) }
     ensures only { (said : Result ACapture ARefusal) → IsTrue (H.tells host.old) →
@@ -180,6 +185,7 @@ fn capture_of(alloc: Global, file: &Bytes) -> Result<Capture, Stop>
     ensures found { IfOk result (λ capture. CaptureSays file.now (Ok capture)) }
     ensures frames { IfOk result (λ capture. length capture.frames ≤ most_frames) }
     ensures held { IfOk result IsHeld }
+    ensures kind { IfRefused result (λ why. IsOfInputs why) }
     ensures refused { IfRefused result (λ why. CaptureSays file.now (Err why)) }
     ensures only { (said : Result ACapture ARefusal) → CaptureSays file.now said →
         Agrees result said }

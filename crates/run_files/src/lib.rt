@@ -30,6 +30,3 @@ pub use printing::{STANDARD_OUTPUT, print, print_usage};
 pub use refusal::{Limit, Refusal};
 pub use stop::Stop;
 pub use told_run::{ToldRun, read_told_run};
-
-#[cfg(test)]
-mod tests;

@@ -22,6 +22,3 @@ pub use condition::{Condition, Period};
 pub use laws::lines_say_what_is_written;
 pub use line::{BlockLine, Down, Line, read_line};
 pub use template::{Judgement, OrThis, Settings, Template};
-
-#[cfg(test)]
-mod tests;

@@ -266,12 +266,6 @@ pub data Comes (ps : List ℕ) (s : Setting) (o : ℕ → Bool) (w : World) (a :
 
 module _ (laws : Laws) (conserve : Conserve) (leaves : LeaveAlone) (s : Setting) (ps : List ℕ)
     (apart : AreApart ps) where
-  -- the last visit is never one that waits
-  leaves_last : (q : Option Bound) (a : Arrival) (room : Bool) →
-      (a.card.visit == last_visit) ≡ true →
-      (step q (happening.arrive a room)).left ≡ (a.card, Gone) ∷ []
-  leaves_last q a room is = rw is refl
-
   nothing_is : (l : Card × Way) → [] ≡ l ∷ [] → ⊥
   nothing_is l wrong = cc
 

@@ -67,16 +67,6 @@ own_first : (Frame : ℕ → Type 0) (s : Sight) (ss : List Sight) → OwnAreOf 
 own_first Frame (Saw e) ss one are = are
 own_first Frame (Own i) ss one are = (one.0, are)
 
-own_head : (Frame : ℕ → Type 0) (s : Sight) (ss : List Sight) → OwnAreOf Frame (s ∷ ss) →
-    OwnAreOf Frame (s ∷ [])
-own_head Frame (Saw e) ss are = tt
-own_head Frame (Own i) ss are = (are.0, tt)
-
-own_tail : (Frame : ℕ → Type 0) (s : Sight) (ss : List Sight) → OwnAreOf Frame (s ∷ ss) →
-    OwnAreOf Frame ss
-own_tail Frame (Saw e) ss are = are
-own_tail Frame (Own i) ss are = are.1
-
 module _ (Frame : ℕ → Type 0) where
   -- ---- one sight more in front
 

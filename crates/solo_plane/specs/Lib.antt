@@ -4,5 +4,4 @@ pub mod OnTheWay
 pub mod Invariant
 pub mod PlaneView
 pub mod Closing
-pub mod Examples
 pub mod Notices

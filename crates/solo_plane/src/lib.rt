@@ -20,6 +20,3 @@ pub use packet_moves::{
     words_are_the_one_spelling,
 };
 pub use plane::SoloPlane;
-
-#[cfg(test)]
-mod tests;

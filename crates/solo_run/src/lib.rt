@@ -15,6 +15,3 @@ mod run;
 mod sending;
 
 pub use one_thread::{list_before_ends, solo};
-
-#[cfg(test)]
-mod tests;

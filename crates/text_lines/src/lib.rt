@@ -22,6 +22,3 @@ pub use line::{are_printable, first_said, next_line};
 pub use number::{decimal, decimal_8, decimal_16, wide};
 pub use stop::Stop;
 pub use word::{are_digits, cut, cut_at_word, is_end, is_word, next_word, rest_after};
-
-#[cfg(test)]
-mod tests;

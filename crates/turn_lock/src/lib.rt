@@ -19,6 +19,3 @@ pub use laws::{
 pub use lock::{TurnLock, Unmade};
 pub use pass::Pass;
 pub use storied::Storied;
-
-#[cfg(test)]
-mod tests;

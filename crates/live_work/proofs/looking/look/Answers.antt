@@ -5,7 +5,8 @@ use Rattle.made_runs.specs.Ports.{place_in}
 use Rattle.plane.specs.Passes as view
 use Rattle.plane.specs.Planes.{places_of}
 use Rattle.live_work.proofs.Kept.{port_both}
-use Rattle.live_work.proofs.Looked.{answer_words, looks_none, looks_on, received_stays, same_stays}
+use Rattle.live_work.proofs.Looked.{answer_words, found_none, found_one, looks_none}
+use Rattle.live_work.proofs.Looked.{looks_on, received_stays, same_stays}
 use Rattle.live_work.proofs.Minded.{mind_looks, mind_stays, mind_within}
 use Rattle.live_work.proofs.looking.look.Goals as goal
 
@@ -95,3 +96,15 @@ returns-in-None-clause-on g c =
     (places_of c.args.plane.now) c.args.pass.now c.receive.new.pass
     (c.ports_speak_by_their_passes.ensures.finds_none c.args.pass.now c.receive.new.pass
     (subst Gets c.in-None.is c.in_ok-letter.ensures.received))
+
+pub returns-in_ok-say_all-in-Some-clause-found : goal.returns-in_ok-say_all-in-Some-clause-found
+returns-in_ok-say_all-in-Some-clause-found g c =
+    let Gets : Option Letter → Type 0 = λ l. view.Receives c.args.pass.now c.receive.new.pass l in
+    found_one c.args.pass.now c.receive.new.pass c.say_all.new.pass c.in-Some.letter
+    (subst Gets c.in-Some.is c.in_ok-letter.ensures.received) c.say_all.ensures.hears
+
+pub returns-in-None-clause-found : goal.returns-in-None-clause-found
+returns-in-None-clause-found g c =
+    let Gets : Option Letter → Type 0 = λ l. view.Receives c.args.pass.now c.receive.new.pass l in
+    found_none c.args.pass.now c.receive.new.pass
+    (subst Gets c.in-None.is c.in_ok-letter.ensures.received)

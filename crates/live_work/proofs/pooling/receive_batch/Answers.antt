@@ -14,7 +14,7 @@ use Rattle.made_runs.specs.Ports.{place_in}
 use Rattle.plane.specs.Passes as view
 use Rattle.plane.specs.Planes.{places_of}
 use Rattle.live_work.proofs.Kept.{port_both}
-use Rattle.live_work.proofs.Looked.{received_stays}
+use Rattle.live_work.proofs.Looked.{one_more_heard, received_stays}
 use Rattle.live_work.proofs.Minded.{mind_on}
 use Rattle.live_work.proofs.Pooled.{hears_next, hears_unread, words_more, words_one}
 use Rattle.live_work.proofs.pooling.receive_batch.Goals as goal
@@ -32,6 +32,17 @@ returns-in_default-2-clause-received g c =
     (sym c.in_default-2.is ∙ c.in_ok-notice.ensures) stays.port
     (c.ports_speak_by_their_passes.ensures.receives c.loop-received.pass c.receive.new.pass
     c.in-Some.letter received) c.loop-received.invariant.received
+
+pub returns-in_default-2-clause-heard : goal.returns-in_default-2-clause-heard
+returns-in_default-2-clause-heard g c =
+    let Gets : Option Letter → Type 0 =
+    λ l. view.Receives c.loop-received.pass c.receive.new.pass l in
+    omega (
+      arith,
+      one_more_heard c.loop-received.pass c.receive.new.pass c.in-Some.letter
+          (subst Gets c.in-Some.is c.in_ok-letter.ensures.received),
+      c.loop-received.invariant.heard,
+    )
 
 pub loop-received-preserved : goal.loop-received-preserved
 loop-received-preserved g c =
@@ -76,6 +87,12 @@ loop-received-preserved g c =
       mind = mind;
       few = omega (arith, longer, c.loop-received.invariant.few);
       counted = omega (arith, machine, longer, c.loop-received.invariant.counted);
+      heard = omega (
+        arith,
+        longer,
+        one_more_heard old new c.in-Some.letter received,
+        c.loop-received.invariant.heard,
+      );
       words = subst (λ (l : List Notice). All AreWords (answers script m.place m.received l))
           (sym pushed) words;
       received = subst (λ (l : List Notice). HasReceived script (places_of c.args.plane.now) m l

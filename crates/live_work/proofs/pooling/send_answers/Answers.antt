@@ -1,4 +1,4 @@
-use Rattle.std.proofs.Common.{List, subst}
+use Rattle.std.proofs.Common.{◌∙◌, List, subst}
 use Rattle.std.specs.Prelude.{All}
 use Rattle.std.proofs.lemmas.List.Elements.{All-tail}
 use Rattle.script_lines.specs.Limits.{IsAsk}
@@ -6,6 +6,7 @@ use Rattle.script_lines.specs.declared.ask.Ask.{Ask}
 use Rattle.plane.specs.Planes.{places_of}
 use Rattle.port_scripts.specs.Words.{AreWords}
 use Rattle.live_work.proofs.Kept.{port_both}
+use Rattle.live_work.proofs.Looked.{still_heard}
 use Rattle.live_work.proofs.Minded.{mind_stays}
 use Rattle.live_work.proofs.Pooled.{sends_first}
 use Rattle.live_work.proofs.pooling.send_answers.Goals as goal
@@ -20,6 +21,8 @@ loop-asks-preserved g c = record {
       c.loop-asks.invariant.words);
   stays = port_both c.args.plane.now c.args.pass.now c.loop-asks.pass c.say_all.new.pass
       c.loop-asks.invariant.stays c.say_all.ensures.stays;
+  heard = still_heard c.loop-asks.pass c.say_all.new.pass c.say_all.ensures.hears
+      ∙ c.loop-asks.invariant.heard;
   mind = mind_stays c.args.script.now c.loop-asks.pass c.say_all.new.pass c.loop-asks.mind
       c.say_all.new.mind c.loop-asks.invariant.mind c.say_all.ensures.hears
       c.say_all.ensures.stays.port c.say_all.ensures.counts.0 c.say_all.ensures.counts.1;

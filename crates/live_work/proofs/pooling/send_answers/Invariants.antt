@@ -1,9 +1,10 @@
-use Rattle.std.proofs.Common.{length}
+use Rattle.std.proofs.Common.{◌≡◌, length}
 use Rattle.std.specs.Prelude.{All}
 use Rattle.script_lines.specs.Limits.{IsAsk}
 use Rattle.plane.specs.Planes.{places_of}
 use Rattle.port_scripts.specs.Words.{AreWords}
 use Rattle.live_passes.specs.Numbered.{StaysPort}
+use Rattle.live_work.specs.Looking.{heard_by}
 use Rattle.live_work.specs.Minds.{IsMind}
 use Rattle.live_work.specs.Pooling.{LeavesAnswers}
 use Rattle.live_work.proofs.pooling.send_answers.Given as goal
@@ -13,6 +14,7 @@ invariant-loop-asks g l = record {
   fit : All (All IsAsk) l.left;
   words : All AreWords l.left;
   stays : StaysPort l.plane l.initial.pass l.pass;
+  heard : heard_by l.pass ≡ heard_by l.initial.pass;
   mind : IsMind l.script l.pass l.mind;
   sent : LeavesAnswers l.script (places_of l.plane) l.fn.answers l.left l.initial.pass l.pass;
 }

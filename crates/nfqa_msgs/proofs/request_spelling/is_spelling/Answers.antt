@@ -29,7 +29,7 @@ returns-in-None c = (
       let request : Request = c.args.request.now in
       let fits =
       spelled-fits c.written_attributes_are_walked.ensures.size c.args.port c.args.call request
-      c.ranges.port.fits c.ranges.call.fits c.fits_its_fields.ensures in
+      c.ranges.port.fits c.ranges.call.fits c.numbers_fit.ensures in
       let it =
       stands c.args.bytes.now c.args.port c.args.call request _ _ c.kind_of.ensures
       c.flags_of.ensures (fits, is) in
@@ -53,7 +53,7 @@ returns-in-Some c =
       λ is.
           let fits =
           spelled-fits c.written_attributes_are_walked.ensures.size c.args.port c.args.call request
-          c.ranges.port.fits c.ranges.call.fits c.fits_its_fields.ensures in
+          c.ranges.port.fits c.ranges.call.fits c.numbers_fit.ensures in
           let it =
           stands c.args.bytes.now c.args.port c.args.call request _ _ c.kind_of.ensures
           c.flags_of.ensures (fits, is) in

@@ -1,5 +1,0 @@
-use Rattle.std.proofs.Common.{◌≤◌}
-use Rattle.ledger_rows.proofs.happenings.visiting.Given as goal
-
-abbrev pub invariant-loop : goal.invariant-loop
-invariant-loop l = 1 ≤ l.packet.visit

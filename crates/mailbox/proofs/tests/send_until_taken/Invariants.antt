@@ -1,5 +1,0 @@
-use Rattle.std.proofs.Common.{◌≡◌}
-use Rattle.mailbox.proofs.tests.send_until_taken.Given as goal
-
-abbrev pub invariant-loop : goal.invariant-loop
-invariant-loop g l = l.sender.mailbox ≡ l.initial.sender.mailbox

@@ -1,5 +1,0 @@
-use Rattle.std.proofs.Common.{◌≤◌}
-use Rattle.place_history.proofs.tests.visiting.Given as goal
-
-abbrev pub invariant-loop : goal.invariant-loop
-invariant-loop l = 1 ≤ l.packet.visit

@@ -1,7 +1,0 @@
-use Rattle.plane.proofs.Only.{feeder_goes}
-use Rattle.plane.proofs.tests.worked.a_packet_waits_and_is_listed.Goals as goal
-
-pub close-histories-requires : goal.close-histories-requires
-close-histories-requires g c =
-    feeder_goes c.all_happen-done.new.opened c.listing-listed.new.pass c.all_happen-done.ensures
-    c.listing-listed.ensures.pass c.listing-listed.ensures.parts

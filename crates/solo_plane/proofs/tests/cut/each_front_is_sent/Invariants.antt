@@ -1,5 +1,0 @@
-use Rattle.solo_plane.specs.Examples.{IsGoing}
-use Rattle.solo_plane.proofs.tests.cut.each_front_is_sent.Given as goal
-
-abbrev pub invariant-loop-there : goal.invariant-loop-there
-invariant-loop-there l = IsGoing 0 l.plane
