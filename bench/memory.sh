@@ -70,26 +70,43 @@ OPENED = "port 7\nopen config 0 bind\nopen config 0 params packet 0\n"
 ANSWERS = OPENED + "on id 2 do verdict this drop this\non any do verdict this accept this\n"
 HEADING = "record fate queue at mark priority bytes\n"
 
-def packet(n):
-    return bytes([0x45, 0, 0, 20, 0, n, 0, 0, 0x40, 6, 0, 0, 10, 0, 0, 1, 10, 0, 0, 2])
+TWO = "*filter\n-A FORWARD -p tcp -j NFQUEUE --queue-num 0\n-A FORWARD -p udp -j NFQUEUE --queue-num 1\nCOMMIT\n"
+CLOSED = "port 7\n" + "".join(f"open config {q} bind params packet 0\n" for q in (0, 1)) + "end close\n"
+THREE = (6, 6, 6)
 
-def capture(*numbers):
+def packet(n, protocol):
+    return bytes([0x45, 0, 0, 20, 0, n, 0, 0, 0x40, protocol, 0, 0, 10, 0, 0, 1, 10, 0, 0, 2])
+
+def capture(protocols, numbers=None):
+    """The frames with these numbers, counted from 1, of packets of these protocols; all without numbers."""
     head = struct.pack("<IHHIIII", 0xA1B2C3D4, 2, 4, 0, 0, 262144, 101)
-    return head + b"".join(struct.pack("<IIII", n, 0, 20, 20) + packet(n) for n in numbers)
+    if numbers is None:
+        numbers = range(1, len(protocols) + 1)
+    return head + b"".join(struct.pack("<IIII", n, 0, 20, 20) + packet(n, protocols[n - 1]) for n in numbers)
 
 def fates(ledger):
     return [line.split()[1] for line in ledger.decode().splitlines()[1:]]
 
-# What the runs have where there is memory: the written capture and the fates.
+def answers(journal):
+    """What each message came to: its errno, and how many packets it took."""
+    return [tuple(map(int, line.split()[-2:])) for line in journal.decode().splitlines() if line.startswith("M ")]
+
+# What the runs have where there is memory: the written capture, the fates, and the answers of the last messages.
 RUNS = [
-    # name, script, arguments, released, fates
-    ("play: three packets answered", ANSWERS, ["play"], (1, 3), ["accept", "drop", "accept"]),
-    ("play: a queue that is unbound", OPENED + "end config 0 unbind\nend batch 0 accept 3\n", ["play"], (),
-     ["unbind"] * 3),
-    ("play: a device that goes down", "down 1 after 2\n" + OPENED, ["play"], (),
-     ["devicedown", "devicedown", "waiting"]),
-    ("live: three packets answered, one place", ANSWERS, ["live", "1"], (1, 3), ["accept", "drop", "accept"]),
-    ("live: three packets answered, eight places", ANSWERS, ["live", "8"], (1, 3), ["accept", "drop", "accept"]),
+    # name, rules, protocols of the packets, script, arguments, released, fates, answers
+    ("play: three packets answered", U, THREE, ANSWERS, ["play"], (1, 3), ["accept", "drop", "accept"],
+     [(0, 1), (0, 1), (0, 1)]),
+    ("play: a queue that is unbound", U, THREE, OPENED + "end config 0 unbind\nend batch 0 accept 3\n", ["play"], (),
+     ["unbind"] * 3, [(0, 3), (19, 0)]),
+    ("play: a port that is closed", TWO, (6, 17), CLOSED, ["play"], (), ["portclosed"] * 2, [(0, 0), (0, 0)]),
+    ("play: a device that goes down", U, THREE, "down 1 after 2\n" + OPENED, ["play"], (),
+     ["devicedown", "devicedown", "waiting"], [(0, 0), (0, 0)]),
+    ("live: three packets answered, one place", U, THREE, ANSWERS, ["live", "1"], (1, 3), ["accept", "drop", "accept"],
+     [(0, 1), (0, 1), (0, 1)]),
+    ("live: three packets answered, eight places", U, THREE, ANSWERS, ["live", "8"], (1, 3),
+     ["accept", "drop", "accept"], [(0, 1), (0, 1), (0, 1)]),
+    ("live: a port that is closed, one place", TWO, (6, 17), CLOSED, ["live", "1"], (), ["portclosed"] * 2,
+     [(0, 0), (0, 0)]),
 ]
 OLD = b"nfq-journal 1\nA 0 1 1 1 n y 0 1 0 2048 - 4500001400010000400600000a0000010a000002 noqueue\nend\n"
 NEW = b"nfq-journal 2\nA 0 1 1 1 n y 0 0 1 0 2048 - 4500001400010000400600000a0000010a000002 noqueue\nend\n"
@@ -130,12 +147,13 @@ def tried(name, words, outputs, is_right):
             break
     print(f"{name}: {refused - 1} allocations; with one of them refused {told} runs ended with status 8, the others as with memory")
 
-write("rules", U.encode())
-write("in", capture(1, 2, 3))
-for name, script, (command, *places), released, wanted in RUNS:
+for name, rules, protocols, script, (command, *places), released, wanted, last in RUNS:
+    write("rules", rules.encode())
+    write("in", capture(protocols))
     write("script", script.encode())
     tried(name, [command, "rules", "script", "in", *OUTPUTS, *places], OUTPUTS,
-          lambda: read("out") == capture(*released) and fates(read("ledger")) == wanted)
+          lambda: read("out") == capture(protocols, released) and fates(read("ledger")) == wanted
+          and answers(read("journal"))[-len(last):] == last)
 write("old", OLD)
 tried("migrate: one arrival", ["migrate", "old", "new"], ["new"], lambda: read("new") == NEW)
 PY
