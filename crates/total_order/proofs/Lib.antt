@@ -1,0 +1,10 @@
+pub mod Lists
+pub mod Sort
+pub mod Parts
+pub mod OrderByClocks
+pub mod ClocksByOrder
+pub mod Persistence
+pub mod Ready
+pub mod OneThread
+pub mod Positions
+pub mod Examples

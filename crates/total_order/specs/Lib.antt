@@ -1,0 +1,6 @@
+pub mod Orders
+pub mod Steps
+pub mod TotalOrder
+pub mod Ready
+pub mod OneThread
+pub mod Examples
