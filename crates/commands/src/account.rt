@@ -18,6 +18,7 @@ ghost use Rattle.made_runs.specs.Run.{IsMadeBy};
 ghost use Rattle.script_runs.specs.Schedule.{IsSolo};
 ghost use Rattle.fate_ledger.specs.Released.{released};
 ghost use Rattle.solo_run.specs.Numbers.{most_frames};
+ghost use Rattle.journals.specs.WellFormed.{IsWellFormed};
 ghost use Rattle.commands.specs.Account.{AreAccounted, IsAccounted};
 ghost use Rattle.run_files.specs.Outputs.{fates_of};
 ghost use Rattle.journals.specs.WellFormed.{Fit};
@@ -77,13 +78,24 @@ pub(crate) fn a_run_is_accounted_for()
         AreAccounted workers feeders tables script c h }
 {
     each_log_is_what_is_told();
+    replies_tell_how_many_left();
+    told_histories_are_accounted_for();
+}
+
+/// The same of histories that a journal tells, whoever wrote it.
+pub(crate) fn told_histories_are_accounted_for()
+    ensures { (workers feeders : ℕ) (tables : RuleTables) (script : ScriptValue) (c : ACapture)
+        (h : AHistories) (notes : ℕ → List Note) → IsWellFormed h → h.lost ≡ [] →
+        AreLegal h.entries → AreSound tables script.key (cards c) h.entries h.lost →
+        IsMadeBy workers feeders script (length c.frames) h notes (λ port. []) →
+        AreAccounted workers feeders tables script c h }
+{
     each_line_names_the_last_event();
     the_last_event_is_where_it_left_or_waits();
     what_left_last_is_over();
     no_visit_arrives_twice();
     each_packet_waits_is_lost_or_is_over();
     released_frames_are_those_let_go();
-    replies_tell_how_many_left();
 }
 
 /// What is written of a run of packets of a capture that the format can hold can be written again:

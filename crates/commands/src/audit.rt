@@ -1,20 +1,24 @@
 //! The command `audit`: the inputs of a run and a journal are read, and it is judged whether the
 //! journal tells a run on these inputs.
 
-ghost use Rattle.std.specs.Prelude.{◌≡◌, IsTrue, IfOk};
+ghost use Rattle.std.specs.Prelude.{◌≡◌, ◌⊎◌, ℕ, IsTrue, IfOk};
 ghost use Rattle.host_io.specs.Host.{IsLater, SameFiles};
 ghost use Rattle.hook_chain.specs.Rules.{RuleTables};
 ghost use Rattle.inspector_script.specs.Scripts.{ScriptValue};
 ghost use Rattle.pcap_io.specs.declared.capture.Capture.{Capture};
 ghost use Rattle.histories.specs.declared.histories.Histories.{Histories};
-ghost use Rattle.command_line.specs.Arguments.{audit_files_of, Audits, LiveFiles, PlayFiles};
+ghost use Rattle.command_line.specs.Arguments.{audit_files_of, AuditFiles, Audits, LiveFiles};
+ghost use Rattle.command_line.specs.Arguments.{PlayFiles, ToldRun};
+ghost use Rattle.run_files.specs.Causes.{IsUnread};
 ghost use Rattle.run_files.specs.Files.{Contents};
+ghost use Rattle.journals.specs.WellFormed.{IsWellFormed};
 ghost use Rattle.run_audit.specs.Findings.{IsRunOf};
 ghost use Rattle.commands.specs.Account.{AreAccounted};
-ghost use Rattle.commands.specs.Ending.{IsEnded, span};
+ghost use Rattle.commands.specs.Ending.{IsEnded, IsStatusOf, Span, span};
 ghost use Rattle.commands.specs.Headline.{AreKept, audit_of_run, IsAudited, IsJudged};
 ghost use Rattle.commands.specs.Headline.{IsLived, IsOnlyJudged, IsPlayed, MayFind};
 
+use crate::account::told_histories_are_accounted_for;
 use command_line::Audit;
 use host_io::Host;
 use run_audit::{Finding, a_finding_is_the_only_one, a_run_has_no_finding, audit};
@@ -32,7 +36,26 @@ pub fn a_run_passes_its_audit()
     ensures lived { (l : LiveFiles) (old new later : Contents) →
         l.size.feeders ≡ 1 → l.size.workers ≡ 1 → IsLived l old new →
         AreKept l.files old new later → IsAudited (audit_of_run l.files) later }
+    // So an audit of a `play` ends with 0 or 8, unless a read failed.
+    ensures status { (f : PlayFiles) (old new : Contents) (s : Span) (ends : ℕ) →
+        IsPlayed f old new → AreKept f old new s.old → IsTrue s.tells →
+        IsStatusOf (Audits (audit_of_run f)) s ends →
+        (ends ≡ 0) ⊎ (ends ≡ 8) ⊎ ((ends ≡ 2) × IsUnread (ToldRun (audit_of_run f))
+        s.old_read_faults s.new_read_faults s.old) }
 {}
+
+/// What passes its audit is accounted for, whoever wrote it: all that is known of a run with one
+/// feeder and no pool is known of the histories that the journal tells. Each packet that met a
+/// queue was released or destroyed exactly once or waits, its ledger line names where it left, and
+/// the capture of what is released has exactly the released frames.
+pub fn what_passes_its_audit_is_accounted_for()
+    ensures told { (a : AuditFiles) (old : Contents) (x : IsAudited a old) →
+        AreAccounted 1 1 x.tables x.script x.capture x.histories }
+    ensures run { (tables : RuleTables) (script : ScriptValue) (c : Capture) (h : Histories) →
+        IsWellFormed h → IsRunOf tables script c h → AreAccounted 1 1 tables script c h }
+{
+    told_histories_are_accounted_for();
+}
 
 /// Judges what the journal tells: `None` where it tells a run on the inputs. Nothing is written.
 pub fn audit_files<H: Host>(

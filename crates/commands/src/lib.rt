@@ -22,6 +22,6 @@ mod play_run;
 mod trial;
 
 pub use arguments::program;
-pub use audit::a_run_passes_its_audit;
+pub use audit::{a_run_passes_its_audit, what_passes_its_audit_is_accounted_for};
 pub use command::play;
 pub use live_run::{live, live_pools};

@@ -1,48 +1,11 @@
-use Rattle.std.proofs.Common.{arith, ap, List}
-use Rattle.std.specs.Prelude.{count_by, ◌==◌, length, []}
-use Rattle.histories.specs.declared.histories.Lost.{Lost}
-use Rattle.made_runs.specs.Entering.{cards}
-use Rattle.fate_ledger.specs.Fates.{is_lost}
-use Rattle.run_files.specs.Outputs.{fates_of}
+use Rattle.std.specs.Prelude.{length, []}
 use Rattle.commands.proofs.Forming.{well_formed}
-use Rattle.commands.proofs.Numbering.{cards_differ, one_line_each}
 use Rattle.commands.proofs.account.a_run_is_accounted_for.Goals as goal
 
 pub returns : goal.returns
 returns c = λ workers feeders tables script capture h notes es is fit none grouped legal sound made.
-    let apart = c.no_visit_arrives_twice.ensures tables script.key (cards capture) h.entries h.lost
-    (cards_differ capture) sound in
-    record {
-      nothing_lost = none;
-      legal = legal;
-      sound = sound;
-      notes = notes;
-      made = made;
-      formed = well_formed c.replies_tell_how_many_left.ensures workers feeders script
-          (length capture.frames) h notes (λ port. []) is fit none es grouped legal made
-          (c.each_log_is_what_is_told.ensures workers feeders script (length capture.frames) h notes
-          (λ port. []) is.ports_differ made);
-      apart = apart;
-      once = λ number queues are.
-          let each = c.each_packet_waits_is_lost_or_is_over.ensures tables script.key number queues
-          (cards capture) h.entries h.lost are sound in
-          omega (
-            arith,
-            each,
-            ap (λ (ls : List Lost). count_by (λ (l : Lost). l.number == number) ls) none,
-          );
-      lines =
-          record {
-            named = λ place f l is_f is_l.
-                c.each_line_names_the_last_event.ensures h capture.frames place f l legal is_f is_l;
-            left = λ number last is_last other.
-                c.what_left_last_is_over.ensures.over tables script.key number (cards capture)
-                h.entries h.lost last legal sound
-                (ap (λ (ls : List Lost). is_lost ls number) none) is_last other;
-            waits = λ number last is_last waiting.
-                c.the_last_event_is_where_it_left_or_waits.ensures.waits h.entries number last legal
-                apart is_last waiting;
-          };
-      released = c.released_frames_are_those_let_go.ensures.order capture.link capture.frames
-          (fates_of capture h) (one_line_each h capture.frames);
-    }
+    c.told_histories_are_accounted_for.ensures workers feeders tables script capture h notes
+    (well_formed c.replies_tell_how_many_left.ensures workers feeders script
+    (length capture.frames) h notes (λ port. []) is fit none es grouped legal made
+    (c.each_log_is_what_is_told.ensures workers feeders script (length capture.frames) h notes
+    (λ port. []) is.ports_differ made)) none legal sound made

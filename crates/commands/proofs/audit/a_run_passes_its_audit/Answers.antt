@@ -14,3 +14,9 @@ pub returns-clause-lived : goal.returns-clause-lived
 returns-clause-lived c = λ l old new later one none.
     passes (IsAccountedOf l.size) l.files old new later (λ tables script capture h is_one known.
     known_alone l.size.feeders l.size.workers tables script capture h is_one one none known)
+
+pub returns-clause-status : goal.returns-clause-status
+returns-clause-status c = λ f old new s ends played kept tells is.
+    is.passes tells
+    (passes IsAccounted f old new s.old (λ tables script capture h one known. known.run) played
+    kept)
