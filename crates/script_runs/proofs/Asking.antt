@@ -14,6 +14,7 @@ use Rattle.histories.specs.declared.log.Did.TheVariants.{Sent}
 use Rattle.histories.specs.Journeys.{Arrival}
 use Rattle.histories.specs.States.{state_of}
 use Rattle.histories.specs.Happenings.{all_handed}
+use Rattle.total_order.specs.Steps.{HasCome}
 use Rattle.script_lines.specs.declared.ask.Ask.TheVariants.{Words, Close}
 use Rattle.script_lines.specs.declared.line.Down.{Down}
 use Rattle.inspector_script.specs.Scripts.{ScriptValue}
@@ -51,8 +52,8 @@ pub record Keeps (s : Setting) (P : Kept) : Type 0 where
       P (sent_as s port call m w).entries (sent_as s port call m w).ports
       (noted port (Spoke call m (errno_of port call (decoded m) w)) notes)
   pub gets : (w : World) (notes : ℕ → List Note) (port : ℕ) (held : Port) (l : Letter)
-      (ls : List Letter) → w.ports port ≡ Some held → held.letters ≡ l ∷ ls →
-      P w.entries w.ports notes →
+      (ls : List Letter) → is_open_port (w.ports port) ≡ true → w.ports port ≡ Some held →
+      held.letters ≡ l ∷ ls → P w.entries w.ports notes →
       P w.entries (at_port port received w).ports (noted port (Got l) notes)
   pub closes : (w : World) (notes : ℕ → List Note) (port : ℕ) →
       is_open_port (w.ports port) ≡ true → P w.entries w.ports notes →
@@ -75,9 +76,12 @@ pub record Stage : Type 0 where
 abbrev pub IsOver : ScriptValue → Stage → Type 0
 IsOver script st = (st.is_over ≡ true) × (st.early ≡ length script.ports)
 
--- nothing arrives before that
-abbrev pub MayArrive : ScriptValue → Stage → Arrival → Type 0
-MayArrive script st a = IsOver script st × (2 ≤ a.card.visit)
+-- nothing arrives before that, and what comes again left before
+pub record MayArrive (script : ScriptValue) (st : Stage) (es : List Entry) (a : Arrival) :
+    Type 0 where
+  pub over : IsOver script st
+  pub visit : 2 ≤ a.card.visit
+  pub come : HasCome a.card.number a.card.visit es
 
 -- and what arrives for the first time is of the frame that is fed
 pub record MayEnter (script : ScriptValue) (st : Stage) (a : Arrival) : Type 0 where
@@ -113,7 +117,7 @@ with_fallen st d =
 pub record Goes (s : Setting) (script : ScriptValue) (f : ℕ → ℕ) (P : Staged) : Type 0 where
   pub log : LogLaws
   pub arrives : (st : Stage) (w : World) (notes : ℕ → List Note) (a : Arrival) →
-      MayArrive script st a → P st w.entries w.ports notes →
+      MayArrive script st w.entries a → P st w.entries w.ports notes →
       P st (arrived s w a).entries (arrived s w a).ports notes
   pub enters : (st : Stage) (w : World) (notes : ℕ → List Note) (a : Arrival) →
       MayEnter script st a → P st w.entries w.ports notes →
@@ -129,7 +133,8 @@ pub record Goes (s : Setting) (script : ScriptValue) (f : ℕ → ℕ) (P : Stag
       P st (sent_as s port call m w).entries (sent_as s port call m w).ports
       (noted port (Spoke call m (errno_of port call (decoded m) w)) notes)
   pub gets : (st : Stage) (w : World) (notes : ℕ → List Note) (port : ℕ) (held : Port)
-      (l : Letter) (ls : List Letter) → is_in script f port ≡ true → IsOver script st →
+      (l : Letter) (ls : List Letter) → is_in script f port ≡ true →
+      is_open_port (w.ports port) ≡ true → IsOver script st →
       w.ports port ≡ Some held → held.letters ≡ l ∷ ls → P st w.entries w.ports notes →
       P st w.entries (at_port port received w).ports (noted port (Got l) notes)
   pub closes : (st : Stage) (w : World) (notes : ℕ → List Note) (port : ℕ) →
@@ -158,8 +163,8 @@ always_goes laws s script f P k = record {
   enters = λ st w notes a may is. k.arrives w notes a is;
   begins = λ st es ports notes port i is. k.begins es ports notes port is;
   speaks = λ st w notes port call m at_end i op may due is. k.speaks w notes port call m op is;
-  gets = λ st w notes port held l ls i over there mail is.
-      k.gets w notes port held l ls there mail is;
+  gets = λ st w notes port held l ls i op over there mail is.
+      k.gets w notes port held l ls op there mail is;
   closes = λ st w notes port i op may is. k.closes w notes port op is;
   falls = λ st w notes d over late time is. k.falls w notes d.device is;
   goes_on = λ st u es ports notes follows same is. is;
@@ -278,8 +283,8 @@ module _ (s : Setting) (script : ScriptValue) (f : ℕ → ℕ) (P : Staged) (K 
           absurd (cc)
       by (inr h) = rw h (none p out)
 
-  pub arrive_reached : (T : ℕ → Stand) (w : World) (a : Arrival) → MayArrive script st a →
-      At w T → At (arrived s w a) T
+  pub arrive_reached : (T : ℕ → Stand) (w : World) (a : Arrival) →
+      MayArrive script st w.entries a → At w T → At (arrived s w a) T
   arrive_reached T w a may r = record {
     notes = r.notes;
     kept = K.arrives st w r.notes a may r.kept;
@@ -350,7 +355,7 @@ module _ (s : Setting) (script : ScriptValue) (f : ℕ → ℕ) (P : Staged) (K 
       ∙ ap (λ (p : Port). next_call p.dids) (sym same)
 
   -- a port that stands open is open
-  is_open : (place port : ℕ) (notes : List Note) (o : Option Port) (t : Stand) →
+  pub is_open : (place port : ℕ) (notes : List Note) (o : Option Port) (t : Stand) →
       IsAt script place port notes o t → t.is_open ≡ true → is_open_port o ≡ true
   is_open place port notes o t is so =
       ap is_open_port is.there ∙ ap not is.shut ∙ ap (λ b. not (not b)) so
@@ -459,9 +464,9 @@ both_kept s P Q k l = record {
       (k.begins es ports notes port is.0, l.begins es ports notes port is.1);
   speaks = λ w notes port call m op is.
       (k.speaks w notes port call m op is.0, l.speaks w notes port call m op is.1);
-  gets = λ w notes port held one ls there mail is. (
-    k.gets w notes port held one ls there mail is.0,
-    l.gets w notes port held one ls there mail is.1,
+  gets = λ w notes port held one ls op there mail is. (
+    k.gets w notes port held one ls op there mail is.0,
+    l.gets w notes port held one ls op there mail is.1,
   );
   closes = λ w notes port op is. (k.closes w notes port op is.0, l.closes w notes port op is.1);
   falls = λ w notes device is. (k.falls w notes device is.0, l.falls w notes device is.1);
@@ -483,9 +488,9 @@ both_go s script f P Q k l = record {
     k.speaks st w notes port call m at_end i op may due is.0,
     l.speaks st w notes port call m at_end i op may due is.1,
   );
-  gets = λ st w notes port held one ls i over there mail is. (
-    k.gets st w notes port held one ls i over there mail is.0,
-    l.gets st w notes port held one ls i over there mail is.1,
+  gets = λ st w notes port held one ls i op over there mail is. (
+    k.gets st w notes port held one ls i op over there mail is.0,
+    l.gets st w notes port held one ls i op over there mail is.1,
   );
   closes = λ st w notes port i op may is. (
     k.closes st w notes port i op may is.0,

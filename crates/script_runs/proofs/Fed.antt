@@ -20,9 +20,9 @@ use Rattle.made_runs.specs.Underway.{AllFed, IsNow}
 use Rattle.script_runs.specs.Sending.{carried_out}
 use Rattle.made_runs.specs.Feeder.{times_of_event}
 use Rattle.script_runs.proofs.Asking.{Stage, IsOver, MayArrive, Goes, MayEnter, with_fed}
-use Rattle.script_runs.proofs.Zeros.{NoneWaits, none_less}
+use Rattle.script_runs.proofs.Zeros.{NoneWaits}
 use Rattle.script_runs.proofs.Going.{Below, arrival_none, ask_none, closings_none, downs_none}
-use Rattle.script_runs.proofs.Going.{either_so, asked_so}
+use Rattle.script_runs.proofs.Going.{either_so, asked_so, opens_none}
 
 pub record FedSo (st : Stage) (es : List Entry) : Type 0 where
   pub none : NoneWaits st.is_over es
@@ -43,15 +43,15 @@ first_now a room is =
     rw so refl
 
 module _ (laws : Below) (s : Setting) (script : ScriptValue) (f : ℕ → ℕ) where
-  arrival_fed : (st : Stage) (w : World) (a : Arrival) → MayArrive script st a →
+  arrival_fed : (st : Stage) (w : World) (a : Arrival) → MayArrive script st w.entries a →
       FedSo st w.entries → FedSo st (arrived s w a).entries
   arrival_fed st w a may is =
       let room = room_for s w a in
       record {
-        none = arrival_none laws s script st w a may.0.0 (omega (arith, may.1)) is.none;
+        none = arrival_none laws.steps s script st w a may.over.0 (omega (arith, may.visit)) is.none;
         fed = laws.fed.entry st.time st.fallen w.entries
             (entry_of w.entries a.queue (happening.arrive a room)) tt
-            (later_now st.time a room may.1) is.fed;
+            (later_now st.time a room may.visit) is.fed;
       }
 
   enter_fed : (st : Stage) (w : World) (a : Arrival) → MayEnter script st a →
@@ -59,7 +59,7 @@ module _ (laws : Below) (s : Setting) (script : ScriptValue) (f : ℕ → ℕ) w
   enter_fed st w a may is =
       let room = room_for s w a in
       record {
-        none = arrival_none laws s script st w a may.over.0 (omega (arith, may.visit)) is.none;
+        none = arrival_none laws.steps s script st w a may.over.0 (omega (arith, may.visit)) is.none;
         fed = laws.fed.first st.time a.card.number st.fallen w.entries
             (entry_of w.entries a.queue (happening.arrive a room)) tt
             (first_now a room may.visit) may.time is.fed;
@@ -71,29 +71,29 @@ module _ (laws : Below) (s : Setting) (script : ScriptValue) (f : ℕ → ℕ) w
   carried_fed st w port call Nothing either is = is
   carried_fed st w port call (Refused errno) either is = is
   carried_fed st w port call (Asked r) either is =
-      asked_so laws s script st (λ es ports. FedSo st es) (λ v a may is. arrival_fed st v a may is)
+      asked_so laws.steps s script st (λ es ports. FedSo st es) (λ v a may is. arrival_fed st v a may is)
       w port call r either is.none (record {
-        none = ask_none laws s script st w port call r is.none;
+        none = ask_none laws.steps s script st w port call r is.none;
         fed = laws.fed.entry st.time st.fallen w.entries
             (entry_of w.entries (happening.queue_of r) (Ask port call r)) tt (inl refl) is.fed;
       })
 
   pub fed_goes : Goes s script f (λ st es ports notes. FedSo st es)
   fed_goes = record {
-    log = laws.log;
+    log = laws.steps.log;
     arrives = λ st w notes a may is. arrival_fed st w a may is;
     enters = λ st w notes a may is. enter_fed st w a may is;
     begins = λ st es ports notes port i is. is;
     speaks = λ st w notes port call m at_end i op may due is.
         carried_fed st w port call (decoded m)
-        (either_so laws s script st (f port) at_end may) is;
-    gets = λ st w notes port held l ls i over there mail is. is;
+        (either_so laws.steps s script st (f port) at_end may) is;
+    gets = λ st w notes port held l ls i op over there mail is. is;
     closes = λ st w notes port i op may is. record {
-      none = closings_none laws s script st port w.entries is.none;
+      none = closings_none laws.steps s script st port w.entries is.none;
       fed = laws.fed.closing st.time st.fallen port w.entries is.fed;
     };
     falls = λ st w notes d over late time is. record {
-      none = downs_none laws s script st d.device w.entries is.none;
+      none = downs_none laws.steps s script st d.device w.entries is.none;
       fed = laws.fed.line st.time st.fallen d w.entries time is.fed;
     };
     goes_on = λ st u es ports notes follows same is. record {
@@ -101,11 +101,8 @@ module _ (laws : Below) (s : Setting) (script : ScriptValue) (f : ℕ → ℕ) w
       fed = laws.fed.later st.time u.time st.fallen u.fallen es follows.time follows.fallen is.fed;
     };
     opens_up = λ st u es ports notes follows over idle is. record {
-      none = subst (λ b. NoneWaits b es) (sym over.0) (opens st.is_over es refl is.none);
+      none = subst (λ b. NoneWaits b es) (sym over.0)
+          (opens_none laws.steps s script st es is.none);
       fed = laws.fed.later st.time u.time st.fallen u.fallen es follows.time follows.fallen is.fed;
     };
   }
-    where
-      opens : (b : Bool) (es : List Entry) → b ≡ b → NoneWaits b es → NoneWaits true es
-      opens true es same is = is
-      opens false es same is = none_less false es laws.conserve is refl

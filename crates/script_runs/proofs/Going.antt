@@ -28,8 +28,10 @@ use Rattle.script_runs.specs.Sending.{carried_out, all_moved}
 use Rattle.script_runs.proofs.Carrying.{Known, Of}
 use Rattle.script_runs.proofs.Asking.{Stage, IsOver, MayArrive, MaySpeak}
 use Rattle.script_runs.proofs.Reaching.{LogLaws}
+use Rattle.script_runs.proofs.Departures.{HaveLeft, handed_left, left_by}
 use Rattle.script_runs.proofs.Later.{LeaveAlone, MayGo, moved_later}
-use Rattle.script_runs.proofs.Zeros.{Conserve, NoneWaits, Brings, barred, test, none_then, one_free}
+use Rattle.script_runs.proofs.Zeros.{Conserve, NoneWaits, Brings, barred, test, none_less}
+use Rattle.script_runs.proofs.Zeros.{none_then, one_free}
 use Rattle.script_runs.proofs.Zeros.{request_free, none_go, all_later, bring_all, closing_brings}
 use Rattle.script_runs.proofs.Zeros.{down_brings}
 
@@ -76,11 +78,15 @@ pub record OrderedLaws : Type 0 where
   pub ordered : (ports : List ℕ) (early late : ℕ) (told : ℕ → List Kind) (h : List Entry) →
       Ordered ports early late told h → IsOrdered ports told h
 
--- the laws of the crates below on which these parts stand
-pub record Below : Type 0 where
+-- how each step and each log goes on
+pub record StepLaws : Type 0 where
   pub leaves : LeaveAlone
   pub conserve : Conserve
   pub log : LogLaws
+
+-- the laws of the crates below on which these parts stand
+pub record Below : Type 0 where
+  pub steps : StepLaws
   pub fed : FedLaws
   pub ordered : OrderedLaws
 
@@ -90,7 +96,7 @@ visited card least =
     ne_eqb card.visit 0 (λ same. absurd (omega (arith, same, least))) in
     one_free true card none
 
-module _ (laws : Below) (s : Setting) (script : ScriptValue) (st : Stage) where
+module _ (laws : StepLaws) (s : Setting) (script : ScriptValue) (st : Stage) where
   pub arrival_none : (w : World) (a : Arrival) → st.is_over ≡ true → 1 ≤ a.card.visit →
       NoneWaits st.is_over w.entries → NoneWaits st.is_over (arrived s w a).entries
   arrival_none w a over least is =
@@ -118,6 +124,14 @@ module _ (laws : Below) (s : Setting) (script : ScriptValue) (st : Stage) where
       (bring_all st.is_over (λ k. happening.down_of device k (state_of es k))
       (λ k. down_brings st.is_over device k (state_of es k)) every_number) is
 
+  -- once all ports have opened
+  pub opens_none : (es : List Entry) → NoneWaits st.is_over es → NoneWaits true es
+  opens_none es is = by st.is_over is
+    where
+      by : (b : Bool) → NoneWaits b es → NoneWaits true es
+      by true is = is
+      by false is = none_less false es laws.conserve is refl
+
   -- ports have opened, or not
   pub either_so : (place : ℕ) (at_end : Bool) → MaySpeak script st place at_end →
       IsOver script st ⊎ (st.is_over ≡ false)
@@ -126,16 +140,18 @@ module _ (laws : Below) (s : Setting) (script : ScriptValue) (st : Stage) where
   either_so place false (inr not_yet) = inr not_yet.0
 
   -- a message is carried out
-  module _ (Q : Known) (move : (w : World) (a : Arrival) → MayArrive script st a → Of Q w →
-      Of Q (arrived s w a)) where
+  module _ (Q : Known) (move : (w : World) (a : Arrival) → MayArrive script st w.entries a →
+      Of Q w → Of Q (arrived s w a)) where
     moved_so : (hs : List (Card × Decision)) (w : World) →
         IsOver script st ⊎ (st.is_over ≡ false) →
-        MayGo (λ v. barred st.is_over v ≡ false) hs → Of Q w → Of Q (all_moved s hs w)
-    moved_so hs w (inl over) may q =
+        MayGo (λ v. barred st.is_over v ≡ false) hs → HaveLeft w.entries hs → Of Q w →
+        Of Q (all_moved s hs w)
+    moved_so hs w (inl over) may left q =
         moved_later laws.leaves s Q (MayArrive script st)
-        (λ a later. (over, later))
-        move hs w (all_later hs (subst (λ b. MayGo (λ v. barred b v ≡ false) hs) over.0 may)) q
-    moved_so hs w (inr not_yet) may q =
+        (λ es a later come. record { over = over; visit = later; come = come })
+        move hs w (all_later hs (subst (λ b. MayGo (λ v. barred b v ≡ false) hs) over.0 may)) left
+        q
+    moved_so hs w (inr not_yet) may left q =
         subst (λ gs. Of Q (all_moved s gs w))
         (sym (none_go hs (subst (λ b. MayGo (λ v. barred b v ≡ false) hs) not_yet may))) q
 
@@ -145,4 +161,6 @@ module _ (laws : Below) (s : Setting) (script : ScriptValue) (st : Stage) where
     asked_so w port call r either none q =
         moved_so (happening.all_handed (asking w port call r).left) (with_ask w port call r) either
         (request_free laws.conserve st.is_over (state_of w.entries (happening.queue_of r)) port call
-        r (none.none (happening.queue_of r))) q
+        r (none.none (happening.queue_of r)))
+        (handed_left (with_ask w port call r).entries (asking w port call r).left
+        (left_by w.entries (happening.queue_of r) (Ask port call r))) q

@@ -25,3 +25,8 @@ pub mod Mailboxes
 pub mod Emptying
 pub mod Emptied
 pub mod Rounds
+pub mod Departures
+pub mod Takings
+pub mod Turns
+pub mod PortStates
+pub mod TotalOrder

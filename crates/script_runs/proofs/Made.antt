@@ -136,7 +136,7 @@ made_by_script laws laws_below script tables c h places is =
     let In_order : Staged = λ st es ports notes. OrderSo script st es notes in
     let New : Staged = λ st es ports notes. Fed_so st es ports notes × In_order st es ports notes in
     let P : Staged = λ st es ports notes. Old es ports notes × New st es ports notes in
-    let K = both_go s script f (λ st. Old) New (always_goes laws_below.log s script f Old kept)
+    let K = both_go s script f (λ st. Old) New (always_goes laws_below.steps.log s script f Old kept)
     (both_go s script f Fed_so In_order (fed_goes laws_below s script f)
     (order_goes script laws_below s)) in
     let placed = places.placed in
@@ -152,7 +152,7 @@ made_by_script laws laws_below script tables c h places is =
         },
       ),
     ) in
-    let ran = run_reached script tables c f P K laws_below.leaves
+    let ran = run_reached script tables c f P K laws_below.steps.leaves
     (old_nothing, (nothing_fed_so laws_below.fed, nothing_ordered script)) placed in
     let r = ran.reached in
     let w = run script tables c in
@@ -190,7 +190,7 @@ made_by_script laws laws_below script tables c h places is =
         closing = λ port i queue below.
             let here = r.are.at port i in
             subst (λ b. IsClosing port b (history queue h.entries))
-            (sym (closed_at laws_below.log script (f port) port (r.notes port) (w.ports port)
+            (sym (closed_at laws_below.steps.log script (f port) port (r.notes port) (w.ports port)
             (ended script f port) here))
             (subst (IsClosing port (is_shut (w.ports port)))
             (sym (is.entries.same queue)) (r.kept.0.1.0.each port queue below));

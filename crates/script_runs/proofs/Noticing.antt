@@ -137,7 +137,7 @@ abbrev pub offered : ℕ → Bound → Card → List (Card × Way) → List Lett
 offered queue b card [] = letter_of queue b (next_id b) card ∷ []
 offered queue b card (l ∷ ls) = []
 
-arrival_offers : (queue : ℕ) (b : Bound) (card : Card) (bypass room : Bool) →
+pub arrival_offers : (queue : ℕ) (b : Bound) (card : Card) (bypass room : Bool) →
     letters_of_reply queue b card (arrive (Some b) card bypass room).reply
     ≡ offered queue b card (arrive (Some b) card bypass room).left
 arrival_offers queue b card bypass room =
@@ -340,7 +340,7 @@ noticed_kept s = record {
       quiet_then between.entries between.ports notes port (Spoke call m errno)
       (having_done (Sent call (words_of port call m.whole (decoded m)) (answered m errno))) refl
       (λ held. refl) (carried_noticed s w notes port call (decoded m) is);
-  gets = λ w notes port held l ls there mail is. got_noticed w notes port held l ls there mail is;
+  gets = λ w notes port held l ls op there mail is. got_noticed w notes port held l ls there mail is;
   closes = λ w notes port op is.
       quiet_then (w.entries ++ happening.closings port w.entries)
       w.ports notes port Shut closed refl

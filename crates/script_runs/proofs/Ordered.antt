@@ -32,10 +32,10 @@ use Rattle.made_runs.specs.Order.{kinds_told, early_by, late_by, late_asked}
 use Rattle.script_runs.proofs.Asking.{Stage, IsOver, MayArrive, MaySpeak, Goes, MayEnter, with_fed}
 use Rattle.script_runs.proofs.Reaching.{LogLaws}
 use Rattle.script_runs.proofs.Reaching.{noted, is_in}
-use Rattle.script_runs.proofs.Zeros.{NoneWaits, none_less}
+use Rattle.script_runs.proofs.Zeros.{NoneWaits}
 use Rattle.script_runs.proofs.Owing.{Owes, AllOwe, has_received, quiet_owes, got_owes, noted_owe}
 use Rattle.script_runs.proofs.Going.{Below, arrival_none, ask_none, closings_none, downs_none}
-use Rattle.script_runs.proofs.Going.{either_so, asked_so}
+use Rattle.script_runs.proofs.Going.{either_so, asked_so, opens_none}
 
 -- the kind of a message that a port's request is
 abbrev own_kinds : ℕ → ℕ → Kind → List Plea → List Kind
@@ -144,15 +144,15 @@ module _ (script : ScriptValue) where
 
   module _ (laws : Below) (s : Setting) where
     arrival_order : (st : Stage) (kinds : Told) (w : World) (a : Arrival) →
-        MayArrive script st a → InOrder st kinds w.entries →
+        MayArrive script st w.entries a → InOrder st kinds w.entries →
         InOrder st kinds (arrived s w a).entries
     arrival_order st kinds w a may is =
         let room = room_for s w a in
         record {
-          none = arrival_none laws s script st w a may.0.0 (omega (arith, may.1)) is.none;
+          none = arrival_none laws.steps s script st w a may.over.0 (omega (arith, may.visit)) is.none;
           order = laws.ordered.other script.ports st.early st.late kinds w.entries
-              (entry_of w.entries a.queue (happening.arrive a room)) (sym may.0.1)
-              (late_later st.late a room may.1) (λ p. refl) is.order;
+              (entry_of w.entries a.queue (happening.arrive a room)) (sym may.over.1)
+              (late_later st.late a room may.visit) (λ p. refl) is.order;
         }
 
     enter_order : (st : Stage) (notes : ℕ → List Note) (w : World) (a : Arrival) →
@@ -161,7 +161,7 @@ module _ (script : ScriptValue) where
     enter_order st notes w a may is =
         let room = room_for s w a in
         record {
-          none = arrival_none laws s script st w a may.over.0 (omega (arith, may.visit)) is.none;
+          none = arrival_none laws.steps s script st w a may.over.0 (omega (arith, may.visit)) is.none;
           owe = is.owe;
           order = laws.ordered.other script.ports st.early st.late (told notes) w.entries
               (entry_of w.entries a.queue (happening.arrive a room)) (sym may.over.1)
@@ -215,9 +215,9 @@ module _ (script : ScriptValue) where
     carried_order st kinds w port call k (Asked r) either fits is =
         let errno = errno_of port call (Asked r) w in
         let more = with_kind kinds port call k errno (Asked r) in
-        asked_so laws s script st (λ es ports. InOrder st more es)
+        asked_so laws.steps s script st (λ es ports. InOrder st more es)
         (λ v a may is. arrival_order st more v a may is) w port call r either is.none (record {
-          none = ask_none laws s script st w port call r is.none;
+          none = ask_none laws.steps s script st w port call r is.none;
           order = laws.ordered.entry script.ports st.early st.late kinds more w.entries
               (record {
                 entry = entry_of w.entries (happening.queue_of r) (Ask port call r);
@@ -240,19 +240,19 @@ module _ (script : ScriptValue) where
         let t = standing 1 script (place port) port (notes port) in
         let k = kind_of notes port in
         let so = carried_order st (told notes) w port call k (decoded m)
-        (either_so laws s script st (place port) at_end may)
+        (either_so laws.steps s script st (place port) at_end may)
         (λ r. fit st port call r at_end t.owed (has_received t) may due
         (owes_over st.is_over t (is.owe port i)) (owes_early st.is_over t (is.owe port i)))
         (record { none = is.none; order = is.order }) in
         record {
           none = so.none;
-          owe = noted_owe script place laws.log st.is_over notes port n
+          owe = noted_owe script place laws.steps.log st.is_over notes port n
               (λ p t owes. quiet_owes script (place p) p st.is_over t n tt owes) is.owe;
           order = laws.ordered.later script.ports st.early st.early st.late st.late
               (with_kind (told notes) port call k errno (decoded m))
               (told (noted port n notes)) (carried_out s port call (decoded m) w).entries
               (omega arith) (omega arith)
-              (λ queue p. told_then laws.log notes port n queue p) so.order;
+              (λ queue p. told_then laws.steps.log notes port n queue p) so.order;
         }
 
     -- a note of no message
@@ -263,20 +263,16 @@ module _ (script : ScriptValue) where
         OrderSo st es (noted port n notes)
     quiet_order st es notes port n none owes is = record {
       none = is.none;
-      owe = noted_owe script place laws.log st.is_over notes port n owes is.owe;
+      owe = noted_owe script place laws.steps.log st.is_over notes port n owes is.owe;
       order = laws.ordered.later script.ports st.early st.early st.late st.late (told notes)
           (told (noted port n notes)) es (omega arith) (omega arith)
-          (quiet_told laws.log notes port n none) is.order;
+          (quiet_told laws.steps.log notes port n none) is.order;
     }
 
     got_over : (b : Bool) → b ≡ true → (l : Letter) (p : ℕ) (t : Standing) →
         Owes b (after 1 script (place p) p t (Got l))
     got_over true is l p t = got_owes script (place p) p t l
     got_over false wrong l p t = absurd (cc)
-
-    opens : (b : Bool) (es : List Entry) → NoneWaits b es → NoneWaits true es
-    opens true es is = is
-    opens false es is = none_less false es laws.conserve is refl
 
     -- at a stage where all have opened, with what stands in a history
     early_is : (st : Stage) (notes : ℕ → List Note) (es : List Entry) → IsOver script st →
@@ -289,7 +285,7 @@ module _ (script : ScriptValue) where
         MaySpeak script st (place port) true → OrderSo st w.entries notes →
         OrderSo st (w.entries ++ happening.closings port w.entries) notes
     closes_order st w notes port may is = record {
-      none = closings_none laws s script st port w.entries is.none;
+      none = closings_none laws.steps s script st port w.entries is.none;
       owe = is.owe;
       order = subst (λ e. AllOrdered script.ports e st.late (told notes)
           (w.entries ++ happening.closings port w.entries)) (sym may.0.1)
@@ -311,7 +307,7 @@ module _ (script : ScriptValue) where
 
     pub order_goes : Goes s script place (λ st es ports notes. OrderSo st es notes)
     order_goes = record {
-      log = laws.log;
+      log = laws.steps.log;
       arrives = λ st w notes a may is.
           let so = arrival_order st (told notes) w a may
           (record { none = is.none; order = is.order }) in
@@ -321,7 +317,7 @@ module _ (script : ScriptValue) where
           (λ p t owes. quiet_owes script (place p) p st.is_over t Begun tt owes) is;
       speaks = λ st w notes port call m at_end i op may due is.
           speaks_order st w notes port call m at_end i may due is;
-      gets = λ st w notes port held l ls i over there mail is.
+      gets = λ st w notes port held l ls i op over there mail is.
           quiet_order st w.entries notes port (Got l) (λ queue. refl)
           (λ p t owes. got_over st.is_over over.0 l p t) is;
       closes = λ st w notes port i op may is.
@@ -329,7 +325,7 @@ module _ (script : ScriptValue) where
           (λ queue. refl) (λ p t owes. quiet_owes script (place p) p st.is_over t Shut tt owes)
           (closes_order st w notes port may is);
       falls = λ st w notes d over late time is. record {
-        none = downs_none laws s script st d.device w.entries is.none;
+        none = downs_none laws.steps s script st d.device w.entries is.none;
         owe = is.owe;
         order = falls_order st w notes d.device over late is;
       };
@@ -340,7 +336,8 @@ module _ (script : ScriptValue) where
             (told notes) es follows.early follows.late (λ queue p. refl) is.order;
       };
       opens_up = λ st u es ports notes follows over idle is. record {
-        none = subst (λ b. NoneWaits b es) (sym over.0) (opens st.is_over es is.none);
+        none = subst (λ b. NoneWaits b es) (sym over.0)
+            (opens_none laws.steps s script st es is.none);
         owe = subst (λ b. AllOwe script place b notes) (sym over.0) (λ p i. inl (idle p i));
         order = laws.ordered.later script.ports st.early u.early st.late u.late (told notes)
             (told notes) es follows.early follows.late (λ queue p. refl) is.order;

@@ -200,7 +200,7 @@ even_kept s = record {
     errnos = errnos_then port (Spoke call m (errno_of port call (decoded m) w)) notes
         (errno_is port call (decoded m) w, tt) is.errnos;
   };
-  gets = λ w notes port held l ls there letters is.
+  gets = λ w notes port held l ls op there letters is.
       quiet w.entries notes port (Got l) (λ queue. refl) tt is;
   closes = λ w notes port op is.
       quiet (w.entries ++ happening.closings port w.entries) notes port Shut

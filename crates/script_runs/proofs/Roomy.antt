@@ -338,7 +338,7 @@ roomy_kept s = record {
       (having_done (Sent call (words_of port call m.whole (decoded m)) (answered m errno)))
       (λ ns held there. same_length ns (Spoke call m errno) held.letters held.letters refl refl)
       (carried_roomy s w notes port call (decoded m) is);
-  gets = λ w notes port held l ls there mail is.
+  gets = λ w notes port held l ls op there mail is.
       done_roomy s.mail w.entries w.ports notes port (Got l) received
       (λ ns one at.
       let two : Some one ≡ Some held = sym at ∙ there in

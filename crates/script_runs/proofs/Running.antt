@@ -48,7 +48,7 @@ use Rattle.script_runs.proofs.Later.{LeaveAlone, carry_first, IsFresh, is_fresh}
 use Rattle.script_runs.proofs.Reaching.{Stand, full, noted, put, is_in}
 use Rattle.script_runs.proofs.Reaching.{all_push, all_arrive}
 use Rattle.script_runs.proofs.Asking.{Staged, Goes, Stage, IsOver, Now, side, Reached, At}
-use Rattle.script_runs.proofs.Asking.{reached_as, MayArrive, Follows}
+use Rattle.script_runs.proofs.Asking.{reached_as, MayArrive, Follows, is_open}
 use Rattle.script_runs.proofs.Asking.{arrive_reached, words_reached, none_then}
 
 -- ---- what the script asks for
@@ -184,8 +184,10 @@ module _ (s : Setting) (script : ScriptValue) (f : ℕ → ℕ) (P : Staged) (K 
         there = rw (eq-eqb port port refl) (ap (option_map received) here.there);
         reached = record {
           notes = noted port (Got l) r.notes;
-          kept = K.gets st w r.notes port here.held l ls i over here.there
-              (theirs here.held here.there) r.kept;
+          kept = K.gets st w r.notes port here.held l ls i
+              (is_open s script f P K st (f port) port (r.notes port) (w.ports port)
+              (put port (side (Now ends) []) T port) here (rw (eq-eqb port port refl) refl)) over
+              here.there (theirs here.held here.there) r.kept;
           are = all_push script f K.log port (side (Now ends) [])
               (side (Now ends)
               (all_due (answer_to script (f port) (received here.held).dids
@@ -386,7 +388,7 @@ module _ (s : Setting) (script : ScriptValue) (f : ℕ → ℕ) (P : Staged) (K 
       let st = at_time (2 * number + 1) fallen in
       carry_first leaves s (λ es ports. Reached s script f P K st es ports T)
       (MayArrive script st)
-      (λ a later. ((refl, refl), later))
+      (λ es a later come. record { over = (refl, refl); visit = later; come = come })
       (λ v a may r. arrive_reached s script f P K st T v a may r) enough_arrivals (entered w card)
       card (next s.tables s.key card 1)
       (λ queue bypass table. enter_reached T number time fallen card (entered w card) fresh less r

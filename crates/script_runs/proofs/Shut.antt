@@ -174,7 +174,7 @@ shut_kept laws s = record {
       ports_then between.entries between.ports port
       (having_done (Sent call (words_of port call m.whole (decoded m)) (answered m errno)))
       (λ held. refl) (carried_shut laws s w port call (decoded m) op is);
-  gets = λ w notes port held l ls there mail is.
+  gets = λ w notes port held l ls op there mail is.
       ports_then w.entries w.ports port received received_stays is;
   closes = λ w notes port op is. closes_shut laws w port op is;
   falls = λ w notes device is.

@@ -17,6 +17,7 @@ ghost use Rattle.histories.specs.Lengths.{AreShort};
 ghost use Rattle.histories.specs.Lengths.{AreSmall};
 ghost use Rattle.script_runs.specs.LettersLeft.{left_in};
 ghost use Rattle.made_runs.specs.Run.{IsMadeBy};
+ghost use Rattle.total_order.specs.TotalOrder.{HasTotalOrder};
 
 use made_runs::{
     closings_are_kept, datagrams_are_short, each_port_has_its_place, fed_histories_go_on,
@@ -24,6 +25,7 @@ use made_runs::{
 };
 use packet_moves::what_goes_on_is_in_time;
 use queue_core::each_packet_stays_or_leaves;
+use total_order::turns_of_one_thread_have_one_order;
 
 /// There is one log for each port of the script, in the script's order, and no other.
 pub fn each_port_has_its_log()
@@ -59,6 +61,21 @@ pub fn ports_do_what_the_script_says()
     what_goes_on_is_in_time();
     each_port_has_its_place();
     one_feeder_feeds_all();
+}
+
+/// There is one order of all events of all queues, that of the run itself. A packet comes again
+/// after the entry in whose step it left. A port asks in the order of its log, across all queues,
+/// and each time after the arrivals of all packets whose notices it had received. Once it closes,
+/// the ends of its queues come after all of these.
+pub fn one_order_of_all_events()
+    ensures { (script : ScriptValue) (tables : RuleTables) (c : Capture) (h : Histories) →
+        IsScript script → IsSolo script tables c h → HasTotalOrder h }
+{
+    turns_of_one_thread_have_one_order();
+    logs_go_on();
+    each_packet_stays_or_leaves();
+    what_goes_on_is_in_time();
+    each_port_has_its_place();
 }
 
 /// No packet that arrives is longer than a frame may be, and no payload that is asked for longer

@@ -8,14 +8,16 @@ returns c = λ script tables capture h is solo.
       own = c.closings_are_kept.ensures.own;
       closed = c.closings_are_kept.ensures.closed;
     }) (record {
-      leaves = c.what_goes_on_is_in_time.ensures.arrival;
-      conserve = c.each_packet_stays_or_leaves.ensures;
-      log = record {
-        next = c.logs_go_on.ensures.next 1;
-        stands = c.logs_go_on.ensures.stands 1;
-        logged = c.logs_go_on.ensures.logged 1;
-        closed = c.logs_go_on.ensures.closed 1;
-        kinds = c.logs_go_on.ensures.kinds 1;
+      steps = record {
+        leaves = c.what_goes_on_is_in_time.ensures.arrival;
+        conserve = c.each_packet_stays_or_leaves.ensures;
+        log = record {
+          next = c.logs_go_on.ensures.next 1;
+          stands = c.logs_go_on.ensures.stands 1;
+          logged = c.logs_go_on.ensures.logged 1;
+          closed = c.logs_go_on.ensures.closed 1;
+          kinds = c.logs_go_on.ensures.kinds 1;
+        };
       };
       fed = record {
         none = c.fed_histories_go_on.ensures.none;
