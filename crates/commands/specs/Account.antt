@@ -9,6 +9,7 @@ use Rattle.histories.specs.History.{AreLegal}
 use Rattle.histories.specs.Moves.{moves}
 use Rattle.histories.specs.Journeys.{AreSound}
 use Rattle.histories.specs.Endings.{AreQueuesOf, times_waiting, times_over, times_entered}
+use Rattle.total_order.specs.TotalOrder.{HasTotalOrder}
 use Rattle.inspector_script.specs.Scripts.{ScriptValue}
 use Rattle.made_runs.specs.Entering.{cards}
 use Rattle.made_runs.specs.Log.{Note}
@@ -76,9 +77,11 @@ pub record AreAccounted (workers feeders : ℕ) (tables : RuleTables) (script : 
   pub released : AreReleased c h
 
 -- The same of the histories of the run on one thread, with one of each: they are those of its
--- schedule, which has no others.
+-- schedule, which has no others. And there is one order of all events of all queues, in which each
+-- comes after what causes it.
 pub record IsAccounted (tables : RuleTables) (script : ScriptValue) (c : Capture)
     (h : Histories) : Type 0 where
   pub schedule : IsSolo script tables c h
   pub only : (g : Histories) → IsSolo script tables c g → g ≡ h
+  pub order : HasTotalOrder h
   pub run : AreAccounted 1 1 tables script c h

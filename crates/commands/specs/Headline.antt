@@ -47,9 +47,10 @@ pub record IsWritten (Known : Account) (f : PlayFiles) (old new : Contents) : Ty
   pub journal_is : new f.journal ≡ Some (journal_text histories)
 
 -- The journal is the histories of the one run that the schedule has on these inputs, of which each
--- queue's is legal; every packet that met a queue was released or destroyed exactly once, by the
--- event that its ledger line names, or still waits; and the written capture is exactly the frames
--- that were released, in input order, each as it was read or with its last payload.
+-- queue's is legal; all events of all queues have one order; every packet that met a queue was
+-- released or destroyed exactly once, by the event that its ledger line names, or still waits; and
+-- the written capture is exactly the frames that were released, in input order, each as it was read
+-- or with its last payload.
 abbrev pub IsPlayed : PlayFiles → Contents → Contents → Type 0
 IsPlayed f old new = IsWritten IsAccounted f old new
 

@@ -37,7 +37,8 @@ use packet_entry::NoMemory;
 use pcap_io::Capture;
 use queue_core::replies_tell_how_many_left;
 use script_runs::{
-    a_schedule_has_one_run, no_notice_is_left, packets_and_payloads_are_within_bounds,
+    a_schedule_has_one_run, no_notice_is_left, one_order_of_all_events,
+    packets_and_payloads_are_within_bounds,
 };
 use solo_run::solo;
 use std::alloc::Global;
@@ -122,6 +123,7 @@ fn each_packet_is_accounted_for()
         IsAccounted tables script c h }
 {
     a_schedule_has_one_run();
+    one_order_of_all_events();
     no_notice_is_left();
     a_run_is_accounted_for();
 }
