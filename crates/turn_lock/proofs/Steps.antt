@@ -22,7 +22,7 @@ use Rattle.turn_lock.specs.Turns.{HoldsTicket, IsServed, Fits, ticket_no, entere
 use Rattle.turn_lock.specs.Views.{opening_view, spent_view, with_turn, left_view, kept_view}
 use Rattle.turn_lock.specs.Views.{split_view, joining_view, label_of}
 use Rattle.turn_lock.specs.Rule.{IsUnspent, Somewhere, Differ, Stands, Homes, IsHome, IsAway, Kept}
-use Rattle.turn_lock.specs.Steps.{Draws, Looks, PassesOn, Tells}
+use Rattle.turn_lock.specs.Steps.{Draws, Peeks, Looks, PassesOn, Tells}
 use Rattle.turn_lock.proofs.Trees.{apart_sym, apart_union, apart_kept, apart_cut, apart_pieces}
 use Rattle.turn_lock.proofs.Trees.{beside_whole, live_union, live_kept}
 use Rattle.turn_lock.proofs.Lists.{prefix_self, prefix_trans, longer_of, in_append, in_front}
@@ -170,6 +170,11 @@ module _ {E S L : Type 0} (entries : S → List E) (label : S → L) (key : S) w
             (λ hit. absurd (miss hit)) (λ _. unmoved s r 0 id m.1 m.0 at),
         (λ hit. absurd (miss hit), λ _. refl),
       ))
+
+  -- ---- a look that changes nothing
+  pub peeks : (slots id i : ℕ) (m : Me (Option S) (View E S)) → Allows Rule slots id m i (λ n. n)
+      (Peeks (step slots i 0 0 none) m)
+  peeks slots id i m s r _ at _ = (m.0, keeps, tt, unmoved s r i id m.1 m.0 at, refl)
 
   -- ---- a look at the ticket that is being served
   -- the state isn't out, where a pass that isn't served has the ticket that is

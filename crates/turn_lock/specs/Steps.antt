@@ -24,6 +24,10 @@ module _ {E S : Type 0} where
   Draws s m found m' =
       (found ≡ s.first → m' ≡ (with_turn m.0 (Waits found), m.1)) × (found ≢ s.first → m' ≡ m)
 
+  -- nothing changed
+  abbrev pub Peeks : Step (Option S) → Sat S E → ℕ → Sat S E → Type 0
+  Peeks s m found m' = m' ≡ m
+
   -- both passes' lists were beginnings of one list, and they had no place in common
   abbrev pub Tells : Step (Option S) → Sat S E → ℕ → Sat S E → Type 0
   Tells s m found m' = (m' ≡ (with_turn m.0 Outside, m.1)) × Met m.0.seen m.0.turn

@@ -6,7 +6,7 @@ ghost use Rattle.std.specs.Prelude.{◌≡◌};
 use crate::held::Held;
 use crate::pass::Pass;
 use crate::storied::Storied;
-use crate::turns::{Both, Cut, Draw, InTurn, Look, PassOn, SERVING, STATE, TICKET, Tell};
+use crate::turns::{Both, Cut, Draw, InTurn, Look, PassOn, Peek, SERVING, STATE, TICKET, Tell};
 use crate::view::View;
 use atomic_table::{Refused, Seat, Table};
 use crossbeam_utils::Backoff;
@@ -172,8 +172,9 @@ impl<S: Storied> TurnLock<S> {
     }
 
     /// Draws a ticket, whose number is how many were drawn before. It begins with 0, since it can't
-    /// know that number, and goes on with the one that it found. The last number, 2^64 - 1, is no
-    /// ticket: after so many turns no further one comes.
+    /// know that number, and goes on with the one that it found, once the lock seems free. So a pass
+    /// that waits mostly has no ticket, and whichever runs first goes first. The last number,
+    /// 2^64 - 1, is no ticket: after so many turns no further one comes.
     fn draw<R: Wait>(&self, rt: &R, seat: &mut Seat<Option<S>, View<S::Entry, S>>) -> u64
         requires table { seat.old.table_id ≡ self.now.table.shared.table_id }
         requires live { void seat.old.me.0.part ≡ false }
@@ -190,7 +191,31 @@ impl<S: Storied> TurnLock<S> {
             if found == from {
                 return from;
             }
-            from = if found < u64::MAX { found } else { 0 };
+            let drawn = self.wait_until_free(rt, seat, found);
+            from = if drawn < u64::MAX { drawn } else { 0 };
+        }
+        unreachable!()
+    }
+
+    /// Waits until the lock seems free: until the ticket that is being served is the next one to be
+    /// drawn. Answers how many were drawn, as far as was seen; `drawn` is how many were seen before.
+    fn wait_until_free<R: Wait>(
+        &self,
+        rt: &R,
+        seat: &mut Seat<Option<S>, View<S::Entry, S>>,
+        mut drawn: u64,
+    ) -> u64
+        requires { seat.old.table_id ≡ self.now.table.shared.table_id }
+        ensures table { (seat.new.table_id ≡ seat.old.table_id) × (seat.new.id ≡ seat.old.id) }
+        ensures kept { seat.new.me ≡ seat.old.me }
+    {
+        let backoff = Backoff::new();
+        for _ in rt.forever() {
+            if self.table.shared.load::<Peek>(seat, SERVING) == drawn {
+                return drawn;
+            }
+            backoff.snooze();
+            drawn = self.table.shared.load::<Peek>(seat, TICKET);
         }
         unreachable!()
     }

@@ -1,6 +1,6 @@
 //! The lock's rule over its table, and what each kind of step tells.
 ghost use Rattle.turn_lock.specs.Rule.{Kept};
-ghost use Rattle.turn_lock.specs.Steps.{Draws, Looks, PassesOn, Tells};
+ghost use Rattle.turn_lock.specs.Steps.{Draws, Looks, PassesOn, Peeks, Tells};
 ghost use Rattle.turn_lock.specs.Views.{opening_view, spent_view, kept_view, split_view};
 ghost use Rattle.turn_lock.specs.Views.{joining_view};
 
@@ -35,6 +35,13 @@ pub(crate) struct Draw;
 
 impl<E, S> Play<Option<S>, View<E, S>> for Draw {
     ghost then = { Draws };
+}
+
+/// A look at a word, which changes nothing.
+pub(crate) struct Peek;
+
+impl<E, S> Play<Option<S>, View<E, S>> for Peek {
+    ghost then = { Peeks };
 }
 
 /// A look at the ticket that is being served, which takes the state if it is one's own.
