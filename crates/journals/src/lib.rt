@@ -3,6 +3,7 @@
 #![tactic(auto)]
 
 mod appending;
+mod digits;
 mod fits;
 mod line_room;
 mod room;

@@ -7,7 +7,8 @@ ghost use Rattle.journals.specs.declared.version.Version.TheVariants.{Second};
 ghost use Rattle.journals.specs.Format as text;
 ghost use Rattle.journals.specs.Journal as today;
 
-use crate::writing::{DIGITS, yes_no};
+use crate::digits::DIGITS;
+use crate::writing::yes_no;
 use histories::{Entry, Event, Reply};
 use nfqa_msgs::{Head, Params, Request};
 use packet_entry::{Bytes, Card};

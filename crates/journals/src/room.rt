@@ -1,6 +1,6 @@
 //! How much memory a journal takes, so that it is taken at once.
 
-use crate::writing::DIGITS;
+use crate::digits::DIGITS;
 use histories::{AskWords, Did, Entry, Event, Histories, Logs, PortLog};
 use nfqa_msgs::Request;
 use packet_entry::Bytes;

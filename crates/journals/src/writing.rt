@@ -8,6 +8,7 @@ ghost use Rattle.journals.specs.Format as text;
 ghost use Rattle.journals.specs.Journal as today;
 
 use crate::appending::{append_number, append_text, append_word};
+use crate::digits::{DIGITS, put_digits};
 use crate::room::{room_for, room_for_logs};
 use crate::version::Version;
 use histories::{AskWords, Did, Dids, Entries, Entry, Event, Histories, Logs, PortLog, Reply};
@@ -18,8 +19,6 @@ use std::alloc::{AllocError, Global};
 
 /// The version that is written.
 const WRITTEN: Version = Version::Second;
-/// How many digits a byte has.
-pub(crate) const DIGITS: usize = 2;
 
 /// Appends the journal of these histories. Out of memory nothing has changed.
 ///
@@ -386,9 +385,7 @@ fn push_bytes(bytes: &[u8], out: &mut Vec<u8>) -> Result<(), AllocError>
     };
     let start = out.len();
     out.resize(start + size, 0)?;
-    let Ok(()) = hex::encode_to_slice(bytes, &mut out[start..]) else {
-        unreachable!()
-    };
+    put_digits(bytes, &mut out[start..]);
     Ok(())
 }
 
