@@ -47,3 +47,13 @@ card_within c bypass room journey ways facts =
           (le_refl link)) blank)
           (le_refl bytes)) blank,
     )
+
+pub arrival_within : (front journey bypass room facts : List ℕ) → length front ≤ 22 →
+    length journey ≤ 63 → length (bypass ++ codes " " ++ room ++ codes " ") ≤ 4 →
+    length facts ≤ 105 →
+    length (front ++ codes " " ++ journey ++ (bypass ++ codes " " ++ room ++ codes " ") ++ facts)
+    ≤ 195
+arrival_within front journey bypass room facts begun far ways known =
+    both_within _ facts 90 105
+    (both_within _ _ 86 4
+    (both_within _ journey 23 63 (both_within front (codes " ") 22 1 begun blank) far) ways) known

@@ -1,3 +1,5 @@
+pub mod Decimals
 pub mod Lengths
 pub mod Lanes
+pub mod Placings
 pub mod Texts

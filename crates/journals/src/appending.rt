@@ -3,9 +3,13 @@
 ghost use Rattle.std.specs.Prelude.{◌≡◌, ◌++◌, OnOk, OnErr, decimal};
 ghost use Rattle.journals.specs.Appending.{Appends};
 
-use itoa::Buffer;
+use crate::line_room::number_is_short;
+use itoa::write_digits;
 use packet_entry::NoMemory;
 use std::alloc::AllocError;
+
+/// A number of 64 bits has at most so many digits.
+const MOST_DIGITS: usize = 20;
 
 /// Appends a text to bytes. Where there are none yet, its memory is taken over as it is. Out of
 /// memory the bytes are as they were.
@@ -35,5 +39,8 @@ pub fn append_number(word: &str, number: u64, out: &mut Vec<u8>) -> Result<(), A
     ensures { Appends result out.old out.new (word.now ++ decimal number) }
 {
     append_word(word, out)?;
-    append_word(Buffer::new().format(number), out)
+    number_is_short(number);
+    let mut digits = [0; MOST_DIGITS];
+    let start = write_digits(number, &mut digits, MOST_DIGITS);
+    out.extend_from_slice(&digits[start..])
 }

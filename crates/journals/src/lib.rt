@@ -6,6 +6,8 @@ mod appending;
 mod digits;
 mod fits;
 mod line_room;
+mod parts;
+mod placing;
 mod room;
 mod version;
 mod writing;

@@ -8,7 +8,7 @@ ghost use Rattle.journals.specs.Format as text;
 ghost use Rattle.journals.specs.Journal as today;
 
 use crate::digits::DIGITS;
-use crate::writing::yes_no;
+use crate::version::Version;
 use histories::{Entry, Event, Reply};
 use nfqa_msgs::{Head, Params, Request};
 use packet_entry::{Bytes, Card};
@@ -97,7 +97,7 @@ fn request_room(request: &Request) -> Option<usize>
             number_is_short(*queue as u64);
             head_is_short(*head);
             mark_is_short(*mark);
-            priority_is_short(*priority);
+            priority_is_short(Version::Second, *priority);
             payload_room(payload)?.checked_add(REQUEST)
         }
         Request::Batch {
@@ -109,7 +109,7 @@ fn request_room(request: &Request) -> Option<usize>
             number_is_short(*queue as u64);
             head_is_short(*head);
             mark_is_short(*mark);
-            priority_is_short(*priority);
+            priority_is_short(Version::Second, *priority);
             Some(REQUEST)
         }
     }
@@ -132,7 +132,7 @@ fn bytes_room(bytes: &Bytes) -> Option<usize>
     bytes.len().checked_mul(DIGITS)?.checked_add(1)
 }
 
-fn config_is_short(
+pub(crate) fn config_is_short(
     queue: u16,
     command: Option<u8>,
     params: Option<Params>,
@@ -157,7 +157,7 @@ fn card_is_short(card: &Card, bypass: &str, room: &str)
         ≤ 174 + length (hexadecimal card.now.link) + length (hexadecimal card.now.bytes) }
 {
     journey_is_short(card);
-    facts_are_short(card);
+    facts_are_short(Version::Second, card);
     ways_are_short(bypass, room);
 }
 
@@ -175,9 +175,12 @@ fn journey_is_short(card: &Card)
     number_is_short(card.table as u64);
 }
 
-fn facts_are_short(card: &Card)
-    ensures { length (text.facts Second card.now) ≤ 105 }
+fn facts_are_short(version: Version, card: &Card)
+    ensures { length (text.facts version card.now) ≤ 105 }
 {
+    match version {
+        Version::First | Version::Second => (),
+    }
     number_is_short(card.mark as u64);
     number_is_short(card.priority as u64);
     number_is_short(card.seconds as u64);
@@ -185,7 +188,7 @@ fn facts_are_short(card: &Card)
     number_is_short(card.protocol as u64);
 }
 
-fn reply_is_short(reply: &Reply)
+pub(crate) fn reply_is_short(reply: &Reply)
     ensures { length (text.reply reply.now) ≤ 44 }
 {
     match reply {
@@ -249,13 +252,54 @@ fn mark_is_short(mark: Option<u32>)
     value_is_short(mark);
 }
 
-fn priority_is_short(priority: Option<u32>)
-    ensures { length (text.new_priority Second priority) ≤ 30 }
+pub(crate) fn priority_is_short(version: Version, priority: Option<u32>)
+    ensures { length (text.new_priority version priority) ≤ 30 }
 {
+    match version {
+        Version::First | Version::Second => (),
+    }
     value_is_short(priority);
 }
 
 /// A number of 64 bits has at most 20 digits.
-fn number_is_short(_number: u64)
+pub(crate) fn number_is_short(_number: u64)
     ensures { length (decimal _number) ≤ 20 }
 {}
+
+fn yes_no(yes: bool) -> &'static str
+    ensures word { result.now ≡ text.yes_no yes }
+    ensures letter { length result.now ≡ 1 }
+{
+    if yes { "y" } else { "n" }
+}
+
+/// What an arrival's line says before the packet's bytes.
+pub(crate) fn arrival_is_short(version: Version, queue: u16, card: &Card, bypass: bool, room: bool)
+    ensures { length (codes "A " ++ decimal queue ++ codes " " ++ text.journey card.now
+        ++ (text.yes_no bypass ++ codes " " ++ text.yes_no room ++ codes " ")
+        ++ text.facts version card.now) ≤ 195 }
+{
+    number_is_short(queue as u64);
+    journey_is_short(card);
+    ways_are_short(yes_no(bypass), yes_no(room));
+    facts_are_short(version, card);
+}
+
+/// A verdict or a batch, up to its mark.
+pub(crate) fn verdict_is_short(word: &str, queue: u16, head: Option<Head>, mark: Option<u32>)
+    requires word { length word.now ≤ 8 }
+    ensures { length (word.now ++ decimal queue ++ codes " " ++ text.head head
+        ++ text.part (codes " mark ") mark) ≤ 96 }
+{
+    number_is_short(queue as u64);
+    head_is_short(head);
+    mark_is_short(mark);
+}
+
+pub(crate) fn answer_is_short(answer: Option<u16>)
+    ensures { length (text.answer answer) ≤ 23 }
+{
+    if let Some(answer) = answer {
+        number_is_short(answer as u64);
+    }
+}

@@ -1,6 +1,6 @@
 //! From histories to a journal's text.
 
-ghost use Rattle.std.specs.Prelude.{◌≡◌, ◌∷◌, ◌++◌, [], OnOk, OnErr, IfOk, codes, length};
+ghost use Rattle.std.specs.Prelude.{◌≡◌, ◌+◌, ◌≤◌, ◌++◌, OnOk, OnErr, IfOk, codes, length, take};
 ghost use Rattle.std.specs.Prelude.{decimal};
 ghost use Rattle.text_lines.specs.Hexadecimal.{hexadecimal};
 ghost use Rattle.journals.specs.Appending.{Appends};
@@ -9,16 +9,29 @@ ghost use Rattle.journals.specs.Journal as today;
 
 use crate::appending::{append_number, append_text, append_word};
 use crate::digits::{DIGITS, put_digits};
+use crate::line_room::{
+    answer_is_short, arrival_is_short, config_is_short, number_is_short, priority_is_short,
+    reply_is_short, verdict_is_short,
+};
+use crate::parts::{put_answer, put_arrival, put_config, put_new_priority, put_reply, put_verdict};
+use crate::placing::{put_number, put_word};
 use crate::room::{room_for, room_for_logs};
 use crate::version::Version;
 use histories::{AskWords, Did, Dids, Entries, Entry, Event, Histories, Logs, PortLog, Reply};
-use nfqa_msgs::{Head, Params, Request};
+use nfqa_msgs::Request;
 use packet_entry::{Bytes, Card, NoMemory};
-use queue_core::Outcome;
 use std::alloc::{AllocError, Global};
 
 /// The version that is written.
 const WRITTEN: Version = Version::Second;
+/// What an arrival's line says before the packet's bytes has at most so many.
+const FRONT: usize = 195;
+/// What a line says of a request, and before it, has at most so many beside the payload.
+const ASKED: usize = 250;
+/// The line of a notice has at most so many.
+const RECEIVED: usize = 65;
+/// What a line says of a reply or of an answer, and its end, has at most so many.
+const END: usize = 45;
 
 /// Appends the journal of these histories. Out of memory nothing has changed.
 ///
@@ -131,13 +144,6 @@ pub fn append_entry(entry: &Entry, out: &mut Vec<u8>) -> Result<(), AllocError>
 fn push_entry(version: Version, entry: &Entry, out: &mut Vec<u8>) -> Result<(), AllocError>
     ensures { Appends result out.old out.new (text.entry version entry.now) }
 {
-    push_entry_line(version, entry, out)?;
-    append_word("\n", out)
-}
-
-fn push_entry_line(version: Version, entry: &Entry, out: &mut Vec<u8>) -> Result<(), AllocError>
-    ensures { Appends result out.old out.new (text.entry_line version entry.now) }
-{
     push_event(version, entry.queue, &entry.event, out)?;
     push_reply(&entry.reply, out)
 }
@@ -151,30 +157,21 @@ fn push_event(
 ) -> Result<(), AllocError>
     ensures { Appends result out.old out.new (text.event version queue event.now) }
 {
-    let queue = queue as u64;
     match event {
         Event::Arrive { card, bypass, room } => {
-            append_number("A ", queue, out)?;
-            append_word(" ", out)?;
-            push_card(version, card, yes_no(*bypass), yes_no(*room), out)
+            push_arrival(version, queue, card, *bypass, *room, out)
         }
         Event::Ask {
             port,
             call,
             request,
-        } => {
-            append_number("M ", queue, out)?;
-            append_number(" ", *port as u64, out)?;
-            append_number(" ", *call as u64, out)?;
-            append_word(" ", out)?;
-            push_request(version, request, out)
-        }
+        } => push_asked(version, queue, *port, *call, request, out),
         Event::PortClosed { port } => {
-            append_number("C ", queue, out)?;
+            append_number("C ", queue as u64, out)?;
             append_number(" ", *port as u64, out)
         }
         Event::DeviceDown { device } => {
-            append_number("D ", queue, out)?;
+            append_number("D ", queue as u64, out)?;
             append_number(" ", *device as u64, out)
         }
     }
@@ -182,80 +179,90 @@ fn push_event(
 
 /// What an arrival's line says of the packet, of the bypass and of the room, and the blank after
 /// it.
-fn push_card(
+fn push_arrival(
     version: Version,
+    queue: u16,
     card: &Card,
-    bypass: &str,
-    room: &str,
+    bypass: bool,
+    room: bool,
     out: &mut Vec<u8>,
 ) -> Result<(), AllocError>
-    ensures { Appends result out.old out.new (text.card version card.now bypass.now room.now) }
+    ensures { Appends result out.old out.new (codes "A " ++ decimal queue ++ codes " "
+        ++ text.journey card.now
+        ++ (text.yes_no bypass ++ codes " " ++ text.yes_no room ++ codes " ")
+        ++ text.facts version card.now
+        ++ (hexadecimal card.now.link ++ codes " " ++ hexadecimal card.now.bytes ++ codes " ")) }
 {
-    push_journey(card, out)?;
-    push_ways(bypass, room, out)?;
-    push_facts(version, card, out)?;
+    push_front(version, queue, card, bypass, room, out)?;
+    push_frame(card, out)
+}
+
+/// The packet's bytes, and the blank after them.
+fn push_frame(card: &Card, out: &mut Vec<u8>) -> Result<(), AllocError>
+    ensures { Appends result out.old out.new
+        (hexadecimal card.now.link ++ codes " " ++ hexadecimal card.now.bytes ++ codes " ") }
+{
     push_bytes(card.link.as_slice(), out)?;
     append_word(" ", out)?;
     push_bytes(card.bytes.as_slice(), out)?;
     append_word(" ", out)
 }
 
-/// Whether the packet may go on without a queue, and whether the mailbox had room.
-fn push_ways(bypass: &str, room: &str, out: &mut Vec<u8>) -> Result<(), AllocError>
-    ensures { Appends result out.old out.new (bypass.now ++ codes " " ++ room.now ++ codes " ") }
+/// What an arrival's line says before the packet's bytes.
+fn push_front(
+    version: Version,
+    queue: u16,
+    card: &Card,
+    bypass: bool,
+    room: bool,
+    out: &mut Vec<u8>,
+) -> Result<(), AllocError>
+    ensures { Appends result out.old out.new (codes "A " ++ decimal queue ++ codes " "
+        ++ text.journey card.now
+        ++ (text.yes_no bypass ++ codes " " ++ text.yes_no room ++ codes " ")
+        ++ text.facts version card.now) }
 {
-    append_word(bypass, out)?;
-    append_word(" ", out)?;
-    append_word(room, out)?;
-    append_word(" ", out)
+    arrival_is_short(version, queue, card, bypass, room);
+    let mut line = [0; FRONT];
+    let end = put_arrival(version, queue, card, bypass, room, &mut line, 0);
+    out.extend_from_slice(&line[..end])
 }
 
-/// Where the packet is on its way.
-fn push_journey(card: &Card, out: &mut Vec<u8>) -> Result<(), AllocError>
-    ensures { Appends result out.old out.new (text.journey card.now) }
+/// What a request's line says of the request and of who made it.
+fn push_asked(
+    version: Version,
+    queue: u16,
+    port: u32,
+    call: u32,
+    request: &Request,
+    out: &mut Vec<u8>,
+) -> Result<(), AllocError>
+    ensures { Appends result out.old out.new (codes "M " ++ decimal queue ++ codes " "
+        ++ decimal port ++ codes " " ++ decimal call ++ codes " "
+        ++ text.request version request.now) }
 {
-    append_number("", card.number as u64, out)?;
-    append_number(" ", card.visit as u64, out)?;
-    append_number(" ", card.table as u64, out)?;
-    append_word(" ", out)
+    number_is_short(queue as u64);
+    number_is_short(port as u64);
+    number_is_short(call as u64);
+    let mut line = [0; ASKED];
+    let at = put_number("M ", queue as u64, &mut line, 0);
+    let at = put_number(" ", port as u64, &mut line, at);
+    let at = put_number(" ", call as u64, &mut line, at);
+    let at = put_word(" ", &mut line, at);
+    push_request(version, request, &mut line, at, out)
 }
 
-/// What else is known of the packet, but for its bytes.
-fn push_facts(version: Version, card: &Card, out: &mut Vec<u8>) -> Result<(), AllocError>
-    ensures { Appends result out.old out.new (text.facts version card.now) }
-{
-    push_marks(version, card, out)?;
-    append_number("", card.seconds as u64, out)?;
-    append_number(" ", card.micros as u64, out)?;
-    append_number(" ", card.protocol as u64, out)?;
-    append_word(" ", out)
-}
-
-/// The packet's mark and its priority.
-fn push_marks(version: Version, card: &Card, out: &mut Vec<u8>) -> Result<(), AllocError>
+/// Appends the first bytes of a line, and a request after them.
+fn push_request(
+    version: Version,
+    request: &Request,
+    line: &mut [u8],
+    at: usize,
+    out: &mut Vec<u8>,
+) -> Result<(), AllocError>
+    requires room { at + 182 ≤ length line.old }
     ensures { Appends result out.old out.new
-        (decimal card.now.mark ++ codes " " ++ text.priority version card.now.priority) }
-{
-    append_number("", card.mark as u64, out)?;
-    append_word(" ", out)?;
-    push_priority(version, card.priority, out)
-}
-
-/// A packet's priority, and the blank after it.
-fn push_priority(version: Version, priority: u32, out: &mut Vec<u8>) -> Result<(), AllocError>
-    ensures { Appends result out.old out.new (text.priority version priority) }
-{
-    match version {
-        Version::First => Ok(()),
-        Version::Second => {
-            append_number("", priority as u64, out)?;
-            append_word(" ", out)
-        }
-    }
-}
-
-fn push_request(version: Version, request: &Request, out: &mut Vec<u8>) -> Result<(), AllocError>
-    ensures { Appends result out.old out.new (text.request version request.now) }
+        (take at line.old ++ text.request version request.now) }
 {
     match request {
         Request::Config {
@@ -266,12 +273,9 @@ fn push_request(version: Version, request: &Request, out: &mut Vec<u8>) -> Resul
             flags,
             mask,
         } => {
-            append_number("config ", *queue as u64, out)?;
-            push_command(*command, out)?;
-            push_params(*params, out)?;
-            push_number(" maxlen ", *maxlen, out)?;
-            push_number(" flags ", *flags, out)?;
-            push_number(" mask ", *mask, out)
+            config_is_short(*queue, *command, *params, *maxlen, *flags, *mask);
+            let end = put_config(*queue, *command, *params, *maxlen, *flags, *mask, line, at);
+            out.extend_from_slice(&line[..end])
         }
         Request::Verdict {
             queue,
@@ -280,12 +284,9 @@ fn push_request(version: Version, request: &Request, out: &mut Vec<u8>) -> Resul
             payload,
             priority,
         } => {
-            append_number("verdict ", *queue as u64, out)?;
-            append_word(" ", out)?;
-            push_head(*head, out)?;
-            push_number(" mark ", *mark, out)?;
-            push_payload(payload, out)?;
-            push_new_priority(version, *priority, out)
+            verdict_is_short("verdict ", *queue, *head, *mark);
+            let end = put_verdict("verdict ", *queue, *head, *mark, line, at);
+            push_payload(version, payload, *priority, line, end, out)
         }
         Request::Batch {
             queue,
@@ -293,83 +294,53 @@ fn push_request(version: Version, request: &Request, out: &mut Vec<u8>) -> Resul
             mark,
             priority,
         } => {
-            append_number("batch ", *queue as u64, out)?;
-            append_word(" ", out)?;
-            push_head(*head, out)?;
-            push_number(" mark ", *mark, out)?;
-            push_new_priority(version, *priority, out)
+            verdict_is_short("batch ", *queue, *head, *mark);
+            let end = put_verdict("batch ", *queue, *head, *mark, line, at);
+            push_new_priority(version, *priority, line, end, out)
         }
     }
 }
 
-fn push_command(command: Option<u8>, out: &mut Vec<u8>) -> Result<(), AllocError>
-    ensures { Appends result out.old out.new (text.part (codes " cmd ") command) }
-{
-    match command {
-        Some(command) => append_number(" cmd ", command as u64, out),
-        None => Ok(()),
-    }
-}
-
-fn push_params(params: Option<Params>, out: &mut Vec<u8>) -> Result<(), AllocError>
-    ensures { Appends result out.old out.new (text.params params) }
-{
-    match params {
-        Some(Params { range, mode }) => {
-            append_number(" params ", mode as u64, out)?;
-            append_number(" ", range as u64, out)
-        }
-        None => Ok(()),
-    }
-}
-
-/// The verdict and the id, of a batch the greatest; `-` where there is no verdict header.
-fn push_head(head: Option<Head>, out: &mut Vec<u8>) -> Result<(), AllocError>
-    ensures { Appends result out.old out.new (text.head head) }
-{
-    match head {
-        Some(Head { verdict, id }) => {
-            append_number("", verdict as u64, out)?;
-            append_number(" ", id as u64, out)
-        }
-        None => append_word("-", out),
-    }
-}
-
-/// A word and its number, where there is one.
-fn push_number(word: &str, number: Option<u32>, out: &mut Vec<u8>) -> Result<(), AllocError>
-    ensures { Appends result out.old out.new (text.part word.now number) }
-{
-    match number {
-        Some(number) => append_number(word, number as u64, out),
-        None => Ok(()),
-    }
-}
-
-fn push_payload(payload: &Option<Bytes>, out: &mut Vec<u8>) -> Result<(), AllocError>
-    ensures { Appends result out.old out.new (text.payload payload.now) }
+/// Appends the first bytes of a line, and after them the payload and the priority that a request
+/// sets, where it does.
+fn push_payload(
+    version: Version,
+    payload: &Option<Bytes>,
+    priority: Option<u32>,
+    line: &mut [u8],
+    at: usize,
+    out: &mut Vec<u8>,
+) -> Result<(), AllocError>
+    requires room { at + 30 ≤ length line.old }
+    ensures { Appends result out.old out.new
+        (take at line.old ++ text.payload payload.now ++ text.new_priority version priority) }
 {
     match payload {
         Some(bytes) => {
+            out.extend_from_slice(&line[..at])?;
             append_word(" payload ", out)?;
-            push_bytes(bytes.as_slice(), out)
+            push_bytes(bytes.as_slice(), out)?;
+            push_new_priority(version, priority, line, 0, out)
         }
-        None => Ok(()),
+        None => push_new_priority(version, priority, line, at, out),
     }
 }
 
-/// The priority that a request sets, where it does.
+/// Appends the first bytes of a line, and after them the priority that a request sets.
 fn push_new_priority(
     version: Version,
     priority: Option<u32>,
+    line: &mut [u8],
+    at: usize,
     out: &mut Vec<u8>,
 ) -> Result<(), AllocError>
-    ensures { Appends result out.old out.new (text.new_priority version priority) }
+    requires room { at + 30 ≤ length line.old }
+    ensures { Appends result out.old out.new
+        (take at line.old ++ text.new_priority version priority) }
 {
-    match version {
-        Version::First => Ok(()),
-        Version::Second => push_number(" priority ", priority, out),
-    }
+    priority_is_short(version, priority);
+    let end = put_new_priority(version, priority, line, at);
+    out.extend_from_slice(&line[..end])
 }
 
 /// Bytes in lower-case hexadecimal, `-` for none.
@@ -389,92 +360,95 @@ fn push_bytes(bytes: &[u8], out: &mut Vec<u8>) -> Result<(), AllocError>
     Ok(())
 }
 
-/// What an entry's line says of its reply.
+/// What an entry's line says of its reply, and the line's end.
 fn push_reply(reply: &Reply, out: &mut Vec<u8>) -> Result<(), AllocError>
-    ensures { Appends result out.old out.new (text.reply reply.now) }
+    ensures { Appends result out.old out.new (text.reply reply.now ++ codes "\n") }
 {
-    match reply {
-        Reply::Arrived { outcome } => push_outcome(*outcome, out),
-        Reply::Answer { errno, taken } => {
-            append_number(" = ", *errno as u64, out)?;
-            append_number(" ", *taken as u64, out)
-        }
-        Reply::Flushed { taken } => append_number(" ", *taken as u64, out),
-    }
-}
-
-fn push_outcome(outcome: Outcome, out: &mut Vec<u8>) -> Result<(), AllocError>
-    ensures { Appends result out.old out.new (text.outcome outcome) }
-{
-    match outcome {
-        Outcome::Taken { id } => append_number("taken:", id as u64, out),
-        Outcome::Overflow => append_word("overflow", out),
-        Outcome::OverflowOpen => append_word("overflow-open", out),
-        Outcome::UserFull { id } => append_number("userfull:", id as u64, out),
-        Outcome::UserFullOpen { id } => append_number("userfull-open:", id as u64, out),
-        Outcome::NoQueue => append_word("noqueue", out),
-        Outcome::Bypassed => append_word("bypassed", out),
-        Outcome::CopyNone => append_word("copynone", out),
-        Outcome::Loop => append_word("loop", out),
-    }
+    reply_is_short(reply);
+    let mut line = [0; END];
+    let at = put_reply(reply, &mut line, 0);
+    let end = put_word("\n", &mut line, at);
+    out.extend_from_slice(&line[..end])
 }
 
 fn push_did(version: Version, did: &Did, out: &mut Vec<u8>) -> Result<(), AllocError>
     ensures { Appends result out.old out.new (text.did version did.now) }
-{
-    push_did_line(version, did, out)?;
-    append_word("\n", out)
-}
-
-fn push_did_line(version: Version, did: &Did, out: &mut Vec<u8>) -> Result<(), AllocError>
-    ensures { Appends result out.old out.new (text.did_line version did.now) }
 {
     match did {
         Did::Received {
             queue,
             number,
             visit,
-        } => {
-            append_number("R ", *queue as u64, out)?;
-            append_number(" ", *number as u64, out)?;
-            append_number(" ", *visit as u64, out)
-        }
+        } => push_received(*queue, *number, *visit, out),
         Did::Sent { call, ask, answer } => {
-            append_number("S ", *call as u64, out)?;
-            append_word(" ", out)?;
-            push_ask(version, ask, out)?;
+            push_sent(version, *call, ask, out)?;
             push_answer(*answer, out)
         }
-        Did::Closed => append_word("X", out),
+        Did::Closed => append_word("X\n", out),
     }
 }
 
-/// What a port sent: a request, or the bytes of another message.
-fn push_ask(version: Version, ask: &AskWords, out: &mut Vec<u8>) -> Result<(), AllocError>
-    ensures { Appends result out.old out.new (text.ask version ask.now) }
+/// The line of a notice that a port received.
+fn push_received(queue: u16, number: u32, visit: u32, out: &mut Vec<u8>) -> Result<(), AllocError>
+    ensures { Appends result out.old out.new (codes "R " ++ decimal queue ++ codes " "
+        ++ decimal number ++ codes " " ++ decimal visit ++ codes "\n") }
+{
+    number_is_short(queue as u64);
+    number_is_short(number as u64);
+    number_is_short(visit as u64);
+    let mut line = [0; RECEIVED];
+    let at = put_number("R ", queue as u64, &mut line, 0);
+    let at = put_number(" ", number as u64, &mut line, at);
+    let at = put_number(" ", visit as u64, &mut line, at);
+    let end = put_word("\n", &mut line, at);
+    out.extend_from_slice(&line[..end])
+}
+
+/// What a port sent, and in which call.
+fn push_sent(
+    version: Version,
+    call: u32,
+    ask: &AskWords,
+    out: &mut Vec<u8>,
+) -> Result<(), AllocError>
+    ensures { Appends result out.old out.new
+        (codes "S " ++ decimal call ++ codes " " ++ text.ask version ask.now) }
+{
+    number_is_short(call as u64);
+    let mut line = [0; ASKED];
+    let at = put_number("S ", call as u64, &mut line, 0);
+    let at = put_word(" ", &mut line, at);
+    push_ask(version, ask, &mut line, at, out)
+}
+
+/// Appends the first bytes of a line, and after them a request, or the bytes of another message.
+fn push_ask(
+    version: Version,
+    ask: &AskWords,
+    line: &mut [u8],
+    at: usize,
+    out: &mut Vec<u8>,
+) -> Result<(), AllocError>
+    requires room { at + 182 ≤ length line.old }
+    ensures { Appends result out.old out.new (take at line.old ++ text.ask version ask.now) }
 {
     match ask {
-        AskWords::Plain { request } => push_request(version, request, out),
+        AskWords::Plain { request } => push_request(version, request, line, at, out),
         AskWords::Raw { bytes } => {
-            append_word("raw ", out)?;
+            let end = put_word("raw ", line, at);
+            out.extend_from_slice(&line[..end])?;
             push_bytes(bytes.as_slice(), out)
         }
     }
 }
 
-/// The errno of an acknowledgement, `-` where there was none.
+/// The answer to what a port sent, and the line's end.
 fn push_answer(answer: Option<u16>, out: &mut Vec<u8>) -> Result<(), AllocError>
-    ensures { Appends result out.old out.new (text.answer answer) }
+    ensures { Appends result out.old out.new (text.answer answer ++ codes "\n") }
 {
-    match answer {
-        Some(answer) => append_number(" = ", answer as u64, out),
-        None => append_word(" = -", out),
-    }
-}
-
-pub(crate) fn yes_no(yes: bool) -> &'static str
-    ensures word { result.now ≡ text.yes_no yes }
-    ensures letter { length result.now ≡ 1 }
-{
-    if yes { "y" } else { "n" }
+    answer_is_short(answer);
+    let mut line = [0; END];
+    let at = put_answer(answer, &mut line, 0);
+    let end = put_word("\n", &mut line, at);
+    out.extend_from_slice(&line[..end])
 }

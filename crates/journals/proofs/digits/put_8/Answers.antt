@@ -1,4 +1,4 @@
-use Rattle.std.proofs.Common.{◌≡◌, ◌*◌, ◌≤◌, ◌<◌, length, map, slice_index, take, ℕ, ◌+◌, ◌-◌, ◌/◌, ◌%◌, List, [], ◌∷◌, ◌++◌, slice_index_or, arith, ◌∙◌}
+use Rattle.std.proofs.Common.{◌≡◌, take, ◌++◌, arith, ◌∙◌}
 use Rattle.std.proofs.lemmas.List.{length-take-le}
 use Rattle.std.proofs.lemmas.Simd.{length-zip2}
 use Rattle.journals.proofs.Lanes.{highs, lows, shifted, masked, first_8, second_8, woven_8, two_runs_8}
