@@ -1,5 +1,5 @@
 -- Passes that go on, whichever of them act.
-use Rattle.std.proofs.Common.{◌≡◌, ◌<◌, ◌≤◌, ◌+◌, ℕ, zero, suc, List, [], ◌∷◌, ◌++◌, refl}
+use Rattle.std.proofs.Common.{◌≡◌, ◌≤◌, ◌+◌, ℕ, zero, suc, List, [], ◌∷◌, ◌++◌, refl}
 use Rattle.std.proofs.Common.{sym, ap, ◌∙◌, subst, arith, append-nil, inl, inr}
 use Rattle.std.specs.Prelude.{length, map, slice_get, slice_set, Option, Some, None, nat_eq}
 use Rattle.std.specs.Prelude.{if◌then◌else◌, Result, Ok, Err, IfOk, IfErr, OnErr}
@@ -173,7 +173,8 @@ keep_self (p ∷ ps) = (record { port = refl; parts = refl }, keep_self ps)
 keep_set : (ps : List PortView) (i : ℕ) (p q : PortView) → slice_get ps i ≡ Some p → Keeps p q →
     AllZip Keeps ps (slice_set ps i q)
 keep_set [] i p q at keeps = tt
-keep_set (x ∷ ps) zero p q at keeps = (subst (λ (y : PortView). Keeps y q) (one at) keeps, keep_self ps)
+keep_set (x ∷ ps) zero p q at keeps =
+    (subst (λ (y : PortView). Keeps y q) (one at) keeps, keep_self ps)
   where
     one : Some x ≡ Some p → p ≡ x
     one e = cc

@@ -1,6 +1,6 @@
-//! What no contract says: that a lock, a mailbox and a board are made, and calls of a plane, and runs
-//! over one, succeed where there is memory; that turns come and calls return, and threads and workers
-//! are at it beside each other; and worked examples.
+//! What no contract says: that a lock, a mailbox and a board are made, and calls of a plane, and
+//! runs over one, succeed where there is memory; that turns come and calls return, and threads and
+//! workers are at it beside each other; and worked examples.
 
 ghost use Rattle.std.specs.Prelude.{◌≡◌, ◌≤◌, All, IfOk, IsTrue, length};
 ghost use Rattle.packet_entry.specs.Numbers.{longest_packet, most_frames};
@@ -13,6 +13,8 @@ ghost use Rattle.plane_tests.specs.Examples.{IsGoing};
 mod feeding;
 mod letters;
 mod pools;
+mod races;
+mod readings;
 mod runs;
 mod steps;
 mod totals;
@@ -28,8 +30,10 @@ use std::alloc::Global;
 use std::sync::Wait;
 use std::test::Fail;
 
-/// A protocol.
+/// Protocols.
 const TCP: u8 = 6;
+
+const UDP: u8 = 17;
 
 /// A plane of so many places and feeders with these ports and rules, whose mailboxes hold 1,024
 /// notices.

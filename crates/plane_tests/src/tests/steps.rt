@@ -1,17 +1,17 @@
 //! Worked examples: what happens to a plane, one after the other, with what the board shows
 //! afterwards, and what is then in the entries.
 
-ghost use Rattle.std.specs.Prelude.{◌≡◌, length};
+ghost use Rattle.std.specs.Prelude.{◌≡◌, IfOk, length};
 ghost use Rattle.place_rows.specs.Lists.{Every};
 ghost use Rattle.plane.specs.Passes.{IsPortOf};
 ghost use Rattle.plane.specs.Planes.{board_of};
-ghost use Rattle.plane_tests.specs.Examples.{IsGoing, Stay};
+ghost use Rattle.plane_tests.specs.Examples.{AreGoing, IsGoing, Stay};
 
 use super::{TCP, close, feed, open};
 use glance::GlancePass;
 use histories::Entries;
 use packet_entry::{Letter, NoMemory};
-use plane::{Fed, OpenGate, Opened, Plane, PortPasses};
+use plane::{Fed, FeederPass, OpenGate, Opened, Plane, PortPasses};
 use queue_core::{Event, Outcome, Reply};
 use std::alloc::Global;
 use std::sync::Wait;
@@ -91,17 +91,18 @@ fn hears<R: Wait>(
 }
 
 /// Lets it happen: whether it came out as the step says.
-fn happens<R: Wait>(rt: &R, alloc: Global, opened: &mut Opened, step: Step) -> Result<bool, Fail>
-    requires { IsGoing opened.old }
-    ensures going { IsGoing opened.new }
-    ensures ports { length opened.new.ports ≡ length opened.old.ports }
+pub(super) fn happens<R: Wait>(
+    rt: &R,
+    alloc: Global,
+    plane: &Plane,
+    feeder: &mut FeederPass,
+    ports: &mut PortPasses,
+    step: Step,
+) -> Result<bool, Fail>
+    requires { AreGoing plane.now feeder.old ports.old }
+    ensures going { AreGoing plane.now feeder.new ports.new }
+    ensures ports { length ports.new ≡ length ports.old }
 {
-    let Opened {
-        plane,
-        feeder,
-        ports,
-        gauge: _,
-    } = opened;
     match step {
         Step::Says(at, bytes) => says(rt, alloc, plane, ports, at, bytes),
         Step::Hears(at, wanted) => hears(rt, plane, ports, at, wanted),
@@ -113,7 +114,7 @@ fn happens<R: Wait>(rt: &R, alloc: Global, opened: &mut Opened, step: Step) -> R
 }
 
 /// Whether the board shows this of the places, from place 0 on.
-fn all_show(plane: &Plane, gauge: &mut GlancePass, wanted: &[Shown]) -> bool
+pub(super) fn all_show(plane: &Plane, gauge: &mut GlancePass, wanted: &[Shown]) -> bool
     requires { gauge.old.board ≡ board_of plane.now }
     ensures { gauge.new.board ≡ board_of plane.now }
 {
@@ -143,15 +144,40 @@ pub(super) fn all_happen<R: Wait>(
     ensures going { IsGoing opened.new }
     ensures ports { length opened.new.ports ≡ length opened.old.ports }
 {
+    let Opened {
+        plane,
+        feeder,
+        ports,
+        gauge,
+    } = opened;
     for (step, totals) in rows {
-        if !happens(rt, alloc, opened, *step)? {
+        if !happens(rt, alloc, plane, feeder, ports, *step)? {
             return Err(Fail::new("a step came out otherwise"));
         }
-        if !all_show(&opened.plane, &mut opened.gauge, totals) {
+        if !all_show(plane, gauge, totals) {
             return Err(Fail::new("other totals"));
         }
     }
     Ok(())
+}
+
+/// UDP is queued at queue 1, all else at queue 0.
+const TWO_RULES: &[u8] = b"*filter\n-A FORWARD -p udp -j NFQUEUE --queue-num 1\n\
+    -A FORWARD -j NFQUEUE --queue-num 0\nCOMMIT\n";
+
+/// A plane of two places with the ports 7 and 8, once all these steps have happened.
+pub(super) fn ready<R: Wait>(rt: &R, alloc: Global, rows: &[Row]) -> Result<Opened, Fail>
+    ensures going { IfOk result IsGoing }
+    ensures ports { IfOk result (λ o. length o.ports ≡ 2) }
+{
+    let mut opened = open(alloc, 2, &[7, 8], TWO_RULES, 1)?;
+    match all_happen(rt, alloc, &mut opened, rows) {
+        Ok(()) => Ok(opened),
+        Err(fail) => {
+            let _ = close(alloc, opened);
+            Err(fail)
+        }
+    }
 }
 
 /// Of a packet that arrives its number, visit, table and mark.
