@@ -1,8 +1,8 @@
 #!/bin/sh
 # A benchmark, not a test: `nfq live` over 8 places with 1, 2 and 4 feeders, whose packets go to eight queues by
 # `--queue-cpu-fanout` and are accepted by eight ports; and with a pool of 1, 2 and 4 workers behind one port whose
-# script of 1,000 lines asks each notice for its length and its protocol. The time of a run ends with its inspectors'
-# idle looks, so the rows compare with each other alone.
+# script of 1,000 lines asks each notice for its length and its protocol. A run ends with its inspectors' idle looks,
+# which take some milliseconds.
 # usage: bench/feeders.sh [PROGRAM]    without one nfq is built
 set -eu
 top=$(cd "$(dirname "$0")/.." && pwd)

@@ -14,7 +14,7 @@ ghost use Rattle.live_work.specs.Sharing.{SharePasses, share_cards};
 ghost use Rattle.live_work.specs.Numbers.{most_frames};
 ghost use Rattle.live_passes.specs.Numbered.{StaysFeeder};
 
-use crossbeam_utils::Backoff;
+use crate::activity::Activity;
 use feeder_set::{Feeder, Share, each_frame_is_one_shares};
 use glance::GlancePass;
 use inspector_script::{Downs, Script};
@@ -43,7 +43,7 @@ pub struct Feeding {
 const MOST_GLANCES: u32 = 64;
 
 /// So many waiting packets, at all places, let the feeder hold back.
-const CROWD: u64 = 512;
+pub(crate) const CROWD: u64 = 512;
 
 /// How many packets wait at all places, as the board shows them.
 fn waiting(plane: &Plane, gauge: &mut GlancePass) -> u64
@@ -57,21 +57,29 @@ fn waiting(plane: &Plane, gauge: &mut GlancePass) -> u64
     waiting
 }
 
-/// Whoever reads the board pauses while many packets wait, but not for long: the inspectors come to
-/// work.
-fn hold_back(plane: &Plane, gauge: &mut Option<GlancePass>)
+/// Whoever reads the board, and has fed so many frames, pauses while many packets wait, but not for
+/// long: the inspectors come to work. It goes on once these have found nothing to answer.
+fn hold_back<R: Wait>(
+    rt: &R,
+    plane: &Plane,
+    activity: &Activity,
+    fed: u64,
+    gauge: &mut Option<GlancePass>,
+)
     requires looks { IfSome gauge.old (λ (g : PassView). g.board ≡ board_of plane.now) }
     ensures looks { IfSome gauge.new (λ (g : PassView). g.board ≡ board_of plane.now) }
 {
     let Some(gauge) = gauge else {
         return;
     };
-    let backoff = Backoff::new();
-    for _glance in 0..MOST_GLANCES {
-        if waiting(plane, gauge) < CROWD {
+    for glance in 0..MOST_GLANCES {
+        let many = waiting(plane, gauge);
+        if glance == 0 {
+            activity.see_waiting(fed, many);
+        }
+        if many < CROWD || !activity.wait_for_inspectors(rt) {
             return;
         }
-        backoff.snooze();
     }
 }
 
@@ -153,6 +161,7 @@ fn feed_share<R: Wait, G: Gate>(
     script: &Script,
     capture: &Capture,
     share: Share,
+    activity: &Activity,
     feeding: &mut Feeding,
 ) -> Result<(), NoMemory>
     requires feeders { (1 ≤ share.feeders) × (share.feeders ≤ most_feeders) }
@@ -176,8 +185,9 @@ fn feed_share<R: Wait, G: Gate>(
     let downs = downs_by_frame(alloc, script)?;
     let mut feeder = Feeder::new(share);
     // Each step goes on by a frame at least.
-    for _step in 0..capture.frames.len() {
-        hold_back(plane, &mut feeding.gauge);
+    for step in 0..capture.frames.len() {
+        activity.keep_pace(rt, share.number, step as u64);
+        hold_back(rt, plane, activity, step as u64, &mut feeding.gauge);
         let pass = &mut feeding.pass;
         if !feeder.step_by(rt, alloc, plane, pass, script, &downs, capture, gate)? {
             return Ok(());
@@ -198,6 +208,7 @@ impl Feeding {
         script: &Script,
         capture: &Capture,
         share: Share,
+        activity: &Activity,
     )
         requires feeders { (1 ≤ share.feeders) × (share.feeders ≤ most_feeders) }
         requires number { share.number < share.feeders }
@@ -208,7 +219,11 @@ impl Feeding {
         requires none { self.old.pass.fed ≡ [] }
         ensures fed { HasFed script.now capture.now plane.now share self.old self.new }
     {
-        let outcome = feed_share(rt, alloc, plane, gate, script, capture, share, self);
+        activity.begin(share.number);
+        let outcome = feed_share(
+            rt, alloc, plane, gate, script, capture, share, activity, self,
+        );
+        activity.end(share.number);
         self.failed = outcome.is_err();
     }
 }

@@ -6,14 +6,18 @@
 //! whatever others do beside it.
 #![tactic(auto)]
 
+mod activity;
 mod feeding;
 mod looking;
 mod mind;
+mod pause;
 mod pooling;
 mod sending;
 
+pub use activity::Activity;
 pub use feeding::{Feeding, take_down_after};
 pub use looking::{inspect, look};
 pub use mind::{Mind, minds};
+pub use pause::Pause;
 pub use pooling::{inspect_by_pool, look_by_pool};
 pub use sending::say_all;

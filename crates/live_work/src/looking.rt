@@ -8,8 +8,8 @@ ghost use Rattle.live_passes.specs.Numbered.{StaysPort};
 ghost use Rattle.live_work.specs.Looking.{LooksOn, heard_by};
 
 use crate::mind::Mind;
+use crate::pause::Pause;
 use crate::sending::say_all;
-use crossbeam_utils::Backoff;
 use inspector_script::Script;
 use live_passes::ports_speak_by_their_passes;
 use live_runs::what_a_port_does_adds_up;
@@ -57,13 +57,15 @@ pub fn look<R: Wait, G: Gate>(
 }
 
 /// A port looks until its 100,000th look in a row finds nothing. After one that does it pauses, so
-/// that others come to work. `NoMemory` leaves a part of an answer sent.
+/// that others come to work, unless nothing is left to do. `NoMemory` leaves a part of an answer
+/// sent.
 pub fn inspect<R: Wait, G: Gate>(
     rt: &R,
     alloc: Global,
     plane: &Plane,
     gate: &G,
     script: &Script,
+    pause: &mut Pause<'_>,
     pass: &mut PortPass,
     mind: &mut Mind,
 ) -> Result<(), NoMemory>
@@ -75,17 +77,16 @@ pub fn inspect<R: Wait, G: Gate>(
         LooksOn workers script.now (places_of plane.now) pass.old pass.new) }
 {
     what_a_port_does_adds_up();
-    let backoff = Backoff::new();
     let mut empty = 0;
     for _ in rt.forever() {
         if empty >= LAST_LOOK {
             return Ok(());
         }
         if look(rt, alloc, plane, gate, script, pass, mind)? {
-            backoff.reset();
+            pause.found();
             empty = 0;
         } else {
-            backoff.snooze();
+            pause.pause(rt);
             empty += 1;
         }
     }

@@ -16,8 +16,8 @@ ghost use Rattle.live_work.specs.Pooling.{HasReceived, LeavesAnswers, as_many_as
 
 use crate::looking::LAST_LOOK;
 use crate::mind::Mind;
+use crate::pause::Pause;
 use crate::sending::say_all;
-use crossbeam_utils::Backoff;
 use inspector_pool::{AsksList, JobGate, MOST_NOTICES, Notices, PoolAnswers, pool_answers};
 use inspector_script::Script;
 use live_passes::ports_speak_by_their_passes;
@@ -168,8 +168,8 @@ pub fn look_by_pool<R: Threads + Wait + Sync, G: Gate, J: JobGate>(
 }
 
 /// A port looks, with a pool of workers behind it, until its 100,000th look in a row finds nothing.
-/// After one that does it pauses, so that others come to work. `NoMemory` leaves a part of an
-/// answer sent.
+/// After one that does it pauses, so that others come to work, unless nothing is left to do.
+/// `NoMemory` leaves a part of an answer sent.
 pub fn inspect_by_pool<R: Threads + Wait + Sync, G: Gate, J: JobGate>(
     rt: &R,
     alloc: Global,
@@ -178,6 +178,7 @@ pub fn inspect_by_pool<R: Threads + Wait + Sync, G: Gate, J: JobGate>(
     jobs: &J,
     script: &Script,
     workers: u32,
+    pause: &mut Pause<'_>,
     pass: &mut PortPass,
     mind: &mut Mind,
 ) -> Result<(), NoMemory>
@@ -189,17 +190,16 @@ pub fn inspect_by_pool<R: Threads + Wait + Sync, G: Gate, J: JobGate>(
     ensures on { OnOk result (LooksOn workers script.now (places_of plane.now) pass.old pass.new) }
 {
     what_a_port_does_adds_up();
-    let backoff = Backoff::new();
     let mut empty = 0;
     for _ in rt.forever() {
         if empty >= LAST_LOOK {
             return Ok(());
         }
         if look_by_pool(rt, alloc, plane, gate, jobs, script, workers, pass, mind)? {
-            backoff.reset();
+            pause.found();
             empty = 0;
         } else {
-            backoff.snooze();
+            pause.pause(rt);
             empty += 1;
         }
     }

@@ -17,7 +17,7 @@ ghost use Rattle.nfq_live.specs.Feeders.{fed_by, share_of};
 use feeder_set::Share;
 use inspector_script::Script;
 use live_passes::rows_are_split_and_joined;
-use live_work::Feeding;
+use live_work::{Activity, Feeding};
 use packet_entry::NoMemory;
 use pcap_io::Capture;
 use plane::{FeederPass, Gate, Plane};
@@ -108,6 +108,7 @@ fn feed_all<R: Threads + Wait + Sync, G: Gate>(
     script: &Script,
     capture: &Capture,
     feeders: u32,
+    activity: &Activity,
     helpers: &mut [Feeding],
 )
     requires feeders { feeders ≤ most_feeders }
@@ -139,7 +140,7 @@ fn feed_all<R: Threads + Wait + Sync, G: Gate>(
                     number: at as u32 + 1,
                     feeders,
                 };
-                one.work(rt, alloc, plane, gate, script, capture, share)
+                one.work(rt, alloc, plane, gate, script, capture, share, activity)
             },
         );
     }
@@ -155,6 +156,7 @@ fn feed_beside<R: Threads + Wait + Sync, G: Gate>(
     script: &Script,
     capture: &Capture,
     feeders: u32,
+    activity: &Activity,
     feeding: &mut Feeding,
     helpers: &mut [Feeding],
 )
@@ -183,14 +185,18 @@ fn feed_beside<R: Threads + Wait + Sync, G: Gate>(
                 × (feeding.now.pass.fed ≡ []) }
         {
             let share = Share { number: 0, feeders };
-            feeding.work(rt, alloc, plane, gate, script, capture, share)
+            feeding.work(rt, alloc, plane, gate, script, capture, share, activity)
         },
         &mut ||
             requires { IsSync G.row × IsSync R.row × (feeders ≤ most_feeders)
                 × (length helpers.now < feeders) × (length capture.now.frames ≤ most_frames)
                 × All (λ f. length f.bytes ≤ longest_packet) capture.now.frames
                 × All (λ h. IsFresh plane.now h) helpers.now }
-        { feed_all(rt, alloc, plane, gate, script, capture, feeders, helpers) },
+        {
+            feed_all(
+                rt, alloc, plane, gate, script, capture, feeders, activity, helpers,
+            )
+        },
     );
 }
 
@@ -203,6 +209,7 @@ pub(crate) fn feed_together<R: Threads + Wait + Sync, G: Gate>(
     script: &Script,
     capture: &Capture,
     feeders: u32,
+    activity: &Activity,
     feeding: &mut Feeding,
     helpers: &mut Vec<Feeding>,
 )
@@ -221,6 +228,6 @@ pub(crate) fn feed_together<R: Threads + Wait + Sync, G: Gate>(
 {
     let others = helpers.as_mut_slice();
     feed_beside(
-        rt, alloc, plane, gate, script, capture, feeders, feeding, others,
+        rt, alloc, plane, gate, script, capture, feeders, activity, feeding, others,
     );
 }

@@ -31,7 +31,7 @@ use live_runs::{
     a_place_stays_fed_by_all, a_stage_ends_where_all_meet, ports_open_one_after_the_other,
     what_a_port_does_adds_up,
 };
-use live_work::{Feeding, Mind, inspect, inspect_by_pool};
+use live_work::{Activity, Feeding, Mind, Pause, inspect, inspect_by_pool};
 use packet_entry::NoMemory;
 use pcap_io::Capture;
 use plane::{Gate, Plane, PortPass, parts_stay_whole};
@@ -60,6 +60,7 @@ fn inspect_with<R: Threads + Wait + Sync, G: Gate, J: JobGate>(
     jobs: &J,
     script: &Script,
     pool: u32,
+    pause: &mut Pause<'_>,
     pass: &mut PortPass,
     mind: &mut Mind,
 ) -> Result<(), NoMemory>
@@ -71,9 +72,11 @@ fn inspect_with<R: Threads + Wait + Sync, G: Gate, J: JobGate>(
     ensures on { OnOk result (LooksOn pool script.now (places_of plane.now) pass.old pass.new) }
 {
     if pool > 1 {
-        inspect_by_pool(rt, alloc, plane, gate, jobs, script, pool, pass, mind)
+        inspect_by_pool(
+            rt, alloc, plane, gate, jobs, script, pool, pause, pass, mind,
+        )
     } else {
-        inspect(rt, alloc, plane, gate, script, pass, mind)
+        inspect(rt, alloc, plane, gate, script, pause, pass, mind)
     }
 }
 
@@ -88,6 +91,7 @@ impl Inspector {
         jobs: &J,
         script: &Script,
         pool: u32,
+        activity: &Activity,
     )
         requires pool { (one_worker ≤ pool) × (pool ≤ most_workers) }
         requires seated { IsSeated script.now plane.now self.old }
@@ -95,7 +99,11 @@ impl Inspector {
     {
         let pass = &mut self.pass;
         let mind = &mut self.mind;
-        let outcome = inspect_with(rt, alloc, plane, gate, jobs, script, pool, pass, mind);
+        let mut pause = Pause::new(activity);
+        let outcome = inspect_with(
+            rt, alloc, plane, gate, jobs, script, pool, &mut pause, pass, mind,
+        );
+        pause.end();
         self.failed = outcome.is_err();
     }
 }
@@ -109,6 +117,7 @@ fn inspect_all<R: Threads + Wait + Sync, G: Gate, J: JobGate>(
     jobs: &J,
     script: &Script,
     pool: u32,
+    activity: &Activity,
     inspectors: &mut [Inspector],
 )
     requires pool { (one_worker ≤ pool) × (pool ≤ most_workers) }
@@ -128,7 +137,7 @@ fn inspect_all<R: Threads + Wait + Sync, G: Gate, J: JobGate>(
                     × (pool ≤ most_workers) × IsSeated script.now plane.now one.now }
                 ensures { IsInspected pool script.entry.now plane.entry.now one.entry.now
                     one.exit.now }
-            { one.work(rt, alloc, plane, gate, jobs, script, pool) },
+            { one.work(rt, alloc, plane, gate, jobs, script, pool, activity) },
         );
     }
 }
@@ -168,6 +177,8 @@ fn work_beside<R: Threads + Wait + Sync, G: Gate, J: JobGate>(
         plane.now (slice_index_or inspectors.old i d) (slice_index_or inspectors.new i d) }
 {
     feeders_may_change_threads();
+    let activity = Activity::new(feeders, script.mail());
+    let activity = &activity;
     join_mut(
         rt,
         &mut ||
@@ -180,13 +191,17 @@ fn work_beside<R: Threads + Wait + Sync, G: Gate, J: JobGate>(
                 × All (λ h. IsFresh plane.now h) helpers.now.items }
         {
             feed_together(
-                rt, alloc, plane, gate, script, capture, feeders, feeding, helpers,
+                rt, alloc, plane, gate, script, capture, feeders, activity, feeding, helpers,
             )
         },
         &mut ||
             requires { IsSync G.row × IsSync R.row × IsSync J.row × (one_worker ≤ pool)
                 × (pool ≤ most_workers) × All (λ i. IsSeated script.now plane.now i) inspectors.now }
-        { inspect_all(rt, alloc, plane, gate, jobs, script, pool, inspectors) },
+        {
+            inspect_all(
+                rt, alloc, plane, gate, jobs, script, pool, activity, inspectors,
+            )
+        },
     );
 }
 

@@ -78,7 +78,7 @@ loop-step-preserved g c =
       next = c.step_by.ensures.next;
       many = omega (arith, within.2, c.loop-step.invariant.many, c.requires.feeders.0);
       near = omega (arith, within.1, within.2);
-      few = few_more plane script capture was now old new c.loop-step._step goes
+      few = few_more plane script capture was now old new c.loop-step.step goes
           c.loop-step.invariant.few;
       fed = fed_next c.each_frame_is_one_shares.ensures.own
           c.each_frame_is_one_shares.ensures.between plane script capture s was now old new
@@ -177,7 +177,7 @@ returns-clause-on g c =
       arith,
       c.loop-step-test.false,
       c.len-step-end.ensures,
-      c.loop-step.auto._step-end,
+      c.loop-step.auto.step-end,
       c.loop-step.invariant.many,
     )) c.loop-step.invariant.near c.loop-step.invariant.up
 
@@ -188,6 +188,6 @@ returns-clause-fed g c =
       arith,
       c.loop-step-test.false,
       c.len-step-end.ensures,
-      c.loop-step.auto._step-end,
+      c.loop-step.auto.step-end,
       c.loop-step.invariant.many,
     )) c.loop-step.invariant.fed

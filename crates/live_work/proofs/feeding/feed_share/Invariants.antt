@@ -14,9 +14,9 @@ invariant-loop-step g l = record {
   looks : IsFeedingOf l.plane l.feeding;
   share : l.feeder.share ≡ l.fn.share;
   next : IsNextOf l.feeder.share l.feeder.next;
-  many : l._step + 1 ≤ l.feeder.next;
+  many : l.step + 1 ≤ l.feeder.next;
   near : l.feeder.next ≤ length l.capture.frames + l.fn.share.feeders;
-  few : length l.feeding.pass.fed ≤ l._step;
+  few : length l.feeding.pass.fed ≤ l.step;
   fed : l.feeding.pass.fed ++ left_cards l.fn.share l.capture l.feeder.next
       ≡ share_cards l.fn.share l.capture;
   up : IsUpTo l.script (places_of l.plane) l.fn.share l.feeder.next
