@@ -1,11 +1,18 @@
 -- Digits that are found lane by lane.
-use Rattle.std.proofs.Common.{◌≡◌, ◌+◌, ◌-◌, ◌*◌, ◌%◌, ◌/◌, ◌^◌, ◌<◌, ◌≤◌, ◌++◌, ◌∷◌, [], ℕ, suc, zero, bit_and, List, cond, take, drop, length, map, slice_index, refl, sym, ap, ◌∙◌, subst, arith}
-use Rattle.std.proofs.lemmas.List.{take-take, take-append-drop, drop-take, take_at, take_all, take_rest, take-append-le, length-take-le, length-drop}
+use Rattle.std.proofs.Common.{◌≡◌, ◌+◌, ◌-◌, ◌*◌, ◌%◌, ◌/◌, ◌^◌, ◌<◌, ◌≤◌, ◌++◌, ◌∷◌, [], ℕ, suc}
+use Rattle.std.proofs.Common.{zero, bit_and, List, cond, get_or, w8, take, drop, length, map}
+use Rattle.std.proofs.Common.{slice_index, refl, sym, ap, ◌∙◌, subst, arith}
+use Rattle.std.proofs.lemmas.List.{take-take, take-append-drop, drop-take, take_at, take_all}
+use Rattle.std.proofs.lemmas.List.{take_rest, take-append-le, length-take-le, length-drop}
 use Rattle.std.proofs.lemmas.Nat.{and_mask}
-use Rattle.std.proofs.lemmas.Simd.{map-map, zip2_splat, take_more_put_chunk, length-put_chunk, pick_l_whole}
+use Rattle.std.proofs.lemmas.Simd.{swz_l, map-map, zip2_splat, take_more_put_chunk}
+use Rattle.std.proofs.lemmas.Simd.{length-put_chunk, pick_l_whole}
 use lib.Lanes.{Each1, zip2, sel_l, top, put_chunk, pick_l}
 use lib.ListN.{replicate}
+use Rattle.std.specs.List.{range_with_len}
+use Rattle.std.proofs.lemmas.List.FromFn.{get_or-map-range_with_len}
 use lib.Dec.{ltb}
+use mir.Val.{zeroes}
 use borrow.Rule.Slice.PartMut.{put_mid, post_of, same_len_mid, mid_of}
 use Rattle.hex.specs.Hex.{encode_with, encode_lower, lower_digits}
 
@@ -13,35 +20,43 @@ use Rattle.hex.specs.Hex.{encode_with, encode_lower, lower_digits}
 abbrev pub digit : ℕ → ℕ
 digit n = slice_index lower_digits n
 
+-- functions that agree at each number below 16
+agree : (f g : ℕ → ℕ) → map f (range_with_len 0 16) ≡ map g (range_with_len 0 16) →
+    (n : ℕ) → n < 16 → f n ≡ g n
+agree f g same n few =
+    sym (get_or-map-range_with_len f 0 16 n n 0 few (omega arith))
+    ∙ ap (λ l. get_or l n 0) same ∙ get_or-map-range_with_len g 0 16 n n 0 few (omega arith)
+
 one : (x : ℕ) → x < 16 → (x + cond (top 7 (cond (ltb 9 x) 255 0)) 87 48) % 256 ≡ digit x
-one zero h = refl
-one (suc zero) h = refl
-one (suc (suc zero)) h = refl
-one (suc (suc (suc zero))) h = refl
-one (suc (suc (suc (suc zero)))) h = refl
-one (suc (suc (suc (suc (suc zero))))) h = refl
-one (suc (suc (suc (suc (suc (suc zero)))))) h = refl
-one (suc (suc (suc (suc (suc (suc (suc zero))))))) h = refl
-one (suc (suc (suc (suc (suc (suc (suc (suc zero)))))))) h = refl
-one (suc (suc (suc (suc (suc (suc (suc (suc (suc zero))))))))) h = refl
-one (suc (suc (suc (suc (suc (suc (suc (suc (suc (suc zero)))))))))) h = refl
-one (suc (suc (suc (suc (suc (suc (suc (suc (suc (suc (suc zero))))))))))) h = refl
-one (suc (suc (suc (suc (suc (suc (suc (suc (suc (suc (suc (suc zero)))))))))))) h = refl
-one (suc (suc (suc (suc (suc (suc (suc (suc (suc (suc (suc (suc (suc zero))))))))))))) h = refl
-one (suc (suc (suc (suc (suc (suc (suc (suc (suc (suc (suc (suc (suc (suc zero)))))))))))))) h = refl
-one (suc (suc (suc (suc (suc (suc (suc (suc (suc (suc (suc (suc (suc (suc (suc zero))))))))))))))) h = refl
-one (suc (suc (suc (suc (suc (suc (suc (suc (suc (suc (suc (suc (suc (suc (suc (suc n)))))))))))))))) h = absurd (omega (arith, h))
+one x few =
+    agree (λ x. (x + cond (top 7 (cond (ltb 9 x) 255 0)) 87 48) % 256) (λ x. digit x) refl x few
 
 -- 48 and the number, or 87 and the number, as the lanes add them
 pub shown : (n : ℕ) (xs : List ℕ) → length xs ≡ n → Each1 (λ x. x < 16) xs →
     zip2 (λ a b. (a + b) % 256) xs
-    (sel_l (map (top 7) (zip2 (λ a b. cond (ltb a b) 255 0) (replicate n 9) xs)) (replicate n 87) (replicate n 48))
+    (sel_l (map (top 7) (zip2 (λ a b. cond (ltb a b) 255 0) (replicate n 9) xs)) (replicate n 87)
+    (replicate n 48))
     ≡ map (λ x. digit x) xs
 shown zero [] long small = refl
 shown zero (x ∷ xs) long small = absurd (omega (arith, long))
 shown (suc n) [] long small = absurd (omega (arith, long))
 shown (suc n) (x ∷ xs) long small =
     λ i. one x small.0 i ∷ shown n xs (omega (arith, long)) small.1 i
+
+looked_at : (i n : ℕ) → i < 16 → n < 16 →
+    cond (zeroes 16 w8 n) 0 (get_or lower_digits (16 * (i / 16) + n) 0) ≡ digit n
+looked_at i n near few =
+    let same : 16 * (i / 16) + n ≡ n = omega (arith, near) in
+    ap (λ m. cond (zeroes 16 w8 n) 0 (get_or lower_digits m 0)) same
+    ∙ agree (λ m. cond (zeroes 16 w8 m) 0 (get_or lower_digits m 0)) (λ m. digit m) refl n few
+
+-- the same, as lanes are looked up in a table
+pub looked_up : (i : ℕ) (xs : List ℕ) → i + length xs ≤ 16 → Each1 (λ x. x < 16) xs →
+    swz_l w8 16 lower_digits i xs ≡ map (λ x. digit x) xs
+looked_up i [] long small = refl
+looked_up i (x ∷ xs) long small =
+    λ j. looked_at i x (omega (arith, long)) small.0 j
+    ∷ looked_up (suc i) xs (omega (arith, long)) small.1 j
 
 -- the digits of each byte
 abbrev pub highs : List ℕ → List ℕ
@@ -73,16 +88,19 @@ pub woven_16 : (v : List ℕ) → length v ≡ 16 →
     pick_l 0 (highs v ++ lows v) first_16 ++ pick_l 0 (highs v ++ lows v) second_16 ≡ encode_lower v
 unfolding encode_with
 woven_16 v long =
-    subst (λ u. pick_l 0 (highs u ++ lows u) first_16 ++ pick_l 0 (highs u ++ lows u) second_16 ≡ encode_lower u)
+    subst (λ u. pick_l 0 (highs u ++ lows u) first_16 ++ pick_l 0 (highs u ++ lows u) second_16
+    ≡ encode_lower u)
     (pick_l_whole 0 v 16 long) refl
 
 -- two runs of 16 that were put one after the other
-pub two_runs_16 : (to first second : List ℕ) → length first ≡ 16 → length second ≡ 16 → 32 ≤ length to →
+pub two_runs_16 : (to first second : List ℕ) → length first ≡ 16 → length second ≡ 16 →
+    32 ≤ length to →
     take 32 (put_chunk 16 (put_chunk 0 to first) second) ≡ first ++ second
 two_runs_16 to first second long as_long room =
     take_more_put_chunk 16 (put_chunk 0 to first) second 32 (omega (arith, as_long))
     (omega (arith, room, length-put_chunk 0 to first))
-    ∙ ap (λ z. z ++ second) (take_more_put_chunk 0 to first 16 (omega (arith, long)) (omega (arith, room)))
+    ∙ ap (λ z. z ++ second)
+    (take_more_put_chunk 0 to first 16 (omega (arith, long)) (omega (arith, room)))
 
 -- the lanes of two lists of 8 in turn
 abbrev pub first_8 : List ℕ
@@ -95,16 +113,19 @@ pub woven_8 : (v : List ℕ) → length v ≡ 8 →
     pick_l 0 (highs v ++ lows v) first_8 ++ pick_l 0 (highs v ++ lows v) second_8 ≡ encode_lower v
 unfolding encode_with
 woven_8 v long =
-    subst (λ u. pick_l 0 (highs u ++ lows u) first_8 ++ pick_l 0 (highs u ++ lows u) second_8 ≡ encode_lower u)
+    subst (λ u. pick_l 0 (highs u ++ lows u) first_8 ++ pick_l 0 (highs u ++ lows u) second_8
+    ≡ encode_lower u)
     (pick_l_whole 0 v 8 long) refl
 
 -- two runs of 8 that were put one after the other
-pub two_runs_8 : (to first second : List ℕ) → length first ≡ 8 → length second ≡ 8 → 16 ≤ length to →
+pub two_runs_8 : (to first second : List ℕ) → length first ≡ 8 → length second ≡ 8 →
+    16 ≤ length to →
     take 16 (put_chunk 8 (put_chunk 0 to first) second) ≡ first ++ second
 two_runs_8 to first second long as_long room =
     take_more_put_chunk 8 (put_chunk 0 to first) second 16 (omega (arith, as_long))
     (omega (arith, room, length-put_chunk 0 to first))
-    ∙ ap (λ z. z ++ second) (take_more_put_chunk 0 to first 8 (omega (arith, long)) (omega (arith, room)))
+    ∙ ap (λ z. z ++ second)
+    (take_more_put_chunk 0 to first 8 (omega (arith, long)) (omega (arith, room)))
 
 -- ---- run by run
 
@@ -180,9 +201,13 @@ put_run bytes before part done at n k few within room so_far fits next =
 pub last_run : (bytes before part : List ℕ) (done n : ℕ) → done ≤ length bytes →
     n ≤ length bytes → length bytes ≤ done + n → length before ≡ length bytes * 2 →
     take (done * 2) before ≡ encode_lower (take done bytes) →
-    length part ≡ length (mid_of ((length bytes - n) * 2) (length before - (length bytes - n) * 2) before) →
-    take (n * 2) part ≡ encode_lower (take n (take (length bytes - (length bytes - n)) (drop (length bytes - n) bytes))) →
-    put_mid ((length bytes - n) * 2) (length before - (length bytes - n) * 2) before part ≡ encode_lower bytes
+    length part
+    ≡ length (mid_of ((length bytes - n) * 2) (length before - (length bytes - n) * 2) before) →
+    take (n * 2) part
+    ≡ encode_lower (take n (take (length bytes - (length bytes - n))
+    (drop (length bytes - n) bytes))) →
+    put_mid ((length bytes - n) * 2) (length before - (length bytes - n) * 2) before part
+    ≡ encode_lower bytes
 last_run bytes before part done n within long covers room so_far fits next =
     let at = length bytes - n in
     let k = length before - at * 2 in
@@ -194,6 +219,6 @@ last_run bytes before part done n within long covers room so_far fits next =
     ∙ omega (arith, room, long) in
     let all : at + n ≡ length bytes = omega (arith, long) in
     sym (take_all ((at + n) * 2) whole (omega (arith, as_long, all)))
-    ∙ put_run bytes before part done at n k (omega (arith, covers)) within (omega (arith, room, within)) so_far
-    (omega (arith, fits, rest)) next
+    ∙ put_run bytes before part done at n k (omega (arith, covers)) within
+    (omega (arith, room, within)) so_far (omega (arith, fits, rest)) next
     ∙ ap encode_lower (take_all (at + n) bytes (omega (arith, all)))

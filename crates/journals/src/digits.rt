@@ -8,6 +8,8 @@ use std::simd::prelude::*;
 
 /// How many digits a byte has.
 pub(crate) const DIGITS: usize = 2;
+/// The sixteen digits.
+const LOWER: [u8; 16] = *b"0123456789abcdef";
 
 /// Writes the digits of the first 16 bytes.
 #[inline(always)]
@@ -31,10 +33,7 @@ fn digits_16(lanes: u8x16) -> u8x16
     requires small { Each1 (λ n. n < 16) lanes }
     ensures { result ≡ map (λ n. slice_index lower_digits n) lanes }
 {
-    lanes
-        + lanes
-            .simd_gt(u8x16::splat(9))
-            .select(u8x16::splat(87), u8x16::splat(48))
+    u8x16::from_array(LOWER).swizzle_dyn(lanes)
 }
 
 /// Writes the digits of the first 8 bytes.

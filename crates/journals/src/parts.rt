@@ -166,6 +166,7 @@ fn put_params(params: Option<Params>, to: &mut [u8], at: usize) -> usize
 }
 
 /// A verdict or a batch, up to its mark.
+#[inline(always)]
 pub(crate) fn put_verdict(
     word: &str,
     queue: u16,

@@ -27,8 +27,32 @@ pub(crate) fn put_number(word: &str, number: u64, to: &mut [u8], at: usize) -> u
     put_decimal(number, to, at)
 }
 
-/// Puts a number in decimal.
+/// Puts a number in decimal. Most numbers of a line have one digit.
+#[inline(always)]
 fn put_decimal(number: u64, to: &mut [u8], at: usize) -> usize
+    requires room { at + length (decimal number) ≤ length to.old }
+    ensures { Placed to.old to.new at (decimal number) result }
+{
+    if number < 10 {
+        put_digit(number, to, at)
+    } else {
+        put_long(number, to, at)
+    }
+}
+
+/// Puts a number of one digit.
+#[inline(always)]
+fn put_digit(number: u64, to: &mut [u8], at: usize) -> usize
+    requires few { number < 10 }
+    requires room { at + length (decimal number) ≤ length to.old }
+    ensures { Placed to.old to.new at (decimal number) result }
+{
+    to[at] = b'0' + number as u8;
+    at + 1
+}
+
+/// Puts a number of any length.
+fn put_long(number: u64, to: &mut [u8], at: usize) -> usize
     requires room { at + length (decimal number) ≤ length to.old }
     ensures { Placed to.old to.new at (decimal number) result }
 {

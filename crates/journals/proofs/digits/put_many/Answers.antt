@@ -14,7 +14,8 @@ loop-at-preserved c =
       omega (arith, c.loop-at-test.true, within),
       put_run c.args.bytes.now c.loop-at.to c.put_16.new.to c.loop-at.at c.loop-at.at 16 _
           (omega arith) within (omega (arith, within, room)) c.loop-at.invariant.1
-          (omega (arith, c.put_16.auto.to, c.loop-at-test.true, within, room)) c.put_16.ensures.digits,
+          (omega (arith, c.put_16.auto.to, c.loop-at-test.true, within, room))
+          c.put_16.ensures.digits,
     )
 
 pub returns : goal.returns
