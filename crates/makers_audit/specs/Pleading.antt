@@ -1,14 +1,11 @@
 -- For proofs alone: the requests that logs tell, and whether they were answered as is logged.
-use Rattle.std.specs.Prelude.{◌≡◌, ℕ, Bool, true, false, not, ◌&&◌, ◌==◌, nat_eq, nat_le, List, []}
+use Rattle.std.specs.Prelude.{◌≡◌, ℕ, Bool, true, not, ◌&&◌, ◌==◌, nat_eq, nat_le, List, []}
 use Rattle.std.specs.Prelude.{◌∷◌, length, map, flat_map, Option, Some, None, option_map, is_some}
 use Rattle.std.specs.Prelude.{if◌then◌else◌}
 use Rattle.std.specs.List.{list_any, list_all, AllByRecursion}
-use Rattle.std.specs.Str.{bytes_eq}
 use Rattle.packet_entry.specs.Numbers.{longest_payload}
 use Rattle.netlink_codec.specs.Messages.{NetlinkMessage, first_message}
 use Rattle.netlink_codec.specs.Acknowledgements.{is_unanswered}
-use Rattle.nfqa_headers.specs.declared.params.Params.{Params}
-use Rattle.nfqa_headers.specs.declared.verdict_header.Head.{Head}
 use Rattle.nfqa_msgs.specs.declared.request.Request.{Request}
 use Rattle.nfqa_msgs.specs.declared.request.Request.TheVariants.{Config, Verdict, Batch}
 use Rattle.nfqa_msgs.specs.declared.request.Decoded.{Decoded}
@@ -158,59 +155,3 @@ MeetsEvent queue (Ask port call request) reply old new b =
     IsMet (side port queue) (plea call request (errno_in reply)) old new b
 MeetsEvent queue (PortClosed port) reply old new b = (b ≡ true) × (new ≡ old)
 MeetsEvent queue (DeviceDown device) reply old new b = (b ≡ true) × (new ≡ old)
-
--- ---- the same requests
-
-abbrev pub same_number : Option ℕ → Option ℕ → Bool
-same_number None None = true
-same_number None (Some m) = false
-same_number (Some n) None = false
-same_number (Some n) (Some m) = n == m
-
-abbrev pub same_params : Option Params → Option Params → Bool
-same_params None None = true
-same_params None (Some q) = false
-same_params (Some p) None = false
-same_params (Some p) (Some q) = (p.range == q.range) && (p.mode == q.mode)
-
-abbrev pub same_head : Option Head → Option Head → Bool
-same_head None None = true
-same_head None (Some q) = false
-same_head (Some p) None = false
-same_head (Some p) (Some q) = (p.verdict == q.verdict) && (p.id == q.id)
-
-abbrev pub same_payload : Option (List ℕ) → Option (List ℕ) → Bool
-same_payload None None = true
-same_payload None (Some q) = false
-same_payload (Some p) None = false
-same_payload (Some p) (Some q) = bytes_eq p q
-
-abbrev pub same_request : Request → Request → Bool
-same_request (Config queue command params maxlen flags mask)
-    (Config queue2 command2 params2 maxlen2 flags2 mask2) =
-    (queue == queue2) && (same_number command command2 && (same_params params params2
-    && (same_number maxlen maxlen2 && (same_number flags flags2 && same_number mask mask2))))
-same_request (Config queue command params maxlen flags mask)
-    (Verdict queue2 head2 mark2 payload2 priority2) = false
-same_request (Config queue command params maxlen flags mask)
-    (Batch queue2 head2 mark2 priority2) = false
-same_request (Verdict queue head mark payload priority)
-    (Config queue2 command2 params2 maxlen2 flags2 mask2) = false
-same_request (Verdict queue head mark payload priority)
-    (Verdict queue2 head2 mark2 payload2 priority2) =
-    (queue == queue2) && (same_head head head2 && (same_number mark mark2
-    && (same_payload payload payload2 && same_number priority priority2)))
-same_request (Verdict queue head mark payload priority) (Batch queue2 head2 mark2 priority2) =
-    false
-same_request (Batch queue head mark priority)
-    (Config queue2 command2 params2 maxlen2 flags2 mask2) = false
-same_request (Batch queue head mark priority)
-    (Verdict queue2 head2 mark2 payload2 priority2) = false
-same_request (Batch queue head mark priority) (Batch queue2 head2 mark2 priority2) =
-    (queue == queue2) && (same_head head head2 && (same_number mark mark2
-    && same_number priority priority2))
-
-abbrev pub is_plea : Option Plea → ℕ → Request → ℕ → Bool
-is_plea None call request errno = false
-is_plea (Some told) call request errno =
-    (told.call == call) && ((told.errno == errno) && same_request told.request request)

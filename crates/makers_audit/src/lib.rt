@@ -13,7 +13,6 @@ mod ports;
 mod queues;
 mod requests;
 mod room;
-mod same_requests;
 
 pub use closing::are_closings;
 pub use dealing::{MessageKind, Rows, Side, push};

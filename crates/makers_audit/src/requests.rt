@@ -2,7 +2,7 @@
 //! answered as is logged.
 
 ghost use Rattle.std.specs.Prelude.{◌≡◌, ◌≢◌, ◌↔◌, ℕ, Bool, List, AllPairs, IsTrue, IfOk, OnOk};
-ghost use Rattle.std.specs.Prelude.{is_some};
+ghost use Rattle.std.specs.Prelude.{Some, is_some};
 ghost use Rattle.std.specs.List.{list_all};
 ghost use Rattle.netlink_codec.specs.Messages.{message_of};
 ghost use Rattle.made_runs.specs.Log.{Note};
@@ -16,7 +16,6 @@ ghost use Rattle.makers_audit.specs.Told.{AreTold};
 
 use crate::dealing::{Rows, Side, are_empty, push, take};
 use crate::logs::log_of;
-use crate::same_requests::is_same_request;
 use histories::{AskWords, Did, Dids, Entries, Entry, Event, Histories, Logs, Reply};
 use inspector_script::Script;
 use netlink_codec::{Message, next_message};
@@ -363,12 +362,10 @@ fn meets(side: Side, call: u32, request: &Request, errno: u16, rows: &mut Rows<A
 
 /// Whether a request is this one.
 fn is_plea(told: &Option<Asking>, call: u32, request: &Request, errno: u16) -> bool
-    ensures { result ≡ pleading.is_plea told.now call request.now errno }
+    ensures { IsTrue result ↔ (told.now ≡ Some (pleading.plea call request.now errno)) }
 {
     match told {
-        Some(told) => {
-            told.call == call && told.errno == errno && is_same_request(&told.request, request)
-        }
+        Some(told) => told.call == call && told.errno == errno && told.request == *request,
         None => false,
     }
 }

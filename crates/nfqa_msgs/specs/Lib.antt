@@ -6,3 +6,5 @@ pub mod Telling
 pub mod NoticeReading
 pub mod NoticeMeaning
 mod Pieces
+pub mod SameRequests
+pub mod RequestEquality

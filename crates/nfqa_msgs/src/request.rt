@@ -1,9 +1,13 @@
 //! Requests, and what a message is decoded to.
 
-ghost use Rattle.std.specs.Prelude.{◌≡◌, IfOk};
+ghost use Rattle.std.specs.Prelude.{◌≡◌, ◌↔◌, IfOk, IsTrue, bytes_eq};
+ghost use Rattle.std.specs.Cmp.{partial_equiv_from_equiv};
+ghost use Rattle.std.specs.Option.{option_eq};
+ghost use Rattle.nfqa_msgs.specs.SameRequests.{same_request};
+ghost use Rattle.nfqa_msgs.specs.RequestEquality.{same_equiv};
 
 use nfqa_headers::{Head, Params};
-use packet_entry::{Bytes, NoMemory};
+use packet_entry::{Bytes, NoMemory, same_bytes};
 
 /// What a port asks of a queue. What a message doesn't have is `None`.
 #[derive(Debug, Drop)]
@@ -96,6 +100,99 @@ impl Request {
                 priority: *priority,
             }),
         }
+    }
+}
+
+impl PartialEq for Request {
+    ghost eq = { same_request };
+
+    ghost laws = { partial_equiv_from_equiv same_equiv };
+
+    /// Whether the requests are of one kind, with the same in each field. Payloads are the same if
+    /// their bytes are.
+    fn eq(&self, other: &Request) -> bool
+        ensures value { result ≡ same_request self.now other.now }
+        ensures same { IsTrue result ↔ (self.now ≡ other.now) }
+    {
+        match (self, other) {
+            (
+                Request::Config {
+                    queue,
+                    command,
+                    params,
+                    maxlen,
+                    flags,
+                    mask,
+                },
+                Request::Config {
+                    queue: queue2,
+                    command: command2,
+                    params: params2,
+                    maxlen: maxlen2,
+                    flags: flags2,
+                    mask: mask2,
+                },
+            ) => {
+                queue == queue2
+                    && command == command2
+                    && params == params2
+                    && maxlen == maxlen2
+                    && flags == flags2
+                    && mask == mask2
+            }
+            (
+                Request::Verdict {
+                    queue,
+                    head,
+                    mark,
+                    payload,
+                    priority,
+                },
+                Request::Verdict {
+                    queue: queue2,
+                    head: head2,
+                    mark: mark2,
+                    payload: payload2,
+                    priority: priority2,
+                },
+            ) => {
+                queue == queue2
+                    && head == head2
+                    && mark == mark2
+                    && is_same_payload(payload, payload2)
+                    && priority == priority2
+            }
+            (
+                Request::Batch {
+                    queue,
+                    head,
+                    mark,
+                    priority,
+                },
+                Request::Batch {
+                    queue: queue2,
+                    head: head2,
+                    mark: mark2,
+                    priority: priority2,
+                },
+            ) => queue == queue2 && head == head2 && mark == mark2 && priority == priority2,
+            _ => false,
+        }
+    }
+}
+
+impl Eq for Request {
+    ghost laws = { same_equiv };
+}
+
+/// Whether neither has a payload, or both have the same bytes.
+fn is_same_payload(one: &Option<Bytes>, other: &Option<Bytes>) -> bool
+    ensures { result ≡ option_eq bytes_eq one.now other.now }
+{
+    match (one, other) {
+        (None, None) => true,
+        (Some(one), Some(other)) => same_bytes(one.as_slice(), other.as_slice()),
+        _ => false,
     }
 }
 
