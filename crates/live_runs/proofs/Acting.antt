@@ -24,7 +24,7 @@ use Rattle.inspector_script.specs.Scripts.{ScriptValue}
 use Rattle.made_runs.specs.Datagrams.{AsksWell, bytes_of, messages_in}
 use Rattle.made_runs.specs.Log.{Begun, Due, Got, Message, Note, Spoke, Still, Turned, all_due}
 use Rattle.made_runs.specs.Log.{answer_to, is_pool}
-use Rattle.made_runs.specs.NoticeTexts.{fits, told_exactly}
+use Rattle.nfqa_msgs.specs.NoticeTexts.{fits, told_exactly}
 use Rattle.made_runs.specs.Notices.{heard}
 use Rattle.made_runs.specs.Order.{Ends, Opens, kind_at, kind_by}
 use Rattle.made_runs.specs.Ports.{place_in}

@@ -5,7 +5,7 @@ use Rattle.std.proofs.lemmas.List.{length-append}
 use Rattle.std.specs.Prelude.{flat_map, map}
 use Rattle.inspector_script.specs.Scripts.{ScriptValue}
 use Rattle.made_runs.specs.Log.{Note, Standing, after, standing, standing_from, start}
-use Rattle.made_runs.specs.NoticeTexts.{fits}
+use Rattle.nfqa_msgs.specs.NoticeTexts.{fits}
 use Rattle.made_runs.specs.Order.{Kind, kind_at, kinds_from}
 use Rattle.made_runs.specs.Ports.{place_in}
 use Rattle.made_runs.specs.Requests.{Plea, pleas_told}

@@ -16,7 +16,7 @@ use Rattle.histories.specs.declared.entry.Entry.{Entry}
 use Rattle.histories.specs.declared.histories.Histories.{Histories}
 use Rattle.inspector_script.specs.Scripts.{ScriptValue}
 use Rattle.made_runs.specs.Log.{Note}
-use Rattle.made_runs.specs.NoticeTexts.{fits}
+use Rattle.nfqa_msgs.specs.NoticeTexts.{fits}
 use Rattle.made_runs.specs.Order.{kinds_told}
 use Rattle.made_runs.specs.Underway.{Ordered}
 use Rattle.live_runs.specs.ClosedPlanes.{IsClosedPlane, IsCovered}

@@ -21,7 +21,7 @@ use Rattle.inspector_script.specs.Scripts.{ScriptValue}
 use Rattle.made_runs.specs.Datagrams.{bytes_of, messages_in}
 use Rattle.made_runs.specs.Log.{Begun, Due, Got, IsNext, Message, Note, Shut, Spoke, Still, Turned}
 use Rattle.made_runs.specs.Log.{after, all_due, answer_to, dids_by, is_pool, start}
-use Rattle.made_runs.specs.NoticeTexts.{told_exactly}
+use Rattle.nfqa_msgs.specs.NoticeTexts.{told_exactly}
 use Rattle.made_runs.specs.Notices.{heard, heard_by}
 use Rattle.made_runs.specs.Ports.{place_in}
 use Rattle.made_runs.specs.Requests.{AreErrnos, IsErrno, pleas_told}

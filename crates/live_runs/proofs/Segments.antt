@@ -8,7 +8,7 @@ use Rattle.nfqa_msgs.specs.declared.request.Request.{Request}
 use Rattle.queue_core.specs.declared.event.Event.{Event}
 use Rattle.queue_core.specs.declared.event.Event.TheVariants.{Arrive, Ask, DeviceDown, PortClosed}
 use Rattle.histories.specs.declared.entry.Entry.{Entry}
-use Rattle.made_runs.specs.NoticeTexts.{fits}
+use Rattle.nfqa_msgs.specs.NoticeTexts.{fits}
 use Rattle.made_runs.specs.Order.{Answers, Kind, early_by, late_by}
 use Rattle.made_runs.specs.Requests.{Plea, errno_in, pleas_by, pleas_in, pleas_of}
 use Rattle.made_runs.specs.Underway.{IsNow, Ordered}

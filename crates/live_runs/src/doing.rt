@@ -13,7 +13,7 @@ ghost use Rattle.script_lines.specs.declared.ask.Ask.TheVariants.{Close, Words};
 ghost use Rattle.inspector_script.specs.Scripts.{ScriptValue};
 ghost use Rattle.made_runs.specs.Datagrams.{AsksWell, bytes_of, cut_in, messages_in};
 ghost use Rattle.made_runs.specs.Log.{Due, Message, Note, Shut, Still, all_due, answer_to, is_pool};
-ghost use Rattle.made_runs.specs.NoticeTexts.{told_exactly};
+ghost use Rattle.nfqa_msgs.specs.NoticeTexts.{told_exactly};
 ghost use Rattle.made_runs.specs.Ports.{place_in};
 ghost use Rattle.live_runs.specs.Seen.{Shares};
 ghost use Rattle.live_runs.specs.Passes.{Pass, Receives, Shuts, Speaks, SpeaksFirst};

@@ -9,7 +9,7 @@ use Rattle.packet_entry.specs.declared.letter.Letter.{Letter}
 use Rattle.script_lines.specs.declared.ask.Ask.{Ask}
 use Rattle.inspector_script.specs.Scripts.{ScriptValue}
 use Rattle.made_runs.specs.Log.{answer_to}
-use Rattle.made_runs.specs.NoticeTexts.{told_exactly}
+use Rattle.nfqa_msgs.specs.NoticeTexts.{told_exactly}
 use Rattle.made_runs.specs.Ports.{place_in}
 use Rattle.port_scripts.specs.Words.{AreWords}
 use Rattle.plane.specs.declared.plane.Plane.{Plane}

@@ -16,7 +16,7 @@ use Rattle.histories.specs.Logs.{is_received}
 use Rattle.script_lines.specs.declared.ask.Ask.{Ask}
 use Rattle.inspector_script.specs.Scripts.{Machine, ScriptValue, answer, next_count}
 use Rattle.made_runs.specs.Log.{answer_to, received_count}
-use Rattle.made_runs.specs.NoticeTexts.{told_exactly}
+use Rattle.nfqa_msgs.specs.NoticeTexts.{told_exactly}
 use Rattle.made_runs.specs.Ports.{is_port, place_in}
 use Rattle.made_runs.specs.Log.{asks_for}
 use Rattle.plane.specs.Passes.{PortView, Receives}

@@ -17,7 +17,7 @@ use Rattle.script_lines.specs.declared.ask.Ask.{Ask}
 use Rattle.inspector_script.specs.Scripts.{Machine, ScriptValue, answer, next_count}
 use Rattle.inspector_pool.specs.Answers.{answers}
 use Rattle.made_runs.specs.Log.{Due, all_due, answer_to, asks_for, is_pool, received_count}
-use Rattle.made_runs.specs.NoticeTexts.{told_exactly}
+use Rattle.nfqa_msgs.specs.NoticeTexts.{told_exactly}
 use Rattle.made_runs.specs.Ports.{place_in}
 use Rattle.port_scripts.specs.Words.{AreWords}
 use Rattle.plane.specs.Passes.{PortView}

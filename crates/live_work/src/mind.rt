@@ -4,7 +4,7 @@ ghost use Rattle.std.specs.Prelude.{◌≡◌, ◌<◌, List, length, Some, All,
 ghost use Rattle.std.specs.List.{AllZip};
 ghost use Rattle.script_lines.specs.Limits.{IsAsk};
 ghost use Rattle.made_runs.specs.Log.{answer_to};
-ghost use Rattle.made_runs.specs.NoticeTexts.{told_exactly};
+ghost use Rattle.nfqa_msgs.specs.NoticeTexts.{told_exactly};
 ghost use Rattle.made_runs.specs.Ports.{place_in};
 ghost use Rattle.plane.specs.Opening.{IsNew};
 ghost use Rattle.plane.specs.Passes.{PortView, Receives};

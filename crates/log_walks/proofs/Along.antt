@@ -15,7 +15,7 @@ use Rattle.packet_moves.specs.Calls.{next_call, after_this}
 use Rattle.packet_moves.specs.Messages.{words_of, answered}
 use Rattle.script_lines.specs.declared.ask.Ask.TheVariants.{Close}
 use Rattle.inspector_script.specs.Scripts.{ScriptValue, next_count}
-use Rattle.made_runs.specs.NoticeTexts.{told_exactly}
+use Rattle.nfqa_msgs.specs.NoticeTexts.{told_exactly}
 use Rattle.made_runs.specs.Notices.{heard}
 use Rattle.made_runs.specs.Log.{Note, Got, Turned, Begun, Spoke, Shut, Due, Still, Message}
 use Rattle.made_runs.specs.Log.{Standing}

@@ -14,7 +14,7 @@ use Rattle.packet_moves.specs.Calls.{next_call}
 use Rattle.packet_moves.specs.Messages.{words_of, answered}
 use Rattle.script_lines.specs.declared.ask.Ask.TheVariants.{Close}
 use Rattle.inspector_script.specs.Scripts.{IsScript, ScriptValue, opening, closing}
-use Rattle.made_runs.specs.NoticeTexts.{told_exactly}
+use Rattle.nfqa_msgs.specs.NoticeTexts.{told_exactly}
 use Rattle.made_runs.specs.Log.{Note, Got, Spoke, Shut, Due, Still, Message, all_due, first_due}
 use Rattle.made_runs.specs.Log.{answer_to, received_count, AreNextFrom, start, standing}
 use Rattle.made_runs.specs.Log.{unanswered}

@@ -21,7 +21,7 @@ use Rattle.queue_core.specs.Step.{step}
 use Rattle.queue_core.specs.WithOffer.{letter_of}
 use Rattle.histories.specs.declared.entry.Entry.{Entry}
 use Rattle.histories.specs.History.{history}
-use Rattle.made_runs.specs.NoticeTexts.{told_exactly}
+use Rattle.nfqa_msgs.specs.NoticeTexts.{told_exactly}
 use Rattle.makers_audit.specs.Following.{QueueMap, Replays, queue_in}
 use Rattle.logs_audit.specs.PortWalks.{IsTold}
 use Rattle.logs_audit.specs.Stays.{AreTold, Keeps, KeepsFirst, NoticeMap, all_letters, at_queue}

@@ -5,6 +5,5 @@ pub mod Known
 pub mod Choosing
 pub mod Placed
 pub mod Keeping
-pub mod Noticed
 pub mod Single
 pub mod Dealing

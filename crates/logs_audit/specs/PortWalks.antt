@@ -6,7 +6,7 @@ use Rattle.nfqa_msgs.specs.declared.notice.Notice.{Notice}
 use Rattle.nfqa_msgs.specs.NoticeMeaning.{notice_of}
 use Rattle.histories.specs.declared.log.Did.{Did}
 use Rattle.inspector_script.specs.Scripts.{ScriptValue}
-use Rattle.made_runs.specs.NoticeTexts.{told_exactly}
+use Rattle.nfqa_msgs.specs.NoticeTexts.{told_exactly}
 use Rattle.makers_audit.specs.Kinds.{kind_of}
 use Rattle.packet_moves.specs.Calls.{after_this}
 use Rattle.nfqa_msgs.specs.declared.request.Decoded.{Decoded}

@@ -1,18 +1,14 @@
 -- The notices of arrivals that queues took, by queue, number and visit.
-use Rattle.std.specs.Prelude.{◌≡◌, ◌<◌, ◌^◌, ℕ, Bool, true, false, ◌&&◌, ◌||◌, ◌==◌, List, [], ◌∷◌}
-use Rattle.std.specs.Prelude.{Option, Some, None, if◌then◌else◌, IfSome, length, min, ◌++◌, find}
+use Rattle.std.specs.Prelude.{◌≡◌, ℕ, Bool, true, false, ◌&&◌, ◌||◌, ◌==◌, List, [], ◌∷◌}
+use Rattle.std.specs.Prelude.{Option, Some, None, if◌then◌else◌, length, ◌++◌, find}
 use Rattle.std.specs.List.{AllByRecursion}
 use Rattle.std.specs.BTreeMap.{BTreeMap, get, is_at}
 use Rattle.std.specs.Ordering.{nat_cmp, ordering_then}
 use Rattle.std.specs.declared.cmp.Ordering.{Ordering}
-use Rattle.packet_entry.specs.Fields.{IsProtocol}
 use Rattle.packet_entry.specs.Numbers.{ipv4_type, ipv6_type, ethernet_header_length}
 use Rattle.packet_entry.specs.Numbers.{tagged_header_length}
 use Rattle.packet_entry.specs.declared.packet.Card.{Card}
 use Rattle.packet_entry.specs.declared.letter.Letter.{Letter}
-use Rattle.nfqa_headers.specs.Numbers.{hardware_address_length}
-use Rattle.nfqa_msgs.specs.Numbers.{copy_packet}
-use Rattle.nfqa_msgs.specs.NoticeWriting.{source_in}
 use Rattle.nfqa_msgs.specs.declared.notice.Notice.{Notice}
 use Rattle.queue_core.specs.State.{Bound}
 use Rattle.queue_core.specs.Step.{step}
@@ -110,22 +106,3 @@ IsPackets (DeviceDown device) = Unit {0}
 
 abbrev pub ArePackets : List Entry → Type 0
 ArePackets es = AllByRecursion (λ (e : Entry). IsPackets e.event) es
-
--- a notice can tell of this packet
-pub record IsTellable (card : Card) : Type 0 where
-  pub protocol : IsProtocol card.protocol
-  pub link : IfSome (source_in card.link) (λ source. length source ≡ hardware_address_length)
-  pub bytes : length card.bytes < 2 ^ 32
-
-abbrev pub told_length : ℕ → ℕ → ℕ → ℕ
-told_length mode range length = if mode == copy_packet then min length range else 0
-
-abbrev pub length_told : ℕ → ℕ → ℕ → ℕ
-length_told mode told length = if mode == copy_packet then length else told
-
--- each number that is told of a packet is one of 32 bits
-pub record HaveWidths (card : Card) : Type 0 where
-  pub mark : card.mark < 2 ^ 32
-  pub priority : card.priority < 2 ^ 32
-  pub seconds : card.seconds < 2 ^ 32
-  pub micros : card.micros < 2 ^ 32

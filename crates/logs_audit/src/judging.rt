@@ -1,7 +1,7 @@
 //! The logs of a script's ports, judged.
 
-ghost use Rattle.std.specs.Prelude.{◌≡◌, ◌<◌, ℕ, Some, None, IfOk, OnOk, option_map, length};
-ghost use Rattle.std.specs.Prelude.{slice_get};
+ghost use Rattle.std.specs.Prelude.{◌≡◌, ◌<◌, ◌^◌, ℕ, Some, None, IfOk, OnOk, option_map, length};
+ghost use Rattle.std.specs.Prelude.{slice_get, All};
 ghost use Rattle.histories.specs.declared.histories.Histories.{Histories};
 ghost use Rattle.made_runs.specs.Ports.{log_of};
 ghost use Rattle.log_walks.specs.Walking.{Known};
@@ -10,7 +10,6 @@ ghost use Rattle.logs_audit.specs.PortWalks as port_walks;
 ghost use Rattle.logs_audit.specs.Stays as stays;
 
 use crate::notices::{Notices, are_packets, notices_in};
-use crate::numbers::ports_fit;
 use crate::port_walk::walk_log;
 use histories::{Histories, Logs};
 use inspector_script::Script;
@@ -139,4 +138,12 @@ fn walk_port(
         Some(dids) => walk_log(alloc, script, place, port, notices, dids),
         None => Ok(None),
     }
+}
+
+/// Each port is a number of 32 bits. This has no effect: it only reads the ports, so that the range
+/// of their type is known.
+fn ports_fit(ports: &[u32])
+    ensures { All (λ p. p < 2 ^ 32) ports.now }
+{
+    let _ports = ports;
 }

@@ -7,7 +7,6 @@ mod judging;
 mod laws;
 mod logged;
 mod notices;
-mod numbers;
 mod port_walk;
 
 pub use judging::{Judged, judge_logs};

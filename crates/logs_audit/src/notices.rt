@@ -1,21 +1,15 @@
 //! The notices of arrivals that queues took.
 
-ghost use Rattle.std.specs.Prelude.{◌≡◌, ◌<◌, ◌≤◌, ◌^◌, ◌↔◌, ◌∷◌, [], Some, IfOk, OnOk};
-ghost use Rattle.std.specs.Prelude.{option_map, IsTrue, true};
-ghost use Rattle.nfqa_msgs.specs.Numbers.{longest_range};
+ghost use Rattle.std.specs.Prelude.{◌≡◌, ◌↔◌, ◌∷◌, [], Some, IfOk, OnOk, IsTrue, true};
 ghost use Rattle.std.specs.BTreeMap.{get};
 ghost use Rattle.std.specs.Ordering.{nat_cmp};
-ghost use Rattle.nfqa_msgs.specs.NoticeMeaning.{notice_of};
-ghost use Rattle.nfqa_msgs.specs.NoticeWriting.{notice};
 ghost use Rattle.queue_core.specs.WithOffer.{letter_of};
-ghost use Rattle.made_runs.specs.NoticeTexts.{told_exactly};
 ghost use Rattle.makers_audit.specs.Following.{queue_in};
 ghost use Rattle.logs_audit.specs.Stays as stays;
 
-use crate::numbers::card_fits;
 use histories::{Entries, Entry, Event, Reply};
 use makers_audit::{Queues, replay};
-use nfqa_msgs::{Notice, PACKET, notices_are_told_apart};
+use nfqa_msgs::{Notice, notice_of_card};
 use packet_entry::{Card, IPV4, IPV6, NoMemory};
 use queue_core::Outcome;
 use queue_replay::Standing;
@@ -126,7 +120,7 @@ fn keep_taken(
         number: card.number,
         visit: card.visit,
     };
-    let notice = notice_from(number, queue.mode(), queue.range(), id, card)?;
+    let notice = notice_of_card(number, id, queue.mode(), queue.range(), card)?;
     keep_first(stay, notice, notices)
 }
 
@@ -138,31 +132,6 @@ fn keep_first(stay: Stay, notice: Notice, notices: &mut Notices) -> Result<(), N
         notices.insert(stay, notice)?;
     }
     Ok(())
-}
-
-/// The notice of a packet that waits under this id, as a port reads it. None is made of a packet of
-/// 4 gigabytes or more: that is answered as want of memory.
-fn notice_from(queue: u16, mode: u8, range: u32, id: u32, card: &Card) -> Result<Notice, NoMemory>
-    requires packet { stays.is_packets card.now ≡ true }
-    requires range { range ≤ longest_range }
-    ensures { IfOk result (λ told. option_map notice_of
-        (told_exactly (notice queue mode range id card.now)) ≡ Some told) }
-{
-    notices_are_told_apart();
-    card_fits(card);
-    let told = told_length(mode, range, card.bytes.len());
-    if card.bytes.len() > u32::MAX as usize {
-        return Err(NoMemory);
-    }
-    Ok(Notice {
-        queue,
-        id,
-        protocol: card.protocol,
-        mark: card.mark,
-        priority: card.priority,
-        length: length_told(mode, told, card.bytes.len()) as u32,
-        payload: card.bytes.cut(0, told)?,
-    })
 }
 
 /// Whether this is IP's packet, with no link header, or an Ethernet header without a tag or with
@@ -177,22 +146,4 @@ fn is_link_length(length: usize) -> bool
     ensures { result ≡ stays.is_link_length length }
 {
     length == 0 || length == ETHERNET_LENGTH || length == TAGGED_LENGTH
-}
-
-/// How many bytes of a packet are told.
-fn told_length(mode: u8, range: u32, length: usize) -> usize
-    ensures { result ≡ stays.told_length mode range length }
-{
-    if mode == PACKET {
-        length.min(range as usize)
-    } else {
-        0
-    }
-}
-
-/// The length of a packet, as far as a notice tells it.
-fn length_told(mode: u8, told: usize, length: usize) -> usize
-    ensures { result ≡ stays.length_told mode told length }
-{
-    if mode == PACKET { length } else { told }
 }

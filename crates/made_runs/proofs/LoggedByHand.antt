@@ -16,7 +16,7 @@ use Rattle.histories.specs.declared.log.Did.{Did}
 use Rattle.histories.specs.declared.log.Did.TheVariants.{Received, Sent, Closed}
 use Rattle.script_lines.specs.declared.ask.Ask.TheVariants.{Close}
 use Rattle.packet_moves.specs.Messages.{words_of}
-use Rattle.made_runs.specs.NoticeTexts.{told_exactly}
+use Rattle.nfqa_msgs.specs.NoticeTexts.{told_exactly}
 use Rattle.made_runs.specs.Log.{Note, Got, Turned, Begun, Spoke, Shut, Still, Message, IsLog}
 use Rattle.made_runs.specs.Log.{IsAskDue, all_due, answer_to, first_due}
 use Rattle.made_runs.specs.Examples.{closing_script}

@@ -9,7 +9,7 @@ use Rattle.histories.specs.declared.log.AskWords.TheVariants.{Raw}
 use Rattle.histories.specs.declared.log.Did.{Did}
 use Rattle.histories.specs.declared.log.Did.TheVariants.{Received, Sent}
 use Rattle.script_lines.specs.declared.ask.Ask.TheVariants.{Words}
-use Rattle.made_runs.specs.NoticeTexts.{told_exactly}
+use Rattle.nfqa_msgs.specs.NoticeTexts.{told_exactly}
 use Rattle.made_runs.specs.Log.{Note, Got, Turned, Begun, Spoke, Due, Still, Message, IsLog}
 use Rattle.made_runs.specs.Log.{Standing, AreNextFrom, standing_from, all_due, answer_to}
 use Rattle.made_runs.specs.LoggedExamples.{header, message, one_and_two}

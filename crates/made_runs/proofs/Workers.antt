@@ -2,7 +2,7 @@
 use Rattle.std.proofs.Common.{◌≡◌, ℕ, List, [], ◌∷◌, refl, true, false, ap}
 use Rattle.packet_entry.specs.declared.letter.Letter.{Letter}
 use Rattle.inspector_script.specs.Scripts.{ScriptValue}
-use Rattle.made_runs.specs.NoticeTexts.{told_exactly}
+use Rattle.nfqa_msgs.specs.NoticeTexts.{told_exactly}
 use Rattle.made_runs.specs.Log.{Note, Got, Turned, Begun, Spoke, Shut, Standing, after, having}
 use Rattle.made_runs.specs.Log.{all_due, answer_to, IsNext, AreNextFrom, start, standing}
 use Rattle.made_runs.specs.Log.{standing_from, other_groups, is_pool}

@@ -1,6 +1,5 @@
 pub mod Numbers
 pub mod Entering
-pub mod NoticeTexts
 pub mod Datagrams
 pub mod Ports
 pub mod Log

@@ -8,7 +8,7 @@ use Rattle.packet_entry.specs.declared.letter.Letter.{Letter}
 use Rattle.netlink_codec.specs.Messages.{NetlinkMessage}
 use Rattle.nfqa_msgs.specs.RequestReading.{decoded}
 use Rattle.nfqa_msgs.specs.NoticeWriting.{Told}
-use Rattle.made_runs.specs.NoticeTexts.{told_exactly}
+use Rattle.nfqa_msgs.specs.NoticeTexts.{told_exactly}
 use Rattle.nfqa_msgs.specs.NoticeMeaning.{notice_of}
 use Rattle.queue_core.specs.Numbers.{largest_count}
 use Rattle.histories.specs.declared.log.Did.{Did}

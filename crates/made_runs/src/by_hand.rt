@@ -24,7 +24,7 @@ ghost use Rattle.made_runs.specs.Log.{Begun, Got, Spoke, Turned};
 ghost use Rattle.made_runs.specs.Run.{LogHolds, PortsHold, RequestsHold};
 ghost use Rattle.made_runs.specs.LoggedExamples.{ending_script, every_second, header, message};
 ghost use Rattle.made_runs.specs.LoggedExamples.{no_logs, one_and_two};
-ghost use Rattle.made_runs.specs.NoticeTexts.{told_exactly};
+ghost use Rattle.nfqa_msgs.specs.NoticeTexts.{told_exactly};
 ghost use Rattle.nfqa_msgs.specs.NoticeWriting.{Told};
 ghost use Rattle.made_runs.specs.LoggedExamples.{opening_script};
 ghost use Rattle.histories.specs.declared.log.AskWords.TheVariants.{Raw};

@@ -8,7 +8,7 @@ ghost use Rattle.inspector_script.specs.Scripts.{ScriptValue};
 ghost use Rattle.made_runs.specs.Log.{Note, Got, Turned, Standing, after, having, all_due, start};
 ghost use Rattle.made_runs.specs.Log.{answer_to, IsNext, AreNextFrom, is_pool, standing};
 ghost use Rattle.made_runs.specs.LoggedExamples.{heard, turned};
-ghost use Rattle.made_runs.specs.NoticeTexts.{told_exactly};
+ghost use Rattle.nfqa_msgs.specs.NoticeTexts.{told_exactly};
 ghost use Rattle.made_runs.specs.Feeder.{IsFed, IsFedBy};
 ghost use Rattle.script_lines.specs.declared.line.Down.{Down};
 ghost use Rattle.histories.specs.declared.entry.Entry.{Entry};

@@ -5,3 +5,4 @@ pub mod NoticesBack
 mod Standing
 mod NoticeSpelling
 pub mod PacketNotices
+mod NoticeTexts

@@ -5,6 +5,7 @@ pub mod NoticeWriting
 pub mod Telling
 pub mod NoticeReading
 pub mod NoticeMeaning
+pub mod NoticeTexts
 mod Pieces
 pub mod SameRequests
 pub mod RequestEquality

@@ -1,11 +1,12 @@
-//! The types of a request's numbers are as wide as their fields. The functions here have no effect:
-//! each only reads its argument, so that its type's range is known.
+//! The types of numbers are as wide as their fields, in a request and in what a notice tells. The
+//! functions here have no effect: each only reads its argument, so that its type's range is known.
 
 ghost use Rattle.std.specs.Prelude.{◌<◌, ◌^◌, IfSome};
 ghost use Rattle.nfqa_msgs.specs.RequestReading.{PayloadFits};
 ghost use Rattle.nfqa_msgs.specs.RequestWriting.{FitsRequest, FitsHead, FitsParams};
 
 use crate::{Head, Params, Request};
+use packet_entry::Card;
 
 /// Each number of a request fits its field, and its payload does.
 pub fn numbers_fit(request: &Request)
@@ -52,6 +53,19 @@ pub fn numbers_fit(request: &Request)
             fits_value(*priority);
         }
     }
+}
+
+/// Each number of a packet that a notice tells is one of 32 bits.
+pub(crate) fn card_fits(card: &Card)
+    ensures mark { card.now.mark < 2 ^ 32 }
+    ensures priority { card.now.priority < 2 ^ 32 }
+    ensures seconds { card.now.seconds < 2 ^ 32 }
+    ensures micros { card.now.micros < 2 ^ 32 }
+{
+    fits_value(Some(card.mark));
+    fits_value(Some(card.priority));
+    fits_value(Some(card.seconds));
+    fits_value(Some(card.micros));
 }
 
 fn fits_queue(queue: u16)

@@ -1,6 +1,6 @@
 //! Laws of the definitions, each the contract of a function that does nothing.
 
-ghost use Rattle.std.specs.Prelude.{◌≡◌, ℕ, ◌^◌, ◌<◌, List, [], ◌++◌, length, Some};
+ghost use Rattle.std.specs.Prelude.{◌≡◌, ℕ, ◌^◌, ◌<◌, List, [], ◌++◌, length, Some, None};
 ghost use Rattle.packet_entry.specs.declared.packet.Card.{Card};
 ghost use Rattle.packet_entry.specs.Numbers.{longest_payload};
 ghost use Rattle.netlink_codec.specs.Numbers.{longest_content};
@@ -15,6 +15,8 @@ ghost use Rattle.nfqa_msgs.specs.RequestWriting.{FitsRequest, spelling, spelled}
 ghost use Rattle.nfqa_msgs.specs.NoticeWriting.{Told, FitsTold, IsNoticed, IsPacketNotice};
 ghost use Rattle.nfqa_msgs.specs.NoticeWriting.{notice_text, told_of};
 ghost use Rattle.nfqa_msgs.specs.NoticeReading.{told_by};
+ghost use Rattle.nfqa_msgs.specs.NoticeMeaning.{IsNoNotice};
+ghost use Rattle.nfqa_msgs.specs.NoticeTexts.{told_exactly};
 
 use crate::{
     BIND, EINVAL, EOPNOTSUPP, ERANGE, MAX_RANGE, META, NONE, PACKET, PF_BIND, PF_UNBIND, UNBIND,
@@ -46,6 +48,14 @@ pub fn notices_are_told_apart()
 {
     written_message_is_in_front();
     written_attributes_are_walked();
+}
+
+/// What a text tells exactly is what a notice of this text tells; other texts tell nothing.
+pub fn notices_are_told_exactly()
+    ensures told { (told : Told) → FitsTold told → told_exactly (notice_text told) ≡ Some told }
+    ensures nothing { (bytes : List ℕ) → IsNoNotice bytes → told_exactly bytes ≡ None }
+{
+    notices_are_told_apart();
 }
 
 /// What is told of a waiting packet is what a notice can tell. So where bytes begin with the notice

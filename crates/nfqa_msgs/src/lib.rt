@@ -7,10 +7,12 @@
 //! contents big-endian.
 #![tactic(auto)]
 
+mod card_notice;
 mod comparing;
 mod fields;
 mod laws;
 mod notice;
+mod notice_content;
 mod notice_reading;
 mod notice_spelling;
 mod notice_writing;
@@ -22,10 +24,11 @@ mod request_reading;
 mod request_spelling;
 mod request_writing;
 
+pub use card_notice::notice_of_card;
 pub use fields::numbers_fit;
 pub use laws::{
-    notices_are_told_apart, packet_notices_are_told_apart, public_numbers,
-    spelling_decodes_to_its_request,
+    notices_are_told_apart, notices_are_told_exactly, packet_notices_are_told_apart,
+    public_numbers, spelling_decodes_to_its_request,
 };
 pub use nfqa_headers::{Head, Params};
 pub use notice::Notice;

@@ -78,7 +78,7 @@ fn payload_in(bytes: &Bytes, told: &Telling<'_>) -> Result<Bytes, NoMemory>
 }
 
 /// What is told, with this payload.
-fn notice_with(told: &Telling<'_>, payload: Bytes) -> Notice
+pub(crate) fn notice_with(told: &Telling<'_>, payload: Bytes) -> Notice
     requires fits { FitsTold (telling told.now) }
     requires payload { payload ≡ told.now.payload.now }
     ensures { result ≡ notice_of (telling told.now) }

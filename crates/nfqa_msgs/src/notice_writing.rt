@@ -1,31 +1,27 @@
 //! Notices, written as messages.
 
-ghost use Rattle.std.specs.Prelude.{◌≡◌, ◌≤◌, ◌<◌, ◌^◌, ◌++◌, ◌||◌, ◌==◌, length, option_map, OnOk};
-ghost use Rattle.std.specs.Prelude.{◌+◌, OnErr, IfSome, IsTrue};
+ghost use Rattle.std.specs.Prelude.{◌≡◌, ◌≤◌, ◌<◌, ◌++◌, ◌||◌, ◌==◌, ◌+◌, OnOk, OnErr, IsTrue};
 ghost use Rattle.arrayvec.specs.ArrayVec.{array_vec_len};
-ghost use Rattle.packet_entry.specs.Numbers.{longest_packet};
-ghost use Rattle.packet_entry.specs.Fields.{IsLinkLength};
 ghost use Rattle.netlink_codec.specs.Attributes.{attributes_text};
 ghost use Rattle.nfqa_msgs.specs.Numbers.{copy_meta, copy_packet, longest_range};
 ghost use Rattle.netlink_codec.specs.Numbers.{attribute_header_length, kind_limit};
-ghost use Rattle.nfqa_headers.specs.Numbers.{hardware_address_length, parts_room};
+ghost use Rattle.nfqa_headers.specs.Numbers.{parts_room};
 ghost use Rattle.nfqa_headers.specs.Headers.{value_length};
 ghost use Rattle.nfqa_headers.specs.AttributeWriting.{part, part_length};
 ghost use Rattle.nfqa_msgs.specs.NoticeWriting.{FitsTold, notice, notice_text, notice_body};
-ghost use Rattle.nfqa_msgs.specs.NoticeWriting.{notice_front, told_of, source_in, cut_of};
-ghost use Rattle.nfqa_msgs.specs.NoticeWriting.{told_bytes, family_of, nonzero_content};
-ghost use Rattle.nfqa_msgs.specs.NoticeWriting.{padded_payload};
+ghost use Rattle.nfqa_msgs.specs.NoticeWriting.{notice_front, told_of, family_of};
+ghost use Rattle.nfqa_msgs.specs.NoticeWriting.{nonzero_content, padded_payload};
 ghost use Rattle.nfqa_msgs.specs.Telling.{telling};
 
-use crate::PACKET;
 use crate::notice::Telling;
+use crate::notice_content::telling_of;
 use netlink_codec::{attr_header, put_split_message};
 use nfqa_headers::attribute_writing::{Parts, put_bytes, put_value, zeros_behind};
 use nfqa_headers::kinds::{
     FULL_LENGTH, INPUT_DEVICE, MARK, NOTICE, NUMBERS, OUTPUT_DEVICE, PAYLOAD, PRIORITY,
     QUEUE_SUBSYSTEM,
 };
-use nfqa_headers::packet_address::{ADDRESS_LENGTH, put_address};
+use nfqa_headers::packet_address::put_address;
 use nfqa_headers::packet_header::put_packet_header;
 use nfqa_headers::queue_header::{IPV4_FAMILY, IPV6_FAMILY, begin_body};
 use nfqa_headers::timestamp::put_stamp;
@@ -36,9 +32,6 @@ use std::alloc::AllocError;
 const INPUT: u32 = 1;
 /// The index of the device by which every packet goes out.
 const OUTPUT: u32 = 2;
-
-/// Where the source address begins in an Ethernet header, after the destination's 6 bytes.
-const LINK_SOURCE_AT: usize = 6;
 
 /// Appends the notice of a packet that waits in `queue` under `id`: of all packets the id, the
 /// Ethernet type, the devices, the mark and the priority unless they are 0, the source address of
@@ -65,62 +58,6 @@ pub fn encode_notice(
     let told = telling_of(queue, id, mode, range, packet);
     put_notice(out, &told)?;
     Ok(())
-}
-
-/// What is told of a packet.
-fn telling_of(queue: u16, id: u32, mode: u8, range: u32, packet: &Packet) -> Telling<'_>
-    requires { range ≤ longest_range }
-    ensures value { telling result ≡ told_of queue mode range id packet.now }
-    ensures fits { FitsTold (telling result) }
-{
-    let bytes = packet.bytes();
-    Telling {
-        queue,
-        id,
-        protocol: packet.protocol(),
-        mark: packet.mark(),
-        priority: packet.priority(),
-        source: source_address(packet.link()),
-        seconds: packet.seconds(),
-        micros: packet.micros(),
-        cut_from: cut_length(mode, range, bytes),
-        payload: first_bytes(mode, range, bytes),
-    }
-}
-
-/// The source address in an Ethernet header.
-fn source_address(link: &[u8]) -> Option<&[u8]>
-    requires { IsLinkLength (length link.now) }
-    ensures value { option_map (λ source. source.now) result ≡ source_in link.now }
-    ensures length { IfSome result (λ source. length source.now ≡ hardware_address_length) }
-{
-    if link.is_empty() {
-        return None;
-    }
-    Some(&link[LINK_SOURCE_AT..LINK_SOURCE_AT + ADDRESS_LENGTH])
-}
-
-/// The packet's length, where it is told.
-fn cut_length(mode: u8, range: u32, bytes: &[u8]) -> Option<u32>
-    requires { length bytes.now ≤ longest_packet }
-    ensures { result ≡ cut_of mode range bytes.now }
-{
-    if mode == PACKET && (range as usize) < bytes.len() {
-        Some(bytes.len() as u32)
-    } else {
-        None
-    }
-}
-
-/// The bytes that are told.
-fn first_bytes(mode: u8, range: u32, bytes: &[u8]) -> &[u8]
-    ensures { result.now ≡ told_bytes mode range bytes.now }
-{
-    if mode == PACKET {
-        &bytes[..bytes.len().min(range as usize)]
-    } else {
-        &[]
-    }
 }
 
 /// Appends a notice, or nothing.

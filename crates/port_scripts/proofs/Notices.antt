@@ -1,113 +1,26 @@
 -- The notice that is read of bytes is what their exact text tells.
-use Rattle.std.proofs.Common.{◌≡◌, ◌<◌, ◌^◌, ◌∙◌, ℕ, List, length, Option, Some, None, Bool}
-use Rattle.std.proofs.Common.{true, refl, sym, ap}
-use Rattle.std.specs.Prelude.{◌↔◌, ◌&&◌, Result, Ok, Err, IfOk, IfSome, IsNone, option_map}
-use Rattle.std.specs.Prelude.{if◌then◌else◌}
-use Rattle.std.specs.Str.{bytes_eq}
-use Rattle.std.proofs.lemmas.Bool.{and_from, and_parts, lt-ltb, ltb-true, le-leb, leb-true}
-use Rattle.std.proofs.lemmas.Bool.{eq-eqb, eqb-true, false_from_ne_true}
-use Rattle.std.proofs.lemmas.Slice.Eq.{bytes_eq-Decides}
-use Rattle.packet_entry.specs.Numbers.{longest_payload}
+use Rattle.std.proofs.Common.{◌≡◌, ◌∙◌, ℕ, List, Option, Some, None, refl, sym, ap}
+use Rattle.std.specs.Prelude.{◌↔◌, Result, Ok, Err, IfOk, IfSome, IsNone, option_map}
 use Rattle.nfqa_msgs.specs.declared.notice.Notice.{Notice}
 use Rattle.nfqa_msgs.specs.NoticeWriting.{Told, FitsTold, notice_text}
-use Rattle.nfqa_msgs.specs.NoticeReading.{told_by}
 use Rattle.nfqa_msgs.specs.NoticeMeaning.{notice_of, IsNoNotice}
-use Rattle.made_runs.specs.NoticeTexts.{fits, is_source, is_cut, where_it_is, told_exactly}
-
--- ---- the test of a notice's numbers holds exactly where they fit
-
-source_tested : (n : ℕ) → ((s : List ℕ) → length s ≡ n → is_source (Some s) ≡ true) →
-    (source : Option (List ℕ)) → IfSome source (λ s. length s ≡ n) → is_source source ≡ true
-source_tested n each None is = refl
-source_tested n each (Some s) is = each s is
-
-cut_tested : (shown : ℕ) (cut : Option ℕ) → IfSome cut (λ n. (shown < n) × (n < 2 ^ 32)) →
-    is_cut shown cut ≡ true
-cut_tested shown None is = refl
-cut_tested shown (Some n) is = and_from _ _ (lt-ltb shown n is.0) (lt-ltb n (2 ^ 32) is.1)
-
-tested : (told : Told) → FitsTold told → fits told ≡ true
-tested told f =
-    and_from _ _ (lt-ltb told.queue (2 ^ 16) f.queue_fits)
-    (and_from _ _ (lt-ltb told.id (2 ^ 32) f.id_fits)
-    (and_from _ _ f.protocol_fits
-    (and_from _ _ (lt-ltb told.mark (2 ^ 32) f.mark_fits)
-    (and_from _ _ (lt-ltb told.priority (2 ^ 32) f.priority_fits)
-    (and_from _ _ (source_tested _ (λ s. eq-eqb (length s) _) told.source f.source_fits)
-    (and_from _ _ (lt-ltb told.seconds (2 ^ 32) f.seconds_fit)
-    (and_from _ _ (lt-ltb told.micros (2 ^ 32) f.micros_fit)
-    (and_from _ _ (cut_tested (length told.payload) told.cut_from f.cut_fits)
-    (le-leb (length told.payload) longest_payload f.payload_fits)))))))))
-
-source_fits : (n : ℕ) → ((s : List ℕ) → is_source (Some s) ≡ true → length s ≡ n) →
-    (source : Option (List ℕ)) → is_source source ≡ true → IfSome source (λ s. length s ≡ n)
-source_fits n each None is = tt
-source_fits n each (Some s) is = each s is
-
-cut_fits : (shown : ℕ) (cut : Option ℕ) → is_cut shown cut ≡ true →
-    IfSome cut (λ n. (shown < n) × (n < 2 ^ 32))
-cut_fits shown None is = tt
-cut_fits shown (Some n) is =
-    let both = and_parts _ _ is in (ltb-true shown n both.0, ltb-true n (2 ^ 32) both.1)
-
-all_fit : (told : Told) → fits told ≡ true → FitsTold told
-all_fit told is =
-    let a = and_parts _ _ is in
-    let b = and_parts _ _ a.1 in
-    let d = and_parts _ _ b.1 in
-    let e = and_parts _ _ d.1 in
-    let f = and_parts _ _ e.1 in
-    let g = and_parts _ _ f.1 in
-    let h = and_parts _ _ g.1 in
-    let i = and_parts _ _ h.1 in
-    let j = and_parts _ _ i.1 in
-    record {
-      queue_fits = ltb-true told.queue (2 ^ 16) a.0;
-      id_fits = ltb-true told.id (2 ^ 32) b.0;
-      protocol_fits = d.0;
-      mark_fits = ltb-true told.mark (2 ^ 32) e.0;
-      priority_fits = ltb-true told.priority (2 ^ 32) f.0;
-      source_fits = source_fits _ (λ s. eqb-true (length s) _) told.source g.0;
-      seconds_fit = ltb-true told.seconds (2 ^ 32) h.0;
-      micros_fit = ltb-true told.micros (2 ^ 32) i.0;
-      cut_fits = cut_fits (length told.payload) told.cut_from j.0;
-      payload_fits = leb-true (length told.payload) longest_payload j.1;
-    }
-
--- ---- what the exact text tells
-
-abbrev when : Told → Bool → Option Told
-when told b = if b then Some told else None
-
-is_told : (bytes : List ℕ) (told : Told) → FitsTold told → bytes ≡ notice_text told →
-    where_it_is bytes (Some told) ≡ Some told
-is_told bytes told f is =
-    ap (when told)
-    (and_from (fits told) (bytes_eq bytes (notice_text told)) (tested told f)
-    ((bytes_eq-Decides bytes (notice_text told)).1 is))
-
-is_not_told : (bytes : List ℕ) (o : Option Told) → IsNoNotice bytes → where_it_is bytes o ≡ None
-is_not_told bytes None other = refl
-is_not_told bytes (Some told) other =
-    ap (when told) (false_from_ne_true (fits told && bytes_eq bytes (notice_text told))
-    (λ both. let parts = and_parts (fits told) (bytes_eq bytes (notice_text told)) both in
-    other told (all_fit told parts.0) ((bytes_eq-Decides bytes (notice_text told)).0 parts.1)))
+use Rattle.nfqa_msgs.specs.NoticeTexts.{told_exactly}
 
 -- the notice that the reader finds, or none, is what the exact text tells
 pub notice_is : {E : Type 0} (bytes : List ℕ) (result : Result (Option Notice) E) →
-    ((told : Told) → FitsTold told → told_by (notice_text told) ≡ Some told) →
+    ((told : Told) → FitsTold told → told_exactly (notice_text told) ≡ Some told) →
+    ((text : List ℕ) → IsNoNotice text → told_exactly text ≡ None) →
     IfOk result (λ answer. IfSome answer (λ notice.
     (told : Told) × FitsTold told × (bytes ≡ notice_text told) × (notice ≡ notice_of told))) →
     IfOk result (λ answer. IsNone answer ↔ IsNoNotice bytes) →
     IfOk result (λ notice. notice ≡ option_map notice_of (told_exactly bytes))
-notice_is bytes (Err e) back found none = tt
-notice_is bytes (Ok None) back found none =
-    sym (ap (option_map notice_of) (is_not_told bytes (told_by bytes) (none.0 refl)))
-notice_is bytes (Ok (Some notice)) back found none =
-    let told : Told = found.0 in
-    let fit : FitsTold told = found.1 in
-    let is : bytes ≡ notice_text told = found.2 in
-    let same : notice ≡ notice_of told = found.3 in
-    let exact : told_exactly bytes ≡ Some told =
-    ap (where_it_is bytes) (ap told_by is ∙ back told fit) ∙ is_told bytes told fit is in
+notice_is bytes (Err e) told nothing found none = tt
+notice_is bytes (Ok None) told nothing found none =
+    sym (ap (option_map notice_of) (nothing bytes (none.0 refl)))
+notice_is bytes (Ok (Some notice)) told nothing found none =
+    let what : Told = found.0 in
+    let fit : FitsTold what = found.1 in
+    let is : bytes ≡ notice_text what = found.2 in
+    let same : notice ≡ notice_of what = found.3 in
+    let exact : told_exactly bytes ≡ Some what = ap told_exactly is ∙ told what fit in
     ap (λ (n : Notice). Some n) same ∙ sym (ap (option_map notice_of) exact)

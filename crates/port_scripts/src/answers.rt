@@ -5,10 +5,10 @@ ghost use Rattle.nfqa_msgs.specs.NoticeMeaning.{notice_of};
 ghost use Rattle.script_lines.specs.Limits.{IsAsk};
 ghost use Rattle.inspector_script.specs.Scripts.{next_count};
 ghost use Rattle.made_runs.specs.Log.{asks_for};
-ghost use Rattle.made_runs.specs.NoticeTexts.{told_exactly};
+ghost use Rattle.nfqa_msgs.specs.NoticeTexts.{told_exactly};
 
 use inspector_script::{Asks, PortMachine, Script};
-use nfqa_msgs::{Notice, decode_shared_notice, notices_are_told_apart};
+use nfqa_msgs::{Notice, decode_shared_notice, notices_are_told_exactly};
 use packet_entry::{Bytes, Letter, NoMemory};
 use script_lines::Ask;
 
@@ -44,6 +44,6 @@ pub fn notice_in(bytes: &Bytes) -> Result<Option<Notice>, NoMemory>
     ensures { IfOk result
         (λ notice. notice ≡ option_map notice_of (told_exactly bytes.now)) }
 {
-    notices_are_told_apart();
+    notices_are_told_exactly();
     decode_shared_notice(bytes)
 }

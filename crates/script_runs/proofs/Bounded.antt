@@ -57,7 +57,7 @@ use Rattle.made_runs.specs.Datagrams.{AsksWell}
 use Rattle.script_runs.specs.Numbers.{enough_arrivals}
 use Rattle.made_runs.specs.Entering.{card_of, card_at}
 use Rattle.made_runs.specs.Log.{asks_for}
-use Rattle.made_runs.specs.NoticeTexts.{told_exactly}
+use Rattle.nfqa_msgs.specs.NoticeTexts.{told_exactly}
 use Rattle.script_runs.specs.Sending.{all_moved, carried_out, sent, all_sent}
 use Rattle.made_runs.specs.Datagrams.{messages_in, bytes_of}
 use Rattle.script_runs.specs.Sending.{done, all_done}

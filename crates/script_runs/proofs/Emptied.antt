@@ -33,7 +33,7 @@ use Rattle.packet_moves.specs.Planes.{beginning, opened_ports, entered, without_
 use Rattle.made_runs.specs.Ports.{AreApart, ArePlaced, HavePlaces}
 use Rattle.script_runs.specs.Numbers.{enough_arrivals}
 use Rattle.made_runs.specs.Entering.{card_of}
-use Rattle.made_runs.specs.NoticeTexts.{told_exactly}
+use Rattle.nfqa_msgs.specs.NoticeTexts.{told_exactly}
 use Rattle.made_runs.specs.Closing.{IsClosing}
 use Rattle.script_runs.specs.LettersLeft.{left_in}
 use Rattle.made_runs.specs.Log.{Note}

@@ -13,7 +13,7 @@ use Rattle.hook_chain.specs.Route.{next}
 use Rattle.nfqa_msgs.specs.declared.notice.Notice.{Notice}
 use Rattle.nfqa_msgs.specs.NoticeWriting.{Told}
 use Rattle.made_runs.specs.Ports.{ArePlaced}
-use Rattle.made_runs.specs.NoticeTexts.{told_exactly}
+use Rattle.nfqa_msgs.specs.NoticeTexts.{told_exactly}
 use Rattle.nfqa_msgs.specs.NoticeMeaning.{notice_of}
 use Rattle.histories.specs.declared.log.AskWords.{AskWords}
 use Rattle.script_lines.specs.declared.ask.Ask.{Ask}

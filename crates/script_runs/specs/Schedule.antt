@@ -25,7 +25,7 @@ use Rattle.script_runs.specs.Numbers.{enough_arrivals, rounds_per_frame}
 use Rattle.made_runs.specs.Entering.{card_of}
 use Rattle.made_runs.specs.Feeder.{downs_after}
 use Rattle.made_runs.specs.Log.{asks_for}
-use Rattle.made_runs.specs.NoticeTexts.{told_exactly}
+use Rattle.nfqa_msgs.specs.NoticeTexts.{told_exactly}
 use Rattle.script_runs.specs.Sending.{all_done}
 
 -- what a run is made with

@@ -11,7 +11,7 @@ use Rattle.packet_moves.specs.declared.setting.Setting.{Setting}
 use Rattle.packet_moves.specs.World.{World, Port}
 use Rattle.solo_plane.specs.Notices.{has_notice}
 use Rattle.made_runs.specs.Log.{asks_for}
-use Rattle.made_runs.specs.NoticeTexts.{told_exactly}
+use Rattle.nfqa_msgs.specs.NoticeTexts.{told_exactly}
 use Rattle.script_runs.specs.Schedule.{Looked, looked, looked_at, letters_at, is_open_port}
 use Rattle.script_runs.specs.Schedule.{received_in, round, emptied_in, go_on_while}
 use Rattle.script_runs.specs.Sending.{all_done}

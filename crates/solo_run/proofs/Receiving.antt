@@ -19,7 +19,7 @@ use Rattle.packet_moves.specs.World.{received, received_from, first_of}
 use Rattle.packet_moves.specs.Calls.{is_sent, next_call}
 use Rattle.packet_moves.specs.Soundness.{IsSound}
 use Rattle.made_runs.specs.Log.{asks_for}
-use Rattle.made_runs.specs.NoticeTexts.{told_exactly}
+use Rattle.nfqa_msgs.specs.NoticeTexts.{told_exactly}
 use Rattle.script_runs.specs.Schedule.{letters_at, received_in}
 use Rattle.solo_run.specs.RunState.{IsGoing, Keeps, ReceivesFirst, mind_of}
 use Rattle.solo_run.specs.RunState.{mind_at, port_at, one_notice}

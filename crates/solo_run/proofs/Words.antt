@@ -9,7 +9,7 @@ use Rattle.inspector_script.specs.Scripts.{ScriptValue}
 use Rattle.packet_moves.specs.World.{World, Port}
 use Rattle.script_runs.specs.Schedule.{received_in}
 use Rattle.made_runs.specs.Log.{answer_to, asks_for}
-use Rattle.made_runs.specs.NoticeTexts.{told_exactly}
+use Rattle.nfqa_msgs.specs.NoticeTexts.{told_exactly}
 use Rattle.port_scripts.specs.Words.{AreWords, ClosesLast}
 use Rattle.solo_run.specs.RunState.{ReceivesFirst}
 

@@ -15,7 +15,7 @@ use Rattle.solo_plane.specs.PlaneView as plane
 use Rattle.script_runs.specs.Sending.{sent}
 use Rattle.script_runs.specs.Schedule.{received_in, is_open_port}
 use Rattle.made_runs.specs.Log.{asks_for}
-use Rattle.made_runs.specs.NoticeTexts.{told_exactly}
+use Rattle.nfqa_msgs.specs.NoticeTexts.{told_exactly}
 use Rattle.solo_run.specs.declared.inspector.Inspector.{Inspector}
 use Rattle.solo_run.specs.declared.run.Run.{Run}
 

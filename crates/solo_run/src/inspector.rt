@@ -5,7 +5,7 @@ ghost use Rattle.std.specs.Prelude.{slice_index_or, All, IfOk, OnOk, Some, false
 ghost use Rattle.script_lines.specs.Limits.{IsAsk};
 ghost use Rattle.inspector_script.specs.Scripts.{next_count};
 ghost use Rattle.made_runs.specs.Log.{asks_for};
-ghost use Rattle.made_runs.specs.NoticeTexts.{told_exactly};
+ghost use Rattle.nfqa_msgs.specs.NoticeTexts.{told_exactly};
 ghost use Rattle.packet_moves.specs.World.{opened};
 ghost use Rattle.packet_moves.specs.Calls.{after_this};
 ghost use Rattle.solo_run.specs.RunState.{mind_of, one_notice};

@@ -1,6 +1,6 @@
 use Rattle.std.proofs.Common.{None, Option, Some, subst}
 use Rattle.packet_entry.specs.declared.letter.Letter.{Letter}
-use Rattle.made_runs.specs.NoticeTexts.{told_exactly}
+use Rattle.nfqa_msgs.specs.NoticeTexts.{told_exactly}
 use Rattle.made_runs.specs.Ports.{place_in}
 use Rattle.plane.specs.Passes as view
 use Rattle.plane.specs.Planes.{places_of}

@@ -9,7 +9,7 @@ use Rattle.inspector_pool.specs.Answers.{answers}
 use Rattle.port_scripts.specs.Words.{AreWords}
 use Rattle.live_work.specs.Pooling.{HasReceived}
 use Rattle.made_runs.specs.Log.{received_count}
-use Rattle.made_runs.specs.NoticeTexts.{told_exactly}
+use Rattle.nfqa_msgs.specs.NoticeTexts.{told_exactly}
 use Rattle.made_runs.specs.Ports.{place_in}
 use Rattle.plane.specs.Passes as view
 use Rattle.plane.specs.Planes.{places_of}

@@ -1,15 +1,14 @@
-use Rattle.std.proofs.Common.{◌∙◌, List, Option, subst, sym}
+use Rattle.std.proofs.Common.{◌∙◌, List, Option, subst, sym, true≢false}
 use Rattle.std.specs.Prelude.{Vec, option_map}
 use Rattle.std.specs.declared.alloc.Global.{Global}
 use Rattle.logs_audit.specs.Judged.{AreDealt, AreJudgedAll}
 use Rattle.logs_audit.specs.declared.judging.PortKinds.{PortKinds}
 use Rattle.logs_audit.proofs.Dealing.{in_rows}
-use Rattle.logs_audit.proofs.Noticed.{clash}
 use Rattle.logs_audit.proofs.judging.judge_logs.Goals as goal
 
 pub returns-then-not-are_packets : goal.returns-then-not-are_packets
 returns-then-not-are_packets c =
-    λ ones all. clash (sym (c.are_packets.ensures.1 all) ∙ c.if-not-are_packets.true)
+    λ ones all. true≢false (sym (c.are_packets.ensures.1 all) ∙ c.if-not-are_packets.true)
 
 pub returns-in_ok-kinds-in-Some : goal.returns-in_ok-kinds-in-Some
 returns-in_ok-kinds-in-Some c =

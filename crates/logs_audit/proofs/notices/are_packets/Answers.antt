@@ -1,6 +1,5 @@
-use Rattle.std.proofs.Common.{◌≡◌, ◌∙◌, [], refl, sym, subst, rules}
+use Rattle.std.proofs.Common.{◌≡◌, ◌∙◌, [], refl, sym, subst, rules, true≢false}
 use Rattle.logs_audit.specs.Stays.{ArePackets}
-use Rattle.logs_audit.proofs.Noticed.{clash}
 use Rattle.logs_audit.proofs.notices.are_packets.Goals as goal
 
 pub loop-entry-init : goal.loop-entry-init
@@ -18,10 +17,10 @@ loop-entry-preserved c =
 
 pub returns-then-not-may_arrive : goal.returns-then-not-may_arrive
 returns-then-not-may_arrive c = (
-  λ wrong. clash (sym wrong),
-  λ all. clash (sym (c.may_arrive.ensures.1
+  λ wrong. absurd (true≢false (sym wrong)),
+  λ all. absurd (true≢false (sym (c.may_arrive.ensures.1
       (subst ArePackets c.in-Some.ensures.steps (c.loop-entry.invariant.0 all)).0)
-      ∙ c.if-not-may_arrive.true),
+      ∙ c.if-not-may_arrive.true)),
 )
 
 pub returns : goal.returns

@@ -1,5 +1,12 @@
+use Rattle.std.proofs.lemmas.Bool.{and_parts}
 use Rattle.logs_audit.proofs.Keeping.{keeps_taken}
 use Rattle.logs_audit.proofs.notices.keep_taken.Goals as goal
+
+pub notice_of_card-requires-clause-protocol : goal.notice_of_card-requires-clause-protocol
+notice_of_card-requires-clause-protocol c = (and_parts _ _ c.requires).0
+
+pub notice_of_card-requires-clause-link : goal.notice_of_card-requires-clause-link
+notice_of_card-requires-clause-link c = (and_parts _ _ c.requires).1
 
 pub returns : goal.returns
 returns c =
