@@ -6,7 +6,7 @@ ghost use Rattle.packet_entry.specs.Numbers.{longest_payload};
 ghost use Rattle.netlink_codec.specs.Attributes.{attributes_text, zero_padding};
 ghost use Rattle.netlink_codec.specs.Numbers.{attribute_header_length, kind_limit};
 ghost use Rattle.nfqa_headers.specs.AttributeWriting.{part, part_length, value_part};
-ghost use Rattle.nfqa_headers.specs.Headers.{value_length};
+ghost use Rattle.nfqa_headers.specs.Headers.{value_content, value_length};
 ghost use Rattle.nfqa_headers.specs.Numbers.{parts_room};
 
 use crate::kinds::VALUE_LENGTH;
@@ -69,8 +69,16 @@ pub fn put_value(parts: &mut Parts, kind: u16, value: Option<u32>)
     ensures length { array_vec_len parts.new ≤ array_vec_len parts.old + part_length value_length }
 {
     if let Some(value) = value {
-        let mut content = [0; VALUE_LENGTH];
-        BigEndian::write_u32(&mut content, value);
-        put_part(parts, kind, &content);
+        put_part(parts, kind, &value_bytes(value));
     }
+}
+
+/// The content that is one number.
+#[inline(always)]
+pub fn value_bytes(value: u32) -> [u8; VALUE_LENGTH]
+    ensures { result ≡ value_content value }
+{
+    let mut content = [0; VALUE_LENGTH];
+    BigEndian::write_u32(&mut content, value);
+    content
 }

@@ -59,7 +59,9 @@ pub fn put_address(parts: &mut Parts, source: Option<&[u8]>)
     }
 }
 
-fn address_of(source: &[u8]) -> [u8; PACKET_ADDRESS_LENGTH]
+/// The content that says the address.
+#[inline(always)]
+pub fn address_of(source: &[u8]) -> [u8; PACKET_ADDRESS_LENGTH]
     requires { length source.now ≡ hardware_address_length }
     ensures { result ≡ address_content source.now }
 {

@@ -70,9 +70,17 @@ pub fn put_packet_header(parts: &mut Parts, id: u32, protocol: u16)
     ensures length { array_vec_len parts.new
         ≤ array_vec_len parts.old + part_length packet_header_length }
 {
+    put_part(parts, PACKET_HEADER, &packet_head_of(id, protocol));
+}
+
+/// The content that says id, Ethernet type and hook.
+#[inline(always)]
+pub fn packet_head_of(id: u32, protocol: u16) -> [u8; PACKET_HEADER_LENGTH]
+    ensures { result ≡ packet_head_content id protocol }
+{
     let mut content = [0; PACKET_HEADER_LENGTH];
     BigEndian::write_u32(&mut content[ID_AT..], id);
     BigEndian::write_u16(&mut content[PROTOCOL_AT..], protocol);
     content[HOOK_AT] = FORWARD;
-    put_part(parts, PACKET_HEADER, &content);
+    content
 }

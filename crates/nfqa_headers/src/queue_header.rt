@@ -40,10 +40,18 @@ pub fn begin_body(family: u8, queue: u16) -> Parts
     ensures text { result.items ≡ queue_header family queue }
     ensures length { array_vec_len result ≡ queue_header_length }
 {
+    let mut parts = Parts::new();
+    put_bytes(&mut parts, &queue_header_of(family, queue));
+    parts
+}
+
+/// The header's bytes.
+#[inline(always)]
+pub fn queue_header_of(family: u8, queue: u16) -> [u8; QUEUE_HEADER_LENGTH]
+    ensures { result ≡ queue_header family queue }
+{
     let mut header = [0; QUEUE_HEADER_LENGTH];
     header[FAMILY_AT] = family;
     BigEndian::write_u16(&mut header[QUEUE_AT..], queue);
-    let mut parts = Parts::new();
-    put_bytes(&mut parts, &header);
-    parts
+    header
 }

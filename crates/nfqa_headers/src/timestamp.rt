@@ -55,7 +55,9 @@ pub fn put_stamp(parts: &mut Parts, seconds: u32, micros: u32)
     put_part(parts, TIMESTAMP, &stamp_of(seconds, micros));
 }
 
-fn stamp_of(seconds: u32, micros: u32) -> [u8; TIMESTAMP_LENGTH]
+/// The content that says the time.
+#[inline(always)]
+pub fn stamp_of(seconds: u32, micros: u32) -> [u8; TIMESTAMP_LENGTH]
     ensures { result ≡ stamp_content seconds micros }
 {
     let mut content = [0; TIMESTAMP_LENGTH];

@@ -9,7 +9,7 @@ ghost use Rattle.std.specs.Prelude.{◌≡◌, ◌≤◌, ◌++◌, length, ◌+
 ghost use Rattle.arrayvec.specs.ArrayVec.{array_vec_len};
 ghost use Rattle.netlink_codec.specs.Attributes.{attributes_text};
 ghost use Rattle.nfqa_headers.specs.Numbers.{parts_room};
-ghost use Rattle.nfqa_headers.specs.Headers.{head_in, verdict_header_length};
+ghost use Rattle.nfqa_headers.specs.Headers.{head_content, head_in, verdict_header_length};
 ghost use Rattle.nfqa_headers.specs.AttributeWriting.{head_part, part_length};
 
 use crate::attribute_writing::{Parts, put_part};
@@ -51,9 +51,17 @@ pub fn put_head(parts: &mut Parts, head: Option<Head>)
         ≤ array_vec_len parts.old + part_length verdict_header_length }
 {
     if let Some(head) = head {
-        let mut content = [0; VERDICT_HEADER_LENGTH];
-        BigEndian::write_u32(&mut content[VERDICT_AT..], head.verdict);
-        BigEndian::write_u32(&mut content[ID_AT..], head.id);
-        put_part(parts, VERDICT_HEADER, &content);
+        put_part(parts, VERDICT_HEADER, &head_of(head));
     }
+}
+
+/// The content that says verdict and id.
+#[inline(always)]
+pub fn head_of(head: Head) -> [u8; VERDICT_HEADER_LENGTH]
+    ensures { result ≡ head_content head }
+{
+    let mut content = [0; VERDICT_HEADER_LENGTH];
+    BigEndian::write_u32(&mut content[VERDICT_AT..], head.verdict);
+    BigEndian::write_u32(&mut content[ID_AT..], head.id);
+    content
 }

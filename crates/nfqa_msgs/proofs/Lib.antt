@@ -6,3 +6,5 @@ mod Standing
 mod NoticeSpelling
 pub mod PacketNotices
 mod NoticeTexts
+mod AtPlaces
+mod Words

@@ -7,6 +7,7 @@
 //! contents big-endian.
 #![tactic(auto)]
 
+mod at_places;
 mod card_notice;
 mod comparing;
 mod fields;

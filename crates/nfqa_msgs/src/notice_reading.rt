@@ -9,6 +9,7 @@ ghost use Rattle.nfqa_msgs.specs.Telling.{telling};
 ghost use Rattle.nfqa_msgs.specs.NoticeReading as read;
 ghost use Rattle.nfqa_msgs.specs.NoticeMeaning.{notice_of, IsNoNotice};
 
+use crate::at_places::notice_at_its_places;
 use crate::laws::notices_are_told_apart;
 use crate::notice::{Notice, Telling};
 use crate::notice_spelling::is_notice_of;
@@ -107,6 +108,9 @@ fn told_exactly(bytes: &[u8]) -> Option<Telling<'_>>
 {
     // By this law what a notice tells is what is read from its text.
     notices_are_told_apart();
+    if let Some(told) = notice_at_its_places(bytes) {
+        return Some(told);
+    }
     match told_by(bytes) {
         None => None,
         Some(told) => {

@@ -29,9 +29,9 @@ use packet_entry::{IPV4, NoMemory, Packet};
 use std::alloc::AllocError;
 
 /// The index of the device by which every packet comes in.
-const INPUT: u32 = 1;
+pub(crate) const INPUT: u32 = 1;
 /// The index of the device by which every packet goes out.
-const OUTPUT: u32 = 2;
+pub(crate) const OUTPUT: u32 = 2;
 
 /// Appends the notice of a packet that waits in `queue` under `id`: of all packets the id, the
 /// Ethernet type, the devices, the mark and the priority unless they are 0, the source address of
@@ -110,7 +110,7 @@ fn parts_before(told: &Telling<'_>) -> Parts
     parts
 }
 
-fn family(protocol: u16) -> u8
+pub(crate) fn family(protocol: u16) -> u8
     ensures { result ≡ family_of protocol }
 {
     if protocol == IPV4 {

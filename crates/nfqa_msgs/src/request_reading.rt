@@ -10,6 +10,9 @@ ghost use Rattle.nfqa_msgs.specs.RequestReading.{batch_in, AskedFits, PayloadFit
 ghost use Rattle.nfqa_headers.specs.AttributeReading.{is_short};
 ghost use Rattle.nfqa_msgs.specs.RequestReading.{has_payload, asks_with_payload};
 
+use crate::at_places::plain_verdict;
+use crate::fields::numbers_fit;
+use crate::laws::spelling_decodes_to_its_request;
 use crate::{Decoded, EINVAL, EOPNOTSUPP, ERANGE, Request};
 use netlink_codec::Message;
 use nfqa_headers::attribute_reading::{
@@ -34,12 +37,29 @@ use std::alloc::Global;
 /// than 4 bytes after its header; then `Refused` with `EINVAL` for one of another subsystem or an
 /// unknown number, with `EOPNOTSUPP` for one of a notice's number, and with `ERANGE` where a known
 /// attribute is too short.
-#[tactic(auto, unfolding(crate::specs::RequestReading::decoded))]
 pub fn decode_request(alloc: Global, message: &Message<'_>) -> Result<Decoded, NoMemory>
     ensures value { IfOk result (λ answer. answer ≡ decoded (message_of message.now)) }
     // A payload has at most 65,531 bytes.
     ensures payload { IfOk result AskedFits }
     // Memory is taken for a payload alone.
+    ensures no_memory { asks_with_payload (decoded (message_of message.now)) ≡ false → IsOk result }
+{
+    // By this law a spelling is decoded to its request.
+    spelling_decodes_to_its_request();
+    match plain_verdict(message) {
+        Some(request) => {
+            numbers_fit(&request);
+            Ok(Decoded::Asked { request })
+        }
+        None => decode_by_kinds(alloc, message),
+    }
+}
+
+/// The same, attribute by attribute.
+#[tactic(auto, unfolding(crate::specs::RequestReading::decoded))]
+fn decode_by_kinds(alloc: Global, message: &Message<'_>) -> Result<Decoded, NoMemory>
+    ensures value { IfOk result (λ answer. answer ≡ decoded (message_of message.now)) }
+    ensures payload { IfOk result AskedFits }
     ensures no_memory { asks_with_payload (decoded (message_of message.now)) ≡ false → IsOk result }
 {
     if message.flags & REQUEST_FLAG == 0 {
