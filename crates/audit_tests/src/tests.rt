@@ -11,13 +11,13 @@ use hook_chain::{Tables, read_tables};
 use inspector_script::{Script, read_script};
 use journal_audit::{check_histories, check_journeys};
 use journal_reading::read_journal;
-use logs_audit::{Judged, judge_logs};
-use makers_audit::{
+use log_audit::{Judged, judge_logs};
+use packet_entry::{Bytes, NoMemory};
+use pcap_io::{Capture, Frame, Frames};
+use port_audit::{
     MessageKind, Rows, Side, are_closings, are_notices, are_ordered, are_ports, are_requests,
     are_roomy, push,
 };
-use packet_entry::{Bytes, NoMemory};
-use pcap_io::{Capture, Frame, Frames};
 use run_audit::audit;
 use std::alloc::Global;
 use std::collections::BTreeMap;

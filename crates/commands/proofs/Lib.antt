@@ -1,8 +1,8 @@
-mod Numbering
+mod PacketNumbers
 mod Endings
-mod Forming
-mod Living
+mod WellFormedHistories
+mod StopCauses
 mod Commands
-mod Opening
-mod Auditing
+mod ScriptPlane
+mod AuditAnswers
 mod Statuses

@@ -21,13 +21,13 @@ use Rattle.commands.specs.Ending.{IfAudit, IsAnswer, IsEnded, IsNoCommand, IsOut
 use Rattle.commands.specs.Ending.{MayEndWith, Span, UnlessJournal}
 use Rattle.commands.specs.Headline.{Finds, IsAtEnd, IsAudited, IsFoundBy, IsOnlyFoundBy}
 use Rattle.commands.specs.Headline.{IsOnlyJudged, MayFind, status_at_end}
-use Rattle.commands.proofs.Auditing.{amiss_at_11, at_end_or, audited_at_0, complete_at_end}
-use Rattle.commands.proofs.Auditing.{finds_at_end, none_at_0, one_of_two}
-use Rattle.commands.proofs.Auditing.{passes_at_end, stops, taken, touched_at_11}
+use Rattle.commands.proofs.AuditAnswers.{amiss_at_11, at_end_or, audited_at_0, complete_at_end}
+use Rattle.commands.proofs.AuditAnswers.{finds_at_end, none_at_0, one_of_two}
+use Rattle.commands.proofs.AuditAnswers.{passes_at_end, stops, taken, touched_at_11}
 use Rattle.commands.proofs.Commands.{IsLiveAlone}
 use Rattle.commands.proofs.Endings.{answered, is_write_fault, once_told, some_is_no_none}
 use Rattle.commands.proofs.Endings.{stops_never_with_11, turned_down}
-use Rattle.commands.proofs.Living.{no_memory_or_a_fault}
+use Rattle.commands.proofs.StopCauses.{no_memory_or_a_fault}
 
 -- ---- which statuses stop a command
 

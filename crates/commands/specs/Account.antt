@@ -11,10 +11,10 @@ use Rattle.histories.specs.Journeys.{AreSound}
 use Rattle.histories.specs.Endings.{AreQueuesOf, times_waiting, times_over, times_entered}
 use Rattle.total_order.specs.TotalOrder.{HasTotalOrder}
 use Rattle.inspector_script.specs.Scripts.{ScriptValue}
-use Rattle.made_runs.specs.Entering.{cards}
-use Rattle.made_runs.specs.Log.{Note}
-use Rattle.made_runs.specs.Run.{IsMadeBy}
-use Rattle.script_runs.specs.Schedule.{IsSolo}
+use Rattle.run_parts.specs.Entering.{cards}
+use Rattle.run_parts.specs.Log.{Note}
+use Rattle.run_parts.specs.Run.{IsMadeBy}
+use Rattle.solo_schedule.specs.Schedule.{IsSolo}
 use Rattle.fate_ledger.specs.declared.fate.Fate.TheVariants.{Waiting}
 use Rattle.fate_ledger.specs.declared.fate.FateLine.{FateLine}
 use Rattle.fate_ledger.specs.declared.happening.Happening.{Happening}

@@ -9,7 +9,7 @@ use Rattle.pcap_io.specs.declared.capture.Capture.{Capture}
 use Rattle.pcap_io.specs.Text.{capture_text}
 use Rattle.histories.specs.declared.histories.Histories.{Histories}
 use Rattle.histories.specs.Listing.{listing}
-use Rattle.script_runs.specs.Schedule.{before_ends}
+use Rattle.solo_schedule.specs.Schedule.{before_ends}
 use Rattle.generated.specs.Captures.{generated_capture}
 use Rattle.generated.specs.Texts.{rules_text, script_text}
 use Rattle.command_line.specs.Arguments.{AuditFiles, Audits, Call, Generates, GenFiles, InputFiles}

@@ -12,10 +12,10 @@ ghost use Rattle.histories.specs.Grouping.{IsGrouped};
 ghost use Rattle.histories.specs.History.{AreLegal};
 ghost use Rattle.histories.specs.Journeys.{AreSound};
 ghost use Rattle.histories.specs.Lengths.{AreShort};
-ghost use Rattle.made_runs.specs.Entering.{cards};
-ghost use Rattle.made_runs.specs.Log.{Note};
-ghost use Rattle.made_runs.specs.Run.{IsMadeBy};
-ghost use Rattle.script_runs.specs.Schedule.{IsSolo};
+ghost use Rattle.run_parts.specs.Entering.{cards};
+ghost use Rattle.run_parts.specs.Log.{Note};
+ghost use Rattle.run_parts.specs.Run.{IsMadeBy};
+ghost use Rattle.solo_schedule.specs.Schedule.{IsSolo};
 ghost use Rattle.fate_ledger.specs.Released.{released};
 ghost use Rattle.solo_run.specs.Numbers.{most_frames};
 ghost use Rattle.journals.specs.WellFormed.{IsWellFormed};
@@ -32,15 +32,15 @@ use histories::{Histories, each_packet_waits_is_lost_or_is_over};
 use hook_chain::Tables;
 use inspector_script::Script;
 use journals::histories_fit;
-use made_runs::{each_log_is_what_is_told, packets_are_read_with_their_frames};
 use packet_entry::NoMemory;
 use pcap_io::Capture;
 use queue_core::replies_tell_how_many_left;
-use script_runs::{
+use run_parts::{each_log_is_what_is_told, packets_are_read_with_their_frames};
+use solo_run::solo;
+use solo_schedule::{
     a_schedule_has_one_run, no_notice_is_left, one_order_of_all_events,
     packets_and_payloads_are_within_bounds,
 };
-use solo_run::solo;
 use std::alloc::Global;
 
 /// Runs a script over the packets of a capture, each of which is accounted for in the histories.

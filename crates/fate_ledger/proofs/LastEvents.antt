@@ -29,7 +29,7 @@ use Rattle.fate_ledger.specs.declared.fate.Fate.{Fate}
 use Rattle.fate_ledger.specs.declared.fate.Fate.TheVariants as fate
 use Rattle.fate_ledger.specs.declared.fate.FateLine.{FateLine}
 use Rattle.fate_ledger.specs.Laws.{IsLastEvent, IsEventOf, IsLineOf, Tells, Leaves, step_after}
-use Rattle.fate_ledger.proofs.Underway.{step_at}
+use Rattle.fate_ledger.proofs.EntryWalk.{step_at}
 use Rattle.fate_ledger.specs.Fates.{departing, happens, fate_by_request, fate_by_reply}
 use Rattle.fate_ledger.specs.Fates.{last_of, later_of, is_later, happenings, happenings_after}
 use Rattle.fate_ledger.specs.Fates.{happens_after, fates_from, fates, fate_line, is_lost}

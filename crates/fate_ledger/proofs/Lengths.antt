@@ -37,7 +37,7 @@ use Rattle.fate_ledger.specs.Payloads.{IsPayload}
 use Rattle.fate_ledger.specs.Released as text
 use Rattle.fate_ledger.proofs.Origins.{HoldsOf}
 use Rattle.fate_ledger.proofs.Payloads.{each_right}
-use Rattle.fate_ledger.proofs.Releasing.{equal_bytes, unequal_bytes}
+use Rattle.fate_ledger.proofs.ReleasedCapture.{equal_bytes, unequal_bytes}
 use Rattle.fate_ledger.proofs.Tables.{either}
 
 -- ---- what is read with a frame, as a test

@@ -29,8 +29,8 @@ use Rattle.fate_ledger.specs.declared.happening.Happening.{Happening}
 use Rattle.fate_ledger.specs.declared.fate.Fate.{Fate}
 use Rattle.fate_ledger.specs.Fates.{happens, happens_after, happenings_after, departing}
 use Rattle.fate_ledger.specs.Fates.{fate_by_request}
-use Rattle.fate_ledger.proofs.Holding.{Stays, Fits, Fitting, AllFit, leaving_fits}
-use Rattle.fate_ledger.proofs.Waiting.{once}
+use Rattle.fate_ledger.proofs.PacketProperties.{Stays, Fits, Fitting, AllFit, leaving_fits}
+use Rattle.fate_ledger.proofs.LastArrivals.{once}
 
 -- ---- sums of nothing
 

@@ -7,11 +7,11 @@ use Rattle.queue_core.specs.Step.{step}
 use Rattle.queue_core.specs.declared.event.Event.TheVariants.{DeviceDown}
 use Rattle.histories.specs.declared.entry.Entry.{Entry}
 use Rattle.script_lines.specs.declared.line.Down.{Down}
-use Rattle.made_runs.specs.Ascending.{AscendFrom}
-use Rattle.made_runs.specs.Feeder.{Item, Was, Fell, Passed, entries_of, lines_of, times_of}
-use Rattle.made_runs.specs.Feeder.{times_of_event, IsNoDown, AreItemsFrom, IsFed, falling_time}
+use Rattle.run_parts.specs.Ascending.{AscendFrom}
+use Rattle.run_parts.specs.Feeder.{Item, Was, Fell, Passed, entries_of, lines_of, times_of}
+use Rattle.run_parts.specs.Feeder.{times_of_event, IsNoDown, AreItemsFrom, IsFed, falling_time}
 use Rattle.feeder_audit.specs.Fitting.{last_of, Fits}
-use Rattle.feeder_audit.proofs.Fitting.{was_fits, passes}
+use Rattle.feeder_audit.proofs.RowMeaning.{was_fits, passes}
 
 -- ---- times one after the other
 

@@ -1,9 +1,9 @@
-pub mod Fitting
+pub mod RowMeaning
 pub mod Items
-pub mod Falling
-pub mod Going
-pub mod Places
-pub mod Short
-pub mod Rising
+pub mod DeviceRows
+pub mod HistoryWalk
+pub mod LineTimes
+pub mod FrameNumbers
+pub mod AscendingTimes
 pub mod Queues
-pub mod Walking
+pub mod QueueWalk

@@ -1,5 +1,6 @@
 -- All histories, gone over entry by entry.
-use Rattle.std.proofs.Common.{◌≡◌, ◌<◌, ℕ, List, [], ◌∷◌, ◌++◌, Option, Some, None, Bool, true, false}
+use Rattle.std.proofs.Common.{◌≡◌, ◌<◌, ℕ, List, [], ◌∷◌, ◌++◌, Option, Some, None, Bool, true}
+use Rattle.std.proofs.Common.{false}
 use Rattle.std.proofs.Common.{refl, sym, ap, ◌∙◌, subst, inl, inr, append_assoc, cond}
 use Rattle.std.specs.Prelude.{◌==◌, ◌↔◌, IsTrue}
 use Rattle.std.specs.BTreeMap.{get, is_at}
@@ -17,15 +18,15 @@ use Rattle.histories.specs.History.{history, replay, replay_from, is_of, IsStep,
 use Rattle.histories.specs.History.{IsLegalFrom}
 use Rattle.script_lines.specs.declared.line.Down.{Down}
 use Rattle.inspector_script.specs.Scripts.{ScriptValue}
-use Rattle.made_runs.specs.Feeder.{AreFed, IsFed, IsFedBy, downs_in_effect}
+use Rattle.run_parts.specs.Feeder.{AreFed, IsFed, IsFedBy, downs_in_effect}
 use Rattle.feeder_audit.specs.declared.fed.Fed.{Fed}
 use Rattle.feeder_audit.specs.Fitting.{FitsBy, Rises}
 use Rattle.feeder_audit.specs.Rows.{all}
 use Rattle.feeder_audit.specs.Queues.{FedMap, queue_in, IsKeptIn, IsFedIn, FollowsIn, AreKept}
 use Rattle.feeder_audit.specs.Queues.{AreWhole, IsWholeIn, AreGoneOver}
-use Rattle.feeder_audit.proofs.Fitting.{from_first, all_open, all_put}
+use Rattle.feeder_audit.proofs.RowMeaning.{from_first, all_open, all_put}
 use Rattle.feeder_audit.proofs.Items.{fits_if, is_fed_if}
-use Rattle.feeder_audit.proofs.Rising.{all_rise}
+use Rattle.feeder_audit.proofs.AscendingTimes.{all_rise}
 
 -- ---- numbers of queues
 

@@ -1,12 +1,13 @@
 -- For proofs alone: whether `down` lines can be put into what is left of a queue's history.
-use Rattle.std.specs.Prelude.{◌≡◌, ◌≤◌, ◌<◌, ◌^◌, ◌⊎◌, ℕ, zero, suc, List, [], ◌∷◌, Option, None, Bool, true}
+use Rattle.std.specs.Prelude.{◌≡◌, ◌≤◌, ◌<◌, ◌^◌, ◌⊎◌, ℕ, zero, suc, List, [], ◌∷◌, Option, None}
+use Rattle.std.specs.Prelude.{Bool, true}
 use Rattle.queue_core.specs.State.{Bound}
 use Rattle.queue_core.specs.Step.{step}
 use Rattle.queue_core.specs.declared.event.Event.TheVariants.{DeviceDown}
 use Rattle.histories.specs.declared.entry.Entry.{Entry}
 use Rattle.script_lines.specs.declared.line.Down.{Down}
-use Rattle.made_runs.specs.Ascending.{AscendFrom}
-use Rattle.made_runs.specs.Feeder.{IsNoDown, times_of_event, falling_time}
+use Rattle.run_parts.specs.Ascending.{AscendFrom}
+use Rattle.run_parts.specs.Feeder.{IsNoDown, times_of_event, falling_time}
 
 -- ---- one way
 

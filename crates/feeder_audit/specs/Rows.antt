@@ -1,5 +1,6 @@
 -- For proofs alone: what is kept of a queue's history so far, and how it goes on.
-use Rattle.std.specs.Prelude.{◌≡◌, ◌≤◌, ◌<◌, ℕ, zero, suc, ◌+◌, ◌&&◌, ◌==◌, List, [], ◌∷◌, length, drop}
+use Rattle.std.specs.Prelude.{◌≡◌, ◌≤◌, ◌<◌, ℕ, zero, suc, ◌+◌, ◌&&◌, ◌==◌, List, [], ◌∷◌, length}
+use Rattle.std.specs.Prelude.{drop}
 use Rattle.std.specs.Prelude.{Bool, true, false, nat_le, nat_lt, slice_get}
 use Rattle.std.specs.Prelude.{unwrap_or, if◌then◌else◌}
 use Rattle.queue_core.specs.Step.{step}
@@ -7,7 +8,7 @@ use Rattle.queue_core.specs.declared.event.Event.{Event}
 use Rattle.queue_core.specs.declared.event.Event.TheVariants.{Arrive, Ask, PortClosed, DeviceDown}
 use Rattle.histories.specs.declared.entry.Entry.{Entry}
 use Rattle.script_lines.specs.declared.line.Down.{Down}
-use Rattle.made_runs.specs.Feeder.{feeding_time, falling_time}
+use Rattle.run_parts.specs.Feeder.{feeding_time, falling_time}
 use Rattle.feeder_audit.specs.declared.ways.Ways.{Ways}
 use Rattle.feeder_audit.specs.declared.ways.Ways.TheVariants.{Nowhere, Here, FromHere, These}
 use Rattle.feeder_audit.specs.declared.fed.Fed.{Fed}

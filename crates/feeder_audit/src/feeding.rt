@@ -5,7 +5,7 @@ ghost use Rattle.std.specs.BTreeMap.{get};
 ghost use Rattle.std.specs.Ordering.{nat_cmp};
 ghost use Rattle.histories.specs.History as history;
 ghost use Rattle.histories.specs.Numbers.{queue_count};
-ghost use Rattle.made_runs.specs.Run.{FeederHolds};
+ghost use Rattle.run_parts.specs.Run.{FeederHolds};
 ghost use Rattle.feeder_audit.specs.Fitting as fitting;
 ghost use Rattle.feeder_audit.specs.Queues as kept;
 
@@ -15,9 +15,9 @@ use histories::{
     Entries, Entry, Histories, a_legal_history_goes_on, an_entry_is_of_its_queue_alone,
 };
 use inspector_script::Script;
-use made_runs::one_feeder_feeds_all;
 use packet_entry::NoMemory;
 use pcap_io::Capture;
+use run_parts::one_feeder_feeds_all;
 use script_lines::Down;
 use std::alloc::Global;
 use std::collections::BTreeMap;

@@ -1,7 +1,7 @@
 //! The `down` lines that take effect, and when.
 
 ghost use Rattle.std.specs.Prelude.{◌≡◌, ◌≤◌, ◌<◌, ◌^◌, ◌++◌, length, OnOk, IfOk};
-ghost use Rattle.made_runs.specs.Feeder as feeder;
+ghost use Rattle.run_parts.specs.Feeder as feeder;
 ghost use Rattle.port_scripts.specs.Downs.{lines_after};
 ghost use Rattle.feeder_audit.specs.Fitting as fitting;
 ghost use Rattle.feeder_audit.specs.Rows as rows;

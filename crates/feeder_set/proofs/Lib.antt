@@ -1,2 +1,2 @@
-mod Passing
-mod Sharing
+mod FramePackets
+mod ShareFrames

@@ -6,8 +6,8 @@ use Rattle.pcap_io.specs.declared.capture.Capture.{Capture}
 use Rattle.pcap_io.specs.declared.capture.Frame.{Frame}
 use Rattle.script_lines.specs.declared.line.Down.{Down}
 use Rattle.inspector_script.specs.Scripts.{ScriptValue}
-use Rattle.made_runs.specs.Entering.{card_of}
-use Rattle.made_runs.specs.Feeder.{downs_after}
+use Rattle.run_parts.specs.Entering.{card_of}
+use Rattle.run_parts.specs.Feeder.{downs_after}
 use Rattle.packet_moves.specs.declared.fed.Fed.{Fed}
 use Rattle.locked_place.specs.Turns.{GoesDownIn}
 use Rattle.place_rows.specs.Rows.{Known, TurnedUpTo}

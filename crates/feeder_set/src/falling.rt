@@ -1,7 +1,7 @@
 //! Devices that go down after a frame.
 
 ghost use Rattle.std.specs.Prelude.{◌≡◌, OnOk};
-ghost use Rattle.made_runs.specs.Feeder.{downs_after};
+ghost use Rattle.run_parts.specs.Feeder.{downs_after};
 ghost use Rattle.plane.specs.Passes.{IsFeederOf};
 ghost use Rattle.place_turns.specs.Trails.{parts_of};
 ghost use Rattle.port_scripts.specs.Downs.{AreDownsOf};

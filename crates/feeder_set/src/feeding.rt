@@ -2,7 +2,7 @@
 
 ghost use Rattle.std.specs.Prelude.{◌≡◌, ◌≤◌, ◌<◌, length, OnOk};
 ghost use Rattle.packet_entry.specs.Numbers.{longest_packet};
-ghost use Rattle.made_runs.specs.Entering.{card_of};
+ghost use Rattle.run_parts.specs.Entering.{card_of};
 ghost use Rattle.plane.specs.Numbers.{most_fed};
 ghost use Rattle.plane.specs.Passes.{IsFeederOf};
 ghost use Rattle.place_turns.specs.Trails.{parts_of};

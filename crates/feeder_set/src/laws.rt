@@ -1,7 +1,7 @@
 //! Laws of the definitions, each the contract of a function that does nothing.
 
 ghost use Rattle.std.specs.Prelude.{◌≡◌, ◌≤◌, ◌<◌, ◌+◌, ℕ, true, false};
-ghost use Rattle.made_runs.specs.Feeder.{is_share};
+ghost use Rattle.run_parts.specs.Feeder.{is_share};
 ghost use Rattle.feeder_set.specs.declared.share.Share.{Share};
 ghost use Rattle.feeder_set.specs.Shares.{IsNextOf};
 

@@ -1,4 +1,4 @@
 mod Seats
-mod Reading
-mod Stepping
+mod Readings
+mod StepRule
 mod Zeros

@@ -1,9 +1,9 @@
-pub mod Legal
-pub mod Staying
-pub mod Journeying
-pub mod Ending
-pub mod Asking
-pub mod Swept
-pub mod Ascending
-pub mod Regrouping
+pub mod LegalHistories
+pub mod StayCounts
+pub mod MoveSoundness
+pub mod PacketEnds
+pub mod AsksByQueue
+pub mod SweepResult
+pub mod QueueOrder
+pub mod MoveSums
 pub mod NoPriority

@@ -10,6 +10,7 @@ pub mod Listing
 pub mod Examples
 pub mod Sweeps
 pub mod Grouping
+pub mod Places
 pub mod Lengths
 pub mod Letters
 pub mod Logs

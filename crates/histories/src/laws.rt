@@ -12,6 +12,7 @@ ghost use Rattle.histories.specs.declared.entry.Entry.{Entry};
 ghost use Rattle.histories.specs.History.{replay, history, IsLegal, IsStep, AreLegal};
 ghost use Rattle.histories.specs.Stays.{arrivals, departures};
 ghost use Rattle.histories.specs.Numbers.{queue_count};
+ghost use Rattle.histories.specs.Places.{place_for};
 ghost use Rattle.histories.specs.Priorities.{BringsNone};
 ghost use Rattle.histories.specs.States.{state_of, step_of, waiting_at};
 ghost use Rattle.histories.specs.Happenings.{closing_of, closings, down_of, downs};
@@ -85,4 +86,9 @@ pub fn no_priority_comes_of_none()
     ensures { (es : List Entry) (e : Entry) →
         All (λ (x : Entry). BringsNone x.event) (es ++ e ∷ []) →
         All (λ (l : Card × Way). l.0.priority ≡ 0) (step_of es e.queue e.event).left }
+{}
+
+/// A queue is at one of the places.
+pub fn a_queue_has_a_place()
+    ensures { (queue places : ℕ) → 0 < places → place_for queue places < places }
 {}

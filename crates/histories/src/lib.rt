@@ -19,7 +19,7 @@ pub use journeys::{
 };
 pub use laws::{
     a_closed_port_has_no_queues, a_device_that_packets_pass_leaves_nothing_waiting,
-    a_legal_history_goes_on, an_entry_is_of_its_queue_alone,
+    a_legal_history_goes_on, a_queue_has_a_place, an_entry_is_of_its_queue_alone,
     each_front_of_a_legal_history_is_legal, each_stay_ends_once, no_priority_comes_of_none,
     ports_and_devices_reach_bound_queues,
 };

@@ -1,3 +1,3 @@
 pub mod Pieces
-pub mod Places
+pub mod FirstEntries
 pub mod Steps

@@ -1,5 +1,5 @@
 mod Passes
-mod Counting
+mod Occurrences
 mod Steps
-mod Answering
+mod NoticeAnswers
 mod Trays

@@ -11,7 +11,7 @@ use Rattle.inspector_pool.specs.Rule.{tally, all_parts, first_tally, guest_tally
 use Rattle.inspector_pool.specs.Rule.{new_tally, joined_tally, put_tally, took_tally, parts_of}
 use Rattle.inspector_pool.specs.Rule.{times_taken, total, jobs, IsJob, Knows, EachOnce}
 use Rattle.inspector_pool.specs.Rule.{HasTaken, AreAllTaken}
-use Rattle.inspector_pool.proofs.Counting.{times_append, hit, times_more, in_range}
+use Rattle.inspector_pool.proofs.Occurrences.{times_append, hit, times_more, in_range}
 use Rattle.inspector_pool.proofs.Passes.{each_set, each_new, each_joined, total_set, total_new}
 use Rattle.inspector_pool.proofs.Passes.{total_more, total_joined, only}
 

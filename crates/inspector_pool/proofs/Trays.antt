@@ -22,8 +22,8 @@ use Rattle.inspector_pool.specs.Answers.{times, HasEachJobOnce, HasNoOther}
 use Rattle.inspector_pool.specs.Rule.{jobs, tally, took_tally, joined_tally, all_parts, IsJob}
 use Rattle.inspector_pool.specs.Work.{all_answers, jobs_in, jobs_of, placed, IsAnswered}
 use Rattle.inspector_pool.specs.Work.{IsAnswerIn, IsFilled, HasWorked}
-use Rattle.inspector_pool.proofs.Answering.{answers_length}
-use Rattle.inspector_pool.proofs.Counting.{times_append, miss, once, in_range}
+use Rattle.inspector_pool.proofs.NoticeAnswers.{answers_length}
+use Rattle.inspector_pool.proofs.Occurrences.{times_append, miss, once, in_range}
 
 -- ---- a tray
 -- one answer is put in its place

@@ -25,12 +25,12 @@ use Rattle.text_lines.specs.Refusals.{BeginFile, EndsEarly, IsBadLine}
 use Rattle.inspector_script.specs.Grammar.{AreScriptLines}
 use Rattle.inspector_script.specs.Grammar.{IsFirstRefused, IsPart, IsScriptFile, Part, SayScript}
 use Rattle.inspector_script.specs.Grammar.{block_of, blocks_of, lines_of, owns, ports_of}
-use Rattle.inspector_script.proofs.Built.{goes_script}
-use Rattle.inspector_script.proofs.Goes.{leads_of_say, say_of}
+use Rattle.inspector_script.proofs.LinesOfScript.{goes_script}
+use Rattle.inspector_script.proofs.ReaderPath.{leads_of_say, say_of}
 use Rattle.inspector_script.proofs.Leads.{EndsIn, IsRefused, IsStuck, Leads, Spelling, answer_of}
 use Rattle.inspector_script.proofs.Leads.{fault_of_front, leads_append, leads_on, leads_same}
 use Rattle.inspector_script.proofs.Leads.{leads_split, same_Err, same_Ok, stops_at, two_answers}
-use Rattle.inspector_script.proofs.Reached.{IsAtBy, IsOutside, IsWithin, place, reached}
+use Rattle.inspector_script.proofs.ReaderPlaces.{IsAtBy, IsOutside, IsWithin, place, reached}
 
 -- ---- from places to the grammar
 

@@ -11,7 +11,7 @@ use Rattle.script_lines.specs.Grammar.{Says}
 use Rattle.inspector_script.specs.declared.block.Block.{Block}
 use Rattle.inspector_script.specs.Scripts.{ScriptValue}
 use Rattle.inspector_script.specs.ScriptFile.{Place, after, line_leads_to, script_at, script_from}
-use Rattle.inspector_script.proofs.Underway.{script_from-on}
+use Rattle.inspector_script.proofs.ReaderState.{script_from-on}
 
 -- what is read of a line is what it says
 abbrev pub Spelling : Type 0

@@ -1,10 +1,10 @@
-pub mod Built
+pub mod LinesOfScript
 pub mod FileForm
-pub mod Finding
-pub mod Fitting
-pub mod Goes
-pub mod Growing
+pub mod FirstMatch
+pub mod AskLengths
+pub mod ReaderPath
+pub mod BlockGrowth
 pub mod Leads
 pub mod Ports
-pub mod Reached
-pub mod Underway
+pub mod ReaderPlaces
+pub mod ReaderState

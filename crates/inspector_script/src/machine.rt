@@ -37,7 +37,7 @@ impl PortMachine {
     }
 
     /// What it asks for when its port opens: the `open` lines in their order.
-    #[tactic(auto, using(crate::proofs::Fitting::opening_fits))]
+    #[tactic(auto, using(crate::proofs::AskLengths::opening_fits))]
     pub fn opening(&self, alloc: Global, script: &Script) -> Result<Asks, NoMemory>
         requires has_port { self.now.place < length script.now.ports }
         ensures asks { IfOk result (λ asks. asks ≡ opening script.now self.now.place) }
@@ -47,7 +47,7 @@ impl PortMachine {
     }
 
     /// What it asks for at the end: the `end` lines in their order.
-    #[tactic(auto, using(crate::proofs::Fitting::closing_fits))]
+    #[tactic(auto, using(crate::proofs::AskLengths::closing_fits))]
     pub fn closing(&self, alloc: Global, script: &Script) -> Result<Asks, NoMemory>
         requires has_port { self.now.place < length script.now.ports }
         ensures asks { IfOk result (λ asks. asks ≡ closing script.now self.now.place) }
@@ -83,7 +83,7 @@ impl PortMachine {
     /// What it asks for in answer to this notice as the `n`-th, however many it counted: the asks
     /// of the first `on` line whose conditions all hold, or none. Each line is looked at once at
     /// most. Nothing is counted.
-    #[tactic(auto, using(crate::proofs::Fitting::answer_fits))]
+    #[tactic(auto, using(crate::proofs::AskLengths::answer_fits))]
     pub fn answer_as(
         &self,
         alloc: Global,
@@ -124,7 +124,7 @@ impl PortMachine {
 
     /// As [`answer`](PortMachine::answer) does. The list is made in `room`, whose items go, so that
     /// memory is taken only for what is longer.
-    #[tactic(auto, using(crate::proofs::Fitting::answer_fits))]
+    #[tactic(auto, using(crate::proofs::AskLengths::answer_fits))]
     pub fn answer_in(
         &mut self,
         room: Vec<Ask>,

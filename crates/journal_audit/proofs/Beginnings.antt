@@ -10,7 +10,7 @@ use Rattle.queue_core.specs.Step.{step}
 use Rattle.histories.specs.declared.entry.Entry.{Entry}
 use Rattle.histories.specs.History.{replay, replay_from, history, is_of, IsStep, IsLegal}
 use Rattle.histories.specs.History.{IsLegalFrom, AreLegal}
-use Rattle.histories.proofs.Legal.{front, own_on, others_on}
+use Rattle.histories.proofs.LegalHistories.{front, own_on, others_on}
 use Rattle.journal_audit.specs.declared.first_illegal.Place1.{Place1}
 use Rattle.journal_audit.specs.Illegal.{IsFirstIllegal, IsFirstOf, sooner}
 use Rattle.journal_audit.specs.Watching.{IsFound}

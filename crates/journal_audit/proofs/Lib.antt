@@ -1,8 +1,8 @@
 pub mod Beginnings
-pub mod Watching
-pub mod Underway
-pub mod Numbering
-pub mod Parts
-pub mod Keeping
+pub mod WatchedHistory
+pub mod EntryWalk
+pub mod PacketNumbers
+pub mod PartOrder
+pub mod PacketProperties
 pub mod Origins
 pub mod Packets

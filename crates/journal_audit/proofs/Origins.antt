@@ -23,8 +23,8 @@ use Rattle.histories.specs.Holding.{appended}
 use Rattle.histories.specs.Moves.{Move, moves_after, move_after}
 use Rattle.histories.specs.Journeys.{Arrival, asked_by, asked_by_some, entering, going_on, asks}
 use Rattle.histories.specs.Journeys.{came, arrival_of, times_came, AreSound}
-use Rattle.logs_audit.specs.Stays.{is_packets}
-use Rattle.journal_audit.proofs.Keeping.{Stays, Fits, Fitting, AllFit, leaving_fits}
+use Rattle.log_audit.specs.Stays.{is_packets}
+use Rattle.journal_audit.proofs.PacketProperties.{Stays, Fits, Fitting, AllFit, leaving_fits}
 
 abbrev once : Bool → ℕ
 once b = cond b 1 0

@@ -20,8 +20,8 @@ use Rattle.hook_chain.specs.Rules.{RuleTables}
 use Rattle.histories.specs.declared.entry.Entry.{Entry}
 use Rattle.histories.specs.declared.histories.Lost.{Lost}
 use Rattle.histories.specs.Journeys.{AreSound}
-use Rattle.made_runs.specs.Entering.{card_at, cards, cards_from}
-use Rattle.logs_audit.specs.Stays.{ArePackets, is_link_length, is_packets, is_protocol}
+use Rattle.run_parts.specs.Entering.{card_at, cards, cards_from}
+use Rattle.log_audit.specs.Stays.{ArePackets, is_link_length, is_packets, is_protocol}
 use Rattle.journal_audit.proofs.Origins.{all_hold}
 
 -- ---- where a packet starts in its frame

@@ -6,9 +6,9 @@ ghost use Rattle.hook_chain.specs.Rules.{RuleTables};
 ghost use Rattle.histories.specs.declared.entry.Entry.{Entry};
 ghost use Rattle.histories.specs.declared.histories.Lost.{Lost};
 ghost use Rattle.histories.specs.Journeys.{AreSound};
-ghost use Rattle.made_runs.specs.Entering.{cards};
+ghost use Rattle.run_parts.specs.Entering.{cards};
 ghost use Rattle.fate_ledger.specs.Laws.{DifferInNumber};
-ghost use Rattle.logs_audit.specs.Stays.{ArePackets};
+ghost use Rattle.log_audit.specs.Stays.{ArePackets};
 
 /// No two packets of a capture have the same number.
 pub fn packets_of_a_capture_differ()

@@ -14,6 +14,6 @@ mod makers;
 mod watched;
 
 pub use first_illegal::{Place1, check_histories};
-pub use journeys_audit::check_journeys;
+pub use journey_audit::check_journeys;
 pub use laws::{packets_of_a_capture_arrive, packets_of_a_capture_differ};
 pub use makers::check_makers;

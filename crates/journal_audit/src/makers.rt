@@ -4,14 +4,14 @@ ghost use Rattle.std.specs.Prelude.{◌≡◌, ℕ, [], length, IfOk};
 ghost use Rattle.hook_chain.specs.Rules.{RuleTables};
 ghost use Rattle.histories.specs.History.{AreLegal};
 ghost use Rattle.histories.specs.Journeys.{AreSound};
-ghost use Rattle.made_runs.specs.Entering.{cards};
-ghost use Rattle.makers_audit.specs.Makers.{IsMakersAnswer};
+ghost use Rattle.run_parts.specs.Entering.{cards};
+ghost use Rattle.port_audit.specs.Makers.{IsMakersAnswer};
 
 use crate::laws::{packets_of_a_capture_arrive, packets_of_a_capture_differ};
 use fate_ledger::no_visit_arrives_twice;
 use histories::Histories;
 use inspector_script::Script;
-use logs_audit::{Judged, judge_logs, one_arrival_makes_one_notice};
+use log_audit::{Judged, judge_logs, one_arrival_makes_one_notice};
 use packet_entry::NoMemory;
 use parts_audit::first_part_amiss;
 use pcap_io::Capture;

@@ -13,18 +13,20 @@ use Rattle.journals.specs.declared.version.Version.{Version}
 use Rattle.journals.specs.Format.{heading, title}
 use Rattle.journal_reading.specs.Lines.{IsLine, line_text}
 use Rattle.journal_reading.specs.Reading.{line_in}
-use Rattle.journal_reading.specs.JournalFile.{Follows, IsFirstRefused, IsJournal, IsSound, Place, after}
+use Rattle.journal_reading.specs.JournalFile.{Follows, IsFirstRefused, IsJournal, IsSound, Place}
+use Rattle.journal_reading.specs.JournalFile.{after}
 use Rattle.journal_reading.specs.JournalFile.{histories_of, is_end, line_ends, so_far, start}
-use Rattle.journal_reading.proofs.Ahead.{IsFront, front_more, front_start}
-use Rattle.journal_reading.proofs.FirstRefused.{closed_by, line_is_whole, no_heading, no_line, stopped}
-use Rattle.journal_reading.proofs.FirstRefused.{stopped_early}
-use Rattle.journal_reading.proofs.Followed.{end_is, not_end, text_by}
+use Rattle.journal_reading.proofs.RestOfJournal.{IsFront, front_more, front_start}
+use Rattle.journal_reading.proofs.FirstRefusal.{closed_by, line_is_whole, no_heading, no_line}
+use Rattle.journal_reading.proofs.FirstRefusal.{stopped}
+use Rattle.journal_reading.proofs.FirstRefusal.{stopped_early}
+use Rattle.journal_reading.proofs.ReaderAnswers.{end_is, not_end, text_by}
 use Rattle.journal_reading.proofs.Growth.{grows}
 use Rattle.journal_reading.proofs.LineForm.{line_word}
 use Rattle.journal_reading.proofs.OneValue.{same_said}
-use Rattle.journal_reading.proofs.Sound.{sound_start, stays_sound}
-use Rattle.journal_reading.proofs.Underway.{heading_is, shorter}
-use Rattle.journal_reading.proofs.Wording.{Laws, cut_some}
+use Rattle.journal_reading.proofs.ReaderInvariant.{sound_start, stays_sound}
+use Rattle.journal_reading.proofs.ReadSoFar.{heading_is, shorter}
+use Rattle.journal_reading.proofs.WordCuts.{Laws, cut_some}
 
 abbrev pub Judged : Version → List ℕ → Type 0
 Judged v text =

@@ -6,8 +6,8 @@ use Rattle.std.specs.Option.{option_map_or}
 use Rattle.std.proofs.lemmas.Option.{none-some, same_Some, some_pair_parts}
 use Rattle.text_lines.specs.Words.{◌>>=◌, cut_at}
 use Rattle.journal_reading.specs.Reading.{field, both, last, made, behind, part}
-use Rattle.journal_reading.proofs.Wording.{bind_some, map_some, chosen, taken, same_word, word_is}
-use Rattle.journal_reading.proofs.Wording.{cut_some, cut_front, uncut_append}
+use Rattle.journal_reading.proofs.WordCuts.{bind_some, map_some, chosen, taken, same_word, word_is}
+use Rattle.journal_reading.proofs.WordCuts.{cut_some, cut_front, uncut_append}
 
 -- a whole word, or the end of a line
 pub record IsWord {A : Type 0} (read : List ℕ → Option A) (text : A → List ℕ)

@@ -9,14 +9,15 @@ use Rattle.histories.specs.declared.entry.Entry.{Entry}
 use Rattle.histories.specs.declared.log.Did.{Did}
 use Rattle.histories.specs.declared.log.PortLog.{PortLog}
 use Rattle.journal_reading.specs.declared.line.Line.{Line}
-use Rattle.journal_reading.specs.declared.line.Line.TheVariants.{Heading, EntryLine, PortLine, DidLine}
+use Rattle.journal_reading.specs.declared.line.Line.TheVariants.{Heading, EntryLine, PortLine}
+use Rattle.journal_reading.specs.declared.line.Line.TheVariants.{DidLine}
 use Rattle.journal_reading.specs.declared.line.Line.TheVariants.{End}
 use Rattle.journals.specs.declared.version.Version.{Version}
 use Rattle.journals.specs.Format as text
 use Rattle.journal_reading.specs.Lines.{line_text}
 use Rattle.journal_reading.specs.JournalFile.{Place, after, so_far, is_port}
 use Rattle.journal_reading.specs.JournalFile.{IsBare}
-use Rattle.journal_reading.proofs.Wording.{chosen}
+use Rattle.journal_reading.proofs.WordCuts.{chosen}
 
 entries_more : (v : Version) (es : List Entry) (e : Entry) →
     text.entries v (es ++ e ∷ []) ≡ text.entries v es ++ text.entry v e

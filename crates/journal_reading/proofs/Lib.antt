@@ -1,7 +1,7 @@
-pub mod Ahead
+pub mod RestOfJournal
 pub mod EachText
-pub mod FirstRefused
-pub mod Followed
+pub mod FirstRefusal
+pub mod ReaderAnswers
 pub mod Formats
 pub mod Growth
 pub mod LineForm
@@ -10,8 +10,8 @@ pub mod OneLine
 pub mod OneValue
 pub mod Ports
 pub mod Requests
-pub mod Sound
-pub mod Spelt
-pub mod Underway
-pub mod Wording
-pub mod Migrated
+pub mod ReaderInvariant
+pub mod WordForm
+pub mod ReadSoFar
+pub mod WordCuts
+pub mod VersionOrder

@@ -18,7 +18,8 @@ use Rattle.histories.specs.declared.log.Did.{Did}
 use Rattle.histories.specs.declared.log.Did.TheVariants.{Received, Sent, Closed}
 use Rattle.histories.specs.declared.log.AskWords.{AskWords}
 use Rattle.journal_reading.specs.declared.line.Line.{Line}
-use Rattle.journal_reading.specs.declared.line.Line.TheVariants.{Heading, EntryLine, PortLine, DidLine}
+use Rattle.journal_reading.specs.declared.line.Line.TheVariants.{Heading, EntryLine, PortLine}
+use Rattle.journal_reading.specs.declared.line.Line.TheVariants.{DidLine}
 use Rattle.journal_reading.specs.declared.line.Line.TheVariants.{End}
 use Rattle.journals.specs.declared.version.Version.{Version}
 use Rattle.journals.specs.declared.version.Version.TheVariants.{First, Second}
@@ -27,16 +28,20 @@ use Rattle.journal_reading.specs.Lines.{FitsLine, line_text}
 use Rattle.journals.specs.Formed.{FitsAsk, FitsDid, FitsOutcome, FitsRequest}
 use Rattle.journals.specs.Formed.{IsEventAt, IsHalf, IsReplyTo, IsWide}
 use Rattle.histories.specs.Happenings.{queue_of}
-use Rattle.journal_reading.specs.Reading.{answered_in, arrival_in, ask_in, ask_made, asked_in, behind}
+use Rattle.journal_reading.specs.Reading.{answered_in, arrival_in, ask_in, ask_made, asked_in}
+use Rattle.journal_reading.specs.Reading.{behind}
 use Rattle.journal_reading.specs.Reading.{both, card_in, device_down_in, field, half, last, line_by}
-use Rattle.journal_reading.specs.Reading.{line_in, outcome_in, port_closed_in, received_in, request_in}
+use Rattle.journal_reading.specs.Reading.{line_in, outcome_in, port_closed_in, received_in}
+use Rattle.journal_reading.specs.Reading.{request_in}
 use Rattle.journal_reading.specs.Reading.{said_in, sent_in}
-use Rattle.journal_reading.proofs.Wording.{Laws, bind_some, cut_some, map_some, taken, uncut_append}
-use Rattle.journal_reading.proofs.Wording.{word_is}
+use Rattle.journal_reading.proofs.WordCuts.{Laws, bind_some, cut_some, map_some, taken}
+use Rattle.journal_reading.proofs.WordCuts.{uncut_append}
+use Rattle.journal_reading.proofs.WordCuts.{word_is}
 use Rattle.journal_reading.proofs.Formats.{Any, BeforeEquals, IsField, IsWord, behind_some, both_is}
 use Rattle.journal_reading.proofs.Formats.{last_is}
-use Rattle.journal_reading.proofs.Spelt.{number_field, number_word, outcome_word, pick, said_text}
-use Rattle.journal_reading.proofs.Spelt.{said_word}
+use Rattle.journal_reading.proofs.WordForm.{number_field, number_word, outcome_word, pick}
+use Rattle.journal_reading.proofs.WordForm.{said_text}
+use Rattle.journal_reading.proofs.WordForm.{said_word}
 use Rattle.journal_reading.proofs.Requests.{half_field, number_text, request_field, request_text}
 use Rattle.journal_reading.proofs.Lines.{FitsTold, Told, asked_field, asked_text, card_field}
 use Rattle.journal_reading.proofs.Lines.{card_text, card_told, fits_told, pair_field, spaced_ask}

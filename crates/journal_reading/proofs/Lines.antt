@@ -27,13 +27,14 @@ use Rattle.journal_reading.specs.Reading.{field, half, journey_in, made}
 use Rattle.journal_reading.specs.Reading.{priority_in}
 use Rattle.journal_reading.specs.Reading.{request_in}
 use Rattle.journal_reading.specs.Reading.{yes_no_in}
-use Rattle.journal_reading.proofs.Wording.{Laws, map_some}
-use Rattle.journal_reading.proofs.Wording.{uncut_append}
+use Rattle.journal_reading.proofs.WordCuts.{Laws, map_some}
+use Rattle.journal_reading.proofs.WordCuts.{uncut_append}
 use Rattle.journal_reading.proofs.Formats.{Any, BeforeEquals, IsField, behind_some, both_is}
 use Rattle.journal_reading.proofs.Formats.{made_is, part_text}
-use Rattle.journal_reading.proofs.Spelt.{Always, bytes_field, number_field}
-use Rattle.journal_reading.proofs.Spelt.{yes_no_field}
-use Rattle.journal_reading.proofs.Requests.{bytes_text, half_field, number_text, params_text, head_text}
+use Rattle.journal_reading.proofs.WordForm.{Always, bytes_field, number_field}
+use Rattle.journal_reading.proofs.WordForm.{yes_no_field}
+use Rattle.journal_reading.proofs.Requests.{bytes_text, half_field, number_text, params_text}
+use Rattle.journal_reading.proofs.Requests.{head_text}
 use Rattle.journal_reading.proofs.Requests.{new_priority_text, request_field, request_text}
 
 -- ---- texts whose words are joined by blanks, and those with a blank behind each word

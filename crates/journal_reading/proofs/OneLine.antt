@@ -13,8 +13,8 @@ use Rattle.journal_reading.specs.declared.fault.JournalFault.TheVariants.{Bad}
 use Rattle.journal_reading.specs.declared.fault.JournalFault.TheVariants as fault
 use Rattle.journal_reading.specs.JournalFile.{BeginsJournal, IsAnswer}
 use Rattle.journal_reading.specs.JournalFile.{IsFirstRefused, IsJournal, IsRefusedAt, line_ends}
-use Rattle.journal_reading.proofs.FirstRefused.{ends_append, line_is_whole, never_both, no_ends}
-use Rattle.journal_reading.proofs.Wording.{chosen, cut_some, map_none, passed}
+use Rattle.journal_reading.proofs.FirstRefusal.{ends_append, line_is_whole, never_both, no_ends}
+use Rattle.journal_reading.proofs.WordCuts.{chosen, cut_some, map_none, passed}
 
 same_head : (x y : ℕ) (xs ys : List ℕ) → x ∷ xs ≡ y ∷ ys → x ≡ y
 same_head x y xs ys e = cc

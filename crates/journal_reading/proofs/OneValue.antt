@@ -11,15 +11,16 @@ use Rattle.journals.specs.Format as text
 use Rattle.journal_reading.specs.Lines.{IsLine}
 use Rattle.journal_reading.specs.Reading.{line_in}
 use Rattle.journals.specs.Formed.{IsWellFormedIn}
-use Rattle.journal_reading.specs.JournalFile.{IsJournal, IsSound, Place, after, histories_of, so_far}
+use Rattle.journal_reading.specs.JournalFile.{IsJournal, IsSound, Place, after, histories_of}
+use Rattle.journal_reading.specs.JournalFile.{so_far}
 use Rattle.journal_reading.specs.JournalFile.{start}
-use Rattle.journal_reading.proofs.Ahead.{Ahead, IsFront, front_more, front_start, next}
-use Rattle.journal_reading.proofs.FirstRefused.{ends_here, line_is_whole, tail_of, uncut_tail}
+use Rattle.journal_reading.proofs.RestOfJournal.{Ahead, IsFront, front_more, front_start, next}
+use Rattle.journal_reading.proofs.FirstRefusal.{ends_here, line_is_whole, tail_of, uncut_tail}
 use Rattle.journal_reading.proofs.Growth.{grows}
 use Rattle.journal_reading.proofs.LineForm.{line_word}
-use Rattle.journal_reading.proofs.Sound.{sound_start, stays_sound}
-use Rattle.journal_reading.proofs.Underway.{shorter}
-use Rattle.journal_reading.proofs.Wording.{Laws}
+use Rattle.journal_reading.proofs.ReaderInvariant.{sound_start, stays_sound}
+use Rattle.journal_reading.proofs.ReadSoFar.{shorter}
+use Rattle.journal_reading.proofs.WordCuts.{Laws}
 
 -- a line says one thing
 pub same_said : (v : Version) → Laws → (line : List ℕ) (a b : Line) → IsLine v line a →

@@ -18,17 +18,21 @@ use Rattle.journals.specs.declared.version.Version.TheVariants.{First, Second}
 use Rattle.journals.specs.Formed.{FitsHead, FitsNewPriority, FitsParams, FitsRequest, IsHalf}
 use Rattle.journals.specs.Formed.{IsSmall, IsWide}
 use Rattle.journal_reading.specs.Reading.{batch_in, batch_made, behind, both, bytes_in}
-use Rattle.journal_reading.specs.Reading.{config_in, config_made, field, half, head_in, head_made, made}
+use Rattle.journal_reading.specs.Reading.{config_in, config_made, field, half, head_in, head_made}
+use Rattle.journal_reading.specs.Reading.{made}
 use Rattle.journal_reading.specs.Reading.{new_priority_in}
-use Rattle.journal_reading.specs.Reading.{params_in, params_made, part, request_by, request_in, small}
+use Rattle.journal_reading.specs.Reading.{params_in, params_made, part, request_by, request_in}
+use Rattle.journal_reading.specs.Reading.{small}
 use Rattle.journal_reading.specs.Reading.{verdict_in, verdict_made}
-use Rattle.journal_reading.proofs.Wording.{Laws, bind_some, cut_front, cut_some, map_some, passed}
-use Rattle.journal_reading.proofs.Wording.{uncut_append}
-use Rattle.journal_reading.proofs.Formats.{Any, BeforeEquals, IsField, NotBehind, apart, behind_some}
-use Rattle.journal_reading.proofs.Formats.{both_is, equals_apart, made_is, part_is, part_text, weaker}
-use Rattle.journal_reading.proofs.Spelt.{below_field, bytes_field, number_field, number_no_dash}
-use Rattle.journal_reading.proofs.Spelt.{number_unblank}
-use Rattle.journal_reading.proofs.Spelt.{pick}
+use Rattle.journal_reading.proofs.WordCuts.{Laws, bind_some, cut_front, cut_some, map_some, passed}
+use Rattle.journal_reading.proofs.WordCuts.{uncut_append}
+use Rattle.journal_reading.proofs.Formats.{Any, BeforeEquals, IsField, NotBehind, apart}
+use Rattle.journal_reading.proofs.Formats.{behind_some}
+use Rattle.journal_reading.proofs.Formats.{both_is, equals_apart, made_is, part_is, part_text}
+use Rattle.journal_reading.proofs.Formats.{weaker}
+use Rattle.journal_reading.proofs.WordForm.{below_field, bytes_field, number_field, number_no_dash}
+use Rattle.journal_reading.proofs.WordForm.{number_unblank}
+use Rattle.journal_reading.proofs.WordForm.{pick}
 
 abbrev pub number_text : ℕ → List ℕ
 number_text n = decimal n ++ 32 ∷ []

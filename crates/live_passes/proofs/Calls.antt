@@ -1,5 +1,5 @@
 -- What the calls of a plane do to the passes of a run.
-use Rattle.std.proofs.Common.{◌%◌, ◌++◌, ◌+◌, ◌<◌, ◌∙◌, ◌∷◌, ◌≡◌, ◌≢◌, Bool, List, None, Option}
+use Rattle.std.proofs.Common.{◌++◌, ◌+◌, ◌<◌, ◌∙◌, ◌∷◌, ◌≡◌, ◌≢◌, Bool, List, None, Option}
 use Rattle.std.proofs.Common.{Some, [], ap, append-nil, arith, inl, inr, length, refl, subst, suc}
 use Rattle.std.proofs.Common.{sym, zero, ℕ}
 use Rattle.std.proofs.lemmas.List.Elements.{filter-append}
@@ -23,13 +23,14 @@ use Rattle.histories.specs.History.{AreLegal, IsLegal, history, is_of}
 use Rattle.histories.specs.States.{entry_of, state_of, step_of}
 use Rattle.histories.specs.declared.entry.Entry.{Entry}
 use Rattle.histories.specs.declared.log.Did.{Did}
+use Rattle.histories.specs.Places.{place_for}
 use Rattle.packet_moves.specs.Calls.{next_call}
 use Rattle.packet_moves.specs.HandedOn.{AreInTime, WaitInTime, is_out_of_time}
 use Rattle.packet_moves.specs.Moving.{arrival_to}
 use Rattle.packet_moves.specs.declared.fed.Fed.{Fed}
 use Rattle.packet_moves.specs.declared.setting.Setting.{Setting}
-use Rattle.made_runs.specs.Log.{after, logged}
-use Rattle.made_runs.specs.Requests.{errno_in}
+use Rattle.run_parts.specs.Log.{after, logged}
+use Rattle.run_parts.specs.Requests.{errno_in}
 use Rattle.live_runs.specs.Calls.{Asks, Enters, Falls, Feeds, IsHandedOn, IsLater, IsTurn, ShutsAt}
 use Rattle.live_runs.specs.Calls.{entering}
 use Rattle.live_runs.specs.Passes.{CarriesOut, Shuts, SpeaksFirst}
@@ -67,7 +68,7 @@ module _ (laws : TurnLaws) (alone : LeaveAlone)
       (placed : AreInPlace old.known)
       (is : message.IsAsked places s port call r old new errno) where
     abbrev here : ℕ
-    here = queue_of r % places
+    here = place_for (queue_of r) places
 
     abbrev e : Entry
     e = entry_of is.found (queue_of r) (Ask port call r)
@@ -170,9 +171,11 @@ module _ (laws : TurnLaws) (alone : LeaveAlone)
       let first = arrival_to queue bypass table card in
       let e = entry_of c.found queue (arrive first c.room) in
       let one = c.turn.turn.one in
-      let at = turned_at laws (queue % places) old.known c.between.known one.before one.after
+      let at = turned_at laws (place_for queue places) old.known c.between.known one.before
+      one.after
       one.had one.has placed c.found (e ∷ []) one.turns in
-      let between_placed = placed_at laws (queue % places) old.known c.between.known one.before
+      let between_placed = placed_at laws (place_for queue places) old.known c.between.known
+      one.before
       one.after one.had one.has placed c.found (e ∷ []) one.turns in
       let moved = settles_move laws alone places s memory
       (carries_move laws alone places s memory) c.between first.card
@@ -182,16 +185,18 @@ module _ (laws : TurnLaws) (alone : LeaveAlone)
       record {
         others = at.others;
         room = c.room;
-        between = shares_of c.between.known (queue % places);
+        between = shares_of c.between.known (place_for queue places);
         turn = subst (λ es. IsTurn at.others
             (entry_of es queue (entering table bypass card c.room) ∷ [])
-            (shares_of old.known (queue % places)) (shares_of c.between.known (queue % places)))
+            (shares_of old.known (place_for queue places))
+            (shares_of c.between.known (place_for queue places)))
             at.found_so
             (subst (λ n. IsTurn at.others (entry_of c.found queue
             (Arrive (record card { visit = n; table = table }) bypass c.room) ∷ [])
-            (shares_of old.known (queue % places)) (shares_of c.between.known (queue % places)))
+            (shares_of old.known (place_for queue places))
+            (shares_of c.between.known (place_for queue places)))
             (first_visit fresh) at.turn);
-        here = moved.grows (queue % places);
+        here = moved.grows (place_for queue places);
         elsewhere = λ k other. subst (λ xs. Grows IsLater xs (shares_of new.known k))
             (at.elsewhere k other) (moved.grows k);
       }

@@ -1,5 +1,5 @@
 -- Packets that move on from trail to trail: what comes of them are later arrivals.
-use Rattle.std.proofs.Common.{◌%◌, ◌++◌, ◌+◌, ◌∙◌, ◌∷◌, ◌≡◌, ◌≤◌, ◌⊎◌, Bool, List, None, Option}
+use Rattle.std.proofs.Common.{◌++◌, ◌+◌, ◌∙◌, ◌∷◌, ◌≡◌, ◌≤◌, ◌⊎◌, Bool, List, None, Option}
 use Rattle.std.proofs.Common.{Some, [], ap, append-nil, append_assoc, arith, false, inl, inr, refl}
 use Rattle.std.proofs.Common.{subst, suc, sym, true, zero, ℕ}
 use Rattle.std.proofs.lemmas.Bool.{cases_Bool, eq-eqb, eqb-true}
@@ -17,6 +17,7 @@ use Rattle.queue_core.specs.declared.event.Event.TheVariants.{Arrive}
 use Rattle.histories.specs.Happenings.{arrive}
 use Rattle.histories.specs.States.{entry_of, state_of, step_of}
 use Rattle.histories.specs.declared.entry.Entry.{Entry}
+use Rattle.histories.specs.Places.{place_for}
 use Rattle.packet_moves.specs.HandedOn.{AreInTime, LeavesAlone, is_out_of_time}
 use Rattle.packet_moves.specs.Moving.{arrival_to, route_after}
 use Rattle.packet_moves.specs.declared.fed.Fed.{Fed}
@@ -149,14 +150,15 @@ module _ (laws : TurnLaws) (alone : LeaveAlone) (places : ℕ) (s : Setting) whe
   carries_move memory t card None u f least placed c = same_after t u c.0 placed
   carries_move memory t card (Some Released) u f least placed c = same_after t u c.0 placed
   carries_move zero t card (Some (To queue bypass table)) u f least placed c =
-      let looked = turn_moves laws IsLater (queue % places) t c.between c.found [] c.found c.looked
+      let looked = turn_moves laws IsLater (place_for queue places) t c.between c.found [] c.found
+      c.looked
       (sym (append-nil c.found)) tt placed in
       moves_on IsLater t c.between u looked
       (same_shares IsLater c.between u (ap (λ (v : Trail). v.known) c.lost) looked.placed)
   carries_move (suc memory) t card (Some (To queue bypass table)) u f least placed c =
       let a = arrival_to queue bypass table card in
       let e = entry_of c.found queue (arrive a c.room) in
-      let turned = turn_moves laws IsLater (queue % places) t c.between c.found (e ∷ [])
+      let turned = turn_moves laws IsLater (place_for queue places) t c.between c.found (e ∷ [])
       (c.found ++ e ∷ []) c.turn refl (omega (arith, least), tt) placed in
       moves_on IsLater t c.between u turned
       (settles_move memory

@@ -14,8 +14,8 @@ use Rattle.histories.specs.Letters.{lacks_under, letters_under}
 use Rattle.histories.specs.States.{state_of}
 use Rattle.locked_place.specs.Notices.{lacking, lacks_at, letters_at, letters_to}
 use Rattle.locked_place.specs.Points.{Point, point_after, points_after}
-use Rattle.made_runs.specs.Notices.{letters_from}
-use Rattle.made_runs.specs.Room.{some_lacks}
+use Rattle.run_parts.specs.Notices.{letters_from}
+use Rattle.run_parts.specs.Room.{some_lacks}
 use Rattle.live_runs.specs.Seen.{EachIs}
 
 replay_on : (q : Option Bound) (es fs : List Entry) →

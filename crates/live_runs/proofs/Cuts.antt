@@ -9,14 +9,14 @@ use Rattle.std.specs.Prelude.{map}
 use Rattle.netlink_codec.specs.Messages.{NetlinkMessage, first_message, has_message, pad}
 use Rattle.netlink_codec.specs.Messages.{told_length, told_message}
 use Rattle.inspector_script.specs.Scripts.{ScriptValue}
-use Rattle.made_runs.specs.Datagrams.{AsksWell, cut_in, with_those_behind}
-use Rattle.made_runs.specs.Log.{Due, Message, Note, is_some_due}
+use Rattle.run_parts.specs.Datagrams.{AsksWell, cut_in, with_those_behind}
+use Rattle.run_parts.specs.Log.{Due, Message, Note, is_some_due}
 use Rattle.live_runs.specs.Doing.{IsCutting, IsDoing}
 use Rattle.live_runs.specs.Passes.{Pass, Speaks, SpeaksFirst}
 use Rattle.live_runs.specs.Stages.{MaySpeak, Stage}
 use Rattle.live_runs.specs.Stands.{AtEnd, Now, Side, cut_side, side}
-use Rattle.live_runs.proofs.Acting.{doing_speaks}
-use Rattle.live_runs.proofs.Known.{ClosingLaws, Conserve, LogLaws}
+use Rattle.live_runs.proofs.PortCalls.{doing_speaks}
+use Rattle.live_runs.proofs.LowerLaws.{ClosingLaws, Conserve, LogLaws}
 
 some_bytes : (total bytes n : ℕ) → n ≡ min (pad total) bytes → 16 ≤ total → total ≤ bytes →
     (0 < n) × (n ≤ bytes)

@@ -7,18 +7,18 @@ use Rattle.histories.specs.declared.log.Did.{Did}
 use Rattle.script_lines.specs.declared.ask.Ask.{Ask}
 use Rattle.script_lines.specs.declared.ask.Ask.TheVariants.{Words}
 use Rattle.inspector_script.specs.Scripts.{ScriptValue}
-use Rattle.made_runs.specs.Log.{Due, Note, all_due, answer_to, is_pool}
+use Rattle.run_parts.specs.Log.{Due, Note, all_due, answer_to, is_pool}
 use Rattle.nfqa_msgs.specs.NoticeTexts.{told_exactly}
-use Rattle.made_runs.specs.Ports.{place_in}
+use Rattle.run_parts.specs.Ports.{place_in}
 use Rattle.live_runs.specs.Doing.{GoesOn, HasAsked, HasHeard, HasSent, IsAnswering, IsDoing}
 use Rattle.live_runs.specs.Doing.{LeavesWaiting}
 use Rattle.live_runs.specs.Passes.{Pass, Receives}
 use Rattle.live_runs.specs.Ports.{IsPort}
 use Rattle.live_runs.specs.Stages.{Ending, MaySpeak, Opening, Stage, Went, Working}
 use Rattle.live_runs.specs.Stands.{Now, answering, idle, side}
-use Rattle.live_runs.proofs.Acting.{begins_doing, doing_gets, doing_turns}
-use Rattle.live_runs.proofs.Known.{ClosingLaws, Conserve, LogLaws}
-use Rattle.live_runs.proofs.Stagewise.{went_on}
+use Rattle.live_runs.proofs.PortCalls.{begins_doing, doing_gets, doing_turns}
+use Rattle.live_runs.proofs.LowerLaws.{ClosingLaws, Conserve, LogLaws}
+use Rattle.live_runs.proofs.StageDids.{went_on}
 
 module _ (workers : ℕ) (script : ScriptValue) (places port : ℕ) where
   may_answer : (stage : Stage) (groups : List (List Due)) (ends : List Due) →

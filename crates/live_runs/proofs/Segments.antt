@@ -9,12 +9,12 @@ use Rattle.queue_core.specs.declared.event.Event.{Event}
 use Rattle.queue_core.specs.declared.event.Event.TheVariants.{Arrive, Ask, DeviceDown, PortClosed}
 use Rattle.histories.specs.declared.entry.Entry.{Entry}
 use Rattle.nfqa_msgs.specs.NoticeTexts.{fits}
-use Rattle.made_runs.specs.Order.{Answers, Kind, early_by, late_by}
-use Rattle.made_runs.specs.Requests.{Plea, errno_in, pleas_by, pleas_in, pleas_of}
-use Rattle.made_runs.specs.Underway.{IsNow, Ordered}
+use Rattle.run_parts.specs.Order.{Answers, Kind, early_by, late_by}
+use Rattle.run_parts.specs.Requests.{Plea, errno_in, pleas_by, pleas_in, pleas_of}
+use Rattle.run_parts.specs.Underway.{IsNow, Ordered}
 use Rattle.live_runs.specs.Seen.{EachIs}
 use Rattle.live_runs.specs.Stages.{AreRanked, IsPlain, IsPlainEvent, IsRanked}
-use Rattle.live_runs.proofs.Ordering.{ordered_later, ordered_push}
+use Rattle.live_runs.proofs.DueRanks.{ordered_later, ordered_push}
 
 first_kind : (ks : List Kind) (n : ℕ) → length ks ≡ suc n →
     (k : Kind) × (rest : List Kind) × (ks ≡ k ∷ rest) × (length rest ≡ n)

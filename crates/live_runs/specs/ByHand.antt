@@ -8,8 +8,8 @@ use Rattle.histories.specs.declared.entry.Entry.{Entry}
 use Rattle.histories.specs.declared.histories.Histories.{Histories}
 use Rattle.histories.specs.declared.log.AskWords.TheVariants.{Raw}
 use Rattle.inspector_script.specs.Scripts.{ScriptValue, held}
-use Rattle.made_runs.specs.FedExamples.{arrives, binds, down_5, falls, shuts}
-use Rattle.made_runs.specs.Log.{Begun, Note, Shut, Spoke, logged}
+use Rattle.run_parts.specs.FedExamples.{arrives, binds, down_5, falls, shuts}
+use Rattle.run_parts.specs.Log.{Begun, Note, Shut, Spoke, logged}
 use Rattle.live_runs.specs.Passes.{Pass}
 use Rattle.live_runs.specs.Seen.{Ours, Seen, Shares, Theirs}
 use Rattle.live_runs.specs.Stands.{Stand, shut_stand}

@@ -1,5 +1,5 @@
 -- What the calls of a plane do to a pass, place by place.
-use Rattle.std.specs.Prelude.{◌≡◌, ◌≢◌, ◌≤◌, ◌<◌, ◌%◌, ℕ, Bool, List, [], ◌∷◌, ◌++◌}
+use Rattle.std.specs.Prelude.{◌≡◌, ◌≢◌, ◌≤◌, ◌<◌, ℕ, Bool, List, [], ◌∷◌, ◌++◌}
 use Rattle.packet_entry.specs.declared.packet.Card.{Card}
 use Rattle.nfqa_msgs.specs.declared.request.Request.{Request}
 use Rattle.hook_chain.specs.declared.chain.Decision.{Decision}
@@ -10,7 +10,8 @@ use Rattle.queue_core.specs.declared.event.Event.TheVariants.{Arrive, Ask, PortC
 use Rattle.histories.specs.declared.entry.Entry.{Entry}
 use Rattle.histories.specs.States.{step_of, entry_of}
 use Rattle.histories.specs.Happenings.{queue_of, all_handed, closings, downs}
-use Rattle.made_runs.specs.Requests.{errno_in}
+use Rattle.histories.specs.Places.{place_for}
+use Rattle.run_parts.specs.Requests.{errno_in}
 use Rattle.live_runs.specs.Seen.{Seen, Shares, entries, all_ours, all_theirs, Grows}
 
 -- One turn at a place: the pass finds what it had seen and what others have appended since, and
@@ -37,7 +38,7 @@ IsHandedOn (h ∷ hs) e = IsLater e
 
 -- the place of the queue that a request names
 abbrev pub place_of : ℕ → Request → ℕ
-place_of places r = queue_of r % places
+place_of places r = place_for (queue_of r) places
 
 -- the list that a request finds there
 abbrev pub found_by : ℕ → Request → Shares → List Entry → List Entry
@@ -79,10 +80,11 @@ pub record Enters (places queue table : ℕ) (bypass : Bool) (card : Card) (old 
   pub room : Bool
   pub between : List Seen
   pub turn : IsTurn others
-      (entry_of (entries (old (queue % places)) ++ others) queue (entering table bypass card room)
-      ∷ []) (old (queue % places)) between
-  pub here : Grows IsLater between (new (queue % places))
-  pub elsewhere : (k : ℕ) → k ≢ queue % places → Grows IsLater (old k) (new k)
+      (entry_of (entries (old (place_for queue places)) ++ others) queue
+      (entering table bypass card room)
+      ∷ []) (old (place_for queue places)) between
+  pub here : Grows IsLater between (new (place_for queue places))
+  pub elsewhere : (k : ℕ) → k ≢ place_for queue places → Grows IsLater (old k) (new k)
 
 -- a packet is fed, by its way: nothing happens where it meets no queue
 abbrev pub Feeds : ℕ → Next → Card → Shares → Shares → Type 0

@@ -1,5 +1,5 @@
 -- What a closed plane says of its passes: one list for each place, and what comes of it.
-use Rattle.std.specs.Prelude.{◌≡◌, ◌<◌, ◌≤◌, ◌+◌, ◌%◌, ℕ, zero, suc, Bool, true, List, [], ◌∷◌}
+use Rattle.std.specs.Prelude.{◌≡◌, ◌<◌, ◌≤◌, ◌+◌, ℕ, zero, suc, Bool, true, List, [], ◌∷◌}
 use Rattle.std.specs.Prelude.{◌++◌, length, map, filter, nat_eq, sum_by, Some, None, slice_get}
 use Rattle.std.specs.List.{list_any}
 use Rattle.histories.specs.declared.entry.Entry.{Entry}
@@ -9,8 +9,9 @@ use Rattle.histories.specs.History.{history}
 use Rattle.histories.specs.States.{state_of}
 use Rattle.histories.specs.Numbers.{queue_count}
 use Rattle.histories.specs.Letters.{letters_under, is_from}
-use Rattle.made_runs.specs.Notices.{letters_from}
-use Rattle.made_runs.specs.Room.{some_lacks}
+use Rattle.histories.specs.Places.{place_for}
+use Rattle.run_parts.specs.Notices.{letters_from}
+use Rattle.run_parts.specs.Room.{some_lacks}
 use Rattle.live_runs.specs.Seen.{Seen, Ours, Theirs, Shares, entries, EachIs}
 use Rattle.live_runs.specs.Passes.{Pass, is_pass, pass_numbers, seen_at}
 
@@ -61,7 +62,7 @@ pub record IsClosedPlane (ports : List ℕ) (mail places : ℕ) (passes : ℕ �
   pub whole : ℕ → List Entry
   pub covered : (k : ℕ) → k < places → IsCovered (is_pass ports) (seen_at passes k) (whole k)
   pub queues : (k : ℕ) → k < places → EachIs (λ e. e.queue < queue_count) (whole k)
-  pub same : (queue : ℕ) → history queue h.entries ≡ history queue (whole (queue % places))
+  pub same : (queue : ℕ) → history queue h.entries ≡ history queue (whole (place_for queue places))
   pub logs : h.logs ≡ map (log_by passes) ports
   pub all : (port queue : ℕ) → list_any (nat_eq port) ports ≡ true →
       sent_by_all ports places passes port ≡ length (passes port).letters →

@@ -8,9 +8,9 @@ use Rattle.histories.specs.Logs.{is_received}
 use Rattle.script_lines.specs.declared.ask.Ask.{Ask}
 use Rattle.script_lines.specs.declared.ask.Ask.TheVariants.{Words}
 use Rattle.inspector_script.specs.Scripts.{ScriptValue}
-use Rattle.made_runs.specs.Datagrams.{AsksWell}
-use Rattle.made_runs.specs.Log.{Note, Due, Message, Still, all_due}
-use Rattle.made_runs.specs.Log.{is_some_due}
+use Rattle.run_parts.specs.Datagrams.{AsksWell}
+use Rattle.run_parts.specs.Log.{Note, Due, Message, Still, all_due}
+use Rattle.run_parts.specs.Log.{is_some_due}
 use Rattle.live_runs.specs.Seen.{Seen, Shares, entries, IsNone, OursAre, TheirsAre, EachIs, Grows}
 use Rattle.live_runs.specs.Meetings.{IsAsk}
 use Rattle.live_runs.specs.Owners.{IsAskingOf}

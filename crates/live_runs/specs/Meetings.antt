@@ -4,8 +4,8 @@ use Rattle.queue_core.specs.declared.event.Event.{Event}
 use Rattle.queue_core.specs.declared.event.Event.TheVariants.{Arrive, Ask, PortClosed, DeviceDown}
 use Rattle.histories.specs.declared.entry.Entry.{Entry}
 use Rattle.inspector_script.specs.Scripts.{ScriptValue}
-use Rattle.made_runs.specs.Log.{Note}
-use Rattle.made_runs.specs.Ports.{is_port, place_in}
+use Rattle.run_parts.specs.Log.{Note}
+use Rattle.run_parts.specs.Ports.{is_port, place_in}
 use Rattle.live_runs.specs.Seen.{entries, OursAre, EachIs}
 use Rattle.live_runs.specs.ClosedPlanes.{AreOwned}
 use Rattle.live_runs.specs.Owners.{IsOf, IsFeeders}

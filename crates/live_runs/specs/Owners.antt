@@ -1,18 +1,19 @@
 -- Whose entries are whose, and what holds of a pass as long as the entries that aren't its own are
 -- none of its business.
-use Rattle.std.specs.Prelude.{◌≡◌, ◌<◌, ◌≤◌, ◌%◌, ℕ, Bool, false, List, [], flat_map}
+use Rattle.std.specs.Prelude.{◌≡◌, ◌<◌, ◌≤◌, ℕ, Bool, false, List, [], flat_map}
 use Rattle.nfqa_msgs.specs.RequestReading.{PayloadFits}
 use Rattle.queue_core.specs.declared.event.Event.{Event}
 use Rattle.queue_core.specs.declared.event.Event.TheVariants.{Arrive, Ask, PortClosed, DeviceDown}
 use Rattle.histories.specs.declared.entry.Entry.{Entry}
 use Rattle.histories.specs.History.{history}
 use Rattle.histories.specs.Numbers.{queue_count}
+use Rattle.histories.specs.Places.{place_for}
 use Rattle.script_lines.specs.declared.line.Down.{Down}
-use Rattle.made_runs.specs.Closing.{IsClosing, is_of_port}
-use Rattle.made_runs.specs.Feeder.{IsFedBy, IsNoDown, times_of_event}
-use Rattle.made_runs.specs.Log.{Note}
-use Rattle.made_runs.specs.Requests.{pleas_in, pleas_told}
-use Rattle.made_runs.specs.Underway.{AllFed}
+use Rattle.run_parts.specs.Closing.{IsClosing, is_of_port}
+use Rattle.run_parts.specs.Feeder.{IsFedBy, IsNoDown, times_of_event}
+use Rattle.run_parts.specs.Log.{Note}
+use Rattle.run_parts.specs.Requests.{pleas_in, pleas_told}
+use Rattle.run_parts.specs.Underway.{AllFed}
 use Rattle.live_runs.specs.Seen.{Seen, Shares, entries, TheirsAre}
 
 -- ---- whose entries are whose
@@ -61,7 +62,7 @@ pub record IsEven (port queue : ℕ) (xs : List Seen) (notes : List Note) : Type
 
 -- so it is at each queue
 pub record AreEven (places port : ℕ) (shares : Shares) (notes : List Note) : Type 0 where
-  pub each : (queue : ℕ) → IsEven port queue (shares (queue % places)) notes
+  pub each : (queue : ℕ) → IsEven port queue (shares (place_for queue places)) notes
 
 -- As long as the others' entries aren't of this port, its closing stands in each queue's history
 -- as it has to where the port has closed, or none does.

@@ -1,10 +1,10 @@
 -- What is known of a port's pass between its calls.
 use Rattle.std.specs.Prelude.{◌≡◌, ◌<◌, ℕ, not, List}
 use Rattle.inspector_script.specs.Scripts.{ScriptValue}
-use Rattle.made_runs.specs.Log.{Note, start, AreNextFrom, standing}
-use Rattle.made_runs.specs.Notices.{heard}
-use Rattle.made_runs.specs.Ports.{place_in}
-use Rattle.made_runs.specs.Requests.{AreErrnos}
+use Rattle.run_parts.specs.Log.{Note, start, AreNextFrom, standing}
+use Rattle.run_parts.specs.Notices.{heard}
+use Rattle.run_parts.specs.Ports.{place_in}
+use Rattle.run_parts.specs.Requests.{AreErrnos}
 use Rattle.live_runs.specs.Stands.{Stand, full}
 use Rattle.live_runs.specs.Owners.{AreEven, IsShutting}
 use Rattle.live_runs.specs.Passes.{Pass}

@@ -1,18 +1,19 @@
 -- The stages of a run. All passes meet between two of them; what lies between the two lists that
 -- they have seen at a place then is a segment.
-use Rattle.std.specs.Prelude.{◌≡◌, ◌≤◌, ◌<◌, ◌%◌, ℕ, suc, Bool, true, List, [], ◌∷◌, ◌++◌, length}
+use Rattle.std.specs.Prelude.{◌≡◌, ◌≤◌, ◌<◌, ℕ, suc, Bool, true, List, [], ◌∷◌, ◌++◌, length}
 use Rattle.nfqa_msgs.specs.declared.request.Request.{Request}
 use Rattle.queue_core.specs.declared.event.Event.{Event}
 use Rattle.queue_core.specs.declared.event.Event.TheVariants.{Arrive, Ask, PortClosed, DeviceDown}
 use Rattle.histories.specs.declared.entry.Entry.{Entry}
 use Rattle.histories.specs.History.{history}
 use Rattle.histories.specs.Numbers.{queue_count}
+use Rattle.histories.specs.Places.{place_for}
 use Rattle.inspector_script.specs.Scripts.{ScriptValue}
-use Rattle.made_runs.specs.Log.{Note, standing}
-use Rattle.made_runs.specs.Order.{Kind, Answers, early_by, late_by, late_asked, kinds_from}
-use Rattle.made_runs.specs.Order.{kinds_told}
-use Rattle.made_runs.specs.Ports.{place_in}
-use Rattle.made_runs.specs.Underway.{IsNow, Ordered}
+use Rattle.run_parts.specs.Log.{Note, standing}
+use Rattle.run_parts.specs.Order.{Kind, Answers, early_by, late_by, late_asked, kinds_from}
+use Rattle.run_parts.specs.Order.{kinds_told}
+use Rattle.run_parts.specs.Ports.{place_in}
+use Rattle.run_parts.specs.Underway.{IsNow, Ordered}
 use Rattle.live_runs.specs.Seen.{Seen, Shares, entries, Grows}
 use Rattle.live_runs.specs.Owners.{IsOf, IsFeeders}
 use Rattle.live_runs.specs.Stands.{Side, Now, AtEnd}
@@ -118,4 +119,4 @@ pub record InOrder (workers : ℕ) (script : ScriptValue) (places early late : �
     (whole : ℕ → List Entry) (notes : ℕ → List Note) : Type 0 where
   pub each : (queue : ℕ) → queue < queue_count →
       Ordered script.ports early late (λ p. kinds_told workers script queue p (notes p))
-      (history queue (whole (queue % places)))
+      (history queue (whole (place_for queue places)))

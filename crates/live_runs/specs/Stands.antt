@@ -3,8 +3,8 @@ use Rattle.std.specs.Prelude.{◌≡◌, ℕ, Bool, true, false, List, [], ◌�
 use Rattle.netlink_codec.specs.Messages.{NetlinkMessage}
 use Rattle.histories.specs.declared.log.Did.{Did}
 use Rattle.inspector_script.specs.Scripts.{ScriptValue, opening, closing}
-use Rattle.made_runs.specs.Log.{Due, Message, Standing, all_due, is_pool, is_some_due}
-use Rattle.made_runs.specs.Ports.{place_in}
+use Rattle.run_parts.specs.Log.{Due, Message, Standing, all_due, is_pool, is_some_due}
+use Rattle.run_parts.specs.Ports.{place_in}
 
 -- what the port owes now, the answers that wait behind a pool, what its end has, whether it is
 -- open,

@@ -1,7 +1,7 @@
 -- What was sent to a port that has closed, kept from a meeting behind its closing on.
 use Rattle.std.specs.Prelude.{◌≡◌, ℕ, true, false, List}
 use Rattle.inspector_script.specs.Scripts.{ScriptValue}
-use Rattle.made_runs.specs.Log.{Note}
+use Rattle.run_parts.specs.Log.{Note}
 use Rattle.live_runs.specs.ClosedPlanes.{sent_by_all}
 use Rattle.live_runs.specs.Meetings.{IsMeeting}
 use Rattle.live_runs.specs.Passes.{Pass, is_pass, seen_at}

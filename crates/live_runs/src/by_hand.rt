@@ -3,10 +3,10 @@
 ghost use Rattle.std.specs.Prelude.{◌≡◌, ◌<◌, ℕ, true, [], ◌∷◌, length};
 ghost use Rattle.nfqa_msgs.specs.declared.request.Decoded.TheVariants.{Asked};
 ghost use Rattle.nfqa_msgs.specs.RequestReading.{decoded};
-ghost use Rattle.made_runs.specs.Datagrams.{messages_in};
-ghost use Rattle.made_runs.specs.Feeder.{downs_in_effect};
-ghost use Rattle.made_runs.specs.Ports.{is_port};
-ghost use Rattle.made_runs.specs.Run.{IsMadeBy};
+ghost use Rattle.run_parts.specs.Datagrams.{messages_in};
+ghost use Rattle.run_parts.specs.Feeder.{downs_in_effect};
+ghost use Rattle.run_parts.specs.Ports.{is_port};
+ghost use Rattle.run_parts.specs.Run.{IsMadeBy};
 ghost use Rattle.live_runs.specs.Owners.{IsFeeding};
 ghost use Rattle.live_runs.specs.Passes.{feeder_number, seen_at};
 ghost use Rattle.live_runs.specs.ClosedPlanes.{IsClosedPlane, sent_by_all};

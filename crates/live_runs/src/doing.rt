@@ -11,10 +11,10 @@ ghost use Rattle.script_lines.specs.Limits.{IsWords};
 ghost use Rattle.script_lines.specs.declared.ask.Ask.{Ask};
 ghost use Rattle.script_lines.specs.declared.ask.Ask.TheVariants.{Close, Words};
 ghost use Rattle.inspector_script.specs.Scripts.{ScriptValue};
-ghost use Rattle.made_runs.specs.Datagrams.{AsksWell, bytes_of, cut_in, messages_in};
-ghost use Rattle.made_runs.specs.Log.{Due, Message, Note, Shut, Still, all_due, answer_to, is_pool};
+ghost use Rattle.run_parts.specs.Datagrams.{AsksWell, bytes_of, cut_in, messages_in};
+ghost use Rattle.run_parts.specs.Log.{Due, Message, Note, Shut, Still, all_due, answer_to, is_pool};
 ghost use Rattle.nfqa_msgs.specs.NoticeTexts.{told_exactly};
-ghost use Rattle.made_runs.specs.Ports.{place_in};
+ghost use Rattle.run_parts.specs.Ports.{place_in};
 ghost use Rattle.live_runs.specs.Seen.{Shares};
 ghost use Rattle.live_runs.specs.Passes.{Pass, Receives, Shuts, Speaks, SpeaksFirst};
 ghost use Rattle.live_runs.specs.Stands.{Now, AtEnd, Side, Stand, answering, cut_side, cut_then};
@@ -24,8 +24,8 @@ ghost use Rattle.live_runs.specs.Stages.{Ending, MaySpeak, Stage, Went};
 ghost use Rattle.live_runs.specs.Doing.{GoesOn, HasAsked, HasHeard, HasSent, IsAnswering};
 ghost use Rattle.live_runs.specs.Doing.{IsCutting, IsDoing, LeavesWaiting};
 
-use made_runs::{closings_are_kept, datagrams_are_short, logs_go_on};
 use queue_core::each_packet_stays_or_leaves;
+use run_parts::{closings_are_kept, datagrams_are_short, logs_go_on};
 
 /// A port does what is next, and what it appends is its own. It begins where the passes have met;
 /// it takes up an ask that is due and sends the messages that are cut from it, where it may; it

@@ -5,10 +5,10 @@ ghost use Rattle.histories.specs.declared.entry.Entry.{Entry};
 ghost use Rattle.histories.specs.declared.histories.Histories.{Histories};
 ghost use Rattle.histories.specs.Lengths.{AreShort};
 ghost use Rattle.inspector_script.specs.Scripts.{ScriptValue};
-ghost use Rattle.made_runs.specs.Feeder.{downs_in_effect};
-ghost use Rattle.made_runs.specs.Log.{Note};
-ghost use Rattle.made_runs.specs.Ports.{is_port};
-ghost use Rattle.made_runs.specs.Run.{IsMadeBy};
+ghost use Rattle.run_parts.specs.Feeder.{downs_in_effect};
+ghost use Rattle.run_parts.specs.Log.{Note};
+ghost use Rattle.run_parts.specs.Ports.{is_port};
+ghost use Rattle.run_parts.specs.Run.{IsMadeBy};
 ghost use Rattle.live_runs.specs.Seen.{Grows, IsAny, IsNone, Shares, all_theirs};
 ghost use Rattle.live_runs.specs.Calls.{ShutsAll};
 ghost use Rattle.live_runs.specs.Owners.{IsFedByAll, IsFeeding};
@@ -19,7 +19,7 @@ ghost use Rattle.live_runs.specs.Stages.{Stage, Went, WentFeeding};
 ghost use Rattle.live_runs.specs.Sums.{WasSent};
 ghost use Rattle.live_runs.specs.Meetings.{ArePorts, IsMeeting};
 
-use made_runs::{closings_are_kept, fed_histories_go_on, logs_go_on, one_feeder_feeds_all};
+use run_parts::{closings_are_kept, fed_histories_go_on, logs_go_on, one_feeder_feeds_all};
 
 /// How many notices a pass sent to a port stays what it was where it meets other passes, and where
 /// it closes another port.

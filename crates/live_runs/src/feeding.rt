@@ -10,7 +10,7 @@ ghost use Rattle.live_runs.specs.Calls.{Feeds, Falls};
 ghost use Rattle.live_runs.specs.Owners.{IsFedByAll, IsFeeders, IsFeeding};
 ghost use Rattle.live_runs.specs.Feeding.{TakesDownTo};
 
-use made_runs::{fed_histories_go_on, one_feeder_feeds_all};
+use run_parts::{fed_histories_go_on, one_feeder_feeds_all};
 
 /// The feeder's pass keeps its time at each place: where nothing has happened yet, where it meets
 /// other passes, where a packet of the next frame is fed, and where a line takes effect, place by

@@ -3,8 +3,8 @@
 ghost use Rattle.std.specs.Prelude.{◌≡◌, ◌<◌, ◌==◌, ℕ, suc, true, false, List, [], length};
 ghost use Rattle.std.specs.Prelude.{if◌then◌else◌};
 ghost use Rattle.inspector_script.specs.Scripts.{IsScript, ScriptValue};
-ghost use Rattle.made_runs.specs.Log.{Note};
-ghost use Rattle.made_runs.specs.Ports.{is_port, place_in};
+ghost use Rattle.run_parts.specs.Log.{Note};
+ghost use Rattle.run_parts.specs.Ports.{is_port, place_in};
 ghost use Rattle.live_runs.specs.Seen.{Shares, Grows};
 ghost use Rattle.live_runs.specs.Owners.{IsFeeders};
 ghost use Rattle.live_runs.specs.Passes.{AreMet, Pass, feeder_number, is_pass, with_pass};
@@ -14,8 +14,8 @@ ghost use Rattle.live_runs.specs.Stages.{Follows, Opening, Stage, Went, WentFeed
 ghost use Rattle.live_runs.specs.Meetings.{IsMeeting, IsNew, IsOpenTo};
 ghost use Rattle.live_runs.specs.Doing.{IsDoing};
 
-use made_runs::{closings_are_kept, logs_go_on};
 use queue_core::each_packet_stays_or_leaves;
+use run_parts::{closings_are_kept, logs_go_on};
 
 /// The ports open one after the other, in the script's order, and behind each all passes meet: so
 /// they have opened to the next place, and in the end all have.

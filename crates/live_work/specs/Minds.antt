@@ -2,8 +2,8 @@
 -- received.
 use Rattle.std.specs.Prelude.{◌≡◌, true, length, min}
 use Rattle.inspector_script.specs.Scripts.{ScriptValue}
-use Rattle.made_runs.specs.Log.{received_count}
-use Rattle.made_runs.specs.Ports.{is_port, place_in}
+use Rattle.run_parts.specs.Log.{received_count}
+use Rattle.run_parts.specs.Ports.{is_port, place_in}
 use Rattle.plane.specs.Passes.{PortView}
 use Rattle.live_work.specs.declared.mind.Mind.{Mind}
 use Rattle.live_work.specs.Numbers.{most_counted}

@@ -6,7 +6,7 @@ use Rattle.nfqa_msgs.specs.declared.notice.Notice.{Notice}
 use Rattle.script_lines.specs.declared.ask.Ask.{Ask}
 use Rattle.inspector_script.specs.Scripts.{Machine, ScriptValue}
 use Rattle.inspector_pool.specs.Answers.{answers}
-use Rattle.made_runs.specs.Log.{Due, all_due, is_pool}
+use Rattle.run_parts.specs.Log.{Due, all_due, is_pool}
 use Rattle.plane.specs.Passes.{PortView}
 use Rattle.live_runs.specs.Doing.{LeavesWaiting}
 use Rattle.live_passes.specs.Views.{port_pass}

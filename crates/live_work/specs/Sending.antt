@@ -4,8 +4,8 @@ use Rattle.netlink_codec.specs.Messages.{NetlinkMessage}
 use Rattle.histories.specs.declared.log.AskWords.{AskWords}
 use Rattle.script_lines.specs.declared.ask.Ask.{Ask}
 use Rattle.inspector_script.specs.Scripts.{ScriptValue}
-use Rattle.made_runs.specs.Datagrams.{messages_in}
-use Rattle.made_runs.specs.Log.{Due, Note}
+use Rattle.run_parts.specs.Datagrams.{messages_in}
+use Rattle.run_parts.specs.Log.{Due, Note}
 use Rattle.live_runs.specs.Doing.{HasAsked, HasSent, IsCutting, IsDoing}
 use Rattle.live_runs.specs.Passes.{Pass}
 use Rattle.live_runs.specs.Stages.{MaySpeak, Stage}

@@ -5,8 +5,8 @@ use Rattle.packet_entry.specs.declared.packet.Card.{Card}
 use Rattle.pcap_io.specs.declared.capture.Capture.{Capture}
 use Rattle.script_lines.specs.declared.line.Down.{Down}
 use Rattle.inspector_script.specs.Scripts.{ScriptValue}
-use Rattle.made_runs.specs.Entering.{cards}
-use Rattle.made_runs.specs.Feeder.{is_share}
+use Rattle.run_parts.specs.Entering.{cards}
+use Rattle.run_parts.specs.Feeder.{is_share}
 use Rattle.live_runs.specs.Owners.{IsFedByAll, IsFeeders}
 use Rattle.live_runs.specs.Seen.{Grows, Shares}
 use Rattle.shared_feeding.specs.Lines.{share_downs}

@@ -3,7 +3,7 @@
 ghost use Rattle.std.specs.Prelude.{◌≡◌, ◌≤◌, ◌<◌, [], length, All, IfSome, OnOk};
 ghost use Rattle.hook_chain.specs.Numbers.{most_feeders};
 ghost use Rattle.packet_entry.specs.Numbers.{longest_packet};
-ghost use Rattle.made_runs.specs.Feeder.{downs_after, falling_time};
+ghost use Rattle.run_parts.specs.Feeder.{downs_after, falling_time};
 ghost use Rattle.glance.specs.Views.{PassView};
 ghost use Rattle.plane.specs.Passes.{IsFeederOf};
 ghost use Rattle.plane.specs.Planes.{board_of, places_of};

@@ -3,9 +3,9 @@
 ghost use Rattle.std.specs.Prelude.{◌≡◌, ◌<◌, List, length, Some, All, IfOk, OnOk};
 ghost use Rattle.std.specs.List.{AllZip};
 ghost use Rattle.script_lines.specs.Limits.{IsAsk};
-ghost use Rattle.made_runs.specs.Log.{answer_to};
+ghost use Rattle.run_parts.specs.Log.{answer_to};
 ghost use Rattle.nfqa_msgs.specs.NoticeTexts.{told_exactly};
-ghost use Rattle.made_runs.specs.Ports.{place_in};
+ghost use Rattle.run_parts.specs.Ports.{place_in};
 ghost use Rattle.plane.specs.Opening.{IsNew};
 ghost use Rattle.plane.specs.Passes.{PortView, Receives};
 ghost use Rattle.place_rows.specs.Lists.{Every};
@@ -13,9 +13,9 @@ ghost use Rattle.live_work.specs.Minds.{IsMind};
 ghost use Rattle.live_passes.specs.Numbered.{numbers_of};
 
 use inspector_script::{Asks, PortMachine, Script};
-use made_runs::each_port_has_its_place;
 use packet_entry::{Letter, NoMemory};
 use port_scripts::answered;
+use run_parts::each_port_has_its_place;
 use script_lines::Ask;
 use std::alloc::Global;
 use std::mem;

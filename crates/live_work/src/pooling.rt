@@ -4,8 +4,8 @@ ghost use Rattle.std.specs.Prelude.{◌≡◌, ◌≤◌, ◌<◌, ◌+◌, ◌�
 ghost use Rattle.script_lines.specs.Limits.{IsAsk};
 ghost use Rattle.inspector_pool.specs.Answers.{answers};
 ghost use Rattle.inspector_pool.specs.Numbers.{least_workers, most_notices, most_workers};
-ghost use Rattle.made_runs.specs.Log.{is_pool, received_count};
-ghost use Rattle.made_runs.specs.Ports.{is_port, place_in};
+ghost use Rattle.run_parts.specs.Log.{is_pool, received_count};
+ghost use Rattle.run_parts.specs.Ports.{is_port, place_in};
 ghost use Rattle.port_scripts.specs.Words.{AreWords};
 ghost use Rattle.plane.specs.Passes.{IsPortOf};
 ghost use Rattle.plane.specs.Planes.{places_of};

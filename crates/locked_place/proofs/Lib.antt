@@ -1,7 +1,7 @@
-pub mod Listing
-pub mod Notifying
-pub mod Quiet
-pub mod Requesting
-pub mod Publishing
+pub mod EntryPoints
+pub mod ArrivalNotices
+pub mod QuietEntries
+pub mod RequestEffects
+pub mod BoardContent
 pub mod Labels
 pub mod Results

@@ -1,12 +1,13 @@
 //! A place with all that it posts: what one lock is round.
 
-ghost use Rattle.std.specs.Prelude.{◌≡◌, ◌≤◌, ◌<◌, ◌%◌, ◌^◌, ◌++◌, ℕ, [], length};
+ghost use Rattle.std.specs.Prelude.{◌≡◌, ◌≤◌, ◌<◌, ◌^◌, ◌++◌, ℕ, [], length};
 ghost use Rattle.std.specs.Prelude.{IfSome, IsSome, IfOk, OnOk, IfErr, OnErr};
 ghost use mathlib.Core.List.{IsPrefix};
 ghost use Rattle.nfqa_msgs.specs.RequestReading.{PayloadFits};
 ghost use Rattle.histories.specs.History.{AreLegal};
 ghost use Rattle.histories.specs.States.{told, taken_in};
 ghost use Rattle.histories.specs.Happenings.{queue_of, closings, downs};
+ghost use Rattle.histories.specs.Places.{place_for};
 ghost use Rattle.packet_moves.specs.HandedOn.{AreInTime};
 ghost use Rattle.place_history.specs.Numbers.{most_places};
 ghost use Rattle.place_history.specs.Lines.{AreLined};
@@ -120,7 +121,7 @@ impl LockedPlace {
         packet: Packet,
     ) -> Result<Placed, NoRoom>
         requires outlets { AreOutletsOf outlets.now (label_of self.old) }
-        requires here { queue % self.old.places ≡ self.old.number }
+        requires here { place_for queue self.old.places ≡ self.old.number }
         requires visited { 1 ≤ packet.visit }
         ensures label { label_of self.new ≡ label_of self.old }
         ensures arrives { IfOk result
@@ -165,7 +166,7 @@ impl LockedPlace {
         handed: &mut Handed,
     ) -> Result<u16, NoMemory>
         requires outlets { AreOutletsOf outlets.now (label_of self.old) }
-        requires here { queue_of request % self.old.places ≡ self.old.number }
+        requires here { place_for (queue_of request) self.old.places ≡ self.old.number }
         requires payload { PayloadFits request }
         requires port { IsSome (sender_in self.old.senders port) }
         ensures label { label_of self.new ≡ label_of self.old }

@@ -1,9 +1,11 @@
 //! Turns of a pass at a place behind a lock. What each promises holds once it returns; that it
 //! returns, no clause says.
 
-ghost use Rattle.std.specs.Prelude.{◌≡◌, ◌≤◌, ◌<◌, ◌%◌, ◌^◌, [], length, IsSome, IfOk, OnOk, IfErr, OnErr};
+ghost use Rattle.std.specs.Prelude.{◌≡◌, ◌≤◌, ◌<◌, ◌^◌, [], length, IsSome, IfOk, OnOk, IfErr};
+ghost use Rattle.std.specs.Prelude.{OnErr};
 ghost use Rattle.nfqa_msgs.specs.RequestReading.{PayloadFits};
 ghost use Rattle.histories.specs.Happenings.{queue_of};
+ghost use Rattle.histories.specs.Places.{place_for};
 ghost use Rattle.packet_moves.specs.HandedOn.{AreInTime};
 ghost use Rattle.turn_lock.specs.Passes.{view_of};
 ghost use Rattle.locked_place.specs.Views.{PlaceLabel, label_of, AreOutletsOf};
@@ -42,7 +44,7 @@ pub fn arrive<R: Wait, G: Gate>(
 ) -> Result<Placed, NoRoom>
     requires visited { 1 ≤ packet.visit }
     requires pass { (named : PlaceLabel) × IsPassOf label_of named lock.now pass.old
-        × (queue % named.places ≡ named.number) × AreOutletsOf outlets.now named }
+        × (place_for queue named.places ≡ named.number) × AreOutletsOf outlets.now named }
     ensures pass { (named : PlaceLabel) → IsPassOf label_of named lock.now pass.old →
         IsPassOf label_of named lock.now pass.new }
     ensures part { (view_of pass.new).part ≡ (view_of pass.old).part }
@@ -84,7 +86,7 @@ pub fn ask<R: Wait, G: Gate>(
     requires payload { PayloadFits request }
     requires none { handed.old.items ≡ [] }
     requires pass { (named : PlaceLabel) × IsPassOf label_of named lock.now pass.old
-        × (queue_of request % named.places ≡ named.number) × IsSome (named.senders port)
+        × (place_for (queue_of request) named.places ≡ named.number) × IsSome (named.senders port)
         × AreOutletsOf outlets.now named }
     ensures pass { (named : PlaceLabel) → IsPassOf label_of named lock.now pass.old →
         IsPassOf label_of named lock.now pass.new }

@@ -16,10 +16,10 @@ use Rattle.histories.specs.declared.log.AskWords.TheVariants.{Plain, Raw}
 use Rattle.script_lines.specs.Limits.{IsAsk, IsWords}
 use Rattle.script_lines.specs.declared.ask.Ask.{Ask}
 use Rattle.script_lines.specs.declared.ask.Ask.TheVariants.{Words, Close}
-use Rattle.made_runs.specs.Datagrams.{bytes_of, cut_in, messages_in, with_those_behind}
-use Rattle.made_runs.specs.Log.{Still, all_due}
+use Rattle.run_parts.specs.Datagrams.{bytes_of, cut_in, messages_in, with_those_behind}
+use Rattle.run_parts.specs.Log.{Still, all_due}
 use Rattle.log_walks.specs.Walking.{messages_for}
-use Rattle.log_walks.proofs.Going.{IsEven}
+use Rattle.log_walks.proofs.DueSettlement.{IsEven}
 
 -- what laws of lower crates say
 pub record Laws : Type 0 where

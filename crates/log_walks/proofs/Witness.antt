@@ -12,21 +12,21 @@ use Rattle.script_lines.specs.Limits.{IsWords}
 use Rattle.script_lines.specs.declared.ask.Ask.{Ask}
 use Rattle.script_lines.specs.declared.ask.Ask.TheVariants.{Words, Close}
 use Rattle.inspector_script.specs.Scripts.{ScriptValue}
-use Rattle.made_runs.specs.Datagrams.{AsksWell, bytes_of, messages_in}
-use Rattle.made_runs.specs.Notices.{heard}
-use Rattle.made_runs.specs.Requests.{answer_in}
-use Rattle.made_runs.specs.Log.{Note, Begun, Due, Still, Message}
-use Rattle.made_runs.specs.Log.{Standing}
-use Rattle.made_runs.specs.Log.{first_due, is_some_due, all_due, after, IsAskDue}
-use Rattle.made_runs.specs.Log.{AreNextFrom, standing_from, logged}
-use Rattle.made_runs.specs.Log.{unanswered}
+use Rattle.run_parts.specs.Datagrams.{AsksWell, bytes_of, messages_in}
+use Rattle.run_parts.specs.Notices.{heard}
+use Rattle.run_parts.specs.Requests.{answer_in}
+use Rattle.run_parts.specs.Log.{Note, Begun, Due, Still, Message}
+use Rattle.run_parts.specs.Log.{Standing}
+use Rattle.run_parts.specs.Log.{first_due, is_some_due, all_due, after, IsAskDue}
+use Rattle.run_parts.specs.Log.{AreNextFrom, standing_from, logged}
+use Rattle.run_parts.specs.Log.{unanswered}
 use Rattle.log_walks.specs.Telling.{IsOwn, IsKnown, IsMessage, IsWell, told_errno}
 use Rattle.log_walks.specs.Telling.{errno_of}
 use Rattle.log_walks.specs.Walking.{Known, begun, settled}
 use Rattle.log_walks.specs.Walking.{messages_for}
-use Rattle.log_walks.proofs.Along.{stand}
-use Rattle.log_walks.proofs.Asking.{AllAsks}
-use Rattle.log_walks.proofs.Owning.{own_messages}
+use Rattle.log_walks.proofs.WalkCompleteness.{stand}
+use Rattle.log_walks.proofs.AskLengths.{AllAsks}
+use Rattle.log_walks.proofs.MessageBytes.{own_messages}
 
 -- ---- messages that are due
 

@@ -6,10 +6,10 @@ use Rattle.packet_entry.specs.declared.letter.Letter.{Letter}
 use Rattle.netlink_codec.specs.Messages.{NetlinkMessage, first_message}
 use Rattle.histories.specs.declared.log.Did.{Did}
 use Rattle.inspector_script.specs.Scripts.{ScriptValue}
-use Rattle.made_runs.specs.Datagrams.{AsksWell}
-use Rattle.made_runs.specs.Log.{Note, Got, Turned, Begun, Spoke, Shut, IsLog}
-use Rattle.made_runs.specs.Notices.{heard}
-use Rattle.made_runs.specs.Requests.{answer_in}
+use Rattle.run_parts.specs.Datagrams.{AsksWell}
+use Rattle.run_parts.specs.Log.{Note, Got, Turned, Begun, Spoke, Shut, IsLog}
+use Rattle.run_parts.specs.Notices.{heard}
+use Rattle.run_parts.specs.Requests.{answer_in}
 use Rattle.log_walks.specs.Walking.{Known}
 
 -- the notice is the one that is known of its packet's visit

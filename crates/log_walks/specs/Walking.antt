@@ -17,11 +17,11 @@ use Rattle.packet_moves.specs.Messages.{words_of}
 use Rattle.script_lines.specs.declared.ask.Ask.{Ask}
 use Rattle.script_lines.specs.declared.ask.Ask.TheVariants.{Words, Close}
 use Rattle.inspector_script.specs.Scripts.{ScriptValue, opening, closing, next_count}
-use Rattle.made_runs.specs.Datagrams.{messages_in, bytes_of}
+use Rattle.run_parts.specs.Datagrams.{messages_in, bytes_of}
 use Rattle.nfqa_msgs.specs.NoticeTexts.{told_exactly}
-use Rattle.made_runs.specs.Log.{Due, Still, Message, all_due, first_due, owed_then, ends_then}
-use Rattle.made_runs.specs.Log.{asks_for}
-use Rattle.made_runs.specs.Order.{Kind, kind_by}
+use Rattle.run_parts.specs.Log.{Due, Still, Message, all_due, first_due, owed_then, ends_then}
+use Rattle.run_parts.specs.Log.{asks_for}
+use Rattle.run_parts.specs.Order.{Kind, kind_by}
 
 -- ---- what is due
 

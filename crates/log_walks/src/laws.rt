@@ -2,16 +2,16 @@
 
 ghost use Rattle.std.specs.Prelude.{◌≡◌, ◌<◌, ◌≤◌, ◌^◌, ◌∷◌, ℕ, List, [], Some, None, drop, length};
 ghost use Rattle.netlink_codec.specs.Messages.{NetlinkMessage, first_message};
-ghost use Rattle.made_runs.specs.Datagrams.{messages_in};
+ghost use Rattle.run_parts.specs.Datagrams.{messages_in};
 ghost use Rattle.histories.specs.declared.log.Did.{Did};
 ghost use Rattle.inspector_script.specs.Scripts.{IsScript, ScriptValue};
-ghost use Rattle.made_runs.specs.Log.{Note, IsLog, start};
-ghost use Rattle.made_runs.specs.Order.{kinds_from};
+ghost use Rattle.run_parts.specs.Log.{Note, IsLog, start};
+ghost use Rattle.run_parts.specs.Order.{kinds_from};
 ghost use Rattle.log_walks.specs.Walking as walking;
 ghost use Rattle.log_walks.specs.Telling as telling;
 
-use made_runs::{datagrams_are_short, one_worker_is_no_pool};
 use netlink_codec::written_message_is_in_front;
+use run_parts::{datagrams_are_short, one_worker_is_no_pool};
 
 /// A log that can be walked is one that the script says: what the port did can be told in full, by
 /// notices that are known.

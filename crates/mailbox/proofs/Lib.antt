@@ -1,5 +1,5 @@
 mod Seats
-mod Manning
-mod Gauging
-mod Posting
-mod Keeping
+mod EndRoles
+mod LetterCount
+mod QueueRule
+mod ReceiverFields

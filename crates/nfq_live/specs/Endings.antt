@@ -7,10 +7,10 @@ use Rattle.histories.specs.declared.log.AskWords.{AskWords}
 use Rattle.script_lines.specs.declared.ask.Ask.{Ask}
 use Rattle.script_lines.specs.declared.ask.Ask.TheVariants.{Close, Words}
 use Rattle.inspector_script.specs.Scripts.{ScriptValue}
-use Rattle.made_runs.specs.Datagrams.{AsksWell, messages_in}
-use Rattle.made_runs.specs.Feeder.{downs_in_effect}
-use Rattle.made_runs.specs.Log.{Due, Message, Note, Still, all_due, is_some_due}
-use Rattle.made_runs.specs.Ports.{is_port, place_in}
+use Rattle.run_parts.specs.Datagrams.{AsksWell, messages_in}
+use Rattle.run_parts.specs.Feeder.{downs_in_effect}
+use Rattle.run_parts.specs.Log.{Due, Message, Note, Still, all_due, is_some_due}
+use Rattle.run_parts.specs.Ports.{is_port, place_in}
 use Rattle.live_runs.specs.Doing.{IsDoing}
 use Rattle.live_runs.specs.Meetings.{IsMeeting}
 use Rattle.live_runs.specs.Passes.{Pass, feeder_number, seen_at}

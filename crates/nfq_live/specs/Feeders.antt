@@ -4,8 +4,8 @@ use Rattle.std.specs.Prelude.{◌≡◌, ◌<◌, ◌+◌, ◌++◌, ◌∷◌, 
 use Rattle.packet_entry.specs.declared.packet.Card.{Card}
 use Rattle.pcap_io.specs.declared.capture.Capture.{Capture}
 use Rattle.inspector_script.specs.Scripts.{ScriptValue}
-use Rattle.made_runs.specs.Entering.{cards}
-use Rattle.made_runs.specs.Feeder.{downs_after, downs_in_effect}
+use Rattle.run_parts.specs.Entering.{cards}
+use Rattle.run_parts.specs.Feeder.{downs_after, downs_in_effect}
 use Rattle.turn_lock.specs.Parts.{Empty}
 use Rattle.place_rows.specs.Joining.{together_at}
 use Rattle.place_rows.specs.Rows.{Known}

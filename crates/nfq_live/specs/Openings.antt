@@ -1,8 +1,8 @@
 -- How far a run has opened its ports.
 use Rattle.std.specs.Prelude.{◌≡◌, ℕ, List, [], length}
 use Rattle.inspector_script.specs.Scripts.{ScriptValue}
-use Rattle.made_runs.specs.Feeder.{downs_after, falling_time}
-use Rattle.made_runs.specs.Log.{Note}
+use Rattle.run_parts.specs.Feeder.{downs_after, falling_time}
+use Rattle.run_parts.specs.Log.{Note}
 use Rattle.live_runs.specs.Meetings.{IsOpenTo}
 use Rattle.live_runs.specs.Passes.{feeder_number, seen_at}
 use Rattle.live_runs.specs.Stands.{Stand}

@@ -4,8 +4,8 @@ use Rattle.hook_chain.specs.Rules.{RuleTables}
 use Rattle.pcap_io.specs.declared.capture.Capture.{Capture}
 use Rattle.histories.specs.declared.histories.Histories.{Histories}
 use Rattle.inspector_script.specs.Scripts.{ScriptValue}
-use Rattle.made_runs.specs.Log.{Note}
-use Rattle.made_runs.specs.Run.{IsMadeBy}
+use Rattle.run_parts.specs.Log.{Note}
+use Rattle.run_parts.specs.Run.{IsMadeBy}
 use Rattle.packet_moves.specs.declared.setting.Setting.{Setting}
 use Rattle.plane.specs.declared.opened.Opened.{Opened}
 use Rattle.plane.specs.Opening.{IsOpened}

@@ -5,7 +5,7 @@ ghost use Rattle.std.specs.Prelude.{All, IfOk, OnOk};
 ghost use Rattle.netlink_codec.specs.Messages.{first_message};
 ghost use Rattle.script_lines.specs.Limits.{IsAsk, IsWords};
 ghost use Rattle.inspector_script.specs.Scripts.{ScriptValue, closing};
-ghost use Rattle.made_runs.specs.Ports.{place_in};
+ghost use Rattle.run_parts.specs.Ports.{place_in};
 ghost use Rattle.plane.specs.Passes.{PortView};
 ghost use Rattle.plane.specs.Planes.{order_of, places_of};
 ghost use Rattle.live_runs.specs.Passes.{SpeaksFirst};
@@ -25,10 +25,10 @@ use live_runs::{
     a_stage_ends_where_all_meet, meetings_and_closings_send_nothing, messages_are_sent_one_by_one,
     nothing_is_sent_to_a_closed_port,
 };
-use made_runs::{datagrams_are_short, each_port_has_its_place};
 use packet_entry::NoMemory;
 use plane::{Gate, Plane, parts_stay_whole};
 use port_scripts::{behind, ports_close_at_the_end, put_text};
+use run_parts::{datagrams_are_short, each_port_has_its_place};
 use script_lines::Ask;
 use std::alloc::Global;
 use std::sync::Wait;

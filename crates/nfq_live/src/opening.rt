@@ -2,7 +2,7 @@
 
 ghost use Rattle.std.specs.Prelude.{◌≡◌, ◌<◌, [], length, slice_index, OnOk};
 ghost use Rattle.inspector_script.specs.Scripts.{opening};
-ghost use Rattle.made_runs.specs.Ports.{place_in};
+ghost use Rattle.run_parts.specs.Ports.{place_in};
 ghost use Rattle.plane.specs.Planes.{order_of, places_of};
 ghost use Rattle.port_scripts.specs.Downs.{AreDownsOf};
 ghost use Rattle.nfq_live.specs.Crews.{HaveMinds, IsCrewOf, OnePass, passes_of};
@@ -13,10 +13,10 @@ use crate::crew::Crew;
 use inspector_script::Script;
 use live_runs::{ports_open_one_after_the_other, the_feeder_keeps_its_time};
 use live_work::{say_all, take_down_after};
-use made_runs::each_port_has_its_place;
 use packet_entry::NoMemory;
 use plane::{Gate, Plane, parts_stay_whole};
 use port_scripts::{DownsByFrame, ports_close_at_the_end};
+use run_parts::each_port_has_its_place;
 use std::alloc::Global;
 use std::sync::Wait;
 

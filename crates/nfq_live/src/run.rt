@@ -10,7 +10,7 @@ ghost use Rattle.histories.specs.Journeys.{AreSound};
 ghost use Rattle.histories.specs.Lengths.{AreShort};
 ghost use Rattle.histories.specs.Numbers.{queue_count};
 ghost use Rattle.inspector_pool.specs.Numbers.{most_workers};
-ghost use Rattle.made_runs.specs.Entering.{cards};
+ghost use Rattle.run_parts.specs.Entering.{cards};
 ghost use Rattle.place_rows.specs.Lists.{Every};
 ghost use Rattle.plane.specs.Opening.{IsNew};
 ghost use Rattle.plane.specs.Planes.{order_of, places_of};

@@ -7,7 +7,7 @@ ghost use Rattle.std.specs.Thread.{IsSync};
 ghost use Rattle.hook_chain.specs.Numbers.{most_feeders};
 ghost use Rattle.packet_entry.specs.Numbers.{longest_packet};
 ghost use Rattle.inspector_pool.specs.Numbers.{most_workers};
-ghost use Rattle.made_runs.specs.Entering.{cards};
+ghost use Rattle.run_parts.specs.Entering.{cards};
 ghost use Rattle.plane.specs.Passes.{IsFeederOf, IsPortOf};
 ghost use Rattle.plane.specs.Planes.{order_of, places_of};
 ghost use Rattle.live_work.specs.Feeding.{HasFed, IsFeedingOf};

@@ -1,8 +1,8 @@
-mod Found
+mod ContentLengths
 pub mod Lengths
-pub mod RequestsBack
-pub mod NoticesBack
-mod Standing
+pub mod RequestRoundTrip
+pub mod NoticeRoundTrip
+mod MessageText
 mod NoticeSpelling
 pub mod PacketNotices
 mod NoticeTexts

@@ -13,7 +13,7 @@ use Rattle.nfqa_msgs.specs.Numbers.{longest_range, copy_packet, source_address_a
 use Rattle.nfqa_msgs.specs.NoticeWriting.{Told, FitsTold, IsNoticed, IsPacketNotice, told_of}
 use Rattle.nfqa_msgs.specs.NoticeWriting.{source_in}
 use Rattle.nfqa_msgs.proofs.Lengths.{Sizes}
-use Rattle.nfqa_msgs.proofs.NoticesBack.{Fronts, apart}
+use Rattle.nfqa_msgs.proofs.NoticeRoundTrip.{Fronts, apart}
 
 -- a link header that isn't empty has room for two addresses
 long-link : (n : ℕ) → IsLinkLength n → (n ≡ 0 → ⊥) → 12 ≤ n

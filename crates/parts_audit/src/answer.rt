@@ -2,19 +2,19 @@
 
 ghost use Rattle.std.specs.Prelude.{◌≡◌, ℕ, List, length, IfOk};
 ghost use Rattle.histories.specs.History as history;
-ghost use Rattle.made_runs.specs.Log.{Note};
-ghost use Rattle.makers_audit.specs.Makers.{IsMakersAnswer};
+ghost use Rattle.run_parts.specs.Log.{Note};
+ghost use Rattle.port_audit.specs.Makers.{IsMakersAnswer};
 ghost use Rattle.parts_audit.specs.Given.{AreGiven};
 
 use feeder_audit::is_fed;
 use histories::Histories;
 use inspector_script::Script;
-use makers_audit::{
+use packet_entry::NoMemory;
+use pcap_io::Capture;
+use port_audit::{
     MessageKind, Rows, are_closings, are_notices, are_ordered, are_ports, are_requests, are_roomy,
     logs_tell_what_ports_did,
 };
-use packet_entry::NoMemory;
-use pcap_io::Capture;
 use std::alloc::Global;
 
 /// The number of the first part that doesn't hold of legal histories; `None` where the script made

@@ -8,7 +8,7 @@ use Rattle.pcap_io.specs.declared.fault.CaptureFault.TheVariants.{Magic, Pcapng,
 use Rattle.pcap_io.specs.declared.fault.CaptureFault.TheVariants.{Cut, TooLong, NoMemory}
 use Rattle.pcap_io.specs.Text.{IsCapture}
 use Rattle.pcap_io.specs.Reading.{Fails, Gives, IsFault}
-use Rattle.pcap_io.proofs.Whole.{one_capture, one_fault, never_both}
+use Rattle.pcap_io.proofs.WholeFile.{one_capture, one_fault, never_both}
 
 fails_when : {A : Type 0} (fault : CaptureFault) (wanted : Result A CaptureFault) →
     (fault ≢ NoMemory → wanted ≡ Err fault) → Fails fault wanted

@@ -2,7 +2,7 @@ pub mod Cuts
 pub mod FieldValues
 pub mod Header
 pub mod Records
-pub mod Whole
+pub mod WholeFile
 pub mod Answers
 pub mod Room
-pub mod Apart
+pub mod FaultKinds

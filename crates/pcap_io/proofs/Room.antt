@@ -5,7 +5,7 @@ use Rattle.std.proofs.lemmas.List.{length-append}
 use Rattle.pcap_io.specs.declared.capture.Capture.{Capture}
 use Rattle.pcap_io.specs.declared.capture.Frame.{Frame}
 use Rattle.pcap_io.specs.Text.{record_text, capture_text, header_text}
-use Rattle.pcap_io.proofs.Whole.{records, length-record, length-header}
+use Rattle.pcap_io.proofs.WholeFile.{records, length-record, length-header}
 
 pub length-capture : (c : Capture) → length (capture_text c) ≡ 24 + length (records c.big c.frames)
 length-capture c =

@@ -1,8 +1,8 @@
-pub mod Replaying
-pub mod Stepping
-pub mod Arriving
-pub mod Handing
-pub mod Requesting
-pub mod Sweeping
-pub mod Here
-pub mod Lining
+pub mod EntryReplay
+pub mod QueueStep
+pub mod ArrivalEntries
+pub mod Handouts
+pub mod RequestEntries
+pub mod QueueSweep
+pub mod QueuesOfPlace
+pub mod ListingLines

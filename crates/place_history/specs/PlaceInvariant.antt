@@ -1,5 +1,5 @@
 -- The queues of a place beside their entries: each is the replay of its history.
-use Rattle.std.specs.Prelude.{◌≡◌, ◌≤◌, ◌<◌, ◌+◌, ◌-◌, ◌%◌, ◌++◌, ℕ, List, [], ◌∷◌, Option}
+use Rattle.std.specs.Prelude.{◌≡◌, ◌≤◌, ◌<◌, ◌+◌, ◌-◌, ◌++◌, ℕ, List, [], ◌∷◌, Option}
 use Rattle.std.specs.Prelude.{Some, None, false}
 use Rattle.std.specs.Prelude.{length, IfSome, if◌then◌else◌, nat_eq, Bool, true}
 use Rattle.std.specs.BTreeMap.{btree_map_len, is_at}
@@ -29,6 +29,7 @@ use Rattle.histories.specs.States.{bound_in_all, entry_of}
 use Rattle.place_history.specs.PlaceState.{AreHere}
 use Rattle.place_history.specs.Changes.{queue_at}
 use Rattle.histories.specs.Happenings.{all_handed}
+use Rattle.histories.specs.Places.{place_for}
 
 -- an arrival that was begun
 abbrev pub as_arrival : Offer → Arrival
@@ -133,4 +134,4 @@ pub record IsPlace (number places : ℕ) (is_left : Bool) (h : Held) : Type 0 wh
   pub legal : AreLegal h.entries.items
   -- each entry is of one of the place's queues
   pub here : AreHere places number h.entries.items
-  pub offer_here : IfSome h.offer (λ o. o.queue % places ≡ number)
+  pub offer_here : IfSome h.offer (λ o. place_for o.queue places ≡ number)

@@ -1,10 +1,11 @@
 -- A place: the entries so far, of which each of its queues is the replay, and an arrival that was
 -- begun and isn't settled yet.
-use Rattle.std.specs.Prelude.{◌≡◌, ◌%◌, ℕ, List, [], ◌∷◌, ◌++◌, Option, None, Bool, All}
+use Rattle.std.specs.Prelude.{◌≡◌, ℕ, List, [], ◌∷◌, ◌++◌, Option, None, Bool, All}
 use Rattle.queue_core.specs.declared.event.Event.{Event}
 use Rattle.histories.specs.declared.entry.Entry.{Entry}
 use Rattle.histories.specs.Journeys.{Arrival}
 use Rattle.histories.specs.States.{entry_of}
+use Rattle.histories.specs.Places.{place_for}
 
 pub record PlaceState : Type 0 where
   -- which of how many places it is
@@ -18,11 +19,11 @@ pub record PlaceState : Type 0 where
 
 -- whether a queue is one of this place's
 abbrev pub IsAt : PlaceState → ℕ → Type 0
-IsAt place queue = queue % place.places ≡ place.number
+IsAt place queue = place_for queue place.places ≡ place.number
 
 -- of so many places, entries of the one with this number
 abbrev pub AreHere : ℕ → ℕ → List Entry → Type 0
-AreHere places number es = All (λ (e : Entry). e.queue % places ≡ number) es
+AreHere places number es = All (λ (e : Entry). place_for e.queue places ≡ number) es
 
 -- the place once it happened
 abbrev pub after_event : PlaceState → ℕ → Event → PlaceState

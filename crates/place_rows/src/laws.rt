@@ -1,6 +1,6 @@
 //! Laws of the definitions, each the contract of a function that does nothing.
 
-ghost use Rattle.std.specs.Prelude.{◌≡◌, ◌≢◌, ◌<◌, ◌%◌, ◌+◌, ℕ, List, [], ◌∷◌, ◌++◌, sum_by, Some};
+ghost use Rattle.std.specs.Prelude.{◌≡◌, ◌≢◌, ◌<◌, ◌+◌, ℕ, List, [], ◌∷◌, ◌++◌, sum_by, Some};
 ghost use Rattle.std.specs.Prelude.{slice_get};
 ghost use Rattle.std.specs.Prelude.{length, map, true, false};
 ghost use Rattle.packet_entry.specs.declared.packet.Card.{Card};
@@ -13,6 +13,7 @@ ghost use Rattle.histories.specs.History.{AreLegal, history};
 ghost use Rattle.histories.specs.Happenings.{closings, downs};
 ghost use Rattle.histories.specs.Journeys.{Arrival, entering, asks, came, visit_of};
 ghost use Rattle.histories.specs.Moves.{move_after, moves_after};
+ghost use Rattle.histories.specs.Places.{place_for};
 ghost use Rattle.packet_moves.specs.declared.setting.Setting.{Setting};
 ghost use Rattle.locked_place.specs.Points.{points_after};
 ghost use Rattle.locked_place.specs.Turns.{IsTurn};
@@ -194,6 +195,6 @@ pub fn each_entry_is_one_rows_own()
         × ((slice_get rows n ≡ Some known) × (0 < own_at (is_place i) k known))) }
     ensures of_place { (places queue k : ℕ) (rows : List (List Known)) (lists : List (List Entry))
         (list es : List Entry) → AllFrom (IsListOf places rows) 0 lists →
-        IsGrouped (flat lists) es → queue % places ≡ k → slice_get lists k ≡ Some list →
+        IsGrouped (flat lists) es → place_for queue places ≡ k → slice_get lists k ≡ Some list →
         history queue es ≡ history queue list }
 {}

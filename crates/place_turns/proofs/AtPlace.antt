@@ -12,7 +12,7 @@ use Rattle.locked_place.specs.Views.{LockedView, PlaceLabel, label_of}
 use Rattle.place_rows.specs.Rows.{ArePasses, lock_of, label_at}
 use Rattle.place_turns.specs.declared.places.Places.{Places}
 use Rattle.place_turns.specs.Passes.{AreOf}
-use Rattle.place_turns.proofs.Passing.{as_many, pass_there, passes_set}
+use Rattle.place_turns.proofs.PassTurns.{as_many, pass_there, passes_set}
 
 module _ {g : Ghosts LockedView Entry} (places : Places) (row : List (Pass LockedView Entry g))
     (k : ℕ) (lock : TurnLock LockedView Entry) (pass : Pass LockedView Entry g) where

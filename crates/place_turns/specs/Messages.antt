@@ -1,5 +1,5 @@
 -- Messages of a port: what each makes of its pass, how it is answered, and how it is logged.
-use Rattle.std.specs.Prelude.{◌≡◌, ℕ, ◌%◌, List, [], ◌∷◌, ◌++◌, length, Option, Some, None}
+use Rattle.std.specs.Prelude.{◌≡◌, ℕ, List, [], ◌∷◌, ◌++◌, length, Option, Some, None}
 use Rattle.packet_entry.specs.declared.packet.Card.{Card}
 use Rattle.hook_chain.specs.declared.chain.Decision.{Decision}
 use Rattle.hook_chain.specs.Route.{onward_of}
@@ -16,6 +16,7 @@ use Rattle.histories.specs.declared.log.Did.{Did}
 use Rattle.histories.specs.declared.log.Did.TheVariants.{Sent}
 use Rattle.histories.specs.Happenings.{queue_of, all_handed}
 use Rattle.histories.specs.States.{step_of, entry_of}
+use Rattle.histories.specs.Places.{place_for}
 use Rattle.packet_moves.specs.declared.fed.Fed.{Fed}
 use Rattle.packet_moves.specs.declared.setting.Setting.{Setting}
 use Rattle.packet_moves.specs.Calls.{next_call}
@@ -43,7 +44,7 @@ pub record IsAsked (places : ℕ) (s : Setting) (port call : ℕ) (request : Req
     (errno : ℕ) : Type 0 where
   pub found : List Entry
   pub between : Trail
-  pub turn : StepsAt (queue_of request % places) old between found
+  pub turn : StepsAt (place_for (queue_of request) places) old between found
       (found ++ entry_of found (queue_of request) (Ask port call request) ∷ [])
   pub reply : (step_of found (queue_of request) (Ask port call request)).reply
       ≡ Answer errno (length (step_of found (queue_of request) (Ask port call request)).left)

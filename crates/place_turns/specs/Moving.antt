@@ -1,5 +1,5 @@
 -- Packets that move on by turns of one pass, from queue to queue, each to its rest or its end.
-use Rattle.std.specs.Prelude.{◌≡◌, ℕ, ◌%◌, zero, suc, List, [], ◌∷◌, ◌++◌, Option, Some, None, Bool}
+use Rattle.std.specs.Prelude.{◌≡◌, ℕ, zero, suc, List, [], ◌∷◌, ◌++◌, Option, Some, None, Bool}
 use Rattle.packet_entry.specs.declared.packet.Card.{Card}
 use Rattle.hook_chain.specs.declared.chain.Next.{Next}
 use Rattle.hook_chain.specs.declared.chain.Next.TheVariants.{Released, To}
@@ -9,6 +9,7 @@ use Rattle.histories.specs.declared.entry.Entry.{Entry}
 use Rattle.histories.specs.Happenings.{arrive}
 use Rattle.histories.specs.Journeys.{Arrival, visit_of}
 use Rattle.histories.specs.States.{step_of, entry_of}
+use Rattle.histories.specs.Places.{place_for}
 use Rattle.packet_moves.specs.declared.fed.Fed.{Fed}
 use Rattle.packet_moves.specs.declared.fed.Fed.TheVariants as fed
 use Rattle.packet_moves.specs.declared.setting.Setting.{Setting}
@@ -30,7 +31,7 @@ pub record ArrivesThen (on : Goes) (places : ℕ) (s : Setting) (a : Arrival) (t
   pub found : List Entry
   pub room : Bool
   pub between : Trail
-  pub turn : StepsAt (a.queue % places) t between found
+  pub turn : StepsAt (place_for a.queue places) t between found
       (found ++ entry_of found a.queue (arrive a room) ∷ [])
   pub settles : Settles on s between (step_of found a.queue (arrive a room)).left u f
 
@@ -38,7 +39,7 @@ pub record ArrivesThen (on : Goes) (places : ℕ) (s : Setting) (a : Arrival) (t
 pub record IsLost (places : ℕ) (a : Arrival) (t u : Trail) (f : Fed) : Type 0 where
   pub found : List Entry
   pub between : Trail
-  pub looked : StepsAt (a.queue % places) t between found found
+  pub looked : StepsAt (place_for a.queue places) t between found found
   pub lost : u ≡ record between { lost = between.lost ++ visit_of a ∷ [] }
   pub is : f ≡ fed.Lost
 

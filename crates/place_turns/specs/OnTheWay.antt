@@ -1,5 +1,5 @@
 -- Where a packet stands on its way, as the code has it, beside what the turns of a pass say.
-use Rattle.std.specs.Prelude.{◌≡◌, ◌<◌, ◌%◌, ℕ, suc, List, Some}
+use Rattle.std.specs.Prelude.{◌≡◌, ◌<◌, ℕ, suc, List, Some}
 use Rattle.packet_entry.specs.declared.packet.Card.{Card}
 use Rattle.packet_entry.specs.Numbers.{last_visit}
 use Rattle.hook_chain.specs.declared.chain.Next.{Next}
@@ -7,6 +7,7 @@ use Rattle.hook_chain.specs.declared.chain.Next.TheVariants.{Released, To}
 use Rattle.queue_core.specs.Laws.{way_by}
 use Rattle.queue_core.specs.Step.{Open}
 use Rattle.histories.specs.declared.histories.Lost.{Lost}
+use Rattle.histories.specs.Places.{place_for}
 use Rattle.packet_moves.specs.declared.fed.Fed.{Fed}
 use Rattle.packet_moves.specs.declared.fed.Fed.TheVariants as fed
 use Rattle.packet_moves.specs.declared.setting.Setting.{Setting}
@@ -54,7 +55,8 @@ IsMoved places s olds news card route came =
 -- it found no memory for an arrival by this route
 abbrev pub LooksFor : ℕ → List Known → List Known → Next → Type 0
 LooksFor places olds news Released = ⊥
-LooksFor places olds news (To queue bypass table) = TurnsOne (queue % places) olds news LooksOn
+LooksFor places olds news (To queue bypass table) = TurnsOne (place_for queue places) olds news
+    LooksOn
 
 -- it was moved on to its rest or its end
 pub record IsCarried (places : ℕ) (s : Setting) (old : Trail) (came : Came) (new : Trail) (f : Fed)

@@ -1,12 +1,13 @@
 //! The passes of one holder: one of each place's lock, and what its calls lost and sent.
 
-ghost use Rattle.std.specs.Prelude.{◌≡◌, ◌≢◌, ◌≤◌, ◌<◌, ◌+◌, ◌^◌, ◌%◌, ℕ, [], length};
+ghost use Rattle.std.specs.Prelude.{◌≡◌, ◌≢◌, ◌≤◌, ◌<◌, ◌+◌, ◌^◌, ℕ, [], length};
 ghost use Rattle.std.specs.Prelude.{Some, IsSome, IfOk, OnOk, IfErr, OnErr};
 ghost use Rattle.std.specs.BTreeMap.{get};
 ghost use Rattle.std.specs.Ordering.{nat_cmp};
 ghost use Rattle.nfqa_msgs.specs.RequestReading.{PayloadFits};
 ghost use Rattle.turn_lock.specs.Passes.{view_of};
 ghost use Rattle.histories.specs.Happenings.{queue_of};
+ghost use Rattle.histories.specs.Places.{place_for};
 ghost use Rattle.packet_moves.specs.HandedOn.{AreInTime};
 ghost use Rattle.locked_place.specs.Passes.{IsPassOf};
 ghost use Rattle.locked_place.specs.Turns.{ArrivesIn, AsksIn, LooksOn};
@@ -84,12 +85,12 @@ impl Passes {
         requires visited { 1 ≤ packet.visit }
         requires of { AreOf places.now self.old.locks self.old.trail.known }
         ensures of { AreOf places.now self.new.locks self.new.trail.known }
-        ensures turn { IfOk result (λ placed. TurnsOne (queue % places_of places.now)
+        ensures turn { IfOk result (λ placed. TurnsOne (place_for queue (places_of places.now))
             self.old.trail.known self.new.trail.known
             (λ v w. ArrivesIn (record { queue = queue; card = packet; bypass = bypass })
             v w placed)) }
         ensures returned { IfErr result (λ back. back.packet ≡ packet) }
-        ensures err { OnErr result (TurnsOne (queue % places_of places.now)
+        ensures err { OnErr result (TurnsOne (place_for queue (places_of places.now))
             self.old.trail.known self.new.trail.known LooksOn) }
         ensures lost { (self.new.trail.lost ≡ self.old.trail.lost)
             × (self.new.room ≡ self.old.room) }
@@ -129,14 +130,15 @@ impl Passes {
         requires none { handed.old.items ≡ [] }
         requires of { AreOf places.now self.old.locks self.old.trail.known }
         ensures of { AreOf places.now self.new.locks self.new.trail.known }
-        ensures turn { IfOk result (λ errno. TurnsOne (queue_of request % places_of places.now)
+        ensures turn { IfOk result (λ errno. TurnsOne
+            (place_for (queue_of request) (places_of places.now))
             self.old.trail.known self.new.trail.known
             (λ v w. AsksIn port call request v w errno handed.new.items)) }
         ensures room { OnOk result (length handed.new.items ≤ self.new.room) }
         ensures in_time { OnOk result (AreInTime handed.new.items) }
         ensures lost { self.new.trail.lost ≡ self.old.trail.lost }
         ensures none { OnErr result (handed.new.items ≡ []) }
-        ensures err { OnErr result (TurnsOne (queue_of request % places_of places.now)
+        ensures err { OnErr result (TurnsOne (place_for (queue_of request) (places_of places.now))
             self.old.trail.known self.new.trail.known LooksOn) }
     {
         own_entries_grow_by_each_turn();
@@ -187,7 +189,7 @@ fn arrive_at<R: Wait, G: Gate>(
 ) -> Result<Placed, NoRoom>
     requires visited { 1 ≤ packet.visit }
     requires pass { (named : PlaceLabel) × IsPassOf label_of named lock.now pass.old
-        × (queue % named.places ≡ named.number) × AreOutletsOf outlets.now named }
+        × (place_for queue named.places ≡ named.number) × AreOutletsOf outlets.now named }
     requires counted { IsCounted (view_of pass.old) sent.old }
     ensures counted { IsCounted (view_of pass.new) sent.new }
     ensures pass { (named : PlaceLabel) → IsPassOf label_of named lock.now pass.old →

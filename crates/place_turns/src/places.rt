@@ -1,6 +1,7 @@
 //! The places of queues, and what they share.
 
-ghost use Rattle.std.specs.Prelude.{◌≡◌, ◌≤◌, ◌<◌, ◌%◌, length};
+ghost use Rattle.std.specs.Prelude.{◌≡◌, ◌≤◌, ◌<◌, length};
+ghost use Rattle.histories.specs.Places.{place_for};
 
 use locked_place::{LockedPlace, Outlets};
 use packet_moves::Setting;
@@ -32,7 +33,7 @@ impl Places {
 
     /// The place of a queue.
     pub(crate) fn place_of(&self, queue: u16) -> usize
-        ensures value { result ≡ queue % places_of self.now }
+        ensures value { result ≡ place_for queue (places_of self.now) }
         ensures there { result < length self.now.locks.items }
         ensures few { result < 64 }
     {

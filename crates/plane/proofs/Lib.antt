@@ -1,11 +1,11 @@
-mod Balanced
-mod Dividing
-mod Flushed
-mod Framed
-mod Parts
-pub mod Finishing
-mod Splitting
+mod CallBalance
+mod FeederPasses
+mod DeviceBalance
+mod JoinedFeeders
+mod LockParts
+pub mod PlaneEnd
+mod RowSplits
 mod Texts
-mod Beginning
-mod Gathering
-mod Going
+mod PlaneStart
+mod PassMeetings
+mod RowParts

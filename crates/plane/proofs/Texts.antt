@@ -1,5 +1,5 @@
 -- The text of the listing of all places.
-use Rattle.std.proofs.Common.{◌≡◌, ◌<◌, ◌≤◌, ◌+◌, ◌%◌, ℕ, zero, suc, List, ◌++◌}
+use Rattle.std.proofs.Common.{◌≡◌, ◌<◌, ◌≤◌, ◌+◌, ℕ, zero, suc, List, ◌++◌}
 use Rattle.std.proofs.Common.{sym, refl, ap, ◌∙◌, subst, arith, append_assoc, append-nil}
 use Rattle.std.specs.Prelude.{flat_map}
 use Rattle.std.specs.List.{range_with_len}
@@ -10,6 +10,7 @@ use Rattle.histories.specs.declared.histories.Lost.{Lost}
 use Rattle.histories.specs.Listing.{line_of}
 use Rattle.histories.specs.Numbers.{queue_count}
 use Rattle.histories.specs.States.{every_number}
+use Rattle.histories.specs.Places.{place_for}
 use Rattle.packet_moves.specs.declared.setting.Setting.{Setting}
 use Rattle.place_history.specs.Lines.{text_at}
 use Rattle.locked_place.specs.Turns.{LooksOn}
@@ -38,7 +39,7 @@ all_texts places known lines some are =
     flat_same (text_at lines) (λ queue. line_of queue (state_in places known queue)) 0 queue_count
     (λ q low few. are.here q (omega (arith, few)) (within q))
   where
-    within : (q : ℕ) → q % places < places
+    within : (q : ℕ) → place_for q places < places
     within q = mod_below q places some
 
 -- a pass that looked at places stays balanced

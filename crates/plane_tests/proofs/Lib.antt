@@ -1,2 +1,2 @@
-mod Going
-mod Opened
+mod AllPasses
+mod ScriptPlane

@@ -1,3 +1,3 @@
 pub mod Notices
 pub mod Outcomes
-pub mod Closing
+pub mod PortEnd

@@ -4,7 +4,7 @@ use Rattle.std.specs.BTreeMap.{BTreeMap, get}
 use Rattle.std.specs.Ordering.{nat_cmp}
 use Rattle.script_lines.specs.declared.line.Down.{Down}
 use Rattle.inspector_script.specs.Scripts.{ScriptValue}
-use Rattle.made_runs.specs.Feeder.{downs_after}
+use Rattle.run_parts.specs.Feeder.{downs_after}
 
 -- the lines that stand by this frame's number
 abbrev pub lines_after : BTreeMap ℕ (List Down) → ℕ → List Down

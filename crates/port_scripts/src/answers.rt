@@ -4,7 +4,7 @@ ghost use Rattle.std.specs.Prelude.{◌≡◌, ◌<◌, length, All, IfOk, OnOk,
 ghost use Rattle.nfqa_msgs.specs.NoticeMeaning.{notice_of};
 ghost use Rattle.script_lines.specs.Limits.{IsAsk};
 ghost use Rattle.inspector_script.specs.Scripts.{next_count};
-ghost use Rattle.made_runs.specs.Log.{asks_for};
+ghost use Rattle.run_parts.specs.Log.{asks_for};
 ghost use Rattle.nfqa_msgs.specs.NoticeTexts.{told_exactly};
 
 use inspector_script::{Asks, PortMachine, Script};

@@ -4,7 +4,7 @@ ghost use Rattle.std.specs.Prelude.{ℕ, List, Option};
 ghost use Rattle.histories.specs.declared.log.Did.{Did};
 ghost use Rattle.nfqa_msgs.specs.NoticeWriting.{Told};
 ghost use Rattle.inspector_script.specs.Scripts.{ScriptValue, closing, opening};
-ghost use Rattle.made_runs.specs.Log.{answer_to};
+ghost use Rattle.run_parts.specs.Log.{answer_to};
 ghost use Rattle.port_scripts.specs.Words.{AreWords, ClosesLast};
 
 /// Only the end of a port asks for its closing, and last of all.

@@ -1,7 +1,7 @@
 //! When devices go down.
 
 ghost use Rattle.std.specs.Prelude.{◌≡◌, ◌∷◌, ◌++◌, ℕ, [], filter, IfOk, OnOk};
-ghost use Rattle.made_runs.specs.Feeder.{is_after};
+ghost use Rattle.run_parts.specs.Feeder.{is_after};
 ghost use Rattle.port_scripts.specs.Downs.{AreDownsOf, lines_after};
 
 use inspector_script::{Downs, Script};

@@ -2,7 +2,7 @@
 
 ghost use Rattle.std.specs.Prelude.{◌≡◌, ◌≤◌, length, IfOk};
 ghost use Rattle.packet_entry.specs.Numbers.{longest_packet};
-ghost use Rattle.made_runs.specs.Entering.{card_of, micros_of};
+ghost use Rattle.run_parts.specs.Entering.{card_of, micros_of};
 
 use ip_fields::link_cut;
 use packet_entry::{NoMemory, Packet};

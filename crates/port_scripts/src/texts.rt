@@ -4,9 +4,9 @@ ghost use Rattle.std.specs.Prelude.{◌≡◌, ◌<◌, ◌≤◌, ◌^◌, drop
 ghost use Rattle.nfqa_msgs.specs.RequestWriting.{spelling};
 ghost use Rattle.script_lines.specs.Limits.{IsRequest};
 
-use made_runs::datagrams_are_short;
 use nfqa_msgs::{Request, encode_request};
 use packet_entry::NoMemory;
+use run_parts::datagrams_are_short;
 
 /// A request's text, in place of what the buffer held.
 pub fn put_text(text: &mut Vec<u8>, port: u32, call: u32, request: &Request) -> Result<(), NoMemory>

@@ -1,9 +1,9 @@
 pub mod FreeIds
-pub mod Places
+pub mod WaitingList
 pub mod Links
-pub mod Relinking
-pub mod Offering
+pub mod MapChanges
+pub mod LastOffer
 pub mod Shares
-pub mod Handing
+pub mod HandedPackets
 pub mod Tables
 pub mod Outcomes

@@ -29,7 +29,7 @@ use Rattle.queue_core.specs.Laws.{waiting_in, arriving, leaving_in, times, IsCon
 use Rattle.queue_core.specs.Laws.{AllAreGone, IsUntouched, AreApart, HasIds}
 use Rattle.queue_core.specs.Walk.{Known, Shapes, walk_by_shape, asks_config, IsOwn}
 use Rattle.queue_core.proofs.FreeIds.{fresh_is_free}
-use Rattle.queue_core.proofs.Places.{apart_without, apart_dropped}
+use Rattle.queue_core.proofs.WaitingList.{apart_without, apart_dropped}
 use Rattle.queue_core.proofs.Shares.{share_first}
 
 -- ---- each packet stays or leaves

@@ -1,5 +1,5 @@
 pub mod Cards
 pub mod Ids
-pub mod Requesting
-pub mod Telling
-pub mod Pushing
+pub mod RequestResults
+pub mod StepReplies
+pub mod OnwardPackets

@@ -36,7 +36,7 @@ pub fn going_on(queue: &Option<Standing>, alloc: Global, entry: &Entry) -> Resul
 }
 
 /// What the reply of an entry tells.
-#[tactic(auto, using(crate::proofs::Telling::none_going))]
+#[tactic(auto, using(crate::proofs::StepReplies::none_going))]
 fn told(queue: &Option<Standing>, alloc: Global, entry: &Entry) -> Result<Leavers, NoMemory>
     ensures { IfOk result (λ leavers. leavers.items ≡ telling.told_going entry.now.event
         entry.now.reply (telling.waiting_of queue.now)) }

@@ -2,7 +2,7 @@
 
 ghost use Rattle.std.specs.Prelude.{◌<◌, ◌+◌, ◌^◌, [], length, IfOk, IsTrue};
 ghost use Rattle.histories.specs.Journeys.{AreSound};
-ghost use Rattle.made_runs.specs.Entering.{cards};
+ghost use Rattle.run_parts.specs.Entering.{cards};
 
 use histories::Histories;
 use hook_chain::Tables;

@@ -7,11 +7,11 @@ use Rattle.pcap_io.specs.declared.capture.Capture.{Capture}
 use Rattle.histories.specs.declared.histories.Histories.{Histories}
 use Rattle.histories.specs.History.{AreLegal}
 use Rattle.histories.specs.Journeys.{AreSound}
-use Rattle.made_runs.specs.Entering.{cards}
-use Rattle.made_runs.specs.Log.{Note}
-use Rattle.made_runs.specs.Run.{IsMadeBy}
-use Rattle.makers_audit.specs.Makers.{IsMakersAnswer, none_left}
-use Rattle.journeys_audit.specs.Unmet.{IsLeastUnmet}
+use Rattle.run_parts.specs.Entering.{cards}
+use Rattle.run_parts.specs.Log.{Note}
+use Rattle.run_parts.specs.Run.{IsMadeBy}
+use Rattle.port_audit.specs.Makers.{IsMakersAnswer, none_left}
+use Rattle.journey_audit.specs.Unmet.{IsLeastUnmet}
 use Rattle.journal_audit.specs.Illegal.{IsFirstPlace}
 use Rattle.run_audit.specs.declared.finding.Finding.{Finding}
 use Rattle.run_audit.specs.declared.finding.Finding.TheVariants.{Entry, Record, Makers}

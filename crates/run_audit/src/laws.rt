@@ -9,7 +9,7 @@ ghost use Rattle.run_audit.specs.declared.finding.Finding.{Finding};
 ghost use Rattle.run_audit.specs.Findings as findings;
 
 use histories::each_front_of_a_legal_history_is_legal;
-use makers_audit::a_run_is_all_its_parts;
+use port_audit::a_run_is_all_its_parts;
 
 /// Nothing is found of a run.
 pub fn a_run_has_no_finding()

@@ -1,2 +1,2 @@
-mod Saying
-mod Parts
+mod ReaderAnswers
+mod TextParts

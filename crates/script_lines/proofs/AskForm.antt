@@ -20,8 +20,8 @@ use Rattle.script_lines.specs.AskLine.{payload_part, queue_of, raw_of, verdict_o
 use Rattle.script_lines.specs.AskLine.{with_priority}
 use Rattle.script_lines.specs.Grammar.{IsAsk, IsConfig, IsId, IsJudgement, IsNumberPart}
 use Rattle.script_lines.specs.Grammar.{IsParamsPart, IsPayloadPart, IsQueue, IsVerdict}
-use Rattle.script_lines.proofs.Wording.{Laws, bind_some, chosen, first_word_some}
-use Rattle.script_lines.proofs.Wording.{none_left, only_word_some, passed, same_word}
+use Rattle.script_lines.proofs.WordLaws.{Laws, bind_some, chosen, first_word_some}
+use Rattle.script_lines.proofs.WordLaws.{none_left, only_word_some, passed, same_word}
 use Rattle.script_lines.proofs.WordForm.{id_again, id_some, queue_again, queue_some, verdict_again}
 use Rattle.script_lines.proofs.WordForm.{verdict_some}
 use Rattle.script_lines.proofs.AskPartForm.{Begins, command_part_again, command_part_some}

@@ -14,9 +14,9 @@ use Rattle.script_lines.specs.AskLine.{params_part, value_part}
 use Rattle.script_lines.specs.Grammar.{IsCommandPart, IsNumberPart, IsParamsPart, IsValuePart}
 use Rattle.script_lines.specs.Grammar.{command_names}
 use Rattle.script_lines.specs.Numbers.{most_payload_bytes}
-use Rattle.script_lines.proofs.Wording.{Laws, below_again, below_some, bind_some, chosen}
-use Rattle.script_lines.proofs.Wording.{first_word_some, name_differs, number_again, passed}
-use Rattle.script_lines.proofs.Wording.{same_word, taken, word_is, words_after_some}
+use Rattle.script_lines.proofs.WordLaws.{Laws, below_again, below_some, bind_some, chosen}
+use Rattle.script_lines.proofs.WordLaws.{first_word_some, name_differs, number_again, passed}
+use Rattle.script_lines.proofs.WordLaws.{same_word, taken, word_is, words_after_some}
 use Rattle.script_lines.proofs.WordForm.{command_again, command_some, mode_again, mode_some}
 
 -- a part of a line, and the words after it

@@ -11,9 +11,9 @@ use Rattle.script_lines.specs.declared.condition.Condition.TheVariants as test
 use Rattle.script_lines.specs.ConditionLine.{condition_of, every_of, mark_of, test_of}
 use Rattle.script_lines.specs.Grammar.{IsCondition}
 use Rattle.text_lines.specs.Numerals.{IsNumeral}
-use Rattle.script_lines.proofs.Wording.{Laws, below_again, below_some, bind_some, chosen}
-use Rattle.script_lines.proofs.Wording.{cut_front, cut_some, first_word_some, map_some, none_left}
-use Rattle.script_lines.proofs.Wording.{number_again, number_uncut, passed, same_word}
+use Rattle.script_lines.proofs.WordLaws.{Laws, below_again, below_some, bind_some, chosen}
+use Rattle.script_lines.proofs.WordLaws.{cut_front, cut_some, first_word_some, map_some, none_left}
+use Rattle.script_lines.proofs.WordLaws.{number_again, number_uncut, passed, same_word}
 
 -- ---- what is read
 

@@ -3,7 +3,7 @@ pub mod AskPartForm
 pub mod ConditionForm
 pub mod LineForm
 pub mod Marks
-pub mod Parts
+pub mod LineParts
 pub mod PartsForm
 pub mod WordForm
-pub mod Wording
+pub mod WordLaws

@@ -26,9 +26,9 @@ use Rattle.script_lines.specs.Line.{asks_in, conditions_of, down_of, end_of, num
 use Rattle.script_lines.specs.Line.{on_of, says, says_by, set_up, without_notice}
 use Rattle.script_lines.specs.Grammar.{IsAsk, IsAskAlone, IsCondition, IsForm, IsNumberLine, IsOn}
 use Rattle.script_lines.specs.Grammar.{Says}
-use Rattle.script_lines.proofs.Wording.{Laws, bind_some, chosen, cut_word_some, first_word_some}
-use Rattle.script_lines.proofs.Wording.{front_cut, map_some, number_again, only_word_some, passed}
-use Rattle.script_lines.proofs.Wording.{same_word, taken, words_after_some}
+use Rattle.script_lines.proofs.WordLaws.{Laws, bind_some, chosen, cut_word_some, first_word_some}
+use Rattle.script_lines.proofs.WordLaws.{front_cut, map_some, number_again, only_word_some, passed}
+use Rattle.script_lines.proofs.WordLaws.{same_word, taken, words_after_some}
 use Rattle.script_lines.proofs.PartsForm.{parts_again, parts_some}
 use Rattle.script_lines.proofs.AskForm.{ask_again, ask_some, starts_apart}
 use Rattle.script_lines.proofs.ConditionForm.{condition_again, condition_some}

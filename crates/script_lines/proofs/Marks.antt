@@ -20,7 +20,7 @@ use Rattle.script_lines.specs.ConditionLine.{mark_of}
 use Rattle.script_lines.specs.Numbers.{most_payload_bytes, most_raw_bytes}
 use Rattle.script_lines.specs.Grammar.{AreParts, IsAsk, IsCommandPart, IsCondition, IsConfig}
 use Rattle.script_lines.specs.Grammar.{IsJudgement, IsNumberPart, IsParamsPart, IsPayloadPart}
-use Rattle.script_lines.proofs.Wording.{IsWithout, Laws, is_other, number_again, other_word}
+use Rattle.script_lines.proofs.WordLaws.{IsWithout, Laws, is_other, number_again, other_word}
 use Rattle.script_lines.proofs.WordForm.{command_again, id_again, mode_again, queue_again}
 use Rattle.script_lines.proofs.WordForm.{verdict_again}
 use Rattle.script_lines.proofs.ConditionForm.{mark_again}

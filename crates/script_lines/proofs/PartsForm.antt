@@ -5,9 +5,9 @@ use Rattle.std.proofs.lemmas.Option.{same_Some}
 use Rattle.text_lines.specs.Words.{◌>>=◌, cut_at_word}
 use Rattle.script_lines.specs.Line.{all_of, parts_at}
 use Rattle.script_lines.specs.Grammar.{AreParts}
-use Rattle.script_lines.proofs.Parts.{parts_by, parts_found}
-use Rattle.script_lines.proofs.Wording.{IsWithout, bind_some, cut_word_some, front_cut}
-use Rattle.script_lines.proofs.Wording.{without_cut}
+use Rattle.script_lines.proofs.LineParts.{parts_by, parts_found}
+use Rattle.script_lines.proofs.WordLaws.{IsWithout, bind_some, cut_word_some, front_cut}
+use Rattle.script_lines.proofs.WordLaws.{without_cut}
 
 empty_list : {A : Type 0} (x : A) (xs : List A) → x ∷ xs ≡ [] → ⊥
 empty_list x xs e = cc

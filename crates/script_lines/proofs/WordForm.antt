@@ -14,10 +14,10 @@ use Rattle.script_lines.specs.AskLine.{queue_verdict, to_queue, verdict_word}
 use Rattle.script_lines.specs.Grammar.{IsId, IsMode, IsName, IsOnward, IsQueue, IsVerdict}
 use Rattle.script_lines.specs.Grammar.{command_names, mode_names, verdict_names}
 use Rattle.text_lines.specs.Numerals.{IsNumeral}
-use Rattle.script_lines.proofs.Wording.{Laws, below_again, below_some, chosen}
-use Rattle.script_lines.proofs.Wording.{cut_front, cut_some, map_some, named_again, named_read}
-use Rattle.script_lines.proofs.Wording.{named_some, none_read, number_again, number_uncut}
-use Rattle.script_lines.proofs.Wording.{other_word, passed, same_word}
+use Rattle.script_lines.proofs.WordLaws.{Laws, below_again, below_some, chosen}
+use Rattle.script_lines.proofs.WordLaws.{cut_front, cut_some, map_some, named_again, named_read}
+use Rattle.script_lines.proofs.WordLaws.{named_some, none_read, number_again, number_uncut}
+use Rattle.script_lines.proofs.WordLaws.{other_word, passed, same_word}
 
 -- ---- no keyword is a number
 

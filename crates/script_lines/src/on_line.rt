@@ -42,7 +42,7 @@ pub(crate) fn read_on(alloc: Global, line: &[u8]) -> Result<Option<OnLine>, NoMe
 }
 
 /// The conditions that stand with `and` between them.
-#[tactic(auto, using(crate::proofs::Parts::begins))]
+#[tactic(auto, using(crate::proofs::LineParts::begins))]
 fn read_conditions(alloc: Global, line: &[u8]) -> Result<Option<Vec<Condition>>, NoMemory>
     ensures value { IfOk result (λ read.
         option_map (λ conditions. conditions.items) read ≡ conditions_of (words_of line.now)) }
@@ -65,7 +65,7 @@ fn read_conditions(alloc: Global, line: &[u8]) -> Result<Option<Vec<Condition>>,
 }
 
 /// The asks that stand with `;` between them.
-#[tactic(auto, using(crate::proofs::Parts::begins))]
+#[tactic(auto, using(crate::proofs::LineParts::begins))]
 fn read_asks(alloc: Global, line: &[u8]) -> Result<Option<Vec<Template>>, NoMemory>
     ensures value { IfOk result (λ read.
         option_map (λ asks. asks.items) read ≡ asks_in (words_of line.now)) }

@@ -4,8 +4,8 @@ use Rattle.std.specs.Prelude.{ℕ, List, [], ◌∷◌, ◌++◌, ◌==◌, if�
 use Rattle.histories.specs.declared.entry.Entry.{Entry}
 use Rattle.histories.specs.declared.histories.Histories.{Histories}
 use Rattle.script_lines.specs.declared.line.Down.{Down}
-use Rattle.made_runs.specs.FedExamples.{arrives, binds, down_5, falls, shuts}
-use Rattle.made_runs.specs.Log.{logged}
+use Rattle.run_parts.specs.FedExamples.{arrives, binds, down_5, falls, shuts}
+use Rattle.run_parts.specs.Log.{logged}
 use Rattle.live_runs.specs.ByHand.{at_place_0, notes_of_7}
 use Rattle.live_runs.specs.Passes.{Pass}
 use Rattle.live_runs.specs.Seen.{Seen, Ours, Theirs, all_theirs}

@@ -4,8 +4,8 @@ use Rattle.queue_core.specs.State.{Bound}
 use Rattle.histories.specs.History.{history, replay}
 use Rattle.histories.specs.Numbers.{queue_count}
 use Rattle.script_lines.specs.declared.line.Down.{Down}
-use Rattle.made_runs.specs.Ascending.{AscendFrom}
-use Rattle.made_runs.specs.Feeder.{is_line_of, times_in}
+use Rattle.run_parts.specs.Ascending.{AscendFrom}
+use Rattle.run_parts.specs.Feeder.{is_line_of, times_in}
 use Rattle.live_runs.specs.Seen.{Seen, Ours, Theirs, entries}
 use Rattle.shared_feeding.specs.Sights.{Sight, Saw, Own, AreSightsFrom, IsBefore, IsFrameOf}
 use Rattle.shared_feeding.specs.Sights.{OwnAreOf, front_time, history_seen, own_lines, seen_of}

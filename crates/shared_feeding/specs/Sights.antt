@@ -9,10 +9,10 @@ use Rattle.histories.specs.declared.entry.Entry.{Entry}
 use Rattle.histories.specs.History.{history, is_of, replay, replay_from}
 use Rattle.histories.specs.Numbers.{queue_count}
 use Rattle.script_lines.specs.declared.line.Down.{Down}
-use Rattle.made_runs.specs.Ascending.{AscendFrom}
-use Rattle.made_runs.specs.Feeder.{Item, Was, Fell, Passed, IsItem, entries_of, lines_of, times_of}
-use Rattle.made_runs.specs.Feeder.{falling_time}
-use Rattle.made_runs.specs.Underway.{last_of}
+use Rattle.run_parts.specs.Ascending.{AscendFrom}
+use Rattle.run_parts.specs.Feeder.{Item, Was, Fell, Passed, IsItem, entries_of, lines_of, times_of}
+use Rattle.run_parts.specs.Feeder.{falling_time}
+use Rattle.run_parts.specs.Underway.{last_of}
 use Rattle.live_runs.specs.Seen.{Seen, Shares, Theirs, all_ours, entries, entry}
 
 -- ---- what feeders see and do at a queue

@@ -4,10 +4,10 @@ ghost use Rattle.std.specs.Prelude.{◌≡◌, ◌<◌, ℕ, true, List, [], ◌
 ghost use Rattle.histories.specs.History.{history};
 ghost use Rattle.histories.specs.declared.entry.Entry.{Entry};
 ghost use Rattle.script_lines.specs.declared.line.Down.{Down};
-ghost use Rattle.made_runs.specs.FedExamples.{arrives, down_5};
-ghost use Rattle.made_runs.specs.Feeder.{IsFed, IsFedBy, downs_after, downs_in_effect};
-ghost use Rattle.made_runs.specs.Ports.{is_port};
-ghost use Rattle.made_runs.specs.Run.{IsMadeBy};
+ghost use Rattle.run_parts.specs.FedExamples.{arrives, down_5};
+ghost use Rattle.run_parts.specs.Feeder.{IsFed, IsFedBy, downs_after, downs_in_effect};
+ghost use Rattle.run_parts.specs.Ports.{is_port};
+ghost use Rattle.run_parts.specs.Run.{IsMadeBy};
 ghost use Rattle.live_runs.specs.ByHand.{notes, script, stands};
 ghost use Rattle.live_runs.specs.ClosedPlanes.{IsClosedPlane, sent_by_all};
 ghost use Rattle.live_runs.specs.Meetings.{IsMeeting};

@@ -3,7 +3,7 @@
 ghost use Rattle.std.specs.Prelude.{◌≡◌, ◌<◌, ◌+◌, ℕ, List};
 ghost use Rattle.script_lines.specs.declared.line.Down.{Down};
 ghost use Rattle.inspector_script.specs.Scripts.{ScriptValue};
-ghost use Rattle.made_runs.specs.Feeder.{downs_after, downs_in_effect};
+ghost use Rattle.run_parts.specs.Feeder.{downs_after, downs_in_effect};
 ghost use Rattle.live_runs.specs.Owners.{IsFedByAll, IsFeeders, IsFeeding};
 ghost use Rattle.live_runs.specs.Seen.{Grows, Seen, all_theirs, entries};
 ghost use Rattle.shared_feeding.specs.Joining.{AreJoined, IsJoinedOf};

@@ -2,7 +2,7 @@
 
 ghost use Rattle.std.specs.Prelude.{◌≡◌, ◌≤◌, ◌<◌, ◌+◌, ◌++◌, ℕ, List, []};
 ghost use Rattle.inspector_script.specs.Scripts.{ScriptValue};
-ghost use Rattle.made_runs.specs.Feeder.{downs_after};
+ghost use Rattle.run_parts.specs.Feeder.{downs_after};
 ghost use Rattle.shared_feeding.specs.Lines.{share_downs};
 ghost use Rattle.shared_feeding.specs.Sights.{IsFrameOf, IsThis};
 

@@ -5,7 +5,7 @@ ghost use Rattle.packet_entry.specs.declared.packet.Card.{Card};
 ghost use Rattle.hook_chain.specs.declared.chain.Next.{Next};
 ghost use Rattle.histories.specs.declared.entry.Entry.{Entry};
 ghost use Rattle.script_lines.specs.declared.line.Down.{Down};
-ghost use Rattle.made_runs.specs.Feeder.{falling_time, feeding_time};
+ghost use Rattle.run_parts.specs.Feeder.{falling_time, feeding_time};
 ghost use Rattle.live_runs.specs.Calls.{FallsAt, Feeds};
 ghost use Rattle.live_runs.specs.Seen.{Seen, Shares, all_theirs};
 ghost use Rattle.shared_feeding.specs.Sights.{AreSharing, IsFrameOf, IsSharing, IsThis};

@@ -1,6 +1,6 @@
-pub mod Settling
-pub mod Stepping
-pub mod Logging
-pub mod Sending
-pub mod Opened
-pub mod Differing
+pub mod ArrivalOutcomes
+pub mod PacketSteps
+pub mod UnchangedLogs
+pub mod SentMessage
+pub mod OpenPorts
+pub mod DistinctPorts

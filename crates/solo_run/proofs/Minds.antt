@@ -33,9 +33,9 @@ use Rattle.packet_moves.specs.Moving.{Carried, carry, carry_on, settled, goes_on
 use Rattle.packet_moves.specs.Moving.{arrival_to, arrived, turned_away, left_at_once, room_for}
 use Rattle.packet_moves.specs.Moving.{with_notice}
 use Rattle.packet_moves.specs.Messages.{asking, with_ask, call_at}
-use Rattle.script_runs.specs.Numbers.{enough_arrivals}
-use Rattle.script_runs.specs.Schedule.{is_open_port}
-use Rattle.script_runs.specs.Sending.{all_moved, carried_out, sent}
+use Rattle.solo_schedule.specs.Numbers.{enough_arrivals}
+use Rattle.solo_schedule.specs.Schedule.{is_open_port}
+use Rattle.solo_schedule.specs.Sending.{all_moved, carried_out, sent}
 use Rattle.solo_run.specs.RunState.{mind_of}
 use Rattle.solo_run.specs.declared.inspector.Inspector.{Inspector}
 

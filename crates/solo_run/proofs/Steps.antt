@@ -18,13 +18,13 @@ use Rattle.packet_moves.specs.Calls.{is_sent, next_call}
 use Rattle.packet_moves.specs.Moving.{Carried}
 use Rattle.packet_moves.specs.Planes.{IsFed, entered, with_closed, without_device}
 use Rattle.packet_moves.specs.Soundness.{IsSound}
-use Rattle.script_runs.specs.Numbers.{enough_arrivals}
-use Rattle.script_runs.specs.Schedule.{fed}
+use Rattle.solo_schedule.specs.Numbers.{enough_arrivals}
+use Rattle.solo_schedule.specs.Schedule.{fed}
 use Rattle.solo_run.specs.RunState.{IsGoing, Keeps, KeepsBut, mind_of, mind_at, port_at}
 use Rattle.solo_run.specs.declared.inspector.Inspector.{Inspector}
-use Rattle.solo_run.proofs.Enough.{GoesOnInTime, carry_enough}
+use Rattle.solo_run.proofs.EnoughMemory.{GoesOnInTime, carry_enough}
 use Rattle.solo_run.proofs.Minds.{carry_leaves}
-use Rattle.solo_run.proofs.Going.{goes_same, goes_at}
+use Rattle.solo_run.proofs.RunProgress.{goes_same, goes_at}
 
 -- ---- a port closes
 

@@ -7,8 +7,8 @@ use Rattle.script_lines.specs.declared.ask.Ask.{Ask}
 use Rattle.script_lines.specs.declared.ask.Ask.TheVariants.{Words, Close}
 use Rattle.inspector_script.specs.Scripts.{ScriptValue}
 use Rattle.packet_moves.specs.World.{World, Port}
-use Rattle.script_runs.specs.Schedule.{received_in}
-use Rattle.made_runs.specs.Log.{answer_to, asks_for}
+use Rattle.solo_schedule.specs.Schedule.{received_in}
+use Rattle.run_parts.specs.Log.{answer_to, asks_for}
 use Rattle.nfqa_msgs.specs.NoticeTexts.{told_exactly}
 use Rattle.port_scripts.specs.Words.{AreWords, ClosesLast}
 use Rattle.solo_run.specs.RunState.{ReceivesFirst}

@@ -12,9 +12,9 @@ use Rattle.packet_moves.specs.World.{World, Port, at_port, received}
 use Rattle.packet_moves.specs.Messages.{call_at}
 use Rattle.packet_moves.specs.Soundness.{IsSound}
 use Rattle.solo_plane.specs.PlaneView as plane
-use Rattle.script_runs.specs.Sending.{sent}
-use Rattle.script_runs.specs.Schedule.{received_in, is_open_port}
-use Rattle.made_runs.specs.Log.{asks_for}
+use Rattle.solo_schedule.specs.Sending.{sent}
+use Rattle.solo_schedule.specs.Schedule.{received_in, is_open_port}
+use Rattle.run_parts.specs.Log.{asks_for}
 use Rattle.nfqa_msgs.specs.NoticeTexts.{told_exactly}
 use Rattle.solo_run.specs.declared.inspector.Inspector.{Inspector}
 use Rattle.solo_run.specs.declared.run.Run.{Run}

@@ -4,7 +4,7 @@ ghost use Rattle.std.specs.Prelude.{◌≡◌, ◌≢◌, ◌<◌, ℕ, length};
 ghost use Rattle.std.specs.Prelude.{slice_index_or, All, IfOk, OnOk, Some, false};
 ghost use Rattle.script_lines.specs.Limits.{IsAsk};
 ghost use Rattle.inspector_script.specs.Scripts.{next_count};
-ghost use Rattle.made_runs.specs.Log.{asks_for};
+ghost use Rattle.run_parts.specs.Log.{asks_for};
 ghost use Rattle.nfqa_msgs.specs.NoticeTexts.{told_exactly};
 ghost use Rattle.packet_moves.specs.World.{opened};
 ghost use Rattle.packet_moves.specs.Calls.{after_this};

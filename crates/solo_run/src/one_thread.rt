@@ -6,9 +6,9 @@ ghost use Rattle.histories.specs.History.{AreLegal};
 ghost use Rattle.histories.specs.Journeys.{AreSound};
 ghost use Rattle.histories.specs.Listing.{listing};
 ghost use Rattle.packet_moves.specs.Planes.{beginning};
-ghost use Rattle.made_runs.specs.Entering.{cards};
-ghost use Rattle.script_runs.specs.Schedule.{IsSolo, before_ends, until_end, until_ends};
-ghost use Rattle.script_runs.specs.Schedule as schedule;
+ghost use Rattle.run_parts.specs.Entering.{cards};
+ghost use Rattle.solo_schedule.specs.Schedule.{IsSolo, before_ends, until_end, until_ends};
+ghost use Rattle.solo_schedule.specs.Schedule as schedule;
 ghost use Rattle.solo_run.specs.Numbers.{most_frames};
 ghost use Rattle.solo_run.specs.RunState.{AreOpen, Goes, IsWith, setting_of, world_of};
 

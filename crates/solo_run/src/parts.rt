@@ -2,11 +2,11 @@
 
 ghost use Rattle.std.specs.Prelude.{◌≡◌, ◌≤◌, ◌<◌, ◌++◌, [], length, option_to_list, All, OnOk};
 ghost use Rattle.packet_entry.specs.Numbers.{longest_packet};
-ghost use Rattle.made_runs.specs.Entering.{card_of, cards};
-ghost use Rattle.script_runs.specs.Schedule.{all_down, ended_all, fed, frame_passed};
-ghost use Rattle.made_runs.specs.Feeder.{downs_after};
-ghost use Rattle.script_runs.specs.Schedule.{frames_passed, is_pause, opened_all, paused};
-ghost use Rattle.script_runs.specs.Schedule.{rounds_for};
+ghost use Rattle.run_parts.specs.Entering.{card_of, cards};
+ghost use Rattle.solo_schedule.specs.Schedule.{all_down, ended_all, fed, frame_passed};
+ghost use Rattle.run_parts.specs.Feeder.{downs_after};
+ghost use Rattle.solo_schedule.specs.Schedule.{frames_passed, is_pause, opened_all, paused};
+ghost use Rattle.solo_schedule.specs.Schedule.{rounds_for};
 ghost use Rattle.port_scripts.specs.Downs.{AreDownsOf};
 ghost use Rattle.solo_run.specs.Numbers.{most_frames};
 ghost use Rattle.solo_run.specs.RunState.{AreOpen, Goes, IsWith, Keeps, SameOpen};

@@ -1,7 +1,7 @@
 //! Mailboxes that are emptied, round by round.
 
 ghost use Rattle.std.specs.Prelude.{◌≡◌, ◌<◌, ◌||◌, Bool, length, IfOk, OnOk, false};
-ghost use Rattle.script_runs.specs.Schedule.{Looked, emptied_in, looked, round};
+ghost use Rattle.solo_schedule.specs.Schedule.{Looked, emptied_in, looked, round};
 ghost use Rattle.solo_run.specs.RunState.{Goes, IsWith, Keeps, port_at, setting_of, world_of};
 
 use crate::between::{Between, Nothing};

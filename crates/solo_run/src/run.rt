@@ -6,14 +6,14 @@ ghost use Rattle.script_lines.specs.Limits.{IsAsk};
 ghost use Rattle.inspector_script.specs.Scripts.{opening, closing};
 ghost use Rattle.solo_run.specs.Numbers.{most_frames};
 ghost use Rattle.packet_moves.specs.Soundness.{IsSound};
-ghost use Rattle.script_runs.specs.Schedule.{is_open_port, letters_at};
+ghost use Rattle.solo_schedule.specs.Schedule.{is_open_port, letters_at};
 ghost use Rattle.netlink_codec.specs.Messages.{first_message};
 ghost use Rattle.histories.specs.History.{AreLegal};
 ghost use Rattle.histories.specs.Journeys.{AreSound};
 ghost use Rattle.histories.specs.Grouping.{IsGrouped};
 ghost use Rattle.packet_moves.specs.Logs.{logs_in};
 ghost use Rattle.packet_moves.specs.Planes.{beginning, with_closed, without_device};
-ghost use Rattle.script_runs.specs.Schedule as schedule;
+ghost use Rattle.solo_schedule.specs.Schedule as schedule;
 ghost use Rattle.solo_plane.specs.Notices.{has_notice};
 
 use crate::inspector::{Inspector, asked, count_call, count_closing, inspectors};

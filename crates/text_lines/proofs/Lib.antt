@@ -1,6 +1,6 @@
-pub mod Cutting
+pub mod WordCuts
 pub mod Digits
 pub mod Numerals
-pub mod Saying
-pub mod Spelling
-pub mod Splitting
+pub mod SilentLines
+pub mod HexWords
+pub mod TextCuts

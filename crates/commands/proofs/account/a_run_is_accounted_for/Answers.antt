@@ -1,5 +1,5 @@
 use Rattle.std.specs.Prelude.{length, []}
-use Rattle.commands.proofs.Forming.{well_formed}
+use Rattle.commands.proofs.WellFormedHistories.{well_formed}
 use Rattle.commands.proofs.account.a_run_is_accounted_for.Goals as goal
 
 pub returns : goal.returns

@@ -1,4 +1,4 @@
-use Rattle.made_runs.specs.Entering.{cards}
+use Rattle.run_parts.specs.Entering.{cards}
 use Rattle.commands.proofs.account.released_frames_can_be_written.Goals as goal
 
 pub returns-clause-fit : goal.returns-clause-fit

@@ -1,10 +1,10 @@
 use Rattle.std.proofs.Common.{arith, ap, List}
 use Rattle.std.specs.Prelude.{count_by, ◌==◌, length, []}
 use Rattle.histories.specs.declared.histories.Lost.{Lost}
-use Rattle.made_runs.specs.Entering.{cards}
+use Rattle.run_parts.specs.Entering.{cards}
 use Rattle.fate_ledger.specs.Fates.{is_lost}
 use Rattle.run_files.specs.Outputs.{fates_of}
-use Rattle.commands.proofs.Numbering.{cards_differ, one_line_each}
+use Rattle.commands.proofs.PacketNumbers.{cards_differ, one_line_each}
 use Rattle.commands.proofs.account.told_histories_are_accounted_for.Goals as goal
 
 pub returns : goal.returns

@@ -1,6 +1,6 @@
 use Rattle.commands.specs.Account.{IsAccounted}
 use Rattle.commands.specs.Headline.{IsAccountedOf}
-use Rattle.commands.proofs.Auditing.{known_alone, passes, run_of}
+use Rattle.commands.proofs.AuditAnswers.{known_alone, passes, run_of}
 use Rattle.commands.proofs.audit.a_run_passes_its_audit.Goals as goal
 
 pub returns-clause-run : goal.returns-clause-run

@@ -1,6 +1,6 @@
 use Rattle.std.proofs.Common.{rules}
 use Rattle.command_line.specs.Arguments.{audit_files_of}
-use Rattle.commands.proofs.Auditing.{judged, only_judged}
+use Rattle.commands.proofs.AuditAnswers.{judged, only_judged}
 use Rattle.commands.proofs.audit.audit_files.Goals as goal
 
 pub returns-clause-judged : goal.returns-clause-judged

@@ -1,4 +1,4 @@
-use Rattle.commands.proofs.Opening.{opened_for, ports_are_distinct, tables_are}
+use Rattle.commands.proofs.ScriptPlane.{opened_for, ports_are_distinct, tables_are}
 use Rattle.commands.proofs.live_run.open.Goals as goal
 
 pub new-requires-clause-apart : goal.new-requires-clause-apart

@@ -1,7 +1,7 @@
 use Rattle.std.proofs.Common.{subst, ◌∙◌}
 use Rattle.hook_chain.specs.Rules.{RuleTables}
 use Rattle.histories.specs.Journeys.{AreSound}
-use Rattle.made_runs.specs.Entering.{cards}
+use Rattle.run_parts.specs.Entering.{cards}
 use Rattle.commands.specs.Headline.{with_feeders}
 use Rattle.commands.proofs.live_run.run_of.Goals as goal
 

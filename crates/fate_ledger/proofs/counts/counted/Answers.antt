@@ -1,5 +1,5 @@
 use Rattle.std.proofs.Common.{arith}
-use Rattle.fate_ledger.proofs.Counted.{fits_on, counted_on, counted_all}
+use Rattle.fate_ledger.proofs.FateCounts.{fits_on, counted_on, counted_all}
 use Rattle.fate_ledger.proofs.counts.counted.Goals as goal
 
 pub count-requires : goal.count-requires

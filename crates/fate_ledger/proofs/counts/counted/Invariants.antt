@@ -1,4 +1,4 @@
-use Rattle.fate_ledger.proofs.Counted.{IsCounted}
+use Rattle.fate_ledger.proofs.FateCounts.{IsCounted}
 use Rattle.fate_ledger.proofs.counts.counted.Given as goal
 
 abbrev pub invariant-loop-line : goal.invariant-loop-line

@@ -1,6 +1,6 @@
 use Rattle.std.proofs.Common.{◌≡◌, ℕ, List, ◌++◌, OnOk, ap, subst, ◌∙◌}
 use Rattle.fate_ledger.specs.Counts.{counts, every_fate, lines_of}
-use Rattle.fate_ledger.proofs.Counted.{lines_are}
+use Rattle.fate_ledger.proofs.FateCounts.{lines_are}
 use Rattle.fate_ledger.proofs.counts.counts_text.Goals as goal
 
 pub returns-clause-ok : goal.returns-clause-ok

@@ -5,7 +5,7 @@ use Rattle.fate_ledger.specs.declared.happening.Happening.{Happening}
 use Rattle.fate_ledger.specs.Fates.{happenings}
 use Rattle.fate_ledger.specs.Following.{lines_with, lasts}
 use Rattle.fate_ledger.specs.declared.fate.FateLine.{FateLine}
-use Rattle.fate_ledger.proofs.Lasts.{length-lasts, lines_are, length-lines}
+use Rattle.fate_ledger.proofs.LastEventTable.{length-lasts, lines_are, length-lines}
 use Rattle.std.proofs.lemmas.Result.{IfOk-weaker}
 use Rattle.fate_ledger.proofs.fate_lines.fates.Goals as goal
 

@@ -1,5 +1,5 @@
 use Rattle.std.proofs.Common.{arith}
-use Rattle.fate_ledger.proofs.Underway.{underway_first, underway_on}
+use Rattle.fate_ledger.proofs.EntryWalk.{underway_first, underway_on}
 use Rattle.fate_ledger.proofs.fate_lines.last_events.Goals as goal
 
 pub loop-entry-init : goal.loop-entry-init

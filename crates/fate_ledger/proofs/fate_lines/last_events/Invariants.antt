@@ -1,4 +1,4 @@
-use Rattle.fate_ledger.proofs.Underway.{IsUnderway}
+use Rattle.fate_ledger.proofs.EntryWalk.{IsUnderway}
 use Rattle.fate_ledger.proofs.fate_lines.last_events.Given as goal
 
 abbrev pub invariant-loop-entry : goal.invariant-loop-entry

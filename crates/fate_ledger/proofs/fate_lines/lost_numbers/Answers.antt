@@ -1,4 +1,4 @@
-use Rattle.fate_ledger.proofs.Lasts.{lost_on}
+use Rattle.fate_ledger.proofs.LastEventTable.{lost_on}
 use Rattle.fate_ledger.proofs.fate_lines.lost_numbers.Goals as goal
 
 pub loop-one-preserved : goal.loop-one-preserved

@@ -1,4 +1,4 @@
-use Rattle.fate_ledger.proofs.Lasts.{none_on}
+use Rattle.fate_ledger.proofs.LastEventTable.{none_on}
 use Rattle.fate_ledger.proofs.fate_lines.no_events.Goals as goal
 
 pub loop-preserved : goal.loop-preserved

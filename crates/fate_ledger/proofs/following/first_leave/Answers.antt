@@ -1,6 +1,6 @@
 use Rattle.std.proofs.Common.{◌≡◌, suc, ◌-◌, ◌+◌, sym, ap, ◌∙◌, arith}
 use Rattle.fate_ledger.specs.Following.{happening}
-use Rattle.fate_ledger.proofs.Leaving.{one_left, note_on}
+use Rattle.fate_ledger.proofs.Departures.{one_left, note_on}
 use Rattle.fate_ledger.proofs.following.first_leave.Goals as goal
 
 pub loop-preserved : goal.loop-preserved

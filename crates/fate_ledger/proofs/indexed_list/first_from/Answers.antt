@@ -1,4 +1,4 @@
-use Rattle.fate_ledger.proofs.Indexed.{none_from, found_from}
+use Rattle.fate_ledger.proofs.IdIndex.{none_from, found_from}
 use Rattle.fate_ledger.proofs.indexed_list.first_from.Goals as goal
 
 pub returns-in-Some : goal.returns-in-Some

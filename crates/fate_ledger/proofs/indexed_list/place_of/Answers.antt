@@ -1,4 +1,4 @@
-use Rattle.fate_ledger.proofs.Indexed.{at_front, here, elsewhere, nowhere}
+use Rattle.fate_ledger.proofs.IdIndex.{at_front, here, elsewhere, nowhere}
 use Rattle.fate_ledger.proofs.indexed_list.place_of.Goals as goal
 
 pub returns-then-oldest-id : goal.returns-then-oldest-id

@@ -1,5 +1,5 @@
 use Rattle.std.proofs.Common.{◌∙◌, arith}
-use Rattle.fate_ledger.proofs.Indexed.{indexed_in, undone, one_ahead, comes_last}
+use Rattle.fate_ledger.proofs.IdIndex.{indexed_in, undone, one_ahead, comes_last}
 use Rattle.fate_ledger.proofs.indexed_list.put.Goals as goal
 
 pub returns-in-Ok-insert-clause-ok : goal.returns-in-Ok-insert-clause-ok

@@ -1,4 +1,4 @@
-use Rattle.fate_ledger.proofs.Apart.{are_apart}
+use Rattle.fate_ledger.proofs.DistinctVisits.{are_apart}
 use Rattle.fate_ledger.proofs.laws.no_visit_arrives_twice.Goals as goal
 
 pub returns : goal.returns

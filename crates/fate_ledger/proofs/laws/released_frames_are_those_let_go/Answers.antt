@@ -1,4 +1,4 @@
-use Rattle.fate_ledger.proofs.Releasing.{in_order, as_written}
+use Rattle.fate_ledger.proofs.ReleasedCapture.{in_order, as_written}
 use Rattle.fate_ledger.proofs.laws.released_frames_are_those_let_go.Goals as goal
 
 pub returns-clause-order : goal.returns-clause-order

@@ -1,4 +1,4 @@
-use Rattle.fate_ledger.proofs.Waiting.{waits, left_there}
+use Rattle.fate_ledger.proofs.LastArrivals.{waits, left_there}
 use Rattle.fate_ledger.proofs.laws.the_last_event_is_where_it_left_or_waits.Goals as goal
 
 pub returns-clause-left : goal.returns-clause-left

@@ -1,5 +1,5 @@
-use Rattle.fate_ledger.proofs.Said.{Laws}
-use Rattle.fate_ledger.proofs.Overs.{left_for_good}
+use Rattle.fate_ledger.proofs.FateWays.{Laws}
+use Rattle.fate_ledger.proofs.FinalDepartures.{left_for_good}
 use Rattle.fate_ledger.proofs.laws.what_left_last_is_over.Goals as goal
 
 pub returns : goal.returns

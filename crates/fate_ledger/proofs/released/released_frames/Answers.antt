@@ -1,4 +1,4 @@
-use Rattle.fate_ledger.proofs.Keeping.{kept_on, as_many_left, others_fit}
+use Rattle.fate_ledger.proofs.ReleasedFrames.{kept_on, as_many_left, others_fit}
 use Rattle.fate_ledger.proofs.released.released_frames.Goals as goal
 
 pub loop-line-preserved : goal.loop-line-preserved

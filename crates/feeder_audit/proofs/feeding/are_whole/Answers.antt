@@ -1,6 +1,6 @@
 use Rattle.std.proofs.Common.{rules, refl}
-use Rattle.feeder_audit.proofs.Fitting.{not_both}
-use Rattle.feeder_audit.proofs.Walking.{walk_on, walk_done, walk_ends, next_kept}
+use Rattle.feeder_audit.proofs.RowMeaning.{not_both}
+use Rattle.feeder_audit.proofs.QueueWalk.{walk_on, walk_done, walk_ends, next_kept}
 use Rattle.feeder_audit.proofs.feeding.are_whole.Goals as goal
 
 pub is_whole-requires : goal.is_whole-requires

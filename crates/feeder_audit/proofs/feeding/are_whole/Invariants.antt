@@ -1,4 +1,4 @@
-use Rattle.feeder_audit.proofs.Walking.{IsWalked}
+use Rattle.feeder_audit.proofs.QueueWalk.{IsWalked}
 use Rattle.feeder_audit.proofs.feeding.are_whole.Given as goal
 
 abbrev pub invariant-loop-fed : goal.invariant-loop-fed

@@ -1,9 +1,9 @@
 use Rattle.std.proofs.Common.{sym, ap, ◌∙◌, subst, length}
-use Rattle.made_runs.specs.Feeder.{downs_in_effect}
+use Rattle.run_parts.specs.Feeder.{downs_in_effect}
 use Rattle.std.specs.Prelude.{◌↔◌, IsTrue}
 use Rattle.feeder_audit.specs.Fitting.{Rises}
 use Rattle.feeder_audit.specs.Queues.{AreWhole}
-use Rattle.feeder_audit.proofs.Rising.{all_rise}
+use Rattle.feeder_audit.proofs.AscendingTimes.{all_rise}
 use Rattle.feeder_audit.proofs.Queues.{OneFeeder, fed_exactly}
 use Rattle.feeder_audit.proofs.feeding.is_fed.Goals as goal
 

@@ -1,6 +1,6 @@
 use Rattle.std.proofs.Common.{◌∙◌}
 use Rattle.std.proofs.lemmas.Result.{IfOk-weaker}
-use Rattle.feeder_audit.proofs.Short.{in_effect}
+use Rattle.feeder_audit.proofs.FrameNumbers.{in_effect}
 use Rattle.feeder_audit.proofs.lines.downs_in_effect.Goals as goal
 
 pub returns : goal.returns

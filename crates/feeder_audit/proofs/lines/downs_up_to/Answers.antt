@@ -1,5 +1,5 @@
 use Rattle.std.proofs.Common.{◌≡◌, ◌+◌, ◌-◌, ◌++◌, suc, sym, ap, ◌∙◌, append_assoc, arith}
-use Rattle.made_runs.specs.Feeder.{downs_after, downs_from}
+use Rattle.run_parts.specs.Feeder.{downs_after, downs_from}
 use Rattle.feeder_audit.proofs.lines.downs_up_to.Goals as goal
 
 pub loop-number-preserved : goal.loop-number-preserved

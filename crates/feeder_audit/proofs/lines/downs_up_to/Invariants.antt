@@ -1,5 +1,5 @@
 use Rattle.std.proofs.Common.{◌≡◌, ◌++◌, ◌-◌, suc}
-use Rattle.made_runs.specs.Feeder.{downs_from, downs_in_effect}
+use Rattle.run_parts.specs.Feeder.{downs_from, downs_in_effect}
 use Rattle.feeder_audit.proofs.lines.downs_up_to.Given as goal
 
 -- with the lines from this frame on, all are there

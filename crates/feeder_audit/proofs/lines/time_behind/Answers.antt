@@ -1,5 +1,5 @@
 use Rattle.std.proofs.Common.{◌∙◌}
-use Rattle.feeder_audit.proofs.Places.{time_is}
+use Rattle.feeder_audit.proofs.LineTimes.{time_is}
 use Rattle.feeder_audit.proofs.lines.time_behind.Goals as goal
 
 pub returns-in-Some : goal.returns-in-Some

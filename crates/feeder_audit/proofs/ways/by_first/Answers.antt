@@ -1,4 +1,4 @@
-use Rattle.feeder_audit.proofs.Falling.{first_falls, first_stays}
+use Rattle.feeder_audit.proofs.DeviceRows.{first_falls, first_stays}
 use Rattle.feeder_audit.proofs.ways.by_first.Goals as goal
 
 pub returns-in-Some : goal.returns-in-Some

@@ -2,7 +2,7 @@ use Rattle.std.proofs.Common.{◌≡◌, ◌∙◌, ℕ, arith, refl, subst}
 use Rattle.place_rows.specs.Rows.{TurnedUpTo}
 use Rattle.plane.specs.Planes.{places_of}
 use Rattle.feeder_set.specs.Steps.{FallsAt}
-use Rattle.feeder_set.proofs.Passing.{none_turned, one_more, falls_at}
+use Rattle.feeder_set.proofs.FramePackets.{none_turned, one_more, falls_at}
 use Rattle.feeder_set.proofs.falling.fall.Goals as goal
 
 pub loop-place-init : goal.loop-place-init

@@ -1,5 +1,5 @@
 use Rattle.std.proofs.Common.{None, Some}
-use Rattle.feeder_set.proofs.Passing.{fall_of, lines_of, no_line}
+use Rattle.feeder_set.proofs.FramePackets.{fall_of, lines_of, no_line}
 use Rattle.feeder_set.proofs.falling.fall_after.Goals as goal
 
 pub returns-in-Some-clause-fall : goal.returns-in-Some-clause-fall

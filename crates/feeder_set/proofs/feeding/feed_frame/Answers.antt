@@ -1,5 +1,5 @@
-use Rattle.made_runs.specs.Entering.{card_of}
-use Rattle.feeder_set.proofs.Passing.{is_fresh, card_fed}
+use Rattle.run_parts.specs.Entering.{card_of}
+use Rattle.feeder_set.proofs.FramePackets.{is_fresh, card_fed}
 use Rattle.feeder_set.proofs.feeding.feed_frame.Goals as goal
 
 pub feed-requires-clause-new : goal.feed-requires-clause-new

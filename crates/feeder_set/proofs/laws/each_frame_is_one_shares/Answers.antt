@@ -1,4 +1,5 @@
-use Rattle.feeder_set.proofs.Sharing.{in_one, in_no_other, next_is_own, before_first, between_two}
+use Rattle.feeder_set.proofs.ShareFrames.{in_one, in_no_other, next_is_own, before_first}
+use Rattle.feeder_set.proofs.ShareFrames.{between_two}
 use Rattle.feeder_set.proofs.laws.each_frame_is_one_shares.Goals as goal
 
 pub returns : goal.returns

@@ -1,5 +1,5 @@
 use Rattle.std.proofs.Common.{ap, ◌∙◌, rules}
-use Rattle.glance.proofs.Stepping.{notes, takes_note, compares}
+use Rattle.glance.proofs.StepRule.{notes, takes_note, compares}
 use Rattle.glance.proofs.laws.readings_were_published.Goals as goal
 
 pub split_seat-note-requires : goal.split_seat-note-requires

@@ -2,7 +2,7 @@ use Rattle.std.proofs.Common.{rules, List, subst, sym}
 use Rattle.std.proofs.lemmas.List.Sorted.{answers_always}
 use Rattle.histories.specs.declared.entry.Entry.{Entry}
 use Rattle.histories.specs.Grouping.{IsGrouped}
-use Rattle.histories.proofs.Ascending.{Ascends, grouped_so, grouped_already, number_of}
+use Rattle.histories.proofs.QueueOrder.{Ascends, grouped_so, grouped_already, number_of}
 use Rattle.histories.proofs.grouping.grouped.Goals as goal
 
 -- where the numbers don't descend already

@@ -1,4 +1,4 @@
-use Rattle.histories.proofs.Journeying.{moves_on}
+use Rattle.histories.proofs.MoveSoundness.{moves_on}
 use Rattle.histories.proofs.journeys.an_entry_is_a_move.Goals as goal
 
 pub returns : goal.returns

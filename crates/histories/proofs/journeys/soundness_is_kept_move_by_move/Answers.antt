@@ -1,4 +1,4 @@
-use Rattle.histories.proofs.Journeying.{nothing_yet, enters, moves_one, loses}
+use Rattle.histories.proofs.MoveSoundness.{nothing_yet, enters, moves_one, loses}
 use Rattle.histories.proofs.journeys.soundness_is_kept_move_by_move.Goals as goal
 
 pub returns-clause-nothing : goal.returns-clause-nothing

@@ -1,4 +1,4 @@
-use Rattle.histories.proofs.Regrouping.{grouped_sound}
+use Rattle.histories.proofs.MoveSums.{grouped_sound}
 use Rattle.histories.proofs.journeys.soundness_is_of_each_queue.Goals as goal
 
 pub returns : goal.returns

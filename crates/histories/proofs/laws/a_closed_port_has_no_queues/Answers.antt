@@ -1,4 +1,4 @@
-use Rattle.histories.proofs.Swept.{closed_one, closed_none}
+use Rattle.histories.proofs.SweepResult.{closed_one, closed_none}
 use Rattle.histories.proofs.laws.a_closed_port_has_no_queues.Goals as goal
 
 pub returns-clause-entries : goal.returns-clause-entries

@@ -1,4 +1,4 @@
-use Rattle.histories.proofs.Swept.{down_one, down_none}
+use Rattle.histories.proofs.SweepResult.{down_one, down_none}
 use Rattle.histories.proofs.laws.a_device_that_packets_pass_leaves_nothing_waiting.Goals as goal
 
 pub returns-clause-entries : goal.returns-clause-entries

@@ -1,4 +1,4 @@
-use Rattle.histories.proofs.Legal.{state_on, legal_on, all_on}
+use Rattle.histories.proofs.LegalHistories.{state_on, legal_on, all_on}
 use Rattle.histories.proofs.laws.a_legal_history_goes_on.Goals as goal
 
 pub returns-clause-state : goal.returns-clause-state

@@ -1,6 +1,6 @@
 use Rattle.std.proofs.Common.{refl}
 use Rattle.std.proofs.lemmas.Bool.{eq-eqb}
-use Rattle.histories.proofs.Legal.{own_on, others_on}
+use Rattle.histories.proofs.LegalHistories.{own_on, others_on}
 use Rattle.histories.proofs.laws.an_entry_is_of_its_queue_alone.Goals as goal
 
 pub returns-clause-own : goal.returns-clause-own

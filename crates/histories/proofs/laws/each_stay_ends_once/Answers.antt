@@ -1,5 +1,5 @@
 use Rattle.std.proofs.Common.{None, arith}
-use Rattle.histories.proofs.Staying.{stays}
+use Rattle.histories.proofs.StayCounts.{stays}
 use Rattle.histories.proofs.laws.each_stay_ends_once.Goals as goal
 
 pub returns : goal.returns

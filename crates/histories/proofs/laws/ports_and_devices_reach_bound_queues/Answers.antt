@@ -1,4 +1,4 @@
-use Rattle.histories.proofs.Asking.{closing_asks, down_asks}
+use Rattle.histories.proofs.AsksByQueue.{closing_asks, down_asks}
 use Rattle.histories.proofs.laws.ports_and_devices_reach_bound_queues.Goals as goal
 
 pub returns-clause-ports : goal.returns-clause-ports

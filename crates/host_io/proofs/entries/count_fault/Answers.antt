@@ -1,5 +1,5 @@
 use Rattle.std.proofs.Common.{sym, refl, arith}
-use Rattle.host_io.proofs.Places.{find-here, changed-here, find-nowhere, changed-nowhere}
+use Rattle.host_io.proofs.FirstEntries.{find-here, changed-here, find-nowhere, changed-nowhere}
 use Rattle.host_io.proofs.entries.count_fault.Goals as goal
 
 pub returns-in-Some-clause-entries : goal.returns-in-Some-clause-entries

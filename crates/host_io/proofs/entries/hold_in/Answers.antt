@@ -1,7 +1,7 @@
 use Rattle.std.proofs.Common.{◌∙◌}
 use Rattle.std.proofs.lemmas.Result.{on_ok_weaker}
 use Rattle.host_io.specs.Machine.{bare_entry, holding}
-use Rattle.host_io.proofs.Places.{changed_or_new-here, changed_or_new-nowhere}
+use Rattle.host_io.proofs.FirstEntries.{changed_or_new-here, changed_or_new-nowhere}
 use Rattle.host_io.proofs.entries.hold_in.Goals as goal
 
 pub returns-in-Some-clause-ok : goal.returns-in-Some-clause-ok

@@ -1,5 +1,5 @@
 use Rattle.std.proofs.Common.{sym, refl}
-use Rattle.host_io.proofs.Places.{find-here, find-nowhere}
+use Rattle.host_io.proofs.FirstEntries.{find-here, find-nowhere}
 use Rattle.host_io.proofs.entries.room_in.Goals as goal
 
 pub returns-in-Some : goal.returns-in-Some

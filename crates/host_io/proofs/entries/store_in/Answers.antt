@@ -1,5 +1,5 @@
 use Rattle.std.proofs.Common.{sym, ◌∙◌}
-use Rattle.host_io.proofs.Places.{find-at, changed-here, changed-nowhere}
+use Rattle.host_io.proofs.FirstEntries.{find-at, changed-here, changed-nowhere}
 use Rattle.host_io.proofs.entries.store_in.Goals as goal
 
 pub store-requires-clause-at : goal.store-requires-clause-at

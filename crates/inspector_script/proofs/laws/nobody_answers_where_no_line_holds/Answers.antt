@@ -1,7 +1,7 @@
 use Rattle.std.proofs.Common.{[], ap}
 use Rattle.std.specs.Option.{option_map_or}
 use Rattle.script_lines.specs.Answering.{asks_of, holds_all}
-use Rattle.inspector_script.proofs.Finding.{not_found}
+use Rattle.inspector_script.proofs.FirstMatch.{not_found}
 use Rattle.inspector_script.proofs.laws.nobody_answers_where_no_line_holds.Goals as goal
 
 pub returns : goal.returns

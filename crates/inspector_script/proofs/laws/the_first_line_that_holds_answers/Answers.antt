@@ -1,7 +1,7 @@
 use Rattle.std.proofs.Common.{[], ap}
 use Rattle.std.specs.Option.{option_map_or}
 use Rattle.script_lines.specs.Answering.{asks_of, holds_all}
-use Rattle.inspector_script.proofs.Finding.{found}
+use Rattle.inspector_script.proofs.FirstMatch.{found}
 use Rattle.inspector_script.proofs.laws.the_first_line_that_holds_answers.Goals as goal
 
 pub returns : goal.returns

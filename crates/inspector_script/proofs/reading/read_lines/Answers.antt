@@ -1,5 +1,5 @@
 use Rattle.inspector_script.specs.ScriptFile.{place_of}
-use Rattle.inspector_script.proofs.Underway.{is_fault, is_read_first, is_read_next}
+use Rattle.inspector_script.proofs.ReaderState.{is_fault, is_read_first, is_read_next}
 use Rattle.inspector_script.proofs.reading.read_lines.Goals as goal
 
 pub loop-line-init : goal.loop-line-init

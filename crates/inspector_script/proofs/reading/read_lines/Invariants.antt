@@ -1,6 +1,6 @@
 use Rattle.std.proofs.Common.{length}
 use Rattle.inspector_script.specs.ScriptFile.{place_of}
-use Rattle.inspector_script.proofs.Underway.{IsRead}
+use Rattle.inspector_script.proofs.ReaderState.{IsRead}
 use Rattle.inspector_script.proofs.reading.read_lines.Given as goal
 
 -- the lines that are left give the answer of all

@@ -3,7 +3,7 @@ use Rattle.std.specs.BTreeMap.{is_at}
 use Rattle.std.specs.Ordering.{nat_cmp}
 use Rattle.std.specs.Map.{lookup}
 use Rattle.journal_audit.specs.declared.watched.Watched.{Watched}
-use Rattle.journal_audit.proofs.Underway.{begun, underway_on}
+use Rattle.journal_audit.proofs.EntryWalk.{begun, underway_on}
 use Rattle.journal_audit.proofs.first_illegal.first_in.Goals as goal
 
 pub loop-entry-init : goal.loop-entry-init

@@ -1,4 +1,4 @@
-use Rattle.journal_audit.proofs.Underway.{IsUnderway}
+use Rattle.journal_audit.proofs.EntryWalk.{IsUnderway}
 use Rattle.journal_audit.proofs.first_illegal.first_in.Given as goal
 
 abbrev pub invariant-loop-entry : goal.invariant-loop-entry

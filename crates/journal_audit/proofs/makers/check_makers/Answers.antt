@@ -1,9 +1,9 @@
 use Rattle.std.proofs.Common.{length, [], subst}
-use Rattle.made_runs.specs.Entering.{cards}
-use Rattle.logs_audit.specs.Judged.{IsJudgement}
-use Rattle.logs_audit.specs.declared.judging.Judged.{Judged}
-use Rattle.makers_audit.specs.Noticing.{ArriveOnce}
-use Rattle.journal_audit.proofs.Parts.{answered, no_logs}
+use Rattle.run_parts.specs.Entering.{cards}
+use Rattle.log_audit.specs.Judged.{IsJudgement}
+use Rattle.log_audit.specs.declared.judging.Judged.{Judged}
+use Rattle.port_audit.specs.Noticing.{ArriveOnce}
+use Rattle.journal_audit.proofs.PartOrder.{answered, no_logs}
 use Rattle.journal_audit.proofs.makers.check_makers.Goals as goal
 
 pub returns-in-Said : goal.returns-in-Said

@@ -1,5 +1,5 @@
 use Rattle.journal_reading.proofs.OneValue.{one_value}
-use Rattle.journal_reading.proofs.Wording.{Laws}
+use Rattle.journal_reading.proofs.WordCuts.{Laws}
 use Rattle.journal_reading.proofs.laws.a_text_has_one_value.Goals as goal
 
 pub returns : goal.returns

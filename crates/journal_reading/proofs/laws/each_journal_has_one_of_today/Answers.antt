@@ -1,5 +1,5 @@
 use Rattle.std.proofs.Common.{sym}
-use Rattle.journal_reading.proofs.Migrated.{of_today}
+use Rattle.journal_reading.proofs.VersionOrder.{of_today}
 use Rattle.journal_reading.proofs.laws.each_journal_has_one_of_today.Goals as goal
 
 pub returns-clause-new : goal.returns-clause-new

@@ -1,5 +1,5 @@
 use Rattle.journal_reading.proofs.EachText.{each_text}
-use Rattle.journal_reading.proofs.Wording.{Laws}
+use Rattle.journal_reading.proofs.WordCuts.{Laws}
 use Rattle.journal_reading.proofs.laws.each_text_is_read_or_refused.Goals as goal
 
 pub returns : goal.returns

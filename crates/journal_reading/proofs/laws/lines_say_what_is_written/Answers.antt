@@ -1,6 +1,6 @@
 use Rattle.std.proofs.Common.{◌∙◌, ap}
 use Rattle.journal_reading.specs.Reading.{line_in}
-use Rattle.journal_reading.proofs.Wording.{Laws}
+use Rattle.journal_reading.proofs.WordCuts.{Laws}
 use Rattle.journal_reading.proofs.LineForm.{line_word}
 use Rattle.journal_reading.proofs.laws.lines_say_what_is_written.Goals as goal
 

@@ -1,5 +1,5 @@
 use Rattle.journal_reading.proofs.OneValue.{same_journal}
-use Rattle.journal_reading.proofs.Wording.{Laws}
+use Rattle.journal_reading.proofs.WordCuts.{Laws}
 use Rattle.journal_reading.proofs.laws.no_journal_begins_another.Goals as goal
 
 pub returns : goal.returns

@@ -1,7 +1,7 @@
 use Rattle.std.proofs.Common.{subst}
 use Rattle.journals.specs.declared.version.Version.{Version}
 use Rattle.journal_reading.specs.JournalFile.{IsAnswer, version_of}
-use Rattle.journal_reading.proofs.FirstRefused.{only_by}
+use Rattle.journal_reading.proofs.FirstRefusal.{only_by}
 use Rattle.journal_reading.proofs.OneLine.{stuck_by}
 use Rattle.journal_reading.proofs.reading.read_either_journal.Goals as goal
 

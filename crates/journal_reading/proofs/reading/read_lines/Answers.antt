@@ -1,8 +1,8 @@
 use Rattle.std.proofs.Common.{Bool, Ok, sym, subst, refl}
 use Rattle.journal_reading.specs.JournalFile.{Closes, FollowsText, HasRead, Place, place_of}
-use Rattle.journal_reading.proofs.FirstRefused.{closed_by, stopped, stopped_early}
-use Rattle.journal_reading.proofs.Underway.{at_end, begins, goes_on, shorter}
-use Rattle.journal_reading.proofs.Wording.{Laws}
+use Rattle.journal_reading.proofs.FirstRefusal.{closed_by, stopped, stopped_early}
+use Rattle.journal_reading.proofs.ReadSoFar.{at_end, begins, goes_on, shorter}
+use Rattle.journal_reading.proofs.WordCuts.{Laws}
 use Rattle.journal_reading.proofs.reading.read_lines.Goals as goal
 
 pub loop-line-smaller : goal.loop-line-smaller

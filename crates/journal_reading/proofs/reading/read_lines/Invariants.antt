@@ -1,6 +1,6 @@
 use Rattle.std.proofs.Common.{length}
 use Rattle.journal_reading.specs.JournalFile.{KnowsPorts, place_of}
-use Rattle.journal_reading.proofs.Underway.{IsUnderway}
+use Rattle.journal_reading.proofs.ReadSoFar.{IsUnderway}
 use Rattle.journal_reading.proofs.reading.read_lines.Given as goal
 
 -- what was read stands in front of what is left

@@ -1,5 +1,5 @@
 use Rattle.journals.specs.declared.version.Version.TheVariants.{First}
-use Rattle.journal_reading.proofs.FirstRefused.{found_by, only_by, refused_by}
+use Rattle.journal_reading.proofs.FirstRefusal.{found_by, only_by, refused_by}
 use Rattle.journal_reading.proofs.OneLine.{stuck_by}
 use Rattle.journal_reading.proofs.reading.read_old_journal.Goals as goal
 

@@ -1,6 +1,6 @@
 use Rattle.std.proofs.Common.{sym}
-use Rattle.journal_reading.proofs.FirstRefused.{no_heading, no_line}
-use Rattle.journal_reading.proofs.Underway.{heading_is}
+use Rattle.journal_reading.proofs.FirstRefusal.{no_heading, no_line}
+use Rattle.journal_reading.proofs.ReadSoFar.{heading_is}
 use Rattle.journal_reading.proofs.reading.read_text.Goals as goal
 
 pub read_lines-requires-clause-heading : goal.read_lines-requires-clause-heading

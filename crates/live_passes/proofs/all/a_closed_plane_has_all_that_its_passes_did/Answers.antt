@@ -1,4 +1,4 @@
-use Rattle.live_passes.proofs.ClosedAll.{closed_plane}
+use Rattle.live_passes.proofs.ClosedPlane.{closed_plane}
 use Rattle.live_passes.proofs.all.a_closed_plane_has_all_that_its_passes_did.Goals as goal
 
 pub returns : goal.returns

@@ -1,4 +1,4 @@
-use Rattle.live_passes.proofs.SentAll.{all_sent}
+use Rattle.live_passes.proofs.SentTotals.{all_sent}
 use Rattle.live_passes.proofs.all.counts_say_what_was_sent.Goals as goal
 
 pub returns : goal.returns

@@ -1,4 +1,4 @@
-use Rattle.live_passes.proofs.OpenedAll.{opened_all, opened_new}
+use Rattle.live_passes.proofs.NewPasses.{opened_all, opened_new}
 use Rattle.live_passes.proofs.all.opened_passes_are_new.Goals as goal
 
 pub returns : goal.returns

@@ -1,4 +1,4 @@
-use Rattle.live_passes.proofs.MetAll.{all_met}
+use Rattle.live_passes.proofs.MeetingOfAll.{all_met}
 use Rattle.live_passes.proofs.all.passes_that_meet_are_met.Goals as goal
 
 pub returns : goal.returns

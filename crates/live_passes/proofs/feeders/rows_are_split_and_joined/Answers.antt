@@ -1,4 +1,4 @@
-use Rattle.live_passes.proofs.RowsApart.{joined_so, kept_so, split_so}
+use Rattle.live_passes.proofs.RowSplits.{joined_so, kept_so, split_so}
 use Rattle.live_passes.proofs.feeders.rows_are_split_and_joined.Goals as goal
 
 pub returns : goal.returns

@@ -1,4 +1,4 @@
-use Rattle.live_passes.proofs.Meets.{meets_so}
+use Rattle.live_passes.proofs.PassMeeting.{meets_so}
 use Rattle.live_passes.proofs.Turns.{TurnLaws}
 use Rattle.live_passes.proofs.laws.passes_that_meet_see_the_same.Goals as goal
 

@@ -1,5 +1,5 @@
 use Rattle.live_passes.proofs.Calls.{closes_so, looks_so, sends_so}
-use Rattle.live_passes.proofs.Received.{received_none, received_one}
+use Rattle.live_passes.proofs.LetterReceipt.{received_none, received_one}
 use Rattle.live_passes.proofs.Turns.{TurnLaws}
 use Rattle.live_passes.proofs.laws.ports_speak_by_their_passes.Goals as goal
 

@@ -1,4 +1,4 @@
-use Rattle.live_passes.proofs.Counts.{sent_agrees}
+use Rattle.live_passes.proofs.NoticeCounts.{sent_agrees}
 use Rattle.live_passes.proofs.laws.what_was_sent_is_marked.Goals as goal
 
 pub returns : goal.returns

@@ -1,8 +1,8 @@
 use Rattle.std.proofs.Common.{arith}
 use Rattle.live_runs.specs.ByHand.{histories, notes, passes, script, stands}
 use Rattle.live_runs.specs.Stages.{Ending}
-use Rattle.live_runs.proofs.WrittenOut.{asked_so, closed_so, cut_so, done_so, fed_so, met_so}
-use Rattle.live_runs.proofs.WrittenOut.{received_so}
+use Rattle.live_runs.proofs.ExampleRun.{asked_so, closed_so, cut_so, done_so, fed_so, met_so}
+use Rattle.live_runs.proofs.ExampleRun.{received_so}
 use Rattle.live_runs.proofs.by_hand.a_run_by_hand.Goals as goal
 
 pub returns : goal.returns

@@ -1,4 +1,4 @@
-use Rattle.live_runs.proofs.Known.{ClosingLaws, LogLaws}
+use Rattle.live_runs.proofs.LowerLaws.{ClosingLaws, LogLaws}
 use Rattle.live_runs.proofs.Looks.{answers_first, hears_more}
 use Rattle.live_runs.proofs.doing.a_pool_answers_in_groups.Goals as goal
 

@@ -1,6 +1,6 @@
-use Rattle.live_runs.proofs.Known.{ClosingLaws, LogLaws}
-use Rattle.live_runs.proofs.Acting.{begins_doing, doing_begins, doing_gets, doing_speaks}
-use Rattle.live_runs.proofs.Acting.{doing_turns}
+use Rattle.live_runs.proofs.LowerLaws.{ClosingLaws, LogLaws}
+use Rattle.live_runs.proofs.PortCalls.{begins_doing, doing_begins, doing_gets, doing_speaks}
+use Rattle.live_runs.proofs.PortCalls.{doing_turns}
 use Rattle.live_runs.proofs.doing.a_port_does_what_is_next.Goals as goal
 
 pub returns : goal.returns

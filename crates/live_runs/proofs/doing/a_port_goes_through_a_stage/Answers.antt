@@ -1,5 +1,5 @@
-use Rattle.live_runs.proofs.Known.{ClosingLaws, LogLaws}
-use Rattle.live_runs.proofs.Stagewise.{port_shut, went_nowhere, went_on, went_shut}
+use Rattle.live_runs.proofs.LowerLaws.{ClosingLaws, LogLaws}
+use Rattle.live_runs.proofs.StageDids.{port_shut, went_nowhere, went_on, went_shut}
 use Rattle.live_runs.proofs.doing.a_port_goes_through_a_stage.Goals as goal
 
 pub returns : goal.returns

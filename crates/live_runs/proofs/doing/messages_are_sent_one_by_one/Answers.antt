@@ -1,6 +1,6 @@
 use Rattle.std.proofs.Common.{refl}
 use Rattle.netlink_codec.specs.Messages.{first_message}
-use Rattle.live_runs.proofs.Known.{ClosingLaws, LogLaws}
+use Rattle.live_runs.proofs.LowerLaws.{ClosingLaws, LogLaws}
 use Rattle.live_runs.proofs.Cuts.{looked_all, sent_all, sent_on, used_within}
 use Rattle.live_runs.proofs.doing.messages_are_sent_one_by_one.Goals as goal
 

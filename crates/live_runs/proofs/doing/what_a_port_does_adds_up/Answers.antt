@@ -1,4 +1,4 @@
-use Rattle.live_runs.proofs.Known.{ClosingLaws, LogLaws}
+use Rattle.live_runs.proofs.LowerLaws.{ClosingLaws, LogLaws}
 use Rattle.live_runs.proofs.Looks.{next_asked, looked_through, looks_again, looks_once}
 use Rattle.live_runs.proofs.doing.what_a_port_does_adds_up.Goals as goal
 

@@ -1,10 +1,10 @@
-use Rattle.made_runs.specs.Feeder.{downs_in_effect}
+use Rattle.run_parts.specs.Feeder.{downs_in_effect}
 use Rattle.live_runs.specs.Passes.{feeder_number, seen_at}
 use Rattle.live_runs.specs.Stages.{early_of, late_of}
-use Rattle.live_runs.proofs.FedByAll.{one_by_all}
-use Rattle.live_runs.proofs.Known.{ClosingLaws, FeedingLaws, LogLaws}
-use Rattle.live_runs.proofs.Finish.{in_order, payloads_fit}
-use Rattle.live_runs.proofs.Making.{made_so}
+use Rattle.live_runs.proofs.FedEntries.{one_by_all}
+use Rattle.live_runs.proofs.LowerLaws.{ClosingLaws, FeedingLaws, LogLaws}
+use Rattle.live_runs.proofs.LastMeeting.{in_order, payloads_fit}
+use Rattle.live_runs.proofs.MadeByScript.{made_so}
 use Rattle.live_runs.proofs.ending.a_run_with_threads_is_made_by_its_script.Goals as goal
 
 pub returns : goal.returns

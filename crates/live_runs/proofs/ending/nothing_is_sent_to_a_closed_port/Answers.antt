@@ -1,5 +1,5 @@
-use Rattle.live_runs.proofs.Known.{ClosingLaws}
-use Rattle.live_runs.proofs.Since.{sent_at_last, sent_at_meeting, sent_on, sent_through}
+use Rattle.live_runs.proofs.LowerLaws.{ClosingLaws}
+use Rattle.live_runs.proofs.ClosedPortCounts.{sent_at_last, sent_at_meeting, sent_on, sent_through}
 use Rattle.live_runs.proofs.ending.nothing_is_sent_to_a_closed_port.Goals as goal
 
 pub returns : goal.returns

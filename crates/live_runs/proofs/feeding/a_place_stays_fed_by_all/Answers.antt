@@ -1,5 +1,5 @@
-use Rattle.live_runs.proofs.FedByAll.{met_by_all, one_by_all}
-use Rattle.live_runs.proofs.Known.{FeedingLaws}
+use Rattle.live_runs.proofs.FedEntries.{met_by_all, one_by_all}
+use Rattle.live_runs.proofs.LowerLaws.{FeedingLaws}
 use Rattle.live_runs.proofs.feeding.a_place_stays_fed_by_all.Goals as goal
 
 pub returns : goal.returns

@@ -1,9 +1,9 @@
 use Rattle.std.proofs.Common.{refl}
 use Rattle.live_runs.specs.Owners.{IsNotFed}
-use Rattle.live_runs.proofs.Known.{FeedingLaws}
+use Rattle.live_runs.proofs.LowerLaws.{FeedingLaws}
 use Rattle.live_runs.proofs.Marks.{met_grows}
-use Rattle.live_runs.proofs.Fed.{feeds_feeding, feeds_grows, first_feeding, grown_feeding}
-use Rattle.live_runs.proofs.Fed.{later_feeding, nothing_down, one_down}
+use Rattle.live_runs.proofs.FeederLines.{feeds_feeding, feeds_grows, first_feeding, grown_feeding}
+use Rattle.live_runs.proofs.FeederLines.{later_feeding, nothing_down, one_down}
 use Rattle.live_runs.proofs.feeding.the_feeder_keeps_its_time.Goals as goal
 
 pub returns : goal.returns

@@ -1,9 +1,9 @@
 use Rattle.std.proofs.Common.{refl}
 use Rattle.live_runs.specs.Owners.{IsFeeders}
-use Rattle.live_runs.proofs.Known.{ClosingLaws, LogLaws}
+use Rattle.live_runs.proofs.LowerLaws.{ClosingLaws, LogLaws}
 use Rattle.live_runs.proofs.Marks.{grows_as, same_grows}
-use Rattle.live_runs.proofs.Middle.{stage_ends}
-use Rattle.live_runs.proofs.Plain.{fed_is_plain}
+use Rattle.live_runs.proofs.StageEnd.{stage_ends}
+use Rattle.live_runs.proofs.StageEntries.{fed_is_plain}
 use Rattle.live_runs.proofs.meeting.a_stage_ends_where_all_meet.Goals as goal
 
 pub returns : goal.returns

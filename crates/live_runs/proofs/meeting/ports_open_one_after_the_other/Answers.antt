@@ -1,5 +1,5 @@
-use Rattle.live_runs.proofs.Known.{ClosingLaws, LogLaws}
-use Rattle.live_runs.proofs.Opens.{all_open, begins_open, each_open, none_open, open_next}
+use Rattle.live_runs.proofs.LowerLaws.{ClosingLaws, LogLaws}
+use Rattle.live_runs.proofs.PortOpenings.{all_open, begins_open, each_open, none_open, open_next}
 use Rattle.live_runs.proofs.meeting.ports_open_one_after_the_other.Goals as goal
 
 pub returns : goal.returns

@@ -4,8 +4,8 @@ use Rattle.feeder_set.specs.Shares.{IsNextOf}
 use Rattle.live_passes.specs.Numbered.{StaysFeeder}
 use Rattle.live_work.specs.Feeding.{IsFeedingOf, shares_in}
 use Rattle.live_work.specs.Sharing.{share_cards}
-use Rattle.live_work.proofs.Passed.{left_cards}
-use Rattle.live_work.proofs.Shared.{IsUpTo}
+use Rattle.live_work.proofs.SharePackets.{left_cards}
+use Rattle.live_work.proofs.ShareWalk.{IsUpTo}
 use Rattle.live_work.proofs.feeding.feed_share.Given as goal
 
 abbrev pub invariant-loop-step : goal.invariant-loop-step

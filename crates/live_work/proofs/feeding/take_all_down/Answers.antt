@@ -1,11 +1,11 @@
 use Rattle.std.proofs.Common.{◌≡◌, ◌∙◌, ◌∷◌, [], List, arith, subst, sym}
 use Rattle.std.proofs.lemmas.List.Elements.{All-head, All-tail}
 use Rattle.script_lines.specs.declared.line.Down.{Down}
-use Rattle.made_runs.specs.Feeder.{falling_time}
+use Rattle.run_parts.specs.Feeder.{falling_time}
 use Rattle.plane.specs.Planes.{places_of}
 use Rattle.live_work.specs.Feeding.{FedOn, shares_in}
-use Rattle.live_work.proofs.Fallen.{fed_both, fed_none, taken_down}
-use Rattle.live_work.proofs.Kept.{feeder_both}
+use Rattle.live_work.proofs.FeederCalls.{fed_both, fed_none, taken_down}
+use Rattle.live_work.proofs.UnchangedPass.{feeder_both}
 use Rattle.live_work.proofs.feeding.take_all_down.Goals as goal
 
 pub loop-down-preserved : goal.loop-down-preserved

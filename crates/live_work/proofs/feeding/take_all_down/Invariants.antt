@@ -1,7 +1,7 @@
 use Rattle.std.proofs.Common.{◌≡◌}
 use Rattle.std.specs.Prelude.{All}
 use Rattle.script_lines.specs.declared.line.Down.{Down}
-use Rattle.made_runs.specs.Feeder.{falling_time}
+use Rattle.run_parts.specs.Feeder.{falling_time}
 use Rattle.plane.specs.Passes.{FeederView}
 use Rattle.plane.specs.Planes.{places_of}
 use Rattle.live_work.specs.Feeding.{FedOn, shares_in}

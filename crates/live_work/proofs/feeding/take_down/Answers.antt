@@ -2,7 +2,7 @@ use Rattle.std.proofs.Common.{◌≡◌, ◌∙◌, ℕ, arith, refl, subst}
 use Rattle.live_runs.specs.Feeding.{TakesDownTo}
 use Rattle.plane.specs.Planes.{places_of}
 use Rattle.live_work.specs.Feeding.{shares_in}
-use Rattle.live_work.proofs.Kept.{feeder_here, feeder_owns, feeder_stays}
+use Rattle.live_work.proofs.UnchangedPass.{feeder_here, feeder_owns, feeder_stays}
 use Rattle.live_work.proofs.feeding.take_down.Goals as goal
 
 pub loop-place-init : goal.loop-place-init

@@ -1,9 +1,9 @@
 use Rattle.std.proofs.Common.{[], None, Some, arith}
-use Rattle.made_runs.specs.Feeder.{downs_after, falling_time}
+use Rattle.run_parts.specs.Feeder.{downs_after, falling_time}
 use Rattle.plane.specs.Planes.{places_of}
 use Rattle.live_work.specs.Feeding.{FedOn, shares_in}
-use Rattle.live_work.proofs.Asked.{on_ok}
-use Rattle.live_work.proofs.Fallen.{due_are, fed_due, fed_none, lines_due}
+use Rattle.live_work.proofs.SentAsks.{on_ok}
+use Rattle.live_work.proofs.FeederCalls.{due_are, fed_due, fed_none, lines_due}
 use Rattle.live_work.proofs.feeding.take_down_after.Goals as goal
 
 pub take_all_down-requires-clause-number : goal.take_all_down-requires-clause-number

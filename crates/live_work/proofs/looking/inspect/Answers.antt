@@ -1,7 +1,7 @@
 use Rattle.std.proofs.Common.{refl}
 use Rattle.plane.specs.Planes.{places_of}
-use Rattle.live_work.proofs.Kept.{port_both, port_here}
-use Rattle.live_work.proofs.Looked.{looks_both, looks_none}
+use Rattle.live_work.proofs.UnchangedPass.{port_both, port_here}
+use Rattle.live_work.proofs.MailboxLooks.{looks_both, looks_none}
 use Rattle.live_work.proofs.looking.inspect.Goals as goal
 
 pub loop-init : goal.loop-init

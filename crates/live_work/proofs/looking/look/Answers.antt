@@ -1,13 +1,13 @@
 use Rattle.std.proofs.Common.{None, Option, Some, subst}
 use Rattle.packet_entry.specs.declared.letter.Letter.{Letter}
 use Rattle.nfqa_msgs.specs.NoticeTexts.{told_exactly}
-use Rattle.made_runs.specs.Ports.{place_in}
+use Rattle.run_parts.specs.Ports.{place_in}
 use Rattle.plane.specs.Passes as view
 use Rattle.plane.specs.Planes.{places_of}
-use Rattle.live_work.proofs.Kept.{port_both}
-use Rattle.live_work.proofs.Looked.{answer_words, found_none, found_one, looks_none}
-use Rattle.live_work.proofs.Looked.{looks_on, received_stays, same_stays}
-use Rattle.live_work.proofs.Minded.{mind_looks, mind_stays, mind_within}
+use Rattle.live_work.proofs.UnchangedPass.{port_both}
+use Rattle.live_work.proofs.MailboxLooks.{answer_words, found_none, found_one, looks_none}
+use Rattle.live_work.proofs.MailboxLooks.{looks_on, received_stays, same_stays}
+use Rattle.live_work.proofs.PortMinds.{mind_looks, mind_stays, mind_within}
 use Rattle.live_work.proofs.looking.look.Goals as goal
 
 pub answer-requires : goal.answer-requires

@@ -1,8 +1,8 @@
 use Rattle.std.proofs.Common.{ℕ, List, ap, arith, length, refl, subst, sym}
 use Rattle.inspector_script.specs.Scripts.{Machine}
 use Rattle.live_work.specs.declared.mind.Mind.{Mind}
-use Rattle.made_runs.specs.Ports.{ArePlaced, place_in}
-use Rattle.live_work.proofs.Fresh.{AreFresh, all_fresh, as_many, fresh_push}
+use Rattle.run_parts.specs.Ports.{ArePlaced, place_in}
+use Rattle.live_work.proofs.FirstMinds.{AreFresh, all_fresh, as_many, fresh_push}
 use Rattle.live_work.proofs.mind.minds.Goals as goal
 
 pub returns : goal.returns

@@ -1,5 +1,5 @@
 use Rattle.std.proofs.Common.{◌≡◌, length}
-use Rattle.live_work.proofs.Fresh.{AreFresh}
+use Rattle.live_work.proofs.FirstMinds.{AreFresh}
 use Rattle.live_work.proofs.mind.minds.Given as goal
 
 abbrev pub invariant-loop-place : goal.invariant-loop-place

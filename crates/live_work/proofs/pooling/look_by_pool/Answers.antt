@@ -1,9 +1,9 @@
 use Rattle.std.proofs.Common.{◌≡◌, ◌<◌, ◌∙◌, ℕ, ap, length, refl, subst, sym}
 use Rattle.inspector_pool.specs.Answers.{answers}
-use Rattle.made_runs.specs.Ports.{place_in}
+use Rattle.run_parts.specs.Ports.{place_in}
 use Rattle.plane.specs.Planes.{places_of}
-use Rattle.live_work.proofs.Minded.{mind_within}
-use Rattle.live_work.proofs.Pooled.{looked_in_vain, looked_so, pool_is}
+use Rattle.live_work.proofs.PortMinds.{mind_within}
+use Rattle.live_work.proofs.PoolAnswers.{looked_in_vain, looked_so, pool_is}
 use Rattle.live_work.proofs.pooling.look_by_pool.Goals as goal
 
 pub pool_answers-requires-clause-has_port : goal.pool_answers-requires-clause-has_port

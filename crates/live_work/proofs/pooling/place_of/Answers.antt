@@ -1,6 +1,6 @@
 use Rattle.std.proofs.Common.{ℕ, List, ◌<◌, ◌≡◌, length, subst}
 use Rattle.std.specs.Prelude.{slice_index_or}
-use Rattle.live_work.proofs.Pooled.{found_place}
+use Rattle.live_work.proofs.PoolAnswers.{found_place}
 use Rattle.live_work.proofs.pooling.place_of.Goals as goal
 
 pub returns-then-ports-at : goal.returns-then-ports-at

@@ -8,15 +8,15 @@ use Rattle.inspector_script.specs.Scripts.{Machine, count_after, next_count}
 use Rattle.inspector_pool.specs.Answers.{answers}
 use Rattle.port_scripts.specs.Words.{AreWords}
 use Rattle.live_work.specs.Pooling.{HasReceived}
-use Rattle.made_runs.specs.Log.{received_count}
+use Rattle.run_parts.specs.Log.{received_count}
 use Rattle.nfqa_msgs.specs.NoticeTexts.{told_exactly}
-use Rattle.made_runs.specs.Ports.{place_in}
+use Rattle.run_parts.specs.Ports.{place_in}
 use Rattle.plane.specs.Passes as view
 use Rattle.plane.specs.Planes.{places_of}
-use Rattle.live_work.proofs.Kept.{port_both}
-use Rattle.live_work.proofs.Looked.{one_more_heard, received_stays}
-use Rattle.live_work.proofs.Minded.{mind_on}
-use Rattle.live_work.proofs.Pooled.{hears_next, hears_unread, words_more, words_one}
+use Rattle.live_work.proofs.UnchangedPass.{port_both}
+use Rattle.live_work.proofs.MailboxLooks.{one_more_heard, received_stays}
+use Rattle.live_work.proofs.PortMinds.{mind_on}
+use Rattle.live_work.proofs.PoolAnswers.{hears_next, hears_unread, words_more, words_one}
 use Rattle.live_work.proofs.pooling.receive_batch.Goals as goal
 
 pub returns-in_default-2-clause-received : goal.returns-in_default-2-clause-received

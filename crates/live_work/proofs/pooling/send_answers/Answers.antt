@@ -5,10 +5,10 @@ use Rattle.script_lines.specs.Limits.{IsAsk}
 use Rattle.script_lines.specs.declared.ask.Ask.{Ask}
 use Rattle.plane.specs.Planes.{places_of}
 use Rattle.port_scripts.specs.Words.{AreWords}
-use Rattle.live_work.proofs.Kept.{port_both}
-use Rattle.live_work.proofs.Looked.{still_heard}
-use Rattle.live_work.proofs.Minded.{mind_stays}
-use Rattle.live_work.proofs.Pooled.{sends_first}
+use Rattle.live_work.proofs.UnchangedPass.{port_both}
+use Rattle.live_work.proofs.MailboxLooks.{still_heard}
+use Rattle.live_work.proofs.PortMinds.{mind_stays}
+use Rattle.live_work.proofs.PoolAnswers.{sends_first}
 use Rattle.live_work.proofs.pooling.send_answers.Goals as goal
 
 pub loop-asks-preserved : goal.loop-asks-preserved

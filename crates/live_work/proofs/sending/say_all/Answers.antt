@@ -2,9 +2,9 @@ use Rattle.std.proofs.Common.{◌∙◌, ℕ, subst}
 use Rattle.plane.specs.Planes.{places_of}
 use Rattle.live_passes.specs.Views.{port_pass}
 use Rattle.live_work.specs.Sending.{Says}
-use Rattle.live_work.proofs.Asked.{begins_so, next_fits, rest_fits, said_on, words_on}
-use Rattle.live_work.proofs.Kept.{port_both}
-use Rattle.live_work.proofs.Spoken.{hears_on}
+use Rattle.live_work.proofs.SentAsks.{begins_so, next_fits, rest_fits, said_on, words_on}
+use Rattle.live_work.proofs.UnchangedPass.{port_both}
+use Rattle.live_work.proofs.SentMessages.{hears_on}
 use Rattle.live_work.proofs.sending.say_all.Goals as goal
 
 pub send_words-requires-clause-fit : goal.send_words-requires-clause-fit

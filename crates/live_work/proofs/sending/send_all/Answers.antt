@@ -2,8 +2,8 @@ use Rattle.std.proofs.Common.{[], arith, length}
 use Rattle.netlink_codec.specs.Messages.{first_message}
 use Rattle.live_passes.specs.Views.{port_pass}
 use Rattle.plane.specs.Planes.{places_of}
-use Rattle.live_work.proofs.Kept.{port_stays, some_place}
-use Rattle.live_work.proofs.Spoken.{count_sent, cut_all, cut_last, cut_on, hears_on, speaks}
+use Rattle.live_work.proofs.UnchangedPass.{port_stays, some_place}
+use Rattle.live_work.proofs.SentMessages.{count_sent, cut_all, cut_last, cut_on, hears_on, speaks}
 use Rattle.live_work.proofs.sending.send_all.Goals as goal
 
 pub behind-rest-requires : goal.behind-rest-requires

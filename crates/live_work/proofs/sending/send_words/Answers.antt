@@ -4,7 +4,7 @@ use Rattle.packet_moves.specs.Calls.{after_this}
 use Rattle.plane.specs.Planes.{places_of}
 use Rattle.live_passes.specs.Views.{port_pass}
 use Rattle.live_work.specs.Sending.{HasCut, Says}
-use Rattle.live_work.proofs.Asked.{on_ok, plain_bytes, plain_fits, raw_bytes, raw_short, says_so}
+use Rattle.live_work.proofs.SentAsks.{on_ok, plain_bytes, plain_fits, raw_bytes, raw_short, says_so}
 use Rattle.live_work.proofs.sending.send_words.Goals as goal
 
 pub put_text-requires : goal.put_text-requires

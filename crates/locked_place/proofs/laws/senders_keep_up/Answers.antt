@@ -1,7 +1,7 @@
-use Rattle.locked_place.proofs.Listing.{Laws}
-use Rattle.locked_place.proofs.Notifying.{turned_away, has_sender, offered}
-use Rattle.locked_place.proofs.Requesting.{asked}
-use Rattle.locked_place.proofs.Quiet.{closed, down}
+use Rattle.locked_place.proofs.EntryPoints.{Laws}
+use Rattle.locked_place.proofs.ArrivalNotices.{turned_away, has_sender, offered}
+use Rattle.locked_place.proofs.RequestEffects.{asked}
+use Rattle.locked_place.proofs.QuietEntries.{closed, down}
 use Rattle.locked_place.proofs.laws.senders_keep_up.Goals as goal
 
 laws : goal.After-replies_tell_how_many_left → Laws

@@ -1,5 +1,5 @@
 use Rattle.std.proofs.Common.{arith, ap, length}
-use Rattle.locked_place.proofs.Publishing.{no_later, shown_on, shown_still}
+use Rattle.locked_place.proofs.BoardContent.{no_later, shown_on, shown_still}
 use Rattle.locked_place.proofs.showing.publish.Goals as goal
 use Rattle.locked_place.proofs.showing.publish.Goals.{
   else-events-lt-EVENTS_SPAN-via-then-events-lt-EVENTS_SPAN+else-waiting-lt-WAITING_SPAN,

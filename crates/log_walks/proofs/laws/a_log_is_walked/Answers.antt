@@ -1,6 +1,6 @@
 use Rattle.std.proofs.Common.{sym}
 use Rattle.log_walks.proofs.Evenness.{Laws}
-use Rattle.log_walks.proofs.Whole.{goes_whole}
+use Rattle.log_walks.proofs.WholeLog.{goes_whole}
 use Rattle.log_walks.proofs.laws.a_log_is_walked.Goals as goal
 
 pub returns-clause-walked : goal.returns-clause-walked

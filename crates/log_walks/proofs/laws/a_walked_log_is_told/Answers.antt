@@ -1,4 +1,4 @@
-use Rattle.log_walks.proofs.Told.{tell_whole}
+use Rattle.log_walks.proofs.ToldEntries.{tell_whole}
 use Rattle.log_walks.proofs.laws.a_walked_log_is_told.Goals as goal
 
 pub returns : goal.returns

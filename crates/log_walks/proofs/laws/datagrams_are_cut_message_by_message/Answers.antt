@@ -1,5 +1,5 @@
-use Rattle.log_walks.proofs.Cutting.{cut_first, cut_none, used_within}
-use Rattle.log_walks.proofs.Owning.{own_message}
+use Rattle.log_walks.proofs.MessageCuts.{cut_first, cut_none, used_within}
+use Rattle.log_walks.proofs.MessageBytes.{own_message}
 use Rattle.log_walks.proofs.laws.datagrams_are_cut_message_by_message.Goals as goal
 
 pub returns-clause-first : goal.returns-clause-first

@@ -1,8 +1,8 @@
 use Rattle.std.proofs.Common.{List, ap, arith, length, subst, sym}
 use Rattle.live_work.specs.declared.feeding.Feeding.{Feeding}
 use Rattle.nfq_live.specs.Feeders.{AllFeed}
-use Rattle.nfq_live.proofs.Seated.{refilled}
-use Rattle.nfq_live.proofs.Splitting.{all_feed}
+use Rattle.nfq_live.proofs.WorkerSeats.{refilled}
+use Rattle.nfq_live.proofs.FeederParts.{all_feed}
 use Rattle.nfq_live.proofs.feeders.feed_together.Goals as goal
 
 pub returns-clause-all : goal.returns-clause-all

@@ -6,7 +6,7 @@ use Rattle.plane.specs.Passes.{IsFeederOf}
 use Rattle.live_work.specs.declared.feeding.Feeding.{Feeding}
 use Rattle.live_work.specs.Feeding.{shares_in}
 use Rattle.nfq_live.specs.Feeders.{AllJoin, HaveItsParts, fed_by}
-use Rattle.nfq_live.proofs.Splitting.{nothing_left, helpers_well, join_fed, join_on, join_parts}
+use Rattle.nfq_live.proofs.FeederParts.{nothing_left, helpers_well, join_fed, join_on, join_parts}
 use Rattle.nfq_live.proofs.feeders.join_all.Goals as goal
 
 pub join_feeder-requires-clause-from : goal.join_feeder-requires-clause-from

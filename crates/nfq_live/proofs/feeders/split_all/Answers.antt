@@ -5,8 +5,8 @@ use Rattle.place_rows.specs.Lists.{Every}
 use Rattle.live_work.specs.declared.feeding.Feeding.{Feeding}
 use Rattle.live_work.specs.Feeding.{shares_in}
 use Rattle.nfq_live.specs.Feeders.{HaveItsParts, IsHelper}
-use Rattle.nfq_live.proofs.Splitting.{helper_made, one_more_helper, split_one, still_fed}
-use Rattle.nfq_live.proofs.Splitting.{still_seen}
+use Rattle.nfq_live.proofs.FeederParts.{helper_made, one_more_helper, split_one, still_fed}
+use Rattle.nfq_live.proofs.FeederParts.{still_seen}
 use Rattle.nfq_live.proofs.feeders.split_all.Goals as goal
 
 pub loop-number-init : goal.loop-number-init

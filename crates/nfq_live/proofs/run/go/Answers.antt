@@ -1,12 +1,12 @@
 use Rattle.std.proofs.Common.{◌≡◌, List, length, subst, sym}
 use Rattle.packet_entry.specs.declared.packet.Card.{Card}
-use Rattle.made_runs.specs.Entering.{cards}
+use Rattle.run_parts.specs.Entering.{cards}
 use Rattle.plane.specs.Planes.{places_of}
 use Rattle.nfq_live.specs.Endings.{IsAtMeeting}
 use Rattle.nfq_live.specs.Feeders.{AreTheSame}
 use Rattle.nfq_live.specs.Sizes.{Size, size_of}
-use Rattle.live_work.proofs.Asked.{on_ok}
-use Rattle.nfq_live.proofs.Ran.{all_open}
+use Rattle.live_work.proofs.SentAsks.{on_ok}
+use Rattle.nfq_live.proofs.WholeRun.{all_open}
 use Rattle.nfq_live.proofs.run.go.Goals as goal
 
 pub make_ready-requires-clause-crew : goal.make_ready-requires-clause-crew

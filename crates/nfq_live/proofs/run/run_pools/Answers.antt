@@ -1,13 +1,14 @@
 use Rattle.std.proofs.Common.{◌≡◌, ◌++◌, refl, rules}
-use Rattle.made_runs.specs.Entering.{cards}
+use Rattle.run_parts.specs.Entering.{cards}
 use Rattle.place_rows.specs.Lists.{flat}
 use Rattle.plane.specs.Closings.{IsClosed}
 use Rattle.plane.specs.Planes.{places_of}
 use Rattle.nfq_live.specs.Run.{setting_for, tables_of}
 use Rattle.nfq_live.specs.Sizes.{size_of}
-use Rattle.live_work.proofs.Kept.{some_place}
-use Rattle.nfq_live.proofs.Ran.{closed_by, closed_run, live_run, no_zero, none_opened, opened_crew}
-use Rattle.nfq_live.proofs.Ran.{short_for, sound_for}
+use Rattle.live_work.proofs.UnchangedPass.{some_place}
+use Rattle.nfq_live.proofs.WholeRun.{closed_by, closed_run, live_run, no_zero, none_opened}
+use Rattle.nfq_live.proofs.WholeRun.{opened_crew}
+use Rattle.nfq_live.proofs.WholeRun.{short_for, sound_for}
 use Rattle.nfq_live.proofs.run.run_pools.Goals as goal
 
 pub go-outcome-requires-clause-crew : goal.go-outcome-requires-clause-crew

@@ -1,10 +1,10 @@
 use Rattle.std.proofs.Common.{◌≡◌, ◌+◌, arith, false, length, true}
 use Rattle.live_work.specs.Feeding.{shares_in}
-use Rattle.live_work.proofs.Asked.{went_well}
-use Rattle.nfq_live.proofs.Joined.{have_all_fed}
-use Rattle.nfq_live.proofs.Seated.{none_inspected}
-use Rattle.nfq_live.proofs.Splitting.{all_fresh, as_many_fed, each_well, fed_of, has_again}
-use Rattle.nfq_live.proofs.Splitting.{helpers_of, neither, parts_fed}
+use Rattle.live_work.proofs.SentAsks.{went_well}
+use Rattle.nfq_live.proofs.JoinedShares.{have_all_fed}
+use Rattle.nfq_live.proofs.WorkerSeats.{none_inspected}
+use Rattle.nfq_live.proofs.FeederParts.{all_fresh, as_many_fed, each_well, fed_of, has_again}
+use Rattle.nfq_live.proofs.FeederParts.{helpers_of, neither, parts_fed}
 use Rattle.nfq_live.proofs.workers.split_and_work.Goals as goal
 
 pub join_all-well-requires-clause-helpers : goal.join_all-well-requires-clause-helpers

@@ -1,6 +1,6 @@
 use Rattle.std.proofs.Common.{◌∙◌}
 use Rattle.std.specs.Vec.Iter.{into_iter_items}
-use Rattle.nfq_live.proofs.Seated.{all_well, mind_left, pass_left, pushed_fits}
+use Rattle.nfq_live.proofs.WorkerSeats.{all_well, mind_left, pass_left, pushed_fits}
 use Rattle.nfq_live.proofs.workers.unseat_all.Goals as goal
 
 pub loop-seat-preserved : goal.loop-seat-preserved

@@ -2,7 +2,7 @@ use Rattle.std.proofs.Common.{List, ap, arith, length, subst, sym}
 use Rattle.std.specs.List.{AllZip}
 use Rattle.nfq_live.specs.declared.workers.Inspector.{Inspector}
 use Rattle.nfq_live.specs.Workers.{IsInspected}
-use Rattle.nfq_live.proofs.Seated.{all_zip, refilled}
+use Rattle.nfq_live.proofs.WorkerSeats.{all_zip, refilled}
 use Rattle.nfq_live.proofs.workers.work_at_seats.Goals as goal
 
 pub returns-clause-each : goal.returns-clause-each

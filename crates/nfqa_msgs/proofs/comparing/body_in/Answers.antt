@@ -1,6 +1,6 @@
 use Rattle.std.proofs.Common.{ap, sym, ◌∙◌, length, Some}
 use Rattle.netlink_codec.specs.Messages.{NetlinkMessage, message_of}
-use Rattle.nfqa_msgs.proofs.Standing.{is_read, stands_alone}
+use Rattle.nfqa_msgs.proofs.MessageText.{is_read, stands_alone}
 use Rattle.nfqa_msgs.proofs.comparing.body_in.Goals as goal
 
 pub returns-in_err-message-clause-only : goal.returns-in_err-message-clause-only

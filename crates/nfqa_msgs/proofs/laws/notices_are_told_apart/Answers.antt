@@ -1,4 +1,4 @@
-use Rattle.nfqa_msgs.proofs.NoticesBack.{told_by-back, one_value, no_prefix}
+use Rattle.nfqa_msgs.proofs.NoticeRoundTrip.{told_by-back, one_value, no_prefix}
 use Rattle.nfqa_msgs.proofs.laws.notices_are_told_apart.Goals as goal
 
 pub returns-clause-back : goal.returns-clause-back

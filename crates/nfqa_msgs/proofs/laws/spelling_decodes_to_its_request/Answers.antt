@@ -2,7 +2,7 @@ use Rattle.std.proofs.Common.{◌≡◌, ℕ, ◌++◌, List, length, min, subst
 use Rattle.netlink_codec.specs.Messages.{Front, pad}
 use Rattle.nfqa_headers.specs.Kinds.{queue_kind}
 use Rattle.nfqa_msgs.specs.RequestWriting.{spelling, spelled, request_body, number_for, flags_for}
-use Rattle.nfqa_msgs.proofs.RequestsBack.{spelled-decodes, spelled-fits, request_body-padded}
+use Rattle.nfqa_msgs.proofs.RequestRoundTrip.{spelled-decodes, spelled-fits, request_body-padded}
 use Rattle.nfqa_msgs.proofs.laws.spelling_decodes_to_its_request.Goals as goal
 
 pub returns-clause-front : goal.returns-clause-front

@@ -5,7 +5,7 @@ use Rattle.nfqa_headers.specs.Numbers.{notice_number}
 use Rattle.nfqa_headers.specs.Kinds.{queue_kind}
 use Rattle.nfqa_msgs.specs.NoticeWriting.{Told, notice_body, notice_text}
 use Rattle.nfqa_msgs.specs.Telling.{telling}
-use Rattle.nfqa_msgs.proofs.NoticesBack.{notice-fits}
+use Rattle.nfqa_msgs.proofs.NoticeRoundTrip.{notice-fits}
 use Rattle.nfqa_msgs.proofs.NoticeSpelling.{in_pieces}
 use Rattle.nfqa_msgs.proofs.notice_spelling.is_notice_of.Goals as goal
 

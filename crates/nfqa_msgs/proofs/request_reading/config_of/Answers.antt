@@ -2,7 +2,7 @@ use Rattle.std.proofs.Common.{arith}
 use Rattle.nfqa_headers.specs.Numbers.{config_number, command_kind, params_kind, flags_kind}
 use Rattle.nfqa_headers.specs.Numbers.{mask_kind, maxlen_kind}
 use Rattle.nfqa_headers.specs.Headers.{command_length, params_length, value_length}
-use Rattle.nfqa_msgs.proofs.Found.{found-long, found-some}
+use Rattle.nfqa_msgs.proofs.ContentLengths.{found-long, found-some}
 use Rattle.nfqa_msgs.proofs.request_reading.config_of.Goals as goal
 
 pub map-requires : goal.map-requires

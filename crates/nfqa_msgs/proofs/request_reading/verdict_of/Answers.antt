@@ -2,7 +2,7 @@ use Rattle.std.proofs.Common.{arith}
 use Rattle.nfqa_headers.specs.Numbers.{verdict_number, mark_kind, verdict_header_kind}
 use Rattle.nfqa_headers.specs.Numbers.{priority_kind}
 use Rattle.nfqa_headers.specs.Headers.{value_length, verdict_header_length}
-use Rattle.nfqa_msgs.proofs.Found.{found-long, found-some}
+use Rattle.nfqa_msgs.proofs.ContentLengths.{found-long, found-some}
 use Rattle.nfqa_msgs.proofs.request_reading.verdict_of.Goals as goal
 
 pub map-requires : goal.map-requires

@@ -4,7 +4,7 @@ use Rattle.netlink_codec.specs.Messages.{FitsHeader, message_text, message_with}
 use Rattle.nfqa_headers.specs.Kinds.{queue_kind}
 use Rattle.nfqa_msgs.specs.declared.request.Request.{Request}
 use Rattle.nfqa_msgs.specs.RequestWriting.{flags_for, number_for, request_body, spelling}
-use Rattle.nfqa_msgs.proofs.RequestsBack.{spelled-fits}
+use Rattle.nfqa_msgs.proofs.RequestRoundTrip.{spelled-fits}
 use Rattle.nfqa_msgs.proofs.request_spelling.is_spelling.Goals as goal
 
 -- a message that is the spelling, with the kind and the flags as they are computed

@@ -1,9 +1,9 @@
 use Rattle.std.proofs.Common.{refl}
 use Rattle.packet_moves.specs.Planes.{with_closed, without_device}
-use Rattle.packet_moves.proofs.Known.{Laws}
-use Rattle.packet_moves.proofs.Calling.{fed_keeps, sends_keep}
-use Rattle.packet_moves.proofs.Flushing.{closing_keeps, down_keeps}
-use Rattle.packet_moves.proofs.Timing.{wait_in_time}
+use Rattle.packet_moves.proofs.LowerLaws.{Laws}
+use Rattle.packet_moves.proofs.CallSoundness.{fed_keeps, sends_keep}
+use Rattle.packet_moves.proofs.Flushes.{closing_keeps, down_keeps}
+use Rattle.packet_moves.proofs.VisitNumbers.{wait_in_time}
 use Rattle.packet_moves.proofs.laws.histories_stay_sound.Goals as goal
 
 laws : goal.After-soundness_is_kept_move_by_move → Laws

@@ -1,6 +1,6 @@
 use Rattle.queue_core.specs.declared.event.Event.TheVariants.{Ask}
-use Rattle.packet_moves.proofs.Leaving.{handed_in_time, no_more_than_waited}
-use Rattle.packet_moves.proofs.Sounding.{leaves_one}
+use Rattle.packet_moves.proofs.OnwardCounts.{handed_in_time, no_more_than_waited}
+use Rattle.packet_moves.proofs.MoveSoundness.{leaves_one}
 use Rattle.packet_moves.proofs.laws.what_goes_on_is_in_time.Goals as goal
 
 pub returns-clause-arrival : goal.returns-clause-arrival

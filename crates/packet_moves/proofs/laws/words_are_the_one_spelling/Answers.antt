@@ -1,5 +1,5 @@
 use Rattle.nfqa_msgs.specs.RequestReading.{decoded}
-use Rattle.packet_moves.proofs.Wording.{words_spell, raw_is_whole, spelling_in_words}
+use Rattle.packet_moves.proofs.MessageWords.{words_spell, raw_is_whole, spelling_in_words}
 use Rattle.packet_moves.proofs.laws.words_are_the_one_spelling.Goals as goal
 
 pub returns : goal.returns

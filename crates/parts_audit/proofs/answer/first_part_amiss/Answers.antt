@@ -1,11 +1,11 @@
 use Rattle.std.proofs.Common.{ℕ, List, length, refl, sym, ◌∙◌, arith}
-use Rattle.made_runs.specs.Log.{Note}
-use Rattle.makers_audit.specs.Makers.{Requests, Notices, Closing, Feeder, Ports, Order, Room}
-use Rattle.makers_audit.specs.Makers.{HaveLogs}
-use Rattle.makers_audit.specs.Noticing.{AreOnlyOnes}
-use Rattle.makers_audit.specs.Pleading.{AreToldByWords}
-use Rattle.makers_audit.specs.Told.{AreTold}
-use Rattle.parts_audit.proofs.Failing.{before_requests, before_next, refused, all_hold, clash}
+use Rattle.run_parts.specs.Log.{Note}
+use Rattle.port_audit.specs.Makers.{Requests, Notices, Closing, Feeder, Ports, Order, Room}
+use Rattle.port_audit.specs.Makers.{HaveLogs}
+use Rattle.port_audit.specs.Noticing.{AreOnlyOnes}
+use Rattle.port_audit.specs.Pleading.{AreToldByWords}
+use Rattle.port_audit.specs.Told.{AreTold}
+use Rattle.parts_audit.proofs.FirstFailure.{before_requests, before_next, refused, all_hold, clash}
 use Rattle.parts_audit.proofs.answer.first_part_amiss.Goals as goal
 
 pub returns-then-not-branch : goal.returns-then-not-branch

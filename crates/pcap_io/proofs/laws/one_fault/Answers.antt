@@ -1,4 +1,4 @@
-use Rattle.pcap_io.proofs.Whole.{one_fault as same_fault}
+use Rattle.pcap_io.proofs.WholeFile.{one_fault as same_fault}
 use Rattle.pcap_io.proofs.laws.one_fault.Goals as goal
 
 pub returns : goal.returns

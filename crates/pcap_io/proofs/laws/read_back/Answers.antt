@@ -1,6 +1,6 @@
 use Rattle.std.proofs.Common.{refl}
 use Rattle.pcap_io.specs.Text.{capture_text}
-use Rattle.pcap_io.proofs.Whole.{one_capture}
+use Rattle.pcap_io.proofs.WholeFile.{one_capture}
 use Rattle.pcap_io.proofs.laws.read_back.Goals as goal
 
 pub returns-clause-only : goal.returns-clause-only

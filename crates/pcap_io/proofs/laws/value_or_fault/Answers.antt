@@ -1,5 +1,5 @@
-use Rattle.pcap_io.proofs.Whole.{value_or_fault as answer, never_both}
-use Rattle.pcap_io.proofs.Apart.{memory_apart}
+use Rattle.pcap_io.proofs.WholeFile.{value_or_fault as answer, never_both}
+use Rattle.pcap_io.proofs.FaultKinds.{memory_apart}
 use Rattle.pcap_io.proofs.laws.value_or_fault.Goals as goal
 
 pub returns-clause-one : goal.returns-clause-one

@@ -3,7 +3,7 @@ use Rattle.std.proofs.Common.{add_assoc, sym, ◌∙◌, false}
 use Rattle.std.specs.Prelude.{is_err, OnOk}
 use Rattle.std.proofs.lemmas.List.{length-take-le, take_rest}
 use Rattle.pcap_io.specs.declared.capture.Frame.{Frame}
-use Rattle.pcap_io.proofs.Whole.{frames_below, next, Goes}
+use Rattle.pcap_io.proofs.WholeFile.{frames_below, next, Goes}
 use Rattle.pcap_io.proofs.reading.read_frame.Goals as goal
 use Rattle.pcap_io.proofs.reading.read_frame.Goals.{After-len, Else-is_err}
 

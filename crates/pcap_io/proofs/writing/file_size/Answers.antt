@@ -1,6 +1,6 @@
 use Rattle.std.proofs.Common.{◌+◌, ◌^◌, ◌≤◌, length, arith, sym, ap, ◌∙◌, List}
 use Rattle.pcap_io.specs.declared.capture.Frame.{Frame}
-use Rattle.pcap_io.proofs.Whole.{records}
+use Rattle.pcap_io.proofs.WholeFile.{records}
 use Rattle.pcap_io.proofs.Room.{length-capture, length-records, not_below}
 use Rattle.pcap_io.proofs.writing.file_size.Goals as goal
 use Rattle.pcap_io.proofs.writing.file_size.Goals.{In-Some}

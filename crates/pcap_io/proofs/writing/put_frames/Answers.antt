@@ -5,7 +5,7 @@ use Rattle.std.proofs.lemmas.List.Elements.{recursion_from_All}
 use Rattle.packet_entry.specs.Numbers.{longest_packet}
 use Rattle.pcap_io.specs.declared.capture.Frame.{Frame}
 use Rattle.pcap_io.specs.Text.{record_text, FrameFits}
-use Rattle.pcap_io.proofs.Whole.{records}
+use Rattle.pcap_io.proofs.WholeFile.{records}
 use Rattle.pcap_io.proofs.Room.{length-records}
 use Rattle.pcap_io.proofs.writing.put_frames.Goals as goal
 

@@ -2,8 +2,8 @@ use Rattle.std.proofs.Common.{sym, length}
 use Rattle.turn_lock.specs.Passes.{view_of}
 use Rattle.locked_place.specs.Views.{label_of}
 use Rattle.place_rows.proofs.Lists.{prefix_self, less_one}
-use Rattle.place_rows.proofs.Passing.{as_many}
-use Rattle.place_rows.proofs.Places.{last_pass}
+use Rattle.place_rows.proofs.RowPasses.{as_many}
+use Rattle.place_rows.proofs.PlaceEnds.{last_pass}
 use Rattle.place_rows.proofs.ending.close_all.Goals as goal
 
 pub loop-lock-init : goal.loop-lock-init

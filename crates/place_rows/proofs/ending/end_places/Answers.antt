@@ -6,10 +6,10 @@ use Rattle.turn_lock.specs.Passes.{view_of}
 use Rattle.locked_place.specs.Views.{label_of}
 use Rattle.place_rows.specs.Rows.{label_at}
 use Rattle.place_rows.proofs.Lists.{prefix_self, less_one}
-use Rattle.place_rows.proofs.Passing.{as_many}
-use Rattle.place_rows.proofs.Places.{PlacesLeft, none_ended, one_ended, have_senders, times_few}
-use Rattle.place_rows.proofs.Places.{last_pass}
-use Rattle.place_rows.proofs.Places.{left_then, both_true}
+use Rattle.place_rows.proofs.RowPasses.{as_many}
+use Rattle.place_rows.proofs.PlaceEnds.{PlacesLeft, none_ended, one_ended, have_senders, times_few}
+use Rattle.place_rows.proofs.PlaceEnds.{last_pass}
+use Rattle.place_rows.proofs.PlaceEnds.{left_then, both_true}
 use Rattle.place_rows.proofs.ending.end_places.Goals as goal
 
 pub loop-lock-init : goal.loop-lock-init

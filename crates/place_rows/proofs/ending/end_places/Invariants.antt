@@ -1,7 +1,7 @@
 use Rattle.std.proofs.Common.{◌≡◌, map, length}
 use mathlib.Core.List.{IsPrefix}
 use Rattle.turn_lock.specs.Passes.{view_of}
-use Rattle.place_rows.proofs.Places.{PlacesLeft}
+use Rattle.place_rows.proofs.PlaceEnds.{PlacesLeft}
 use Rattle.place_rows.proofs.ending.end_places.Given as goal
 
 abbrev pub invariant-loop-lock : goal.invariant-loop-lock

@@ -6,9 +6,9 @@ use Rattle.histories.specs.Grouping.{IsGrouped}
 use Rattle.locked_place.specs.Views.{label_of}
 use Rattle.place_rows.specs.Rows.{label_at}
 use Rattle.place_rows.specs.Ended.{AreAllEntries}
-use Rattle.place_rows.proofs.Passing.{as_many}
+use Rattle.place_rows.proofs.RowPasses.{as_many}
 use Rattle.place_rows.proofs.Results.{ok_then}
-use Rattle.place_rows.proofs.Shut.{Laws, all_left}
+use Rattle.place_rows.proofs.FinalLists.{Laws, all_left}
 use Rattle.place_rows.proofs.ending.end_rows.Goals as goal
 
 laws : goal.After-drop-receivers-2 → Laws

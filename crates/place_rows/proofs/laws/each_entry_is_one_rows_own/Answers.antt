@@ -3,8 +3,8 @@ use Rattle.place_history.specs.PlaceState.{AreHere}
 use Rattle.place_rows.specs.Ending.{IsListOf}
 use Rattle.place_rows.specs.Joining.{own_at, is_place}
 use Rattle.place_rows.proofs.Lists.{all_from_mapped}
-use Rattle.place_rows.proofs.Owned.{own_once, owner}
-use Rattle.place_rows.proofs.Placing.{flat_at}
+use Rattle.place_rows.proofs.EntryOwners.{own_once, owner}
+use Rattle.place_rows.proofs.PlaceLists.{flat_at}
 use Rattle.place_rows.proofs.laws.each_entry_is_one_rows_own.Goals as goal
 
 pub returns : goal.returns

@@ -1,4 +1,4 @@
-use Rattle.place_rows.proofs.Parting.{joined_sent, rows_sent, joined_parts}
+use Rattle.place_rows.proofs.RowSplits.{joined_sent, rows_sent, joined_parts}
 use Rattle.place_rows.proofs.laws.joined_rows_have_what_both_had.Goals as goal
 
 pub returns : goal.returns

@@ -1,4 +1,4 @@
-use Rattle.place_rows.proofs.Balancing.{joined_sound}
+use Rattle.place_rows.proofs.RowBalance.{joined_sound}
 use Rattle.place_rows.proofs.laws.rows_are_balanced_together.Goals as goal
 
 pub returns : goal.returns

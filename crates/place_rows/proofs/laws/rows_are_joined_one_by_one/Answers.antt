@@ -1,4 +1,4 @@
-use Rattle.place_rows.proofs.Rowing.{none_joined, all_step, whole_parts}
+use Rattle.place_rows.proofs.RowJoins.{none_joined, all_step, whole_parts}
 use Rattle.place_rows.proofs.laws.rows_are_joined_one_by_one.Goals as goal
 
 pub returns : goal.returns

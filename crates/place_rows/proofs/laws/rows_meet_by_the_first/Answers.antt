@@ -1,5 +1,5 @@
-use Rattle.place_rows.proofs.Meeting.{Laws, gather_none, gather_one, spread_one, turn_round}
-use Rattle.place_rows.proofs.Meeting.{have_met}
+use Rattle.place_rows.proofs.RowMeetings.{Laws, gather_none, gather_one, spread_one, turn_round}
+use Rattle.place_rows.proofs.RowMeetings.{have_met}
 use Rattle.place_rows.proofs.laws.rows_meet_by_the_first.Goals as goal
 
 laws : goal.After-a_part_is_known_by_its_ways → Laws

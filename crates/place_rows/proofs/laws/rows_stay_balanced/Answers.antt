@@ -4,8 +4,8 @@ use Rattle.histories.specs.Journeys.{IsSoundBut}
 use Rattle.histories.specs.declared.entry.Entry.{Entry}
 use Rattle.histories.specs.History.{AreLegal}
 use Rattle.turn_lock.specs.Places.{IsPlaced}
-use Rattle.place_rows.proofs.Balancing.{turned_sound, looked_sound, none_moved}
-use Rattle.place_rows.proofs.Flushing.{Laws, closing_sound, down_sound}
+use Rattle.place_rows.proofs.RowBalance.{turned_sound, looked_sound, none_moved}
+use Rattle.place_rows.proofs.Flushes.{Laws, closing_sound, down_sound}
 use Rattle.place_rows.proofs.laws.rows_stay_balanced.Goals as goal
 
 laws : goal.After-what_is_flushed_is_destroyed → Laws

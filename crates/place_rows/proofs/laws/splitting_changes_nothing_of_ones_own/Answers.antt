@@ -1,5 +1,5 @@
 use Rattle.std.proofs.Common.{[]}
-use Rattle.place_rows.proofs.Parting.{kept_balanced, split_balanced, split_sent, split_parts}
+use Rattle.place_rows.proofs.RowSplits.{kept_balanced, split_balanced, split_sent, split_parts}
 use Rattle.place_rows.proofs.laws.splitting_changes_nothing_of_ones_own.Goals as goal
 
 pub returns : goal.returns

@@ -1,5 +1,5 @@
-use Rattle.place_rows.proofs.Untouched.{still_balanced, from_row, into_row, from_each, into_each}
-use Rattle.place_rows.proofs.Untouched.{keeps_own}
+use Rattle.place_rows.proofs.OwnEntries.{still_balanced, from_row, into_row, from_each, into_each}
+use Rattle.place_rows.proofs.OwnEntries.{keeps_own}
 use Rattle.place_rows.proofs.laws.telling_changes_nothing_of_ones_own.Goals as goal
 
 pub returns : goal.returns

@@ -3,7 +3,7 @@ use Rattle.std.specs.Prelude.{slice_set}
 use Rattle.mailbox.specs.Views.{SenderView, child_sender, opening_sender}
 use Rattle.place_rows.specs.Opening.{IsGiven, AreDealt}
 use Rattle.place_rows.proofs.Results.{on_ok}
-use Rattle.place_rows.proofs.Dealing.{none_dealt, one_dealt, all_dealt, made_other}
+use Rattle.place_rows.proofs.NewPlaces.{none_dealt, one_dealt, all_dealt, made_other}
 use Rattle.place_rows.proofs.opening.deal.Goals as goal
 
 pub split-requires-clause-mailbox : goal.split-requires-clause-mailbox

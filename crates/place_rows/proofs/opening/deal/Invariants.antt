@@ -1,6 +1,6 @@
 use Rattle.std.proofs.Common.{◌≡◌, ◌≤◌}
 use Rattle.mailbox.specs.Views.{opening_sender}
-use Rattle.place_rows.proofs.Dealing.{DealtUpTo}
+use Rattle.place_rows.proofs.NewPlaces.{DealtUpTo}
 use Rattle.place_rows.proofs.opening.deal.Given as goal
 
 abbrev pub invariant-loop-place : goal.invariant-loop-place

@@ -1,5 +1,5 @@
 use Rattle.std.proofs.Common.{sym, ap, ◌∙◌}
-use Rattle.place_rows.proofs.Dealing.{one_port_more}
+use Rattle.place_rows.proofs.NewPlaces.{one_port_more}
 use Rattle.place_rows.proofs.opening.deal_port.Goals as goal
 
 pub returns : goal.returns

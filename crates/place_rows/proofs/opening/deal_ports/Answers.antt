@@ -1,7 +1,7 @@
 use Rattle.std.proofs.Common.{sym, subst, rules, ◌<◌, length, take}
 use Rattle.std.proofs.lemmas.List.{take_more}
 use Rattle.place_rows.specs.Opening.{IsDealt}
-use Rattle.place_rows.proofs.Dealing.{fresh_at}
+use Rattle.place_rows.proofs.NewPlaces.{fresh_at}
 use Rattle.place_rows.proofs.opening.deal_ports.Goals as goal
 
 pub deal_port-requires-clause-new : goal.deal_port-requires-clause-new

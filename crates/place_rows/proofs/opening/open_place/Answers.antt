@@ -1,7 +1,7 @@
 use Rattle.place_rows.specs.Rows.{label_at}
 use Rattle.std.proofs.Common.{ap, ◌∙◌}
 use Rattle.locked_place.specs.Views.{LockedView, label_of}
-use Rattle.place_rows.proofs.Firsts.{label_made, first_of}
+use Rattle.place_rows.proofs.FirstPasses.{label_made, first_of}
 use Rattle.place_rows.proofs.opening.open_place.Goals as goal
 
 pub returns-in-Ok-clause-made : goal.returns-in-Ok-clause-made

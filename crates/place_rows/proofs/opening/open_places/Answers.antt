@@ -8,7 +8,7 @@ use Rattle.locked_place.specs.Passes.{IsPassOf}
 use Rattle.place_rows.specs.Rows.{ArePasses, label_at}
 use Rattle.place_rows.specs.Opening.{AreFirst, IsFirst}
 use Rattle.place_rows.proofs.Lists.{every_both}
-use Rattle.place_rows.proofs.Firsts.{one_lock_more}
+use Rattle.place_rows.proofs.FirstPasses.{one_lock_more}
 use Rattle.place_rows.proofs.opening.open_places.Goals as goal
 
 pub loop-own-preserved : goal.loop-own-preserved

@@ -4,7 +4,7 @@ use Rattle.turn_lock.specs.Views.{label_of}
 use Rattle.locked_place.specs.Views as place
 use Rattle.place_rows.specs.Rows.{Known}
 use Rattle.place_rows.specs.Joining.{Joins}
-use Rattle.place_rows.proofs.Passing.{pass_there, passes_set, as_many, turns_one, at_lock}
+use Rattle.place_rows.proofs.RowPasses.{pass_there, passes_set, as_many, turns_one, at_lock}
 use Rattle.place_rows.proofs.rows.join_at.Goals as goal
 
 pub index_mut-requires : goal.index_mut-requires

@@ -7,8 +7,8 @@ use Rattle.locked_place.specs.Views.{label_of}
 use Rattle.place_rows.specs.Joining.{RowJoined, Joins}
 use Rattle.place_rows.specs.Rows.{TurnsOne}
 use Rattle.place_rows.proofs.Lists.{prefix_self, prefix_length, last_of, less_one}
-use Rattle.place_rows.proofs.Passing.{as_many, pass_at}
-use Rattle.place_rows.proofs.Rowing.{row_none, row_step}
+use Rattle.place_rows.proofs.RowPasses.{as_many, pass_at}
+use Rattle.place_rows.proofs.RowJoins.{row_none, row_step}
 use Rattle.place_rows.proofs.rows.join_row.Goals as goal
 
 pub loop-pass-init : goal.loop-pass-init

@@ -6,7 +6,7 @@ use Rattle.locked_place.specs.Views as place
 use Rattle.place_rows.specs.Rows.{Known}
 use Rattle.place_rows.specs.Joining.{Splits}
 use Rattle.turn_lock.specs.Passes.{view_of}
-use Rattle.place_rows.proofs.Passing.{pass_there, passes_set, as_many, turns_one}
+use Rattle.place_rows.proofs.RowPasses.{pass_there, passes_set, as_many, turns_one}
 use Rattle.place_rows.proofs.rows.split_at.Goals as goal
 
 pub index_mut-requires : goal.index_mut-requires

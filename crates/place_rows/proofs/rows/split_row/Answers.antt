@@ -2,8 +2,8 @@ use Rattle.std.proofs.Common.{rules, map, arith, sym, ap, ◌≡◌, ◌∙◌, 
 use Rattle.std.proofs.lemmas.List.{length-map, map-append}
 use Rattle.turn_lock.specs.Passes.{view_of}
 use Rattle.locked_place.specs.Views.{label_of}
-use Rattle.place_rows.proofs.Passing.{no_passes, one_pass_more, all_passes, as_many}
-use Rattle.place_rows.proofs.Telling.{none_split, one_split, all_split}
+use Rattle.place_rows.proofs.RowPasses.{no_passes, one_pass_more, all_passes, as_many}
+use Rattle.place_rows.proofs.ToldRows.{none_split, one_split, all_split}
 use Rattle.place_rows.proofs.rows.split_row.Goals as goal
 
 pub loop-place-init : goal.loop-place-init

@@ -3,8 +3,8 @@ use Rattle.std.specs.Vec.{vec_capacity}
 use Rattle.turn_lock.specs.Passes.{view_of}
 use Rattle.locked_place.specs.Views.{PlaceLabel, label_of}
 use Rattle.place_rows.specs.Rows.{ArePasses}
-use Rattle.place_rows.proofs.Telling.{SplitUpTo}
-use Rattle.place_rows.proofs.Passing.{ArePassesUpTo}
+use Rattle.place_rows.proofs.ToldRows.{SplitUpTo}
+use Rattle.place_rows.proofs.RowPasses.{ArePassesUpTo}
 use Rattle.place_rows.proofs.rows.split_row.Given as goal
 
 abbrev pub invariant-loop-place : goal.invariant-loop-place

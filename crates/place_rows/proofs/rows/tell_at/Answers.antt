@@ -1,7 +1,7 @@
 use Rattle.std.proofs.Common.{arith}
 use Rattle.locked_place.specs.Views.{label_of}
-use Rattle.place_rows.proofs.Passing.{pass_there, passes_set, as_many}
-use Rattle.place_rows.proofs.Telling.{tells_one}
+use Rattle.place_rows.proofs.RowPasses.{pass_there, passes_set, as_many}
+use Rattle.place_rows.proofs.ToldRows.{tells_one}
 use Rattle.place_rows.proofs.rows.tell_at.Goals as goal
 
 pub tell-requires : goal.tell-requires

@@ -1,9 +1,9 @@
 use Rattle.std.proofs.Common.{map, sym, ◌∙◌}
 use Rattle.std.proofs.lemmas.List.{length-map}
 use Rattle.locked_place.specs.Views.{label_of}
-use Rattle.place_rows.proofs.Passing.{as_many}
+use Rattle.place_rows.proofs.RowPasses.{as_many}
 use Rattle.turn_lock.specs.Passes.{view_of}
-use Rattle.place_rows.proofs.Telling.{none_told, one_told}
+use Rattle.place_rows.proofs.ToldRows.{none_told, one_told}
 use Rattle.place_rows.proofs.rows.tell_row.Goals as goal
 
 pub loop-place-init : goal.loop-place-init

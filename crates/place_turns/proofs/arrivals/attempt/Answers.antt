@@ -1,5 +1,5 @@
 use Rattle.place_turns.specs.Places.{places_of, setting_of}
-use Rattle.place_turns.proofs.Stepping.{arrived_so}
+use Rattle.place_turns.proofs.PacketStep.{arrived_so}
 use Rattle.place_turns.proofs.arrivals.attempt.Goals as goal
 
 pub returns-in_ok-placed-in-To-clause-moved : goal.returns-in_ok-placed-in-To-clause-moved

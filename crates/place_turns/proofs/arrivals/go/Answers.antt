@@ -3,7 +3,7 @@ use Rattle.std.specs.Prelude.{map}
 use Rattle.turn_lock.specs.Passes.{view_of}
 use Rattle.histories.specs.declared.histories.Lost.{Lost}
 use Rattle.place_turns.specs.Places.{places_of, setting_of}
-use Rattle.place_turns.proofs.Stepping.{moved_on, lost_so}
+use Rattle.place_turns.proofs.PacketStep.{moved_on, lost_so}
 use Rattle.place_turns.proofs.arrivals.go.Goals as goal
 
 pub returns-in-Ok-clause-carried : goal.returns-in-Ok-clause-carried

@@ -2,7 +2,7 @@ use Rattle.std.proofs.Common.{subst}
 use Rattle.place_turns.specs.Trails.{Trail, MayLook}
 use Rattle.place_turns.specs.Moving.{IsFed}
 use Rattle.place_turns.specs.Places.{places_of, setting_of}
-use Rattle.place_turns.proofs.Stepping.{fed_so, looks_for}
+use Rattle.place_turns.proofs.PacketStep.{fed_so, looks_for}
 use Rattle.place_turns.proofs.feeding.feed.Goals as goal
 
 pub returns-in-Ok-attempt-clause-moved : goal.returns-in-Ok-attempt-clause-moved

@@ -1,4 +1,4 @@
-use Rattle.place_turns.proofs.Parts.{fed_parts, sends_parts, may_look_parts, down_parts}
+use Rattle.place_turns.proofs.LockParts.{fed_parts, sends_parts, may_look_parts, down_parts}
 use Rattle.place_turns.proofs.laws.passes_keep_their_parts.Goals as goal
 
 pub returns : goal.returns

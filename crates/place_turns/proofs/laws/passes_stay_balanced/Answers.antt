@@ -1,7 +1,7 @@
-use Rattle.place_turns.proofs.Known.{Laws}
-use Rattle.place_turns.proofs.Carrying.{fed_keeps, may_look_keeps}
+use Rattle.place_turns.proofs.LowerLaws.{Laws}
+use Rattle.place_turns.proofs.OnwardBalance.{fed_keeps, may_look_keeps}
 use Rattle.std.proofs.Common.{[]}
-use Rattle.place_turns.proofs.Requested.{sends_keep}
+use Rattle.place_turns.proofs.RequestBalance.{sends_keep}
 use Rattle.place_turns.proofs.laws.passes_stay_balanced.Goals as goal
 
 laws : goal.After-rows_stay_balanced → Laws

@@ -1,7 +1,7 @@
 use Rattle.turn_lock.specs.Passes.{view_of}
 use Rattle.histories.specs.Journeys.{Arrival}
-use Rattle.place_turns.proofs.Counting.{counted_back, counted_posted, counted_look, count_fits}
-use Rattle.place_turns.proofs.Counting.{few_own}
+use Rattle.place_turns.proofs.NoticeCounts.{counted_back, counted_posted, counted_look, count_fits}
+use Rattle.place_turns.proofs.NoticeCounts.{few_own}
 use Rattle.place_turns.proofs.passes.arrive_at.Goals as goal
 
 pub returns-in_err-port-clause-counted : goal.returns-in_err-port-clause-counted

@@ -3,8 +3,8 @@ use Rattle.std.specs.Prelude.{slice_get}
 use Rattle.std.proofs.lemmas.List.{length-append}
 use Rattle.place_rows.specs.Rows.{TurnsOne}
 use Rattle.place_turns.specs.Counts.{AreSums, AreAllSums}
-use Rattle.place_turns.proofs.Adding.{begins_itself, no_longer, last_of, less_one}
-use Rattle.place_turns.proofs.Adding.{none_summed, can_there, one_summed}
+use Rattle.place_turns.proofs.CountSums.{begins_itself, no_longer, last_of, less_one}
+use Rattle.place_turns.proofs.CountSums.{none_summed, can_there, one_summed}
 use Rattle.place_turns.proofs.sharing.add_all_counts.Goals as goal
 
 pub loop-counts-init : goal.loop-counts-init

@@ -1,4 +1,4 @@
-use Rattle.place_turns.proofs.Adding.{none_added, still_there, still_fits, one_added, all_added}
+use Rattle.place_turns.proofs.CountSums.{none_added, still_there, still_fits, one_added, all_added}
 use Rattle.place_turns.proofs.sharing.add_counts.Goals as goal
 
 pub loop-port-init : goal.loop-port-init

@@ -1,5 +1,5 @@
 use Rattle.std.specs.BTreeMap.{btree_map_len}
-use Rattle.place_turns.proofs.Adding.{AddedSoFar}
+use Rattle.place_turns.proofs.CountSums.{AddedSoFar}
 use Rattle.place_turns.proofs.sharing.add_counts.Given as goal
 
 abbrev pub invariant-loop-port : goal.invariant-loop-port

@@ -1,7 +1,7 @@
 use Rattle.std.proofs.Common.{◌≡◌, refl, rules, subst, length}
 use Rattle.std.proofs.lemmas.Option.{slice_get_read}
 use Rattle.place_turns.specs.Counts.{HaveZeros}
-use Rattle.place_turns.proofs.Adding.{no_zeros, one_zeroed}
+use Rattle.place_turns.proofs.CountSums.{no_zeros, one_zeroed}
 use Rattle.place_turns.proofs.sharing.all_zeros.Goals as goal
 
 pub loop-place-init : goal.loop-place-init

@@ -1,5 +1,5 @@
 use Rattle.std.proofs.Common.{◌≡◌, rules}
-use Rattle.place_turns.proofs.Adding.{none_so_far, one_zero, all_zero}
+use Rattle.place_turns.proofs.CountSums.{none_so_far, one_zero, all_zero}
 use Rattle.place_turns.proofs.sharing.zeros.Goals as goal
 
 pub loop-port-init : goal.loop-port-init

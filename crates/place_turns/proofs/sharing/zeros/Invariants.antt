@@ -1,4 +1,4 @@
-use Rattle.place_turns.proofs.Adding.{ZerosSoFar}
+use Rattle.place_turns.proofs.CountSums.{ZerosSoFar}
 use Rattle.place_turns.proofs.sharing.zeros.Given as goal
 
 abbrev pub invariant-loop-port : goal.invariant-loop-port

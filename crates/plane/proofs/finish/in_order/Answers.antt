@@ -2,7 +2,7 @@ use Rattle.std.proofs.Common.{◌<◌, ◌≤◌, ◌∙◌, ap, refl, rules, le
 use Rattle.std.proofs.Common.{ℕ}
 use Rattle.std.proofs.lemmas.List.{take_all}
 use Rattle.plane.specs.Remaining.{log_in}
-use Rattle.plane.proofs.Finishing.{none_ordered, one_ordered}
+use Rattle.plane.proofs.PlaneEnd.{none_ordered, one_ordered}
 use Rattle.plane.proofs.finish.in_order.Goals as goal
 
 pub loop-port-init : goal.loop-port-init

@@ -1,4 +1,4 @@
-use Rattle.plane.proofs.Finishing.{OrderedSo}
+use Rattle.plane.proofs.PlaneEnd.{OrderedSo}
 use Rattle.plane.proofs.finish.in_order.Given as goal
 
 abbrev pub invariant-loop-port : goal.invariant-loop-port

@@ -2,7 +2,7 @@ use Rattle.std.proofs.Common.{◌≡◌, rules, map, []}
 use Rattle.turn_lock.specs.Passes.{view_of}
 use Rattle.place_rows.specs.Rows.{id_of}
 use Rattle.plane.specs.Remaining.{IsRowOf}
-use Rattle.plane.proofs.Finishing.{Laws, none_so, one_so, all_so, at_hand, added_too}
+use Rattle.plane.proofs.PlaneEnd.{Laws, none_so, one_so, all_so, at_hand, added_too}
 use Rattle.plane.proofs.finish.join_closed.Goals as goal
 
 pub loop-pass-init : goal.loop-pass-init

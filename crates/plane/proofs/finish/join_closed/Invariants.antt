@@ -2,7 +2,7 @@ use Rattle.std.proofs.Common.{map, ℕ}
 use Rattle.turn_lock.specs.Passes.{view_of}
 use Rattle.locked_place.specs.Views.{PlaceLabel, label_of}
 use Rattle.place_rows.specs.Rows.{ArePasses}
-use Rattle.plane.proofs.Finishing.{JoinedSo}
+use Rattle.plane.proofs.PlaneEnd.{JoinedSo}
 use Rattle.plane.proofs.finish.join_closed.Given as goal
 
 abbrev pub invariant-loop-pass : goal.invariant-loop-pass

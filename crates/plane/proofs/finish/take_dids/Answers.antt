@@ -1,8 +1,8 @@
 use Rattle.std.proofs.Common.{◌≡◌, ◌<◌, ◌∙◌, ap, refl, rules, length, List}
 use Rattle.histories.specs.declared.log.PortLog.{PortLog}
 use Rattle.plane.specs.Remaining.{dids_in}
-use Rattle.plane.proofs.Finishing.{one_before, found_here, found_nowhere, others_kept}
-use Rattle.plane.proofs.Finishing.{same_at}
+use Rattle.plane.proofs.PlaneEnd.{one_before, found_here, found_nowhere, others_kept}
+use Rattle.plane.proofs.PlaneEnd.{same_at}
 use Rattle.plane.proofs.finish.take_dids.Goals as goal
 
 pub loop-i-init : goal.loop-i-init

@@ -1,5 +1,5 @@
 use Rattle.std.proofs.Common.{◌≡◌}
-use Rattle.plane.proofs.Finishing.{NoneBefore}
+use Rattle.plane.proofs.PlaneEnd.{NoneBefore}
 use Rattle.plane.proofs.finish.take_dids.Given as goal
 
 abbrev pub invariant-loop-i : goal.invariant-loop-i

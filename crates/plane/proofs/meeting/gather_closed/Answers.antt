@@ -2,8 +2,8 @@ use Rattle.std.proofs.Common.{◌≡◌, sym, refl, rules, length}
 use Rattle.place_rows.specs.Meeting.{HasGathered}
 use Rattle.plane.specs.Passes.{IsPortOf}
 use Rattle.plane.specs.Planes.{places_of}
-use Rattle.plane.proofs.Gathering.{Hears, Laws, gather_steps, none_met, one_met, all_met}
-use Rattle.plane.proofs.Splitting.{every_get}
+use Rattle.plane.proofs.PassMeetings.{Hears, Laws, gather_steps, none_met, one_met, all_met}
+use Rattle.plane.proofs.RowSplits.{every_get}
 use Rattle.plane.proofs.meeting.gather_closed.Goals as goal
 
 pub loop-i-init : goal.loop-i-init

@@ -1,6 +1,6 @@
 use Rattle.place_rows.specs.Meeting.{HasGathered}
 use Rattle.plane.specs.Planes.{places_of}
-use Rattle.plane.proofs.Gathering.{Hears, MetSo}
+use Rattle.plane.proofs.PassMeetings.{Hears, MetSo}
 use Rattle.plane.proofs.meeting.gather_closed.Given as goal
 
 abbrev pub invariant-loop-i : goal.invariant-loop-i

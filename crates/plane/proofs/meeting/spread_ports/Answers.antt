@@ -2,8 +2,8 @@ use Rattle.std.proofs.Common.{◌≡◌, sym, refl, rules, length}
 use Rattle.place_rows.specs.Meeting.{HasSpread}
 use Rattle.plane.specs.Passes.{IsPortOf}
 use Rattle.plane.specs.Planes.{places_of}
-use Rattle.plane.proofs.Gathering.{IsTold, Laws, spread_steps, none_met, one_met, all_met}
-use Rattle.plane.proofs.Splitting.{every_get}
+use Rattle.plane.proofs.PassMeetings.{IsTold, Laws, spread_steps, none_met, one_met, all_met}
+use Rattle.plane.proofs.RowSplits.{every_get}
 use Rattle.plane.proofs.meeting.spread_ports.Goals as goal
 
 pub loop-i-init : goal.loop-i-init

@@ -1,6 +1,6 @@
 use Rattle.place_rows.specs.Meeting.{HasSpread}
 use Rattle.plane.specs.Planes.{places_of}
-use Rattle.plane.proofs.Gathering.{IsTold, MetSo}
+use Rattle.plane.proofs.PassMeetings.{IsTold, MetSo}
 use Rattle.plane.proofs.meeting.spread_ports.Given as goal
 
 abbrev pub invariant-loop-i : goal.invariant-loop-i

@@ -3,7 +3,7 @@ use Rattle.histories.specs.declared.histories.Lost.{Lost}
 use Rattle.place_rows.specs.Shares.{IsBalanced}
 use Rattle.plane.specs.Past.{fed_by, lost_by}
 use Rattle.plane.specs.Planes.{setting_of}
-use Rattle.plane.proofs.Gathering.{port_kept, feeder_kept}
+use Rattle.plane.proofs.PassMeetings.{port_kept, feeder_kept}
 use Rattle.plane.proofs.meeting.tell_port.Goals as goal
 
 pub tell-requires-clause-others_of : goal.tell-requires-clause-others_of

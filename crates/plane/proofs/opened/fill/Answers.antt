@@ -6,7 +6,7 @@ use Rattle.locked_place.specs.Views.{label_of}
 use Rattle.place_rows.specs.Rows.{Known, AreKnown, label_at, lock_of}
 use Rattle.histories.specs.Logs.{is_received}
 use Rattle.plane.specs.Passes.{did_take}
-use Rattle.plane.proofs.Splitting.{as_many, zero_counted, split_none}
+use Rattle.plane.proofs.RowSplits.{as_many, zero_counted, split_none}
 use Rattle.plane.proofs.opened.fill.Goals as goal
 
 pub split_row-requires-clause-room : goal.split_row-requires-clause-room

@@ -6,8 +6,8 @@ use Rattle.place_rows.specs.Lists.{Every}
 use Rattle.place_rows.specs.Rows.{label_at, id_of}
 use Rattle.plane.specs.Filling.{IsReady}
 use Rattle.plane.specs.Remaining.{IsRowOf}
-use Rattle.plane.proofs.Splitting.{Laws, none_filled, one_filled, all_filled, every_more}
-use Rattle.plane.proofs.Splitting.{rows_normal, FilledSo}
+use Rattle.plane.proofs.RowSplits.{Laws, none_filled, one_filled, all_filled, every_more}
+use Rattle.plane.proofs.RowSplits.{rows_normal, FilledSo}
 use Rattle.plane.specs.declared.opened.Unfilled.{Unfilled}
 use Rattle.plane.proofs.opened.fill_all.Goals as goal
 

@@ -7,7 +7,7 @@ use Rattle.place_rows.specs.Lists.{Every}
 use Rattle.place_rows.specs.Rows.{ArePasses, id_of}
 use Rattle.plane.specs.Filling.{IsReady}
 use Rattle.plane.specs.Remaining.{IsRowOf}
-use Rattle.plane.proofs.Splitting.{FilledSo}
+use Rattle.plane.proofs.RowSplits.{FilledSo}
 use Rattle.plane.proofs.opened.fill_all.Given as goal
 
 abbrev pub invariant-loop-one : goal.invariant-loop-one

@@ -2,7 +2,7 @@ use Rattle.std.proofs.Common.{List, sym, subst}
 use Rattle.place_rows.specs.Lists.{Every}
 use Rattle.plane.specs.declared.opened.Unfilled.{Unfilled}
 use Rattle.plane.specs.Filling.{IsReady, IsUnheard}
-use Rattle.plane.proofs.Splitting.{every_more, one_prepared}
+use Rattle.plane.proofs.RowSplits.{every_more, one_prepared}
 use Rattle.plane.proofs.opened.prepare_all.Goals as goal
 
 pub prepare-requires : goal.prepare-requires

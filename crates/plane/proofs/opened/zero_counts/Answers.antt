@@ -1,7 +1,7 @@
 use Rattle.std.proofs.Common.{sym, subst, rules, ◌<◌, length, take, get_or}
 use Rattle.std.proofs.lemmas.List.{take_more}
 use Rattle.plane.specs.Filling.{AreZero}
-use Rattle.plane.proofs.Splitting.{none_counted, one_zero_more}
+use Rattle.plane.proofs.RowSplits.{none_counted, one_zero_more}
 use Rattle.plane.proofs.opened.zero_counts.Goals as goal
 
 pub loop-port-init : goal.loop-port-init

@@ -1,4 +1,4 @@
-use Rattle.plane_tests.proofs.Going.{as_many, opened}
+use Rattle.plane_tests.proofs.AllPasses.{as_many, opened}
 use Rattle.plane_tests.proofs.tests.open.Goals as goal
 
 pub returns : goal.returns

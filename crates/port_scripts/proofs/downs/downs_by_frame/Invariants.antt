@@ -1,6 +1,6 @@
 use Rattle.std.proofs.Common.{◌≡◌, ◌++◌, ℕ}
 use Rattle.std.specs.Prelude.{filter}
-use Rattle.made_runs.specs.Feeder.{downs_after, is_after}
+use Rattle.run_parts.specs.Feeder.{downs_after, is_after}
 use Rattle.port_scripts.specs.Downs.{lines_after}
 use Rattle.port_scripts.proofs.downs.downs_by_frame.Given as goal
 

@@ -1,6 +1,6 @@
 use Rattle.std.proofs.Common.{refl, sym}
 use Rattle.queue_core.specs.Linked.{with_younger}
-use Rattle.queue_core.proofs.Relinking.{through, not_through}
+use Rattle.queue_core.proofs.MapChanges.{through, not_through}
 use Rattle.queue_core.proofs.linked.name_younger.Goals as goal
 
 pub returns-in-None-clause-each : goal.returns-in-None-clause-each

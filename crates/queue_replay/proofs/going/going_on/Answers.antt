@@ -1,6 +1,6 @@
 use Rattle.std.proofs.Common.{◌∙◌}
 use Rattle.std.proofs.lemmas.Result.{IfOk-weaker}
-use Rattle.queue_replay.proofs.Telling.{entry_tells}
+use Rattle.queue_replay.proofs.StepReplies.{entry_tells}
 use Rattle.queue_replay.proofs.going.going_on.Goals as goal
 
 pub returns : goal.returns

@@ -1,4 +1,4 @@
-use Rattle.queue_replay.proofs.Requesting.{IsShared}
+use Rattle.queue_replay.proofs.RequestResults.{IsShared}
 use Rattle.queue_replay.proofs.requests.take_share.Given as goal
 
 abbrev pub invariant-loop-taken : goal.invariant-loop-taken

@@ -4,7 +4,7 @@ use Rattle.packet_entry.specs.declared.packet.Card.{Card}
 use Rattle.queue_core.specs.State.{Bound}
 use Rattle.queue_core.specs.Step.{without}
 use Rattle.queue_replay.specs.contracts.standing.Standing.{the_view}
-use Rattle.queue_replay.proofs.Requesting.{allowed_is, verdict_leaves}
+use Rattle.queue_replay.proofs.RequestResults.{allowed_is, verdict_leaves}
 use Rattle.queue_replay.proofs.requests.verdict.Goals as goal
 
 pub returns-after-take-clause-state : goal.returns-after-take-clause-state

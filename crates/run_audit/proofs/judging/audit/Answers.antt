@@ -1,6 +1,6 @@
 use Rattle.std.proofs.Common.{Some, rules}
 use Rattle.run_audit.specs.declared.finding.Finding.TheVariants.{Makers}
-use Rattle.run_audit.proofs.Only.{none_of_runs}
+use Rattle.run_audit.proofs.OneFinding.{none_of_runs}
 use Rattle.run_audit.proofs.judging.audit.Goals as goal
 
 pub returns-in-Some-3-clause-none : goal.returns-in-Some-3-clause-none

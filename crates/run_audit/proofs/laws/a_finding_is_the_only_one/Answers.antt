@@ -1,4 +1,4 @@
-use Rattle.run_audit.proofs.Only.{only}
+use Rattle.run_audit.proofs.OneFinding.{only}
 use Rattle.run_audit.proofs.laws.a_finding_is_the_only_one.Goals as goal
 
 pub returns : goal.returns

@@ -1,4 +1,4 @@
-use Rattle.run_audit.proofs.Only.{nothing}
+use Rattle.run_audit.proofs.OneFinding.{nothing}
 use Rattle.run_audit.proofs.laws.a_run_has_no_finding.Goals as goal
 
 pub returns : goal.returns

@@ -5,7 +5,7 @@ use Rattle.host_io.specs.Host.{later_still}
 use Rattle.packet_entry.specs.Numbers.{longest_packet}
 use Rattle.pcap_io.specs.declared.capture.Frame.{Frame}
 use Rattle.pcap_io.specs.Text.{capture_text, record_text}
-use Rattle.run_files.proofs.Parts.{part_within}
+use Rattle.run_files.proofs.TextParts.{part_within}
 use Rattle.run_files.proofs.capture_file.write_parts.Goals as goal
 
 pub make_room-requires-clause-places : goal.make_room-requires-clause-places

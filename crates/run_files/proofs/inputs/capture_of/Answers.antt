@@ -1,5 +1,5 @@
 use Rattle.std.proofs.Common.{rules}
-use Rattle.run_files.proofs.Saying.{capture_refused, capture_taken, many_frames}
+use Rattle.run_files.proofs.ReaderAnswers.{capture_refused, capture_taken, many_frames}
 use Rattle.run_files.proofs.inputs.capture_of.Goals as goal
 
 pub returns-in-Err-clause-only : goal.returns-in-Err-clause-only

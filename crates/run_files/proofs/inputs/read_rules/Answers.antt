@@ -1,6 +1,6 @@
 use Rattle.std.proofs.Common.{List, ℕ, Option, subst, sym}
 use Rattle.run_files.specs.Inputs.{RulesSay, Said}
-use Rattle.run_files.proofs.Saying.{rules_taken, rules_refused}
+use Rattle.run_files.proofs.ReaderAnswers.{rules_taken, rules_refused}
 use Rattle.run_files.proofs.inputs.read_rules.Goals as goal
 
 pub returns-in-Ok-clause-only : goal.returns-in-Ok-clause-only

@@ -1,6 +1,6 @@
 use Rattle.std.proofs.Common.{List, ℕ, Option, subst, sym}
 use Rattle.run_files.specs.Inputs.{ScriptSays, Said}
-use Rattle.run_files.proofs.Saying.{script_taken, script_refused}
+use Rattle.run_files.proofs.ReaderAnswers.{script_taken, script_refused}
 use Rattle.run_files.proofs.inputs.read_script_file.Goals as goal
 
 pub returns-in-Ok-clause-only : goal.returns-in-Ok-clause-only

@@ -6,7 +6,7 @@ use Rattle.host_io.specs.Host.{later_still}
 use Rattle.histories.specs.declared.entry.Entry.{Entry}
 use Rattle.journals.specs.Journal as text
 use Rattle.run_files.specs.Parts.{IsAhead, journal_of}
-use Rattle.run_files.proofs.Parts.{part_within, tail_ahead, tail_written}
+use Rattle.run_files.proofs.TextParts.{part_within, tail_ahead, tail_written}
 use Rattle.run_files.proofs.journal_file.write_parts.Goals as goal
 
 pub make_room-requires-clause-places : goal.make_room-requires-clause-places

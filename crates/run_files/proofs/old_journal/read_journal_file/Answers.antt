@@ -1,6 +1,6 @@
 use Rattle.std.proofs.Common.{List, ℕ, Option, subst, sym}
 use Rattle.run_files.specs.Inputs.{JournalSays, Said}
-use Rattle.run_files.proofs.Saying.{journal_taken, journal_refused}
+use Rattle.run_files.proofs.ReaderAnswers.{journal_taken, journal_refused}
 use Rattle.run_files.proofs.old_journal.read_journal_file.Goals as goal
 
 pub returns-in-Ok-clause-only : goal.returns-in-Ok-clause-only

@@ -1,5 +1,5 @@
 use Rattle.std.proofs.Common.{ap, ◌∙◌, Some}
-use Rattle.run_files.proofs.Parts.{if_ok_and, next_ahead, part_written}
+use Rattle.run_files.proofs.TextParts.{if_ok_and, next_ahead, part_written}
 use Rattle.run_files.proofs.part_writing.make_room.Goals as goal
 
 pub returns-clause-ahead : goal.returns-clause-ahead

@@ -1,7 +1,7 @@
 use Rattle.std.proofs.Common.{List, ℕ, Option, subst, sym}
 use Rattle.journals.specs.declared.version.Version.TheVariants.{Second}
 use Rattle.run_files.specs.Inputs.{TodaysJournalSays, Said}
-use Rattle.run_files.proofs.Saying.{journal_taken, journal_refused}
+use Rattle.run_files.proofs.ReaderAnswers.{journal_taken, journal_refused}
 use Rattle.run_files.proofs.told_run.read_todays_journal.Goals as goal
 
 pub returns-in-Ok-clause-only : goal.returns-in-Ok-clause-only

@@ -4,7 +4,7 @@ use Rattle.std.proofs.lemmas.List.Elements.{All-push}
 use Rattle.text_lines.specs.Words.{words_of}
 use Rattle.script_lines.specs.AskLine.{ask_of}
 use Rattle.script_lines.specs.Limits.{IsTemplate}
-use Rattle.script_lines.proofs.Parts.{ends, goes_on, last_refused, refused}
+use Rattle.script_lines.proofs.LineParts.{ends, goes_on, last_refused, refused}
 use Rattle.script_lines.proofs.on_line.read_asks.Goals as goal
 
 pub returns-in_default-2-clause-value : goal.returns-in_default-2-clause-value

@@ -3,7 +3,7 @@ use Rattle.std.specs.Prelude.{codes}
 use Rattle.text_lines.specs.Words.{words_of}
 use Rattle.script_lines.specs.AskLine.{ask_of}
 use Rattle.script_lines.specs.Limits.{IsTemplate}
-use Rattle.script_lines.proofs.Parts.{IsUnderway}
+use Rattle.script_lines.proofs.LineParts.{IsUnderway}
 use Rattle.script_lines.proofs.on_line.read_asks.Given as goal
 
 abbrev pub invariant-loop-part : goal.invariant-loop-part

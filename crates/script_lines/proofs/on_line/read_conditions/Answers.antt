@@ -1,7 +1,7 @@
 use Rattle.std.specs.Prelude.{codes}
 use Rattle.text_lines.specs.Words.{words_of}
 use Rattle.script_lines.specs.ConditionLine.{condition_of}
-use Rattle.script_lines.proofs.Parts.{ends, goes_on, last_refused, refused}
+use Rattle.script_lines.proofs.LineParts.{ends, goes_on, last_refused, refused}
 use Rattle.script_lines.proofs.on_line.read_conditions.Goals as goal
 
 pub returns-in_default-read_condition-clause-value :

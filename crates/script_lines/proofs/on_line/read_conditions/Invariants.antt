@@ -2,7 +2,7 @@ use Rattle.std.proofs.Common.{length}
 use Rattle.std.specs.Prelude.{codes}
 use Rattle.text_lines.specs.Words.{words_of}
 use Rattle.script_lines.specs.ConditionLine.{condition_of}
-use Rattle.script_lines.proofs.Parts.{IsUnderway}
+use Rattle.script_lines.proofs.LineParts.{IsUnderway}
 use Rattle.script_lines.proofs.on_line.read_conditions.Given as goal
 
 abbrev pub invariant-loop-part : goal.invariant-loop-part

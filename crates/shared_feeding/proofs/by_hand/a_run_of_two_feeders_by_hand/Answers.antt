@@ -1,11 +1,11 @@
 use Rattle.std.proofs.Common.{◌∷◌, [], arith}
-use Rattle.made_runs.specs.Feeder.{downs_in_effect}
-use Rattle.made_runs.specs.FedExamples.{shuts}
+use Rattle.run_parts.specs.Feeder.{downs_in_effect}
+use Rattle.run_parts.specs.FedExamples.{shuts}
 use Rattle.live_runs.specs.ByHand.{notes, script, stands}
 use Rattle.live_runs.specs.Stages.{Ending}
 use Rattle.shared_feeding.specs.ByHand.{fallen, front, histories, passes, seen_by_0, seen_by_1}
 use Rattle.shared_feeding.specs.ByHand.{seen_by_both}
-use Rattle.shared_feeding.proofs.RunWrittenOut.{closed_so, fed_so, met_so, received_so}
+use Rattle.shared_feeding.proofs.ExampleRun.{closed_so, fed_so, met_so, received_so}
 use Rattle.shared_feeding.proofs.by_hand.a_run_of_two_feeders_by_hand.Goals as goal
 
 pub returns : goal.returns

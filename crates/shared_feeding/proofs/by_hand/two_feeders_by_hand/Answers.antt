@@ -1,8 +1,8 @@
 use Rattle.std.proofs.Common.{arith, refl}
 use Rattle.live_runs.specs.ByHand.{script}
 use Rattle.shared_feeding.specs.ByHand.{fallen, front, seen_by_0, seen_by_1, seen_by_both}
-use Rattle.shared_feeding.proofs.WrittenOut.{by_both, by_one, by_zero, front_fed, lines_so}
-use Rattle.shared_feeding.proofs.WrittenOut.{no_stranger, not_both, not_fed_by_one}
+use Rattle.shared_feeding.proofs.ExampleFeeders.{by_both, by_one, by_zero, front_fed, lines_so}
+use Rattle.shared_feeding.proofs.ExampleFeeders.{no_stranger, not_both, not_fed_by_one}
 use Rattle.shared_feeding.proofs.by_hand.two_feeders_by_hand.Goals as goal
 
 pub returns : goal.returns

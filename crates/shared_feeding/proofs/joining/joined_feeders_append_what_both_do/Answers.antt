@@ -1,5 +1,5 @@
 use Rattle.live_runs.specs.Owners.{IsFeeders}
-use Rattle.shared_feeding.proofs.Joined.{joined_grows}
+use Rattle.shared_feeding.proofs.FeederJoin.{joined_grows}
 use Rattle.shared_feeding.proofs.joining.joined_feeders_append_what_both_do.Goals as goal
 
 pub returns : goal.returns

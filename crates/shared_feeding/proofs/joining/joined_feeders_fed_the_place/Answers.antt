@@ -1,5 +1,5 @@
-use Rattle.shared_feeding.proofs.Ending.{all_fed}
-use Rattle.shared_feeding.proofs.Joined.{first_one, one_more}
+use Rattle.shared_feeding.proofs.AllFeeders.{all_fed}
+use Rattle.shared_feeding.proofs.FeederJoin.{first_one, one_more}
 use Rattle.shared_feeding.proofs.joining.joined_feeders_fed_the_place.Goals as goal
 
 pub returns : goal.returns

@@ -1,4 +1,5 @@
-use Rattle.shared_feeding.proofs.Passing.{all_passed, first_frame, more_lines, next_frame, no_lines}
+use Rattle.shared_feeding.proofs.ShareLines.{all_passed, first_frame, more_lines, next_frame}
+use Rattle.shared_feeding.proofs.ShareLines.{no_lines}
 use Rattle.shared_feeding.proofs.lines.lines_of_a_share_add_up.Goals as goal
 
 pub returns : goal.returns

@@ -1,4 +1,4 @@
-use Rattle.shared_feeding.proofs.Marking.{joined_lists, split_list}
+use Rattle.shared_feeding.proofs.MarkedLists.{joined_lists, split_list}
 use Rattle.shared_feeding.proofs.locks.passes_of_a_lock_are_split_and_joined.Goals as goal
 
 pub returns : goal.returns

@@ -1,4 +1,4 @@
-use Rattle.shared_feeding.proofs.Keeping.{begins, falls, feeds, meets, waits}
+use Rattle.shared_feeding.proofs.ShareInvariant.{begins, falls, feeds, meets, waits}
 use Rattle.shared_feeding.proofs.sharing.a_feeder_keeps_its_share.Goals as goal
 
 pub returns : goal.returns

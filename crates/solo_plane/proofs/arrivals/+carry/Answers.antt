@@ -1,5 +1,5 @@
 use Rattle.solo_plane.specs.PortView.{world_of}
-use Rattle.solo_plane.proofs.Stepping.{carried_on}
+use Rattle.solo_plane.proofs.PacketSteps.{carried_on}
 use Rattle.solo_plane.proofs.arrivals.+carry.Goals as goal
 
 pub returns-in-GoesOn-clause-carried : goal.returns-in-GoesOn-clause-carried

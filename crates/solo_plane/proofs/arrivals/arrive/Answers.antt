@@ -6,8 +6,9 @@ use Rattle.queue_core.specs.State.{Bound}
 use Rattle.histories.specs.Journeys.{Arrival}
 use Rattle.histories.specs.States.{state_of}
 use Rattle.solo_plane.specs.PortView.{world_of, OnPort}
-use Rattle.solo_plane.proofs.Settling.{came_back, room_early, room_is, world_posted, world_back}
-use Rattle.solo_plane.proofs.Settling.{came_as_waiting, on_ok, taken_had_room, port_is_there}
+use Rattle.solo_plane.proofs.ArrivalOutcomes.{came_back, room_early, room_is, world_posted}
+use Rattle.solo_plane.proofs.ArrivalOutcomes.{world_back}
+use Rattle.solo_plane.proofs.ArrivalOutcomes.{came_as_waiting, on_ok, taken_had_room, port_is_there}
 use Rattle.solo_plane.proofs.arrivals.arrive.Goals as goal
 
 pub returns-in-Back-clause-came : goal.returns-in-Back-clause-came

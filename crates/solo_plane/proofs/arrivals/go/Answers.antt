@@ -2,7 +2,7 @@ use Rattle.std.proofs.Common.{ap}
 use Rattle.packet_entry.specs.declared.packet.Card.{Card}
 use Rattle.packet_entry.specs.ListWithRoom.{ListWithRoom}
 use Rattle.solo_plane.specs.PortView.{world_of}
-use Rattle.solo_plane.proofs.Stepping.{moved_from}
+use Rattle.solo_plane.proofs.PacketSteps.{moved_from}
 use Rattle.solo_plane.proofs.arrivals.go.Goals as goal
 
 pub returns-in-Ok-clause-carried : goal.returns-in-Ok-clause-carried

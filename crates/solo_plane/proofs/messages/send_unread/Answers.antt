@@ -2,8 +2,9 @@ use Rattle.std.proofs.Common.{◌≡◌, ℕ, Option, ap, refl, ◌∙◌}
 use Rattle.netlink_codec.specs.Messages.{message_of}
 use Rattle.packet_moves.specs.World.{World, Port}
 use Rattle.solo_plane.specs.PortView.{world_of, ports_of}
-use Rattle.solo_plane.proofs.Logging.{room_stays, call_stays, open_stays, open_same, open_changed}
-use Rattle.solo_plane.proofs.Sending.{sent_so}
+use Rattle.solo_plane.proofs.UnchangedLogs.{room_stays, call_stays, open_stays, open_same}
+use Rattle.solo_plane.proofs.UnchangedLogs.{open_changed}
+use Rattle.solo_plane.proofs.SentMessage.{sent_so}
 use Rattle.solo_plane.proofs.messages.send_unread.Goals as goal
 
 pub send-requires : goal.send-requires

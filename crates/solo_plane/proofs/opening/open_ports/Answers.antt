@@ -1,6 +1,6 @@
 use Rattle.std.proofs.Common.{get_or, refl}
 use Rattle.solo_plane.specs.PortView.{ports_of}
-use Rattle.solo_plane.proofs.Opened.{one_more_opened}
+use Rattle.solo_plane.proofs.OpenPorts.{one_more_opened}
 use Rattle.solo_plane.proofs.opening.open_ports.Goals as goal
 
 pub loop-port-preserved : goal.loop-port-preserved

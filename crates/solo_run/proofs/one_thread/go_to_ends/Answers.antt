@@ -1,6 +1,6 @@
 use Rattle.solo_run.specs.RunState.{AreOpen, Keeps, world_of}
-use Rattle.solo_run.proofs.Going.{are_opened}
-use Rattle.solo_run.proofs.Keeping.{are_open_on, on_ok}
+use Rattle.solo_run.proofs.RunProgress.{are_opened}
+use Rattle.solo_run.proofs.StepSequence.{are_open_on, on_ok}
 use Rattle.solo_run.proofs.one_thread.go_to_ends.Goals as goal
 
 pub open_all-requires-clause-open : goal.open_all-requires-clause-open

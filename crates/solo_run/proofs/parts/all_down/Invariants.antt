@@ -1,5 +1,5 @@
 use Rattle.std.proofs.Common.{◌≡◌}
-use Rattle.script_runs.specs.Schedule.{all_down}
+use Rattle.solo_schedule.specs.Schedule.{all_down}
 use Rattle.solo_run.specs.RunState.{Goes, IsWith, Keeps, world_of}
 use Rattle.solo_run.proofs.parts.all_down.Given as goal
 

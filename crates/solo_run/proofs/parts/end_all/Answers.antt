@@ -1,10 +1,10 @@
 use Rattle.std.proofs.Common.{◌≡◌, ◌∙◌, subst}
 use Rattle.packet_moves.specs.declared.setting.Setting.{Setting}
-use Rattle.script_runs.specs.Schedule.{emptied_in}
-use Rattle.script_runs.specs.Sending.{all_done}
+use Rattle.solo_schedule.specs.Schedule.{emptied_in}
+use Rattle.solo_schedule.specs.Sending.{all_done}
 use Rattle.solo_run.specs.RunState.{port_at, setting_of, world_of}
-use Rattle.solo_run.proofs.Keeping.{with_both}
-use Rattle.solo_run.proofs.Passing.{ended_on, later_open}
+use Rattle.solo_run.proofs.StepSequence.{with_both}
+use Rattle.solo_run.proofs.RunStages.{ended_on, later_open}
 use Rattle.solo_run.proofs.Words.{same_last}
 use Rattle.solo_run.proofs.parts.end_all.Goals as goal
 

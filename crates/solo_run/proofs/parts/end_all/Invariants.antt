@@ -1,5 +1,5 @@
 use Rattle.std.proofs.Common.{◌≡◌, drop}
-use Rattle.script_runs.specs.Schedule.{ended_all}
+use Rattle.solo_schedule.specs.Schedule.{ended_all}
 use Rattle.solo_run.specs.RunState.{AreOpen, Goes, IsWith, setting_of, world_of}
 use Rattle.solo_run.proofs.parts.end_all.Given as goal
 

@@ -1,9 +1,9 @@
 use Rattle.std.proofs.Common.{◌≡◌, ◌∙◌, subst}
 use Rattle.packet_moves.specs.declared.setting.Setting.{Setting}
-use Rattle.script_runs.specs.Sending.{all_done}
+use Rattle.solo_schedule.specs.Sending.{all_done}
 use Rattle.solo_run.specs.RunState.{port_at, setting_of, world_of}
-use Rattle.solo_run.proofs.Keeping.{keeps_both, with_both}
-use Rattle.solo_run.proofs.Passing.{opened_on}
+use Rattle.solo_run.proofs.StepSequence.{keeps_both, with_both}
+use Rattle.solo_run.proofs.RunStages.{opened_on}
 use Rattle.solo_run.proofs.Words.{last_of_words, same_words}
 use Rattle.solo_run.proofs.parts.open_all.Goals as goal
 

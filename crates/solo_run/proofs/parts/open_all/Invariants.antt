@@ -1,5 +1,5 @@
 use Rattle.std.proofs.Common.{◌≡◌, drop}
-use Rattle.script_runs.specs.Schedule.{opened_all}
+use Rattle.solo_schedule.specs.Schedule.{opened_all}
 use Rattle.solo_run.specs.RunState.{Goes, IsWith, Keeps, setting_of, world_of}
 use Rattle.solo_run.proofs.parts.open_all.Given as goal
 

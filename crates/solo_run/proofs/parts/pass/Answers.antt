@@ -1,5 +1,5 @@
 use Rattle.solo_run.specs.RunState.{Keeps, SameOpen, world_of}
-use Rattle.solo_run.proofs.Keeping.{on_ok, same_both}
+use Rattle.solo_run.proofs.StepSequence.{on_ok, same_both}
 use Rattle.solo_run.proofs.parts.pass.Goals as goal
 
 pub returns-clause-open : goal.returns-clause-open

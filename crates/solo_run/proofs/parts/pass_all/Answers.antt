@@ -4,11 +4,11 @@ use Rattle.packet_entry.specs.Numbers.{longest_packet}
 use Rattle.pcap_io.specs.declared.capture.Frame.{Frame}
 use Rattle.packet_moves.specs.declared.setting.Setting.{Setting}
 use Rattle.packet_moves.specs.World.{World}
-use Rattle.made_runs.specs.Entering.{cards, cards_from}
-use Rattle.script_runs.specs.Schedule.{frame_passed, frames_passed, rounds_for}
+use Rattle.run_parts.specs.Entering.{cards, cards_from}
+use Rattle.solo_schedule.specs.Schedule.{frame_passed, frames_passed, rounds_for}
 use Rattle.solo_run.specs.RunState.{setting_of, world_of}
-use Rattle.solo_run.proofs.Keeping.{same_both, with_both}
-use Rattle.solo_run.proofs.Passing.{fed_more, few_more}
+use Rattle.solo_run.proofs.StepSequence.{same_both, with_both}
+use Rattle.solo_run.proofs.RunStages.{fed_more, few_more}
 use Rattle.solo_run.proofs.parts.pass_all.Goals as goal
 
 pub pass-requires-clause-bytes : goal.pass-requires-clause-bytes

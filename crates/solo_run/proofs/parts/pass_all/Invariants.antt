@@ -1,8 +1,8 @@
 use Rattle.std.proofs.Common.{◌≡◌, ◌≤◌, ◌+◌, ◌++◌, length}
 use Rattle.std.specs.Prelude.{All}
 use Rattle.packet_entry.specs.Numbers.{longest_packet}
-use Rattle.made_runs.specs.Entering.{cards, cards_from}
-use Rattle.script_runs.specs.Schedule.{frames_passed, rounds_for}
+use Rattle.run_parts.specs.Entering.{cards, cards_from}
+use Rattle.solo_schedule.specs.Schedule.{frames_passed, rounds_for}
 use Rattle.solo_run.specs.RunState.{Goes, IsWith, SameOpen, setting_of, world_of}
 use Rattle.solo_run.proofs.parts.pass_all.Given as goal
 

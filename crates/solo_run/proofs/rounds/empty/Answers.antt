@@ -1,9 +1,9 @@
 use Rattle.std.proofs.Common.{◌≡◌, ◌∙◌, subst, false}
 use Rattle.packet_moves.specs.declared.setting.Setting.{Setting}
-use Rattle.script_runs.specs.Schedule.{round}
+use Rattle.solo_schedule.specs.Schedule.{round}
 use Rattle.solo_run.specs.RunState.{setting_of, world_of}
-use Rattle.solo_run.proofs.Keeping.{keeps_both, with_both}
-use Rattle.solo_run.proofs.Looking.{emptied_on, emptied_all}
+use Rattle.solo_run.proofs.StepSequence.{keeps_both, with_both}
+use Rattle.solo_run.proofs.Looks.{emptied_on, emptied_all}
 use Rattle.solo_run.proofs.rounds.empty.Goals as goal
 
 pub returns-then-not-branch-clause-emptied : goal.returns-then-not-branch-clause-emptied

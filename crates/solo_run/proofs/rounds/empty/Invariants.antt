@@ -1,5 +1,5 @@
 use Rattle.std.proofs.Common.{◌≡◌, ◌-◌}
-use Rattle.script_runs.specs.Schedule.{emptied_in}
+use Rattle.solo_schedule.specs.Schedule.{emptied_in}
 use Rattle.solo_run.specs.RunState.{Goes, IsWith, Keeps, setting_of, world_of}
 use Rattle.solo_run.proofs.rounds.empty.Given as goal
 

@@ -1,10 +1,10 @@
 use Rattle.std.proofs.Common.{◌≡◌, ◌∙◌, sym, subst}
 use Rattle.packet_moves.specs.declared.setting.Setting.{Setting}
-use Rattle.script_runs.specs.Sending.{all_done}
+use Rattle.solo_schedule.specs.Sending.{all_done}
 use Rattle.solo_run.specs.RunState.{port_at, setting_of, world_of}
-use Rattle.solo_run.proofs.Keeping.{keeps_both}
+use Rattle.solo_run.proofs.StepSequence.{keeps_both}
 use Rattle.solo_run.proofs.Words.{last_of_words, received_words}
-use Rattle.solo_run.proofs.Looking.{looked_none, looked_one}
+use Rattle.solo_run.proofs.Looks.{looked_none, looked_one}
 use Rattle.solo_run.proofs.rounds.look.Goals as goal
 
 pub do_all-requires-clause-last : goal.do_all-requires-clause-last

@@ -1,10 +1,10 @@
 use Rattle.std.proofs.Common.{◌≡◌, ◌∙◌, subst}
 use Rattle.std.specs.Prelude.{◌||◌}
 use Rattle.packet_moves.specs.declared.setting.Setting.{Setting}
-use Rattle.script_runs.specs.Schedule.{looked}
+use Rattle.solo_schedule.specs.Schedule.{looked}
 use Rattle.solo_run.specs.RunState.{port_at, setting_of, world_of}
-use Rattle.solo_run.proofs.Keeping.{keeps_both, with_both}
-use Rattle.solo_run.proofs.Looking.{round_on}
+use Rattle.solo_run.proofs.StepSequence.{keeps_both, with_both}
+use Rattle.solo_run.proofs.Looks.{round_on}
 use Rattle.solo_run.proofs.rounds.round.Goals as goal
 
 pub loop-place-preserved : goal.loop-place-preserved

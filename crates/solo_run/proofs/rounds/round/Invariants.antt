@@ -1,5 +1,5 @@
 use Rattle.std.proofs.Common.{◌≡◌, drop, false}
-use Rattle.script_runs.specs.Schedule.{round}
+use Rattle.solo_schedule.specs.Schedule.{round}
 use Rattle.solo_run.specs.RunState.{Goes, IsWith, Keeps, setting_of, world_of}
 use Rattle.solo_run.proofs.rounds.round.Given as goal
 

@@ -3,10 +3,10 @@ use Rattle.std.proofs.lemmas.List.Elements.{All-head, All-tail}
 use Rattle.script_lines.specs.declared.ask.Ask.{Ask}
 use Rattle.script_lines.specs.Limits.{IsAsk}
 use Rattle.packet_moves.specs.declared.setting.Setting.{Setting}
-use Rattle.script_runs.specs.Sending.{done}
+use Rattle.solo_schedule.specs.Sending.{done}
 use Rattle.solo_run.specs.RunState.{port_at, setting_of, world_of}
-use Rattle.solo_run.proofs.Doing.{IsDoing, does_next}
-use Rattle.solo_run.proofs.Keeping.{with_both}
+use Rattle.solo_run.proofs.AskSteps.{IsDoing, does_next}
+use Rattle.solo_run.proofs.StepSequence.{with_both}
 use Rattle.solo_run.proofs.sending.do_all.Goals as goal
 
 pub do_one-requires-clause-fits : goal.do_one-requires-clause-fits

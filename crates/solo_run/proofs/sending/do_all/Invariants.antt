@@ -1,7 +1,7 @@
 use Rattle.std.specs.Prelude.{All, length}
 use Rattle.script_lines.specs.Limits.{IsAsk}
 use Rattle.solo_run.specs.RunState.{Goes, IsWith, port_at, setting_of, world_of}
-use Rattle.solo_run.proofs.Doing.{IsDoing}
+use Rattle.solo_run.proofs.AskSteps.{IsDoing}
 use Rattle.solo_run.proofs.sending.do_all.Given as goal
 
 abbrev pub invariant-loop-ask : goal.invariant-loop-ask

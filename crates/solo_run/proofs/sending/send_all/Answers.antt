@@ -2,8 +2,8 @@ use Rattle.std.proofs.Common.{◌∙◌, arith, ap, subst, length}
 use Rattle.packet_moves.specs.declared.setting.Setting.{Setting}
 use Rattle.netlink_codec.specs.Messages.{first_message}
 use Rattle.solo_run.specs.RunState.{SendsFirst, port_at, setting_of, world_of}
-use Rattle.solo_run.proofs.Cutting.{sent_on, sent_all, used_within}
-use Rattle.solo_run.proofs.Keeping.{keeps_both, with_both}
+use Rattle.solo_run.proofs.MessageCuts.{sent_on, sent_all, used_within}
+use Rattle.solo_run.proofs.StepSequence.{keeps_both, with_both}
 use Rattle.solo_run.proofs.sending.send_all.Goals as goal
 
 pub returns-then-used-eq0-clause-sent : goal.returns-then-used-eq0-clause-sent

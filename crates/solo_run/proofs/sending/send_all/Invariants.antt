@@ -1,6 +1,6 @@
 use Rattle.std.proofs.Common.{◌≡◌, ◌-◌, ◌≤◌, length, true}
-use Rattle.script_runs.specs.Sending.{all_sent}
-use Rattle.made_runs.specs.Datagrams.{cut_in, messages_in}
+use Rattle.solo_schedule.specs.Sending.{all_sent}
+use Rattle.run_parts.specs.Datagrams.{cut_in, messages_in}
 use Rattle.solo_run.specs.RunState.{Goes, IsWith, Keeps, is_open_at, port_at, setting_of, world_of}
 use Rattle.solo_run.proofs.sending.send_all.Given as goal
 

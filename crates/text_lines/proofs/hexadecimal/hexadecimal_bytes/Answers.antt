@@ -1,7 +1,7 @@
 use Rattle.std.proofs.Common.{◌≡◌, ◌∙◌, true, Ok, sym}
 use Rattle.hex.specs.Hex.{decode_of}
 use Rattle.text_lines.specs.Hexadecimal.{are_pairs}
-use Rattle.text_lines.proofs.Spelling.{pairs_spell}
+use Rattle.text_lines.proofs.HexWords.{pairs_spell}
 use Rattle.text_lines.proofs.hexadecimal.hexadecimal_bytes.Goals as goal
 
 pub returns-in-Ok-clause-few : goal.returns-in-Ok-clause-few

@@ -1,4 +1,4 @@
-use Rattle.text_lines.proofs.Spelling.{is_spelled, is_read}
+use Rattle.text_lines.proofs.HexWords.{is_spelled, is_read}
 use Rattle.text_lines.proofs.laws.bytes_are_spelled.Goals as goal
 
 pub returns : goal.returns

@@ -1,4 +1,4 @@
-use Rattle.text_lines.proofs.Saying.{passed_over}
+use Rattle.text_lines.proofs.SilentLines.{passed_over}
 use Rattle.text_lines.proofs.laws.lines_are_passed_over.Goals as goal
 
 pub returns : goal.returns

@@ -1,6 +1,6 @@
 use Rattle.std.proofs.Common.{◌≡◌, ◌<◌, ◌≤◌, drop, length, ap, arith}
 use Rattle.std.proofs.lemmas.List.{take_rest}
-use Rattle.text_lines.proofs.Splitting.{lines-last, lines-ended}
+use Rattle.text_lines.proofs.TextCuts.{lines-last, lines-ended}
 use Rattle.text_lines.proofs.line.next_line.Goals as goal
 
 pub returns-in-empty-clause-line : goal.returns-in-empty-clause-line

@@ -1,6 +1,6 @@
 use Rattle.std.proofs.Common.{ℕ, length-drop, sym, arith}
 use Rattle.std.proofs.lemmas.List.{take_rest}
-use Rattle.text_lines.proofs.Splitting.{words_of-blanks, get_or-drop_first}
+use Rattle.text_lines.proofs.TextCuts.{words_of-blanks, get_or-drop_first}
 use Rattle.text_lines.proofs.word.after_blanks.Goals as goal
 
 pub returns-clause-words : goal.returns-clause-words

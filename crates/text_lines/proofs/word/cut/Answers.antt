@@ -1,6 +1,6 @@
 use Rattle.std.proofs.Common.{◌+◌, sym, arith}
 use Rattle.std.proofs.lemmas.List.{take_rest}
-use Rattle.text_lines.proofs.Splitting.{cut_at-found, cut_at-none}
+use Rattle.text_lines.proofs.TextCuts.{cut_at-found, cut_at-none}
 use Rattle.text_lines.proofs.word.cut.Goals as goal
 
 pub returns-then-byte-mark : goal.returns-then-byte-mark

@@ -1,5 +1,5 @@
 use Rattle.std.proofs.Common.{arith}
-use Rattle.text_lines.proofs.Cutting.{none_passed, one_passed}
+use Rattle.text_lines.proofs.WordCuts.{none_passed, one_passed}
 use Rattle.text_lines.proofs.word.cut_at_word.Goals as goal
 
 pub loop-first-init : goal.loop-first-init

@@ -1,5 +1,5 @@
 use Rattle.std.proofs.Common.{length}
-use Rattle.text_lines.proofs.Cutting.{IsPassed}
+use Rattle.text_lines.proofs.WordCuts.{IsPassed}
 use Rattle.text_lines.proofs.word.cut_at_word.Given as goal
 
 abbrev pub invariant-loop-first : goal.invariant-loop-first

@@ -1,6 +1,6 @@
 use Rattle.std.proofs.Common.{◌≡◌, ◌<◌, length, ap, sym, refl, arith}
-use Rattle.text_lines.proofs.Splitting.{words_of-empty, words_of-word}
-use Rattle.text_lines.proofs.Cutting.{is_word_end}
+use Rattle.text_lines.proofs.TextCuts.{words_of-empty, words_of-word}
+use Rattle.text_lines.proofs.WordCuts.{is_word_end}
 use Rattle.text_lines.specs.Words.{first_word}
 use Rattle.text_lines.proofs.word.next_word.Goals as goal
 

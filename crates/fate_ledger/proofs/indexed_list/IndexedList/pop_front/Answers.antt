@@ -1,4 +1,4 @@
-use Rattle.fate_ledger.proofs.Indexed.{indexed_out, none_ahead}
+use Rattle.fate_ledger.proofs.IdIndex.{indexed_out, none_ahead}
 use Rattle.fate_ledger.proofs.indexed_list.IndexedList.pop_front.Goals as goal
 
 pub invariant_of-self-2 : goal.invariant_of-self-2

@@ -1,6 +1,6 @@
 use Rattle.std.proofs.Common.{sym}
 use Rattle.std.specs.Map.{values_of}
-use Rattle.fate_ledger.proofs.Indexed.{indexed_out, none_leaves, none_ahead}
+use Rattle.fate_ledger.proofs.IdIndex.{indexed_out, none_leaves, none_ahead}
 use Rattle.fate_ledger.proofs.indexed_list.IndexedList.take.Goals as goal
 
 pub returns-in_err-place-clause-others : goal.returns-in_err-place-clause-others

@@ -1,5 +1,5 @@
 use Rattle.std.proofs.Common.{refl}
-use Rattle.feeder_audit.proofs.Going.{followed}
+use Rattle.feeder_audit.proofs.HistoryWalk.{followed}
 use Rattle.feeder_audit.proofs.fed.Fed.follow.Goals as goal
 
 pub returns : goal.returns

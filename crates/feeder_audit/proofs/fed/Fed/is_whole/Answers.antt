@@ -1,4 +1,4 @@
-use Rattle.feeder_audit.proofs.Going.{whole_is}
+use Rattle.feeder_audit.proofs.HistoryWalk.{whole_is}
 use Rattle.feeder_audit.proofs.fed.Fed.is_whole.Goals as goal
 
 pub returns : goal.returns

@@ -1,8 +1,9 @@
-use Rattle.std.proofs.Common.{◌≡◌, ◌-◌, length, take, drop, refl, ap, ◌∙◌, subst, arith, length-drop}
+use Rattle.std.proofs.Common.{◌≡◌, ◌-◌, length, take, drop, refl, ap, ◌∙◌, subst, arith}
+use Rattle.std.proofs.Common.{length-drop}
 use Rattle.std.proofs.lemmas.List.{take_all}
 use Rattle.feeder_audit.specs.Fitting.{time_at}
 use Rattle.feeder_audit.specs.Rows.{row_of, IsLeast, HasNone}
-use Rattle.feeder_audit.proofs.Going.{passed, nowhere}
+use Rattle.feeder_audit.proofs.HistoryWalk.{passed, nowhere}
 use Rattle.feeder_audit.proofs.fed.Fed.pass.Goals as goal
 
 pub returns-in-Some : goal.returns-in-Some

@@ -1,8 +1,8 @@
 use Rattle.std.proofs.Common.{◌≤◌, length, refl, sym}
 use Rattle.packet_entry.specs.Numbers.{longest_packet}
 use Rattle.pcap_io.specs.declared.capture.Frame.{Frame}
-use Rattle.feeder_set.proofs.Passing.{frame_is}
-use Rattle.feeder_set.proofs.Sharing.{then_next}
+use Rattle.feeder_set.proofs.FramePackets.{frame_is}
+use Rattle.feeder_set.proofs.ShareFrames.{then_next}
 use Rattle.feeder_set.proofs.feeder.Feeder.step_by.Goals as goal
 
 pub feed_frame-requires-clause-bytes : goal.feed_frame-requires-clause-bytes

@@ -1,7 +1,7 @@
 use Rattle.std.proofs.Common.{ap, sym, ◌∙◌, ◌++◌, ◌∷◌, [], rules}
 use Rattle.glance.specs.Views.{readings_of, PassView}
-use Rattle.glance.proofs.Reading.{read_more, unread_more}
-use Rattle.glance.proofs.Stepping.{reads}
+use Rattle.glance.proofs.Readings.{read_more, unread_more}
+use Rattle.glance.proofs.StepRule.{reads}
 use Rattle.glance.proofs.board.Board.glance.Goals as goal
 
 pub load-word-requires : goal.load-word-requires

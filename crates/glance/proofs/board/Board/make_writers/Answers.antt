@@ -1,5 +1,5 @@
 use Rattle.std.proofs.Common.{ap, rules}
-use Rattle.glance.proofs.Stepping.{makes_writer}
+use Rattle.glance.proofs.StepRule.{makes_writer}
 use Rattle.glance.proofs.board.Board.make_writers.Goals as goal
 
 pub split_seat-made-requires : goal.split_seat-made-requires

@@ -1,5 +1,5 @@
 use Rattle.std.proofs.Common.{◌∙◌, rules}
-use Rattle.glance.proofs.Stepping.{opens}
+use Rattle.glance.proofs.StepRule.{opens}
 use Rattle.glance.proofs.Zeros.{zeros_at, zeros_length}
 use Rattle.glance.proofs.board.Board.new.Goals as goal
 

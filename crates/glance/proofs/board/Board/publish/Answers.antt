@@ -1,7 +1,7 @@
 use Rattle.std.proofs.Common.{ap, ◌∙◌, rules}
 use Rattle.glance.specs.Views.{opening, latest}
-use Rattle.glance.proofs.Reading.{last_longer}
-use Rattle.glance.proofs.Stepping.{publishes}
+use Rattle.glance.proofs.Readings.{last_longer}
+use Rattle.glance.proofs.StepRule.{publishes}
 use Rattle.glance.proofs.board.Board.publish.Goals as goal
 
 pub store-requires : goal.store-requires

@@ -1,5 +1,5 @@
 use Rattle.std.proofs.Common.{rules, refl}
-use Rattle.inspector_pool.proofs.Answering.{job_answered}
+use Rattle.inspector_pool.proofs.NoticeAnswers.{job_answered}
 use Rattle.inspector_pool.proofs.assignment.Assignment.answer.Goals as goal
 
 pub returns : goal.returns

@@ -1,6 +1,7 @@
 use Rattle.std.proofs.Common.{false, refl, sym, ◌∙◌}
-use Rattle.journal_audit.proofs.Watching.{still_illegal, goes_on, none_goes_on, ends, found_here}
-use Rattle.journal_audit.proofs.Watching.{true_is_not_false}
+use Rattle.journal_audit.proofs.WatchedHistory.{still_illegal, goes_on, none_goes_on, ends}
+use Rattle.journal_audit.proofs.WatchedHistory.{found_here}
+use Rattle.journal_audit.proofs.WatchedHistory.{true_is_not_false}
 use Rattle.journal_audit.proofs.watched.Watched.watch.Goals as goal
 
 pub returns-then-not-self-clause-watched : goal.returns-then-not-self-clause-watched

@@ -1,6 +1,6 @@
 use Rattle.std.proofs.Common.{refl, sym}
 use Rattle.journal_reading.specs.JournalFile.{place_of}
-use Rattle.journal_reading.proofs.Followed.{end_is, followed}
+use Rattle.journal_reading.proofs.ReaderAnswers.{end_is, followed}
 use Rattle.journal_reading.proofs.reader.Reader.go_on.Goals as goal
 
 pub returns-then-is_end-clause-follows : goal.returns-then-is_end-clause-follows

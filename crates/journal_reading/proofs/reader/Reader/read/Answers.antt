@@ -2,7 +2,7 @@ use Rattle.std.proofs.Common.{◌≡◌, ◌∙◌, sym, Some}
 use Rattle.std.proofs.lemmas.Option.{none-some, same_Some}
 use Rattle.journal_reading.specs.JournalFile.{place_of}
 use Rattle.journal_reading.specs.Reading.{line_in}
-use Rattle.journal_reading.proofs.Followed.{more_by, sound_by, text_by}
+use Rattle.journal_reading.proofs.ReaderAnswers.{more_by, sound_by, text_by}
 use Rattle.journal_reading.proofs.reader.Reader.read.Goals as goal
 
 pub returns-in-Some : goal.returns-in-Some

@@ -2,7 +2,7 @@ use Rattle.std.proofs.Common.{◌≡◌, length}
 use Rattle.plane.specs.Planes.{places_of}
 use Rattle.live_work.specs.Feeding.{shares_in}
 use Rattle.live_work.specs.Sharing.{SharePasses, share_cards}
-use Rattle.live_work.proofs.Asked.{went_well}
+use Rattle.live_work.proofs.SentAsks.{went_well}
 use Rattle.live_work.proofs.feeding.Feeding.work.Goals as goal
 
 pub returns : goal.returns

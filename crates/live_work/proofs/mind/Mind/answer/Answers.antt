@@ -1,4 +1,4 @@
-use Rattle.live_work.proofs.Minded.{answers_so, mind_on}
+use Rattle.live_work.proofs.PortMinds.{answers_so, mind_on}
 use Rattle.live_work.proofs.mind.Mind.answer.Goals as goal
 
 pub returns-clause-asks : goal.returns-clause-asks

@@ -1,5 +1,5 @@
 use Rattle.std.proofs.Common.{◌≢◌, ◌<◌, ap, sym, subst, ◌∙◌, rules, arith}
-use Rattle.mailbox.proofs.Gauging.{looks_for_room, claims}
+use Rattle.mailbox.proofs.LetterCount.{looks_for_room, claims}
 use Rattle.mailbox.proofs.mailbox.Mailbox.claim.Goals as goal
 
 pub load-held-requires : goal.load-held-requires

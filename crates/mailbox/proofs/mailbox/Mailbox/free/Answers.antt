@@ -1,5 +1,5 @@
 use Rattle.std.proofs.Common.{ap, ◌∙◌, rules}
-use Rattle.mailbox.proofs.Gauging.{frees}
+use Rattle.mailbox.proofs.LetterCount.{frees}
 use Rattle.mailbox.proofs.mailbox.Mailbox.free.Goals as goal
 
 pub compare_exchange-found-requires : goal.compare_exchange-found-requires

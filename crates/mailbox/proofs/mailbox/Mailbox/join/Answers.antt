@@ -1,9 +1,9 @@
 use Rattle.std.proofs.Common.{◌<◌, ◌≤◌, sym, ap, ◌∙◌, subst, rules}
 use Rattle.mailbox.specs.Roles.{HasAll}
 use Rattle.mailbox.specs.Lines.{IsTold}
-use Rattle.mailbox.proofs.Gauging.{fill_joins, learns}
-use Rattle.mailbox.proofs.Posting.{line_joins, learns_line}
-use Rattle.mailbox.proofs.Keeping.{keeps_joined, full_when_joined}
+use Rattle.mailbox.proofs.LetterCount.{fill_joins, learns}
+use Rattle.mailbox.proofs.QueueRule.{line_joins, learns_line}
+use Rattle.mailbox.proofs.ReceiverFields.{keeps_joined, full_when_joined}
 use Rattle.mailbox.proofs.mailbox.Mailbox.join.Goals as goal
 
 pub join_seat-requires : goal.join_seat-requires

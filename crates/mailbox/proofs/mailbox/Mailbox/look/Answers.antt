@@ -1,7 +1,7 @@
 use Rattle.std.proofs.Common.{ap, ◌∙◌, rules}
-use Rattle.mailbox.proofs.Gauging.{looks_for_letters}
+use Rattle.mailbox.proofs.LetterCount.{looks_for_letters}
 use Rattle.mailbox.specs.Views.{receiver_empty}
-use Rattle.mailbox.proofs.Keeping.{view_empty, whole_when_empty}
+use Rattle.mailbox.proofs.ReceiverFields.{view_empty, whole_when_empty}
 use Rattle.mailbox.proofs.mailbox.Mailbox.look.Goals as goal
 
 pub load-requires : goal.load-requires

@@ -1,6 +1,6 @@
 use Rattle.std.proofs.Common.{rules}
-use Rattle.mailbox.proofs.Gauging.{fill_opens, fill_cuts}
-use Rattle.mailbox.proofs.Posting.{line_opens, line_cuts}
+use Rattle.mailbox.proofs.LetterCount.{fill_opens, fill_cuts}
+use Rattle.mailbox.proofs.QueueRule.{line_opens, line_cuts}
 use Rattle.mailbox.proofs.mailbox.Mailbox.new.Goals as goal
 
 pub ruled-requires-clause-rule : goal.ruled-requires-clause-rule

@@ -1,5 +1,5 @@
 use Rattle.std.proofs.Common.{ap, ◌∙◌, rules}
-use Rattle.mailbox.proofs.Posting.{puts}
+use Rattle.mailbox.proofs.QueueRule.{puts}
 use Rattle.mailbox.proofs.mailbox.Mailbox.put.Goals as goal
 
 pub try_push_as-requires-clause-queue : goal.try_push_as-requires-clause-queue

@@ -1,6 +1,6 @@
 use Rattle.std.proofs.Common.{ap, ◌∙◌, rules}
-use Rattle.mailbox.proofs.Gauging.{fill_splits}
-use Rattle.mailbox.proofs.Posting.{line_splits}
+use Rattle.mailbox.proofs.LetterCount.{fill_splits}
+use Rattle.mailbox.proofs.QueueRule.{line_splits}
 use Rattle.mailbox.proofs.mailbox.Mailbox.split.Goals as goal
 
 pub another-pass-requires-clause-rule : goal.another-pass-requires-clause-rule

@@ -1,7 +1,7 @@
 use Rattle.std.proofs.Common.{ap, ◌∙◌}
 use Rattle.mailbox.specs.Views.{receiver_with}
-use Rattle.mailbox.proofs.Posting.{pops}
-use Rattle.mailbox.proofs.Keeping.{view_same, view_got}
+use Rattle.mailbox.proofs.QueueRule.{pops}
+use Rattle.mailbox.proofs.ReceiverFields.{view_same, view_got}
 use Rattle.std.proofs.Common.{subst}
 use Rattle.mailbox.specs.Turns.{TurnTells}
 use Rattle.mailbox.proofs.mailbox.Mailbox.turn.Goals as goal

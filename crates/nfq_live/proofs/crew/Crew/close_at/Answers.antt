@@ -3,9 +3,9 @@ use Rattle.plane.specs.Passes.{PortView}
 use Rattle.plane.specs.Planes.{order_of, places_of}
 use Rattle.live_passes.specs.Views.{seen_of}
 use Rattle.nfq_live.specs.declared.crew.Crew.{Crew}
-use Rattle.nfq_live.proofs.Going.{minds_out}
-use Rattle.live_work.proofs.Kept.{port_long, port_owns}
-use Rattle.nfq_live.proofs.Onward.{CrewCloses, crew_closes, port_there, received_shut, shut_at}
+use Rattle.nfq_live.proofs.AllPasses.{minds_out}
+use Rattle.live_work.proofs.UnchangedPass.{port_long, port_owns}
+use Rattle.nfq_live.proofs.CrewSteps.{CrewCloses, crew_closes, port_there, received_shut, shut_at}
 use Rattle.nfq_live.proofs.crew.Crew.close_at.Goals as goal
 
 pub returns-clause-minds : goal.returns-clause-minds

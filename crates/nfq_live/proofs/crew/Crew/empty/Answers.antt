@@ -1,6 +1,6 @@
 use Rattle.plane.specs.Planes.{places_of}
-use Rattle.nfq_live.proofs.EndsAt.{both_long}
-use Rattle.nfq_live.proofs.Onward.{all_look_on, none_look}
+use Rattle.nfq_live.proofs.PortEnd.{both_long}
+use Rattle.nfq_live.proofs.CrewSteps.{all_look_on, none_look}
 use Rattle.nfq_live.proofs.crew.Crew.empty.Goals as goal
 
 pub loop-init : goal.loop-init

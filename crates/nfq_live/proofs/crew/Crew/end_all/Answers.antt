@@ -1,13 +1,13 @@
 use Rattle.std.proofs.Common.{◌≡◌, ◌+◌, ◌∙◌, ℕ, suc, List, ap, arith, length, subst}
 use Rattle.inspector_script.specs.Scripts.{closing}
-use Rattle.made_runs.specs.Log.{all_due}
+use Rattle.run_parts.specs.Log.{all_due}
 use Rattle.plane.specs.Planes.{places_of}
 use Rattle.live_work.specs.declared.feeding.Feeding.{Feeding}
 use Rattle.nfq_live.specs.Crews.{AreOpenFrom, AreReceived}
 use Rattle.nfq_live.specs.Endings.{IsAtMeeting}
-use Rattle.nfq_live.proofs.EndsOn.{ends_look}
-use Rattle.nfq_live.proofs.Onward.{still_open}
-use Rattle.nfq_live.proofs.Stopped.{ends_begin}
+use Rattle.nfq_live.proofs.PortEndStage.{ends_look}
+use Rattle.nfq_live.proofs.CrewSteps.{still_open}
+use Rattle.nfq_live.proofs.PortEndMeeting.{ends_begin}
 use Rattle.nfq_live.proofs.crew.Crew.end_all.Goals as goal
 
 pub loop-place-init : goal.loop-place-init

@@ -5,9 +5,9 @@ use Rattle.plane.specs.Planes.{order_of, places_of}
 use Rattle.nfq_live.specs.Crews.{AreReceived, HaveMinds, IsReceived, OneShuts, OthersStay}
 use Rattle.nfq_live.specs.Endings.{EndsTo, HasStopped}
 use Rattle.nfq_live.specs.Sizes.{Size}
-use Rattle.live_work.proofs.Asked.{ok_anyway, on_ok}
-use Rattle.nfq_live.proofs.EndsAt.{a_port, both_long, end_shuts, end_stops, its_still, others_here}
-use Rattle.nfq_live.proofs.EndsAt.{others_shut, received_here, received_shut_here, still_within}
+use Rattle.live_work.proofs.SentAsks.{ok_anyway, on_ok}
+use Rattle.nfq_live.proofs.PortEnd.{a_port, both_long, end_shuts, end_stops, its_still, others_here}
+use Rattle.nfq_live.proofs.PortEnd.{others_shut, received_here, received_shut_here, still_within}
 use Rattle.nfq_live.proofs.crew.Crew.end_at.Goals as goal
 
 pub returns-then-not-closes-clause-stopped : goal.returns-then-not-closes-clause-stopped

@@ -10,11 +10,11 @@ use Rattle.live_work.specs.declared.feeding.Feeding.{Feeding}
 use Rattle.nfq_live.specs.Crews.{AreOpenFrom, AreReceived, HaveMinds, passes_of}
 use Rattle.nfq_live.specs.Endings.{EndsTo, IsAtMeeting}
 use Rattle.nfq_live.specs.Sizes.{Size}
-use Rattle.live_work.proofs.Asked.{ok_anyway, on_ok}
-use Rattle.nfq_live.proofs.EndsAt.{a_port, both_long, found_place, machine_place, machine_within}
-use Rattle.nfq_live.proofs.EndsAt.{next_open}
-use Rattle.live_work.proofs.Kept.{some_place}
-use Rattle.nfq_live.proofs.Stopped.{at_meeting, still_received}
+use Rattle.live_work.proofs.SentAsks.{ok_anyway, on_ok}
+use Rattle.nfq_live.proofs.PortEnd.{a_port, both_long, found_place, machine_place, machine_within}
+use Rattle.nfq_live.proofs.PortEnd.{next_open}
+use Rattle.live_work.proofs.UnchangedPass.{some_place}
+use Rattle.nfq_live.proofs.PortEndMeeting.{at_meeting, still_received}
 use Rattle.nfq_live.proofs.crew.Crew.end_port.Goals as goal
 
 pub index-requires : goal.index-requires

@@ -1,5 +1,5 @@
 use Rattle.std.proofs.Common.{arith, refl, sym, ◌∙◌}
-use Rattle.nfq_live.proofs.Numbering.{found_at, nowhere}
+use Rattle.nfq_live.proofs.PortNumbers.{found_at, nowhere}
 use Rattle.nfq_live.proofs.crew.Crew.find.Goals as goal
 
 pub returns-then-port-clause-found : goal.returns-then-port-clause-found

@@ -1,7 +1,7 @@
 use Rattle.std.proofs.Common.{◌≡◌, ◌<◌, ◌∙◌, ℕ, ap, arith, length, sym}
 use Rattle.nfq_live.specs.Crews.{all_sent}
 use Rattle.live_work.specs.Numbers.{most_counted}
-use Rattle.nfq_live.proofs.Counted.{all_received, counted_more}
+use Rattle.nfq_live.proofs.NoticeCounts.{all_received, counted_more}
 use Rattle.nfq_live.proofs.crew.Crew.has_received_all.Goals as goal
 
 pub loop-at-preserved : goal.loop-at-preserved

@@ -1,5 +1,5 @@
 use Rattle.std.proofs.Common.{◌<◌, ℕ}
-use Rattle.nfq_live.proofs.Counted.{IsCounted}
+use Rattle.nfq_live.proofs.NoticeCounts.{IsCounted}
 use Rattle.nfq_live.proofs.crew.Crew.has_received_all.Given as goal
 
 abbrev pub invariant-loop-at : goal.invariant-loop-at

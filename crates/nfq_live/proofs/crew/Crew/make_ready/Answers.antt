@@ -1,8 +1,8 @@
 use Rattle.std.proofs.Common.{arith, refl}
-use Rattle.made_runs.specs.Feeder.{downs_after, falling_time}
+use Rattle.run_parts.specs.Feeder.{downs_after, falling_time}
 use Rattle.plane.specs.Planes.{places_of}
 use Rattle.live_work.specs.Feeding.{shares_in}
-use Rattle.nfq_live.proofs.Opened.{earlier, feeder_crew}
+use Rattle.nfq_live.proofs.PortOpenings.{earlier, feeder_crew}
 use Rattle.nfq_live.proofs.crew.Crew.make_ready.Goals as goal
 
 pub take_down_after-requires-clause-pass : goal.take_down_after-requires-clause-pass

@@ -3,9 +3,9 @@ use Rattle.place_rows.specs.Lists.{Every}
 use Rattle.plane.specs.Passes.{IsPortOf, PortView}
 use Rattle.plane.specs.Planes.{order_of, places_of}
 use Rattle.nfq_live.specs.declared.crew.Crew.{Crew}
-use Rattle.live_work.proofs.Asked.{ok_anyway}
-use Rattle.nfq_live.proofs.Going.{all_meet, meets_of, minds_kept, numbers_kept}
-use Rattle.nfq_live.proofs.Onward.{received_met}
+use Rattle.live_work.proofs.SentAsks.{ok_anyway}
+use Rattle.nfq_live.proofs.AllPasses.{all_meet, meets_of, minds_kept, numbers_kept}
+use Rattle.nfq_live.proofs.CrewSteps.{received_met}
 use Rattle.nfq_live.proofs.crew.Crew.meet.Goals as goal
 
 pub returns-clause-crew : goal.returns-clause-crew

@@ -1,12 +1,12 @@
 use Rattle.std.proofs.Common.{◌≡◌, ◌<◌, ℕ, List, ap, arith, length, subst}
 use Rattle.std.specs.Prelude.{slice_index}
-use Rattle.made_runs.specs.Ports.{place_in}
+use Rattle.run_parts.specs.Ports.{place_in}
 use Rattle.plane.specs.Planes.{places_of}
 use Rattle.live_runs.specs.Passes.{AreMet}
 use Rattle.nfq_live.specs.Crews.{passes_of}
 use Rattle.nfq_live.specs.Openings.{HaveOpened}
-use Rattle.live_work.proofs.Kept.{some_place}
-use Rattle.nfq_live.proofs.Opened.{opens_next, placed_at}
+use Rattle.live_work.proofs.UnchangedPass.{some_place}
+use Rattle.nfq_live.proofs.PortOpenings.{opens_next, placed_at}
 use Rattle.nfq_live.proofs.crew.Crew.open_all.Goals as goal
 
 pub say_opening-requires-clause-place : goal.say_opening-requires-clause-place

@@ -3,9 +3,9 @@ use Rattle.std.proofs.lemmas.List.{length-set}
 use Rattle.std.specs.Prelude.{slice_set}
 use Rattle.plane.specs.Planes.{places_of}
 use Rattle.live_work.specs.Minds.{IsMind}
-use Rattle.nfq_live.proofs.Going.{goes_on_at}
-use Rattle.nfq_live.proofs.Numbering.{zip_long, zip_put}
-use Rattle.nfq_live.proofs.Onward.{list_looks, mind_there, none_look, port_there}
+use Rattle.nfq_live.proofs.AllPasses.{goes_on_at}
+use Rattle.nfq_live.proofs.PortNumbers.{zip_long, zip_put}
+use Rattle.nfq_live.proofs.CrewSteps.{list_looks, mind_there, none_look, port_there}
 use Rattle.nfq_live.proofs.crew.Crew.round.Goals as goal
 
 pub loop-at-init : goal.loop-at-init

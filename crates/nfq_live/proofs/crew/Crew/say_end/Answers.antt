@@ -5,10 +5,10 @@ use Rattle.script_lines.specs.declared.ask.Ask.{Ask}
 use Rattle.plane.specs.Planes.{places_of}
 use Rattle.port_scripts.specs.Words.{ClosesLast}
 use Rattle.nfq_live.specs.Endings.{SaysEndTo}
-use Rattle.live_work.proofs.Asked.{begins_so, close_last, last_on, next_fits, rest_fits}
-use Rattle.nfq_live.proofs.EndsAt.{its_still, still_within}
-use Rattle.nfq_live.proofs.EndsOn.{end_left, end_said_on, none_of_end}
-use Rattle.nfq_live.proofs.Onward.{alone_both, alone_none}
+use Rattle.live_work.proofs.SentAsks.{begins_so, close_last, last_on, next_fits, rest_fits}
+use Rattle.nfq_live.proofs.PortEnd.{its_still, still_within}
+use Rattle.nfq_live.proofs.PortEndStage.{end_left, end_said_on, none_of_end}
+use Rattle.nfq_live.proofs.CrewSteps.{alone_both, alone_none}
 use Rattle.nfq_live.proofs.crew.Crew.say_end.Goals as goal
 
 pub loop-ask-init : goal.loop-ask-init

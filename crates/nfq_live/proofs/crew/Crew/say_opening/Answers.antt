@@ -2,7 +2,7 @@ use Rattle.std.proofs.Common.{◌<◌, ◌∙◌, ◌++◌, [], ℕ, List, ap, a
 use Rattle.std.specs.Prelude.{slice_index, slice_set}
 use Rattle.script_lines.specs.declared.ask.Ask.{Ask}
 use Rattle.inspector_script.specs.Scripts.{opening}
-use Rattle.made_runs.specs.Ports.{place_in}
+use Rattle.run_parts.specs.Ports.{place_in}
 use Rattle.plane.specs.Planes.{places_of}
 use Rattle.port_scripts.specs.Words.{AreWords}
 use Rattle.plane.specs.Passes.{PortView}
@@ -10,12 +10,12 @@ use Rattle.live_passes.specs.Numbered.{numbers_of, passes_in}
 use Rattle.live_passes.specs.Views.{port_pass}
 use Rattle.live_work.specs.Minds.{IsMind}
 use Rattle.live_work.specs.Sending.{SaysTo}
-use Rattle.live_work.proofs.Asked.{on_ok}
-use Rattle.nfq_live.proofs.Going.{goes_on_at}
-use Rattle.live_work.proofs.Minded.{mind_stays, mind_within}
-use Rattle.nfq_live.proofs.Numbering.{put_back, zip_long, zip_put}
-use Rattle.nfq_live.proofs.Onward.{mind_there, port_there}
-use Rattle.nfq_live.proofs.Opened.{as_long, opening_port, says_opening}
+use Rattle.live_work.proofs.SentAsks.{on_ok}
+use Rattle.nfq_live.proofs.AllPasses.{goes_on_at}
+use Rattle.live_work.proofs.PortMinds.{mind_stays, mind_within}
+use Rattle.nfq_live.proofs.PortNumbers.{put_back, zip_long, zip_put}
+use Rattle.nfq_live.proofs.CrewSteps.{mind_there, port_there}
+use Rattle.nfq_live.proofs.PortOpenings.{as_long, opening_port, says_opening}
 use Rattle.nfq_live.proofs.crew.Crew.say_opening.Goals as goal
 
 pub index_mut-pass-requires : goal.index_mut-pass-requires

@@ -2,8 +2,8 @@ use Rattle.std.proofs.Common.{◌≡◌, ◌<◌, ◌^◌, ◌∙◌, ℕ, List,
 use Rattle.packet_moves.specs.Calls.{after_this, next_call}
 use Rattle.plane.specs.Planes.{places_of}
 use Rattle.nfq_live.specs.Endings.{CutsEnd, SaysOfEnd}
-use Rattle.live_work.proofs.Asked.{on_ok, plain_fits, plain_of, raw_of, raw_short}
-use Rattle.nfq_live.proofs.EndsAt.{a_port, a_port_is, end_says}
+use Rattle.live_work.proofs.SentAsks.{on_ok, plain_fits, plain_of, raw_of, raw_short}
+use Rattle.nfq_live.proofs.PortEnd.{a_port, a_port_is, end_says}
 use Rattle.nfq_live.proofs.crew.Crew.say_words.Goals as goal
 
 pub put_text-requires : goal.put_text-requires

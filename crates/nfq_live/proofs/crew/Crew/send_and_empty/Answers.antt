@@ -2,11 +2,11 @@ use Rattle.std.proofs.Common.{ℕ, List, arith, length, subst}
 use Rattle.std.specs.Prelude.{slice_index_or}
 use Rattle.plane.specs.Planes.{places_of}
 use Rattle.nfq_live.specs.Crews.{AreReceived, passes_of}
-use Rattle.nfq_live.proofs.EndsAt.{a_port, both_long, end_cut, end_last, end_received}
-use Rattle.nfq_live.proofs.EndsAt.{end_step}
-use Rattle.nfq_live.proofs.EndsAt.{its_still, still_within}
-use Rattle.nfq_live.proofs.EndsOn.{cuts_first}
-use Rattle.nfq_live.proofs.Onward.{alone_both, alone_none}
+use Rattle.nfq_live.proofs.PortEnd.{a_port, both_long, end_cut, end_last, end_received}
+use Rattle.nfq_live.proofs.PortEnd.{end_step}
+use Rattle.nfq_live.proofs.PortEnd.{its_still, still_within}
+use Rattle.nfq_live.proofs.PortEndStage.{cuts_first}
+use Rattle.nfq_live.proofs.CrewSteps.{alone_both, alone_none}
 use Rattle.nfq_live.proofs.crew.Crew.send_and_empty.Goals as goal
 
 pub loop-look-init : goal.loop-look-init

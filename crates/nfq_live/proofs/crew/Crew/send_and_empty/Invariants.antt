@@ -1,5 +1,5 @@
 use Rattle.std.proofs.Common.{◌-◌, ◌≤◌, length}
-use Rattle.made_runs.specs.Datagrams.{cut_in}
+use Rattle.run_parts.specs.Datagrams.{cut_in}
 use Rattle.plane.specs.Planes.{places_of}
 use Rattle.nfq_live.specs.Crews.{AreReceived, HaveMinds, IsCrewOf, PortsAlone}
 use Rattle.nfq_live.specs.Endings.{CutsEndTo}

@@ -6,13 +6,13 @@ use Rattle.plane.specs.Planes.{places_of, setting_of}
 use Rattle.live_passes.specs.Numbered.{passes_in}
 use Rattle.live_runs.specs.Passes.{SpeaksFirst}
 use Rattle.live_work.specs.Minds.{IsMind}
-use Rattle.nfq_live.proofs.EndsAt.{says_first}
-use Rattle.nfq_live.proofs.Going.{goes_on_at}
-use Rattle.live_work.proofs.Kept.{port_here}
-use Rattle.live_work.proofs.Minded.{mind_stays}
-use Rattle.nfq_live.proofs.Numbering.{its_number, zip_keep}
-use Rattle.nfq_live.proofs.Onward.{port_there}
-use Rattle.live_work.proofs.Spoken.{counted_unread, if_unread, speaks}
+use Rattle.nfq_live.proofs.PortEnd.{says_first}
+use Rattle.nfq_live.proofs.AllPasses.{goes_on_at}
+use Rattle.live_work.proofs.UnchangedPass.{port_here}
+use Rattle.live_work.proofs.PortMinds.{mind_stays}
+use Rattle.nfq_live.proofs.PortNumbers.{its_number, zip_keep}
+use Rattle.nfq_live.proofs.CrewSteps.{port_there}
+use Rattle.live_work.proofs.SentMessages.{counted_unread, if_unread, speaks}
 use Rattle.nfq_live.proofs.crew.Crew.send_first.Goals as goal
 
 pub message_unread-requires-clause-pass : goal.message_unread-requires-clause-pass

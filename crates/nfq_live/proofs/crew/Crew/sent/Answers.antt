@@ -1,6 +1,6 @@
 use Rattle.std.proofs.Common.{arith}
 use Rattle.nfq_live.specs.Crews.{all_sent}
-use Rattle.nfq_live.proofs.Counted.{sent_end}
+use Rattle.nfq_live.proofs.NoticeCounts.{sent_end}
 use Rattle.nfq_live.proofs.crew.Crew.sent.Goals as goal
 
 pub returns : goal.returns

@@ -1,7 +1,7 @@
 use Rattle.std.proofs.Common.{◌≡◌, ◌≤◌, ◌+◌, drop, min}
 use Rattle.nfq_live.specs.Crews.{all_sent}
 use Rattle.live_work.specs.Numbers.{most_counted}
-use Rattle.nfq_live.proofs.Counted.{sent_by}
+use Rattle.nfq_live.proofs.NoticeCounts.{sent_by}
 use Rattle.nfq_live.proofs.crew.Crew.sent.Given as goal
 
 abbrev pub invariant-loop-pass : goal.invariant-loop-pass

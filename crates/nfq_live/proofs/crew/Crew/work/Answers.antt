@@ -1,15 +1,15 @@
 use Rattle.std.proofs.Common.{List, subst, sym}
 use Rattle.packet_entry.specs.declared.packet.Card.{Card}
-use Rattle.made_runs.specs.Entering.{cards}
+use Rattle.run_parts.specs.Entering.{cards}
 use Rattle.plane.specs.Planes.{order_of, places_of}
 use Rattle.nfq_live.specs.Sizes.{size_of}
 use Rattle.live_runs.specs.Passes.{AreMet}
 use Rattle.nfq_live.specs.Crews.{HaveMinds, passes_of}
 use Rattle.nfq_live.specs.Feeders.{AreTheSame}
 use Rattle.nfq_live.specs.Endings.{IsAtMeeting}
-use Rattle.live_work.proofs.Asked.{on_ok}
-use Rattle.nfq_live.proofs.Ran.{at_any}
-use Rattle.nfq_live.proofs.Worked.{worked}
+use Rattle.live_work.proofs.SentAsks.{on_ok}
+use Rattle.nfq_live.proofs.WholeRun.{at_any}
+use Rattle.nfq_live.proofs.WorkStage.{worked}
 use Rattle.nfq_live.proofs.crew.Crew.work.Goals as goal
 
 pub returns-clause-met : goal.returns-clause-met

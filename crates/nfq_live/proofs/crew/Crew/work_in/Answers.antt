@@ -1,11 +1,11 @@
 use Rattle.std.proofs.Common.{◌≡◌, ◌∙◌, ap, arith, length, refl, sym}
 use Rattle.nfq_live.specs.declared.crew.Crew.{Crew}
 use Rattle.live_work.specs.Minds.{IsMind}
-use Rattle.nfq_live.proofs.Numbering.{zip_long}
-use Rattle.nfq_live.proofs.Seated.{as_many_seats, both_true, is_not_true, minds_from_seats}
-use Rattle.nfq_live.proofs.Seated.{minds_taken, passes_taken, seated_from, stay_at_seats}
-use Rattle.nfq_live.proofs.Seated.{went_at_seats, went_back}
-use Rattle.nfq_live.proofs.Staying.{crew_stays}
+use Rattle.nfq_live.proofs.PortNumbers.{zip_long}
+use Rattle.nfq_live.proofs.WorkerSeats.{as_many_seats, both_true, is_not_true, minds_from_seats}
+use Rattle.nfq_live.proofs.WorkerSeats.{minds_taken, passes_taken, seated_from, stay_at_seats}
+use Rattle.nfq_live.proofs.WorkerSeats.{went_at_seats, went_back}
+use Rattle.nfq_live.proofs.SamePasses.{crew_stays}
 use Rattle.nfq_live.proofs.crew.Crew.work_in.Goals as goal
 
 pub seat_all-requires-clause-both : goal.seat_all-requires-clause-both

@@ -1,7 +1,7 @@
 use Rattle.plane.specs.Planes.{places_of}
 use Rattle.live_work.specs.Minds.{IsMind}
 use Rattle.live_work.specs.Looking.{LooksOn}
-use Rattle.live_work.proofs.Asked.{went_well}
+use Rattle.live_work.proofs.SentAsks.{went_well}
 use Rattle.nfq_live.proofs.workers.Inspector.work.Goals as goal
 
 pub returns : goal.returns

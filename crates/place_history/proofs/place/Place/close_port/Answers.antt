@@ -1,7 +1,8 @@
-use Rattle.std.proofs.Common.{◌≡◌, ◌%◌, false, true, ap, sym, ◌∙◌}
+use Rattle.std.proofs.Common.{◌≡◌, false, true, ap, sym, ◌∙◌}
 use Rattle.place_history.specs.PlaceState.{PlaceState}
-use Rattle.place_history.proofs.Here.{at_closings}
+use Rattle.place_history.proofs.QueuesOfPlace.{at_closings}
 use Rattle.place_history.proofs.place.Place.close_port.Goals as goal
+use Rattle.histories.specs.Places.{place_for}
 
 pub invariant_of-self : goal.invariant_of-self
 invariant_of-self c =
@@ -15,7 +16,7 @@ invariant_of-self c =
       given_up = λ left. let wrong : true ≡ false = sym left ∙ stands in cc;
       legal = c.close_port.ensures.replayed.legal;
       here = rw c.close_port.ensures.entries
-          (at_closings (λ q. q % c.self.inside.places ≡ c.self.inside.number) c.args.port
+          (at_closings (λ q. place_for q c.self.inside.places ≡ c.self.inside.number) c.args.port
           c.self.inside.held.entries.items c.self.invariant.here);
       offer_here = rw c.close_port.ensures.no_offer tt;
     }

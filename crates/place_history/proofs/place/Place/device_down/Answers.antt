@@ -1,7 +1,8 @@
-use Rattle.std.proofs.Common.{◌≡◌, ◌%◌, false, true, ap, sym, ◌∙◌}
+use Rattle.std.proofs.Common.{◌≡◌, false, true, ap, sym, ◌∙◌}
 use Rattle.place_history.specs.PlaceState.{PlaceState}
-use Rattle.place_history.proofs.Here.{at_downs}
+use Rattle.place_history.proofs.QueuesOfPlace.{at_downs}
 use Rattle.place_history.proofs.place.Place.device_down.Goals as goal
+use Rattle.histories.specs.Places.{place_for}
 
 pub invariant_of-self-2 : goal.invariant_of-self-2
 invariant_of-self-2 c =
@@ -15,7 +16,7 @@ invariant_of-self-2 c =
       given_up = λ left. let wrong : true ≡ false = sym left ∙ stands in cc;
       legal = c.device_down.ensures.replayed.legal;
       here = rw (c.device_down.ensures.entries, c.make_room.ensures.entries)
-          (at_downs (λ q. q % c.self.inside.places ≡ c.self.inside.number) c.args.device
+          (at_downs (λ q. place_for q c.self.inside.places ≡ c.self.inside.number) c.args.device
           c.self.inside.held.entries.items c.self.invariant.here);
       offer_here = rw c.device_down.ensures.no_offer tt;
     }

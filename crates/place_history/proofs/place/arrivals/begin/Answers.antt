@@ -4,8 +4,8 @@ use Rattle.queue_core.specs.Calls.{BeginsArrival}
 use Rattle.queue_core.specs.declared.offers.Begun.TheVariants as begun
 use Rattle.histories.specs.Numbers.{queue_count}
 use Rattle.place_history.specs.Changes.{Changes}
-use Rattle.place_history.proofs.Stepping.{ahead}
-use Rattle.place_history.proofs.Arriving.{turned_away, tells_back}
+use Rattle.place_history.proofs.QueueStep.{ahead}
+use Rattle.place_history.proofs.ArrivalEntries.{turned_away, tells_back}
 use Rattle.place_history.proofs.place.arrivals.begin.Goals as goal
 
 pub append-requires-clause-ahead : goal.append-requires-clause-ahead

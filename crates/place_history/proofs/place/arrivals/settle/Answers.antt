@@ -1,8 +1,8 @@
 use Rattle.std.proofs.Common.{◌≡◌, Some, refl, sym, ◌∙◌}
 use Rattle.queue_core.specs.Calls.{SettlesArrival}
 use Rattle.queue_core.specs.declared.offers.Settled.TheVariants.{Back}
-use Rattle.place_history.proofs.Stepping.{ahead}
-use Rattle.place_history.proofs.Arriving.{Stands, stands, settled_makes, turned_back}
+use Rattle.place_history.proofs.QueueStep.{ahead}
+use Rattle.place_history.proofs.ArrivalEntries.{Stands, stands, settled_makes, turned_back}
 use Rattle.place_history.proofs.place.arrivals.settle.Goals as goal
 
 offer_was : (c : goal.After-arrived-in-Back) → c.args.held.now.offer ≡ Some c.in-Some.arrival

@@ -1,7 +1,7 @@
 use Rattle.std.proofs.Common.{◌<◌, arith}
 use Rattle.histories.specs.Numbers.{queue_count}
 use Rattle.histories.specs.Happenings.{closing_of}
-use Rattle.place_history.proofs.Sweeping.{next_swept, all_swept}
+use Rattle.place_history.proofs.QueueSweep.{next_swept, all_swept}
 use Rattle.place_history.proofs.place.endings.close_port.Goals as goal
 
 pub loop-number-preserved : goal.loop-number-preserved

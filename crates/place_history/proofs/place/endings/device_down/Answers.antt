@@ -3,8 +3,8 @@ use Rattle.std.specs.BTreeMap.{btree_map_len}
 use Rattle.histories.specs.Numbers.{queue_count}
 use Rattle.histories.specs.States.{state_of}
 use Rattle.histories.specs.Happenings.{down_of}
-use Rattle.place_history.proofs.Sweeping.{next_swept, all_swept, down_length}
-use Rattle.place_history.proofs.Sweeping.{room_to_go, room_at_end}
+use Rattle.place_history.proofs.QueueSweep.{next_swept, all_swept, down_length}
+use Rattle.place_history.proofs.QueueSweep.{room_to_go, room_at_end}
 use Rattle.place_history.proofs.place.endings.device_down.Goals as goal
 
 pub loop-number-preserved : goal.loop-number-preserved

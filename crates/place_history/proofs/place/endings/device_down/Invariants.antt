@@ -4,7 +4,7 @@ use Rattle.histories.specs.Numbers.{queue_count}
 use Rattle.histories.specs.States.{state_of}
 use Rattle.histories.specs.Happenings.{down_of}
 use Rattle.place_history.specs.PlaceInvariant.{IsReplayed}
-use Rattle.place_history.proofs.Sweeping.{Sweeps}
+use Rattle.place_history.proofs.QueueSweep.{Sweeps}
 use Rattle.place_history.proofs.place.endings.device_down.Given as goal
 
 abbrev pub invariant-loop-number : goal.invariant-loop-number

@@ -1,4 +1,4 @@
-use Rattle.place_history.proofs.Replaying.{GoesOn, replayed, enough}
+use Rattle.place_history.proofs.EntryReplay.{GoesOn, replayed, enough}
 use Rattle.place_history.proofs.place.held.append.Goals as goal
 
 pub waiting_after-held-requires-clause-enough : goal.waiting_after-held-requires-clause-enough

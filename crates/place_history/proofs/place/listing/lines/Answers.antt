@@ -3,8 +3,8 @@ use Rattle.std.specs.List.{range_with_len}
 use Rattle.histories.specs.Numbers.{queue_count}
 use Rattle.histories.specs.States.{state_of}
 use Rattle.histories.specs.Listing.{line_of}
-use Rattle.place_history.proofs.Stepping.{states_alike}
-use Rattle.place_history.proofs.Sweeping.{flat_to, flat_next, all_over}
+use Rattle.place_history.proofs.QueueStep.{states_alike}
+use Rattle.place_history.proofs.QueueSweep.{flat_to, flat_next, all_over}
 use Rattle.place_history.proofs.place.listing.lines.Goals as goal
 
 pub loop-number-preserved : goal.loop-number-preserved

@@ -1,8 +1,8 @@
 use Rattle.std.proofs.Common.{◌<◌, ◌∙◌, ap, arith}
 use Rattle.histories.specs.Listing.{line_of}
 use Rattle.histories.specs.Numbers.{queue_count}
-use Rattle.place_history.proofs.Lining.{none_lined, next_lined, all_lined}
-use Rattle.place_history.proofs.Stepping.{states_alike}
+use Rattle.place_history.proofs.ListingLines.{none_lined, next_lined, all_lined}
+use Rattle.place_history.proofs.QueueStep.{states_alike}
 use Rattle.place_history.proofs.place.listing.put_lines.Goals as goal
 
 pub loop-number-init : goal.loop-number-init

@@ -4,8 +4,8 @@ use Rattle.queue_core.specs.Calls.{hands_out}
 use Rattle.queue_core.specs.Step.{way_of}
 use Rattle.histories.specs.Numbers.{queue_count}
 use Rattle.histories.specs.Happenings.{handed_of}
-use Rattle.place_history.proofs.Stepping.{ahead}
-use Rattle.place_history.proofs.Requesting.{served_makes, served_enters, asked_step}
+use Rattle.place_history.proofs.QueueStep.{ahead}
+use Rattle.place_history.proofs.RequestEntries.{served_makes, served_enters, asked_step}
 use Rattle.place_history.proofs.place.requests.carry_out.Goals as goal
 
 pub append-requires-clause-ahead : goal.append-requires-clause-ahead

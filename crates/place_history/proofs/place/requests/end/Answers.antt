@@ -1,7 +1,7 @@
 use Rattle.std.proofs.Common.{◌≡◌, refl, sym, ◌∙◌, length}
 use Rattle.queue_core.specs.Step.{ended}
-use Rattle.place_history.proofs.Handing.{none_handed, gone_count}
-use Rattle.place_history.proofs.Requesting.{enters, waiting_held}
+use Rattle.place_history.proofs.Handouts.{none_handed, gone_count}
+use Rattle.place_history.proofs.RequestEntries.{enters, waiting_held}
 use Rattle.place_history.proofs.place.requests.end.Goals as goal
 
 pub returns-clause-entered : goal.returns-clause-entered

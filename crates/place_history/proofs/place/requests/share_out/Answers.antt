@@ -3,8 +3,8 @@ use Rattle.nfqa_msgs.specs.declared.request.Request.TheVariants.{Batch}
 use Rattle.queue_core.specs.Calls.{hands_out, batch_handed, ways_of}
 use Rattle.histories.specs.Numbers.{queue_count}
 use Rattle.histories.specs.Happenings.{all_handed}
-use Rattle.place_history.proofs.Stepping.{ahead}
-use Rattle.place_history.proofs.Requesting.{served_makes, served_enters, asked_step}
+use Rattle.place_history.proofs.QueueStep.{ahead}
+use Rattle.place_history.proofs.RequestEntries.{served_makes, served_enters, asked_step}
 use Rattle.place_history.proofs.place.requests.share_out.Goals as goal
 
 pub append-requires-clause-ahead : goal.append-requires-clause-ahead

@@ -3,7 +3,7 @@ use Rattle.std.specs.Prelude.{◌==◌}
 use Rattle.std.proofs.lemmas.Bool.{ne_eqb, eq-eqb}
 use Rattle.queue_core.specs.Numbers.{verdict_drop}
 use Rattle.queue_core.specs.Decision.{kind_of}
-use Rattle.place_history.proofs.Handing.{all_kept, all_dropped, changed_so, if_ok}
+use Rattle.place_history.proofs.Handouts.{all_kept, all_dropped, changed_so, if_ok}
 use Rattle.place_history.proofs.place.requests.take_share.Goals as goal
 
 pub returns-then-head-ne-DROP-clause-taken : goal.returns-then-head-ne-DROP-clause-taken

@@ -2,9 +2,9 @@ use Rattle.std.proofs.Common.{sym}
 use Rattle.locked_place.specs.Turns.{ArrivesIn, LooksOn}
 use Rattle.place_rows.specs.Rows.{label_at}
 use Rattle.place_turns.proofs.AtPlace.{at_place}
-use Rattle.place_turns.proofs.CountedRows.{counted_there, counted_set}
+use Rattle.place_turns.proofs.RowCounts.{counted_there, counted_set}
 use Rattle.place_turns.proofs.Labels.{outlets_are}
-use Rattle.place_turns.proofs.Passing.{turns_one}
+use Rattle.place_turns.proofs.PassTurns.{turns_one}
 use Rattle.place_turns.proofs.Results.{ok_mapped, err_mapped}
 use Rattle.place_turns.proofs.passes.Passes.arrive.Goals as goal
 

@@ -4,10 +4,10 @@ use Rattle.locked_place.specs.Turns.{AsksIn, LooksOn}
 use Rattle.place_rows.specs.Rows.{label_at}
 use Rattle.place_turns.specs.Places.{places_of}
 use Rattle.place_turns.proofs.AtPlace.{at_place}
-use Rattle.place_turns.proofs.CountedRows.{counted_kept}
-use Rattle.place_turns.proofs.Counting.{counted_asked, counted_look, few_own}
+use Rattle.place_turns.proofs.RowCounts.{counted_kept}
+use Rattle.place_turns.proofs.NoticeCounts.{counted_asked, counted_look, few_own}
 use Rattle.place_turns.proofs.Labels.{outlets_are, sender_there}
-use Rattle.place_turns.proofs.Passing.{turns_one}
+use Rattle.place_turns.proofs.PassTurns.{turns_one}
 use Rattle.place_turns.proofs.Results.{ok_mapped, err_mapped, either_way}
 use Rattle.place_turns.proofs.passes.Passes.ask.Goals as goal
 

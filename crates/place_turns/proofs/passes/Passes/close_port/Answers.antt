@@ -1,8 +1,8 @@
 use Rattle.std.proofs.Common.{refl, ◌∙◌}
 use Rattle.place_turns.specs.Passes.{Shuts}
-use Rattle.place_turns.proofs.Passing.{none_turned, one_more}
-use Rattle.place_turns.proofs.Flushed.{closed_one}
-use Rattle.place_turns.proofs.Parts.{one_parts, shut_parts}
+use Rattle.place_turns.proofs.PassTurns.{none_turned, one_more}
+use Rattle.place_turns.proofs.ClosingBalance.{closed_one}
+use Rattle.place_turns.proofs.LockParts.{one_parts, shut_parts}
 use Rattle.place_turns.proofs.passes.Passes.close_port.Goals as goal
 
 pub loop-place-init : goal.loop-place-init

@@ -3,10 +3,10 @@ use Rattle.turn_lock.specs.Passes.{view_of}
 use Rattle.place_rows.specs.Rows.{label_at}
 use Rattle.place_turns.specs.Passes.{Shuts}
 use Rattle.place_turns.proofs.AtPlace.{at_place}
-use Rattle.place_turns.proofs.CountedRows.{counted_kept}
-use Rattle.place_turns.proofs.Counting.{counted_closed, few_own}
+use Rattle.place_turns.proofs.RowCounts.{counted_kept}
+use Rattle.place_turns.proofs.NoticeCounts.{counted_closed, few_own}
 use Rattle.place_turns.proofs.Labels.{outlets_are}
-use Rattle.place_turns.proofs.Passing.{turns_one}
+use Rattle.place_turns.proofs.PassTurns.{turns_one}
 use Rattle.place_turns.proofs.passes.Passes.close_port_at.Goals as goal
 
 pub close_port-requires : goal.close_port-requires

@@ -4,8 +4,8 @@ use Rattle.histories.specs.declared.histories.Lost.{Lost}
 use Rattle.std.proofs.lemmas.List.{length-map}
 use Rattle.turn_lock.specs.Passes.{view_of}
 use Rattle.place_rows.specs.Rows.{label_at, lock_of}
-use Rattle.place_turns.proofs.Parting.{Laws, can_add_all, joined_counted}
-use Rattle.place_turns.proofs.Telling.{all_placed}
+use Rattle.place_turns.proofs.SplitCounts.{Laws, can_add_all, joined_counted}
+use Rattle.place_turns.proofs.ToldCounts.{all_placed}
 use Rattle.place_turns.proofs.passes.Passes.join.Goals as goal
 
 pub join_row-requires : goal.join_row-requires

@@ -1,9 +1,9 @@
 use Rattle.std.proofs.Common.{refl, ◌∙◌, ◌+◌}
 use Rattle.locked_place.specs.Turns.{LooksOn}
 use Rattle.place_turns.specs.Places.{places_of}
-use Rattle.place_turns.proofs.Lined.{none_lined, no_lines, more_lines, look_one}
-use Rattle.place_turns.proofs.Parts.{one_parts, look_parts}
-use Rattle.place_turns.proofs.Passing.{none_turned, one_more}
+use Rattle.place_turns.proofs.ListingLines.{none_lined, no_lines, more_lines, look_one}
+use Rattle.place_turns.proofs.LockParts.{one_parts, look_parts}
+use Rattle.place_turns.proofs.PassTurns.{none_turned, one_more}
 use Rattle.place_turns.proofs.passes.Passes.lines.Goals as goal
 
 pub loop-place-init : goal.loop-place-init

@@ -6,10 +6,10 @@ use Rattle.locked_place.specs.Turns.{LooksOn}
 use Rattle.place_rows.specs.Rows.{label_at}
 use Rattle.place_turns.specs.Places.{places_of}
 use Rattle.place_turns.proofs.AtPlace.{at_place}
-use Rattle.place_turns.proofs.CountedRows.{counted_kept}
-use Rattle.place_turns.proofs.Counting.{counted_look}
-use Rattle.place_turns.proofs.Lined.{view_there, puts_so}
-use Rattle.place_turns.proofs.Passing.{turns_one}
+use Rattle.place_turns.proofs.RowCounts.{counted_kept}
+use Rattle.place_turns.proofs.NoticeCounts.{counted_look}
+use Rattle.place_turns.proofs.ListingLines.{view_there, puts_so}
+use Rattle.place_turns.proofs.PassTurns.{turns_one}
 use Rattle.place_turns.proofs.Results.{on_ok_mapped}
 use Rattle.place_turns.proofs.passes.Passes.put_lines_at.Goals as goal
 

@@ -5,7 +5,7 @@ use Rattle.std.proofs.lemmas.List.{take_all}
 use Rattle.turn_lock.specs.Passes.{view_of}
 use Rattle.place_rows.specs.Shares.{sent_in}
 use Rattle.place_turns.specs.Passes.{PassesView}
-use Rattle.place_turns.proofs.Counting.{count_at, total_is}
+use Rattle.place_turns.proofs.NoticeCounts.{count_at, total_is}
 use Rattle.place_turns.proofs.passes.Passes.sent_to.Goals as goal
 
 pub returns : goal.returns

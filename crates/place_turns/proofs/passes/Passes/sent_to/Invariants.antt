@@ -1,6 +1,6 @@
 use Rattle.std.proofs.Common.{◌≡◌, ◌≤◌, ◌*◌, take}
 use Rattle.std.specs.Prelude.{sum_by}
-use Rattle.place_turns.proofs.Counting.{count_at}
+use Rattle.place_turns.proofs.NoticeCounts.{count_at}
 use Rattle.place_turns.proofs.passes.Passes.sent_to.Given as goal
 
 abbrev pub invariant-loop-counts : goal.invariant-loop-counts

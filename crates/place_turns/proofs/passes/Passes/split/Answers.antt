@@ -5,8 +5,8 @@ use Rattle.turn_lock.specs.Passes.{view_of}
 use Rattle.locked_place.specs.Views.{label_of}
 use Rattle.place_rows.specs.Rows.{Known, label_at, lock_of}
 use Rattle.place_turns.specs.Counts.{AreCounted, HaveZeros}
-use Rattle.place_turns.proofs.Passing.{as_many}
-use Rattle.place_turns.proofs.Parting.{kept_counted, split_counted}
+use Rattle.place_turns.proofs.PassTurns.{as_many}
+use Rattle.place_turns.proofs.SplitCounts.{kept_counted, split_counted}
 use Rattle.place_turns.proofs.passes.Passes.split.Goals as goal
 
 pub split_row-requires-clause-room : goal.split_row-requires-clause-room

@@ -3,7 +3,7 @@ use Rattle.std.proofs.lemmas.List.{length-map}
 use Rattle.turn_lock.specs.Passes.{view_of}
 use Rattle.place_rows.specs.Meeting.{ToldUpTo}
 use Rattle.place_rows.specs.Rows.{label_at, lock_of}
-use Rattle.place_turns.proofs.Telling.{all_placed, counted_told}
+use Rattle.place_turns.proofs.ToldCounts.{all_placed, counted_told}
 use Rattle.place_turns.proofs.passes.Passes.tell.Goals as goal
 
 pub tell_row-requires : goal.tell_row-requires

@@ -11,9 +11,9 @@ use Rattle.plane.specs.Passes.{FeederView, IsPortOf, PortView}
 use Rattle.plane.specs.Past.{lost_by}
 use Rattle.plane.specs.Planes.{setting_of}
 use Rattle.plane.specs.Remaining.{log_in}
-use Rattle.plane.proofs.Finishing.{rows_of_ports, balanced_all, mailboxes_all}
-use Rattle.plane.proofs.Finishing.{both_added, both_true, every_both, holders_joined, closed_so}
-use Rattle.plane.proofs.Finishing.{all_in, all_receivers}
+use Rattle.plane.proofs.PlaneEnd.{rows_of_ports, balanced_all, mailboxes_all}
+use Rattle.plane.proofs.PlaneEnd.{both_added, both_true, every_both, holders_joined, closed_so}
+use Rattle.plane.proofs.PlaneEnd.{all_in, all_receivers}
 use Rattle.plane.proofs.plane.Plane.close.Goals as goal
 
 pub join_ports-first-requires : goal.join_ports-first-requires

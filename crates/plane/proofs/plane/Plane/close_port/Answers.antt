@@ -2,7 +2,7 @@ use Rattle.std.proofs.Common.{List, [], sym, subst}
 use Rattle.histories.specs.declared.histories.Lost.{Lost}
 use Rattle.place_rows.specs.Shares.{IsBalanced}
 use Rattle.plane.specs.Planes.{setting_of}
-use Rattle.plane.proofs.Balanced.{closed_logged}
+use Rattle.plane.proofs.CallBalance.{closed_logged}
 use Rattle.plane.proofs.plane.Plane.close_port.Goals as goal
 
 pub close_port-requires : goal.close_port-requires

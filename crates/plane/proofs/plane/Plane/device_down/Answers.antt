@@ -3,8 +3,8 @@ use Rattle.histories.specs.declared.histories.Lost.{Lost}
 use Rattle.place_rows.specs.Shares.{IsBalanced}
 use Rattle.plane.specs.Past.{fed_by, lost_by}
 use Rattle.plane.specs.Planes.{setting_of}
-use Rattle.plane.proofs.Flushed.{down_one}
-use Rattle.plane.proofs.Parts.{down_parts}
+use Rattle.plane.proofs.DeviceBalance.{down_one}
+use Rattle.plane.proofs.LockParts.{down_parts}
 use Rattle.plane.proofs.plane.Plane.device_down.Goals as goal
 
 pub device_down-requires-clause-of : goal.device_down-requires-clause-of

@@ -1,8 +1,8 @@
 use Rattle.plane.specs.Past.{fed_by, lost_by, after_lost}
 use Rattle.plane.specs.Planes.{places_of, setting_of}
-use Rattle.plane.proofs.Balanced.{feed_balanced}
-use Rattle.plane.proofs.Framed.{fed_after, looks_after, more_fed, none_fed, few_fed}
-use Rattle.plane.proofs.Parts.{feed_parts}
+use Rattle.plane.proofs.CallBalance.{feed_balanced}
+use Rattle.plane.proofs.JoinedFeeders.{fed_after, looks_after, more_fed, none_fed, few_fed}
+use Rattle.plane.proofs.LockParts.{feed_parts}
 use Rattle.plane.proofs.plane.Plane.feed.Goals as goal
 
 pub feed-requires-clause-of : goal.feed-requires-clause-of

@@ -6,8 +6,8 @@ use Rattle.plane.specs.Feeders.{count_of}
 use Rattle.plane.specs.Numbers.{most_fed}
 use Rattle.plane.specs.Past.{fed_by, lost_by}
 use Rattle.plane.specs.Planes.{setting_of}
-use Rattle.plane.proofs.Dividing.{both_so, joined_so}
-use Rattle.plane.proofs.Framed.{counted_both, put_so}
+use Rattle.plane.proofs.FeederPasses.{both_so, joined_so}
+use Rattle.plane.proofs.JoinedFeeders.{counted_both, put_so}
 use Rattle.plane.proofs.plane.Plane.join_feeder.Goals as goal
 
 pub join-lost-requires-clause-of : goal.join-lost-requires-clause-of

@@ -1,4 +1,4 @@
-use Rattle.plane.proofs.Gathering.{Laws, meet_so}
+use Rattle.plane.proofs.PassMeetings.{Laws, meet_so}
 use Rattle.plane.proofs.plane.Plane.meet.Goals as goal
 
 pub returns-clause-met : goal.returns-clause-met

@@ -1,7 +1,7 @@
 use Rattle.netlink_codec.specs.Messages.{first_message}
 use Rattle.plane.specs.Planes.{places_of, setting_of}
-use Rattle.plane.proofs.Balanced.{message_balanced, message_logged}
-use Rattle.plane.proofs.Parts.{message_parts}
+use Rattle.plane.proofs.CallBalance.{message_balanced, message_logged}
+use Rattle.plane.proofs.LockParts.{message_parts}
 use Rattle.plane.proofs.plane.Plane.message.Goals as goal
 
 pub message-requires-clause-of : goal.message-requires-clause-of

@@ -8,9 +8,9 @@ use Rattle.packet_moves.specs.declared.setting.Setting.{Setting}
 use Rattle.place_rows.specs.Lists.{Every}
 use Rattle.place_rows.specs.Rows.{label_at, lock_of}
 use Rattle.plane.specs.Filling.{IsReady}
-use Rattle.plane.proofs.Splitting.{as_many, zero_counted, unused_own}
-use Rattle.plane.proofs.Beginning.{all_unheard, dealt_for, first_unused, first_whole}
-use Rattle.plane.proofs.Beginning.{opened_so}
+use Rattle.plane.proofs.RowSplits.{as_many, zero_counted, unused_own}
+use Rattle.plane.proofs.PlaneStart.{all_unheard, dealt_for, first_unused, first_whole}
+use Rattle.plane.proofs.PlaneStart.{opened_so}
 use Rattle.plane.proofs.plane.Plane.new.Goals as goal
 
 pub prepare_all-requires : goal.prepare_all-requires

@@ -5,7 +5,7 @@ use Rattle.place_rows.specs.Rows.{label_at}
 use Rattle.place_rows.specs.Shares.{IsBalanced}
 use Rattle.plane.specs.Past.{fed_by, lost_by}
 use Rattle.plane.specs.Planes.{setting_of}
-use Rattle.plane.proofs.Dividing.{kept_so, made_so, split_so}
+use Rattle.plane.proofs.FeederPasses.{kept_so, made_so, split_so}
 use Rattle.plane.proofs.plane.Plane.split_feeder.Goals as goal
 
 pub split-requires : goal.split-requires

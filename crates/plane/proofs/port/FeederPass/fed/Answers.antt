@@ -1,6 +1,6 @@
 use Rattle.std.proofs.Common.{◌∙◌}
 use Rattle.plane.specs.Past.{fed_by}
-use Rattle.plane.proofs.Framed.{counted_on}
+use Rattle.plane.proofs.JoinedFeeders.{counted_on}
 use Rattle.plane.proofs.port.FeederPass.fed.Goals as goal
 
 pub returns : goal.returns

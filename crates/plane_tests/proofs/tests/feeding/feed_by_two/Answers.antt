@@ -2,7 +2,7 @@ use Rattle.std.proofs.Common.{◌∷◌, sym, subst}
 use Rattle.place_rows.specs.Joining.{AreWhole}
 use Rattle.plane.specs.Passes.{FeederView}
 use Rattle.plane.specs.Planes.{places_of}
-use Rattle.plane_tests.proofs.Going.{fed_whole}
+use Rattle.plane_tests.proofs.AllPasses.{fed_whole}
 use Rattle.plane_tests.proofs.tests.feeding.feed_by_two.Goals as goal
 
 pub returns-in_err-other-clause-whole : goal.returns-in_err-other-clause-whole

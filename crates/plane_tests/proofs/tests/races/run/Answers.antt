@@ -1,6 +1,7 @@
 use Rattle.std.proofs.Common.{◌∙◌, ◌++◌, List, [], ◌∷◌, ap}
 use Rattle.plane.specs.Passes.{PortView}
-use Rattle.plane_tests.proofs.Going.{closed_before, closed_now, closes_keep, keeps_trans, two_close}
+use Rattle.plane_tests.proofs.AllPasses.{closed_before, closed_now, closes_keep, keeps_trans}
+use Rattle.plane_tests.proofs.AllPasses.{two_close}
 use Rattle.plane_tests.proofs.tests.races.run.Goals as goal
 use Rattle.plane_tests.proofs.tests.races.run.Goals.{in-Ok-left, in-Err}
 

@@ -1,4 +1,4 @@
-use Rattle.plane_tests.proofs.Opened.{opened_for, ports_are_distinct}
+use Rattle.plane_tests.proofs.ScriptPlane.{opened_for, ports_are_distinct}
 use Rattle.plane_tests.proofs.tests.runs.open.Goals as goal
 
 pub new-requires-clause-apart : goal.new-requires-clause-apart

@@ -1,4 +1,4 @@
-use Rattle.plane_tests.proofs.Going.{feeder_goes}
+use Rattle.plane_tests.proofs.AllPasses.{feeder_goes}
 use Rattle.plane_tests.proofs.tests.steps.a_packet_waits_and_is_listed.Goals as goal
 
 pub close-histories-requires : goal.close-histories-requires

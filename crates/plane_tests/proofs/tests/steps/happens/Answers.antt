@@ -1,4 +1,4 @@
-use Rattle.plane_tests.proofs.Going.{feeder_acts, ports_act, stay_length}
+use Rattle.plane_tests.proofs.AllPasses.{feeder_acts, ports_act, stay_length}
 use Rattle.plane_tests.proofs.tests.steps.happens.Goals as goal
 
 pub returns-in-Says-clause-going : goal.returns-in-Says-clause-going

@@ -1,6 +1,6 @@
 use Rattle.std.proofs.Common.{sym}
 use Rattle.plane.specs.Passes.{IsPortOf}
-use Rattle.plane_tests.proofs.Going.{every_get, none_acts, one_acts, receives_keep}
+use Rattle.plane_tests.proofs.AllPasses.{every_get, none_acts, one_acts, receives_keep}
 use Rattle.plane_tests.proofs.tests.steps.receive.Goals as goal
 
 pub returns-in_default : goal.returns-in_default

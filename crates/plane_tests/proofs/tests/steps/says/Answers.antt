@@ -1,6 +1,6 @@
 use Rattle.std.proofs.Common.{sym}
 use Rattle.plane.specs.Passes.{IsPortOf}
-use Rattle.plane_tests.proofs.Going.{every_get, none_acts, one_acts}
+use Rattle.plane_tests.proofs.AllPasses.{every_get, none_acts, one_acts}
 use Rattle.plane_tests.proofs.tests.steps.says.Goals as goal
 
 pub returns-then-bytes-ge1000 : goal.returns-then-bytes-ge1000

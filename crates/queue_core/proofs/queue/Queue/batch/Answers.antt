@@ -1,9 +1,9 @@
 use Rattle.std.proofs.Common.{◌≡◌, None, ap, ◌∙◌, refl, arith}
 use Rattle.queue_core.specs.WithOffer.{WithOffer}
-use Rattle.queue_core.proofs.Places.{held_without_oldest}
+use Rattle.queue_core.proofs.WaitingList.{held_without_oldest}
 use Rattle.queue_core.proofs.Shares.{share_within, share_first}
-use Rattle.queue_core.proofs.Offering.{none_kept}
-use Rattle.queue_core.proofs.Handing.{batch_shares}
+use Rattle.queue_core.proofs.LastOffer.{none_kept}
+use Rattle.queue_core.proofs.HandedPackets.{batch_shares}
 use Rattle.queue_core.proofs.queue.Queue.batch.Goals as goal
 
 pub invariant_of-self : goal.invariant_of-self

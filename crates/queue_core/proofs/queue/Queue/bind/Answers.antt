@@ -1,5 +1,5 @@
 use Rattle.std.proofs.Common.{refl, arith}
-use Rattle.queue_core.proofs.Places.{held_empty}
+use Rattle.queue_core.proofs.WaitingList.{held_empty}
 use Rattle.queue_core.proofs.queue.Queue.bind.Goals as goal
 
 pub invariant_of-result : goal.invariant_of-result

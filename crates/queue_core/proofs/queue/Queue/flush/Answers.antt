@@ -1,7 +1,7 @@
 use Rattle.std.proofs.Common.{◌≡◌, None, refl, ap, ◌∙◌}
 use Rattle.queue_core.specs.WithOffer.{WithOffer}
-use Rattle.queue_core.proofs.Places.{held_empty}
-use Rattle.queue_core.proofs.Offering.{none_kept}
+use Rattle.queue_core.proofs.WaitingList.{held_empty}
+use Rattle.queue_core.proofs.LastOffer.{none_kept}
 use Rattle.queue_core.proofs.queue.Queue.flush.Goals as goal
 
 pub invariant_of-self : goal.invariant_of-self

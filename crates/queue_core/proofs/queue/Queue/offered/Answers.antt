@@ -4,8 +4,8 @@ use Rattle.std.specs.Map.{keys_of}
 use Rattle.queue_core.specs.Ids.{is_among}
 use Rattle.queue_core.specs.WithOffer.{WithOffer}
 use Rattle.queue_core.proofs.FreeIds.{fresh_is_free}
-use Rattle.queue_core.proofs.Places.{held_offered}
-use Rattle.queue_core.proofs.Offering.{none_kept, found_last, others_stay, is_last}
+use Rattle.queue_core.proofs.WaitingList.{held_offered}
+use Rattle.queue_core.proofs.LastOffer.{none_kept, found_last, others_stay, is_last}
 use Rattle.queue_core.proofs.queue.Queue.offered.Goals as goal
 
 pub push-requires : goal.push-requires

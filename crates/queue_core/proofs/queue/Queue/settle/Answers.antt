@@ -1,7 +1,7 @@
 use Rattle.std.proofs.Common.{◌≡◌, ◌<◌, Some, sym, ◌∙◌, arith}
 use Rattle.queue_core.specs.Numbers.{id_count}
 use Rattle.queue_core.specs.Linked.{IsLast}
-use Rattle.queue_core.proofs.Places.{held_taken}
+use Rattle.queue_core.proofs.WaitingList.{held_taken}
 use Rattle.queue_core.proofs.queue.Queue.settle.Goals as goal
 
 pub invariant_of-self : goal.invariant_of-self

@@ -1,6 +1,6 @@
 use Rattle.std.proofs.Common.{[], None}
 use Rattle.queue_core.proofs.Links.{whole}
-use Rattle.queue_core.proofs.Relinking.{empty_linked}
+use Rattle.queue_core.proofs.MapChanges.{empty_linked}
 use Rattle.queue_core.proofs.waiting.Waiting.new.Goals as goal
 
 pub invariant_of-result : goal.invariant_of-result

@@ -1,7 +1,7 @@
 use Rattle.std.proofs.Common.{◌≡◌, drop, Some, sym, subst, ◌∙◌, arith, add-one}
 use Rattle.queue_core.specs.Linked.{oldest_of, IsLinked}
 use Rattle.queue_core.proofs.Shares.{share_goes_on}
-use Rattle.queue_core.proofs.Relinking.{standing, has_entry, goes_to}
+use Rattle.queue_core.proofs.MapChanges.{standing, has_entry, goes_to}
 use Rattle.queue_core.proofs.waiting.Waiting.share_length.Goals as goal
 
 pub unreachable-requires-in_default-get : goal.unreachable-requires-in_default-get

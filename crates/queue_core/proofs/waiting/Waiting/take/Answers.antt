@@ -3,7 +3,7 @@ use Rattle.std.specs.Map.{lookup, remove_entry}
 use Rattle.queue_core.specs.declared.linked.Linked.{Linked}
 use Rattle.queue_core.specs.Ids.{is_id}
 use Rattle.queue_core.proofs.Links.{packet_linked, viewed, whole}
-use Rattle.queue_core.proofs.Relinking.{gone_by, taken_out}
+use Rattle.queue_core.proofs.MapChanges.{gone_by, taken_out}
 use Rattle.queue_core.proofs.waiting.Waiting.take.Goals as goal
 
 pub invariant_of-self : goal.invariant_of-self

@@ -1,7 +1,7 @@
 use Rattle.std.proofs.Common.{◌≡◌, ◌++◌, ◌-◌, [], None, ap, ◌∙◌, rules}
 use Rattle.packet_entry.specs.Card.{edited}
 use Rattle.queue_replay.specs.Telling.{going_by}
-use Rattle.queue_replay.proofs.Pushing.{going_next, going_ends, going_done, one_less}
+use Rattle.queue_replay.proofs.OnwardPackets.{going_next, going_ends, going_done, one_less}
 use Rattle.queue_replay.proofs.waiting_list.WaitingList.first_going.Goals as goal
 
 pub returns-then-more-eq0 : goal.returns-then-more-eq0

@@ -1,4 +1,4 @@
-use Rattle.solo_plane.proofs.Logging.{open_stays}
+use Rattle.solo_plane.proofs.UnchangedLogs.{open_stays}
 use Rattle.solo_plane.proofs.plane.SoloPlane.feed.Goals as goal
 
 pub returns-clause-ports : goal.returns-clause-ports

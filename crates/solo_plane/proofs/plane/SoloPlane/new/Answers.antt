@@ -1,7 +1,7 @@
 use Rattle.std.proofs.Common.{refl}
 use Rattle.packet_moves.specs.declared.setting.Setting.{Setting}
 use Rattle.solo_plane.specs.Closing.{AreApart}
-use Rattle.solo_plane.proofs.Differing.{apart_so}
+use Rattle.solo_plane.proofs.DistinctPorts.{apart_so}
 use Rattle.solo_plane.proofs.plane.SoloPlane.new.Goals as goal
 
 pub invariant_of-result : goal.invariant_of-result

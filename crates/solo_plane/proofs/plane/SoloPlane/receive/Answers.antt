@@ -2,7 +2,7 @@ use Rattle.std.proofs.Common.{◌≡◌, ℕ, Option, Result, Ok, Err}
 use Rattle.std.specs.Prelude.{OnOk, OnErr, option_map}
 use Rattle.packet_moves.specs.World.{Port, changed_at, received}
 use Rattle.solo_plane.specs.PortView.{ports_of}
-use Rattle.solo_plane.proofs.Logging.{is_shut, open_same, open_changed, received_keeps}
+use Rattle.solo_plane.proofs.UnchangedLogs.{is_shut, open_same, open_changed, received_keeps}
 use Rattle.solo_plane.proofs.plane.SoloPlane.receive.Goals as goal
 
 -- the same ports are open whether there was memory or not

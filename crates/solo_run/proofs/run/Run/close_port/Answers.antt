@@ -2,7 +2,7 @@ use Rattle.std.proofs.Common.{refl}
 use Rattle.solo_plane.specs.PlaneView.{setting_of, world_in}
 use Rattle.solo_run.specs.RunState.{port_at, world_of}
 use Rattle.solo_run.specs.RunState as run
-use Rattle.solo_run.proofs.Going.{goes_as}
+use Rattle.solo_run.proofs.RunProgress.{goes_as}
 use Rattle.solo_run.proofs.Steps.{closed_goes, closed_keeps}
 use Rattle.solo_run.proofs.run.Run.close_port.Goals as goal
 

@@ -3,9 +3,9 @@ use Rattle.solo_plane.specs.PlaneView.{world_in}
 use Rattle.solo_run.specs.RunState.{world_of}
 use Rattle.solo_run.specs.RunState as run
 use Rattle.solo_run.specs.declared.inspector.Inspector.{Inspector}
-use Rattle.solo_run.proofs.Enough.{GoesOnInTime}
-use Rattle.solo_run.proofs.Going.{goes_as}
-use Rattle.solo_run.proofs.Sent.{none_lost}
+use Rattle.solo_run.proofs.EnoughMemory.{GoesOnInTime}
+use Rattle.solo_run.proofs.RunProgress.{goes_as}
+use Rattle.solo_run.proofs.FirstMessage.{none_lost}
 use Rattle.solo_run.proofs.Steps.{Feeds, feeds, fed_goes}
 use Rattle.solo_run.proofs.run.Run.feed.Goals as goal
 

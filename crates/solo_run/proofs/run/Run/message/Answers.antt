@@ -1,8 +1,8 @@
 use Rattle.std.proofs.Common.{[]}
 use Rattle.solo_plane.specs.PlaneView.{world_in}
 use Rattle.solo_run.specs.RunState.{setting_of, world_of}
-use Rattle.solo_run.proofs.Enough.{sends_enough}
-use Rattle.solo_run.proofs.Sent.{none_lost}
+use Rattle.solo_run.proofs.EnoughMemory.{sends_enough}
+use Rattle.solo_run.proofs.FirstMessage.{none_lost}
 use Rattle.solo_run.proofs.run.Run.message.Goals as goal
 
 pub returns-clause-sent : goal.returns-clause-sent

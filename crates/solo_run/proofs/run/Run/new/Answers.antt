@@ -1,5 +1,5 @@
 use Rattle.std.proofs.Common.{ap, List, ℕ, length}
-use Rattle.solo_run.proofs.Going.{goes_first, apart_ports}
+use Rattle.solo_run.proofs.RunProgress.{goes_first, apart_ports}
 use Rattle.solo_run.proofs.run.Run.new.Goals as goal
 
 pub new-requires-clause-apart : goal.new-requires-clause-apart

@@ -5,9 +5,10 @@ use Rattle.solo_plane.specs.PlaneView.{setting_of, world_in}
 use Rattle.packet_moves.specs.World.{first_of}
 use Rattle.solo_run.specs.RunState.{port_at, world_of}
 use Rattle.solo_run.specs.RunState as run
-use Rattle.solo_run.proofs.Going.{goes_as}
-use Rattle.solo_run.proofs.Receiving.{nothing_received, goes_unchanged, keeps_unchanged}
-use Rattle.solo_run.proofs.Receiving.{receives_none, received_keeps, received_goes, receives_some}
+use Rattle.solo_run.proofs.RunProgress.{goes_as}
+use Rattle.solo_run.proofs.ReceivedNotice.{nothing_received, goes_unchanged, keeps_unchanged}
+use Rattle.solo_run.proofs.ReceivedNotice.{receives_none, received_keeps, received_goes}
+use Rattle.solo_run.proofs.ReceivedNotice.{receives_some}
 use Rattle.solo_run.proofs.run.Run.receive.Goals as goal
 use Rattle.solo_run.proofs.run.Run.receive.Goals.{In-None, Joined-letter-2}
 

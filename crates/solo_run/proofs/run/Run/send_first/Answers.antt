@@ -1,7 +1,7 @@
 use Rattle.std.proofs.Common.{refl}
 use Rattle.solo_run.specs.RunState.{setting_of, world_of}
-use Rattle.solo_run.proofs.Sent.{sends_keep, sent_goes, unsent_goes}
-use Rattle.solo_run.proofs.Going.{goes_as}
+use Rattle.solo_run.proofs.FirstMessage.{sends_keep, sent_goes, unsent_goes}
+use Rattle.solo_run.proofs.RunProgress.{goes_as}
 use Rattle.solo_run.proofs.run.Run.send_first.Goals as goal
 
 pub returns-then-used-gt0-clause-keeps : goal.returns-then-used-gt0-clause-keeps

@@ -1,5 +1,5 @@
 use Rattle.std.proofs.Common.{refl}
-use Rattle.place_history.proofs.Replaying.{replayed_none}
+use Rattle.place_history.proofs.EntryReplay.{replayed_none}
 use Rattle.place_history.proofs.place.held.Held.new.Goals as goal
 
 pub returns-clause-replayed : goal.returns-clause-replayed

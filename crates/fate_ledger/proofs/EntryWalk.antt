@@ -1,0 +1,192 @@
+-- Histories that are followed entry by entry.
+use Rattle.std.proofs.Common.{◌≡◌, ℕ, ◌+◌, ◌<◌, ◌^◌, List, [], ◌∷◌, ◌++◌, length, Option}
+use Rattle.std.proofs.Common.{None, true, false, cond, refl, sym, ap, ◌∙◌, subst, arith, inl, inr}
+use Rattle.std.proofs.Common.{append_assoc}
+use Rattle.std.specs.Prelude.{◌==◌}
+use Rattle.std.proofs.lemmas.Bool.{cases_Bool, eq-eqb, eqb-true}
+use Rattle.std.proofs.lemmas.List.{length-append, append-nil}
+use Rattle.queue_core.specs.State.{Bound}
+use Rattle.queue_core.specs.Step.{step}
+use Rattle.histories.specs.declared.entry.Entry.{Entry}
+use Rattle.histories.specs.History.{replay, replay_from, history, is_of, IsStep, IsLegal}
+use Rattle.histories.specs.History.{IsLegalFrom, AreLegal}
+use Rattle.fate_ledger.specs.declared.happening.Happening.{Happening}
+use Rattle.fate_ledger.specs.Fates.{happens_after, happenings_after, happenings}
+use Rattle.fate_ledger.specs.declared.followed_queues.FollowedQueues.{FollowedQueues}
+use Rattle.fate_ledger.specs.Following.{followed, AreNew, Follows, IsFollowed, AreFollowed, told_by}
+use Rattle.fate_ledger.specs.Following.{lasts, noted_all, at_in, waiting_in, waiting_of}
+use Rattle.fate_ledger.specs.Following.{place_after}
+use Rattle.fate_ledger.specs.Following.{told, waiting_after}
+use Rattle.fate_ledger.proofs.Steps.{entry_tells}
+use Rattle.fate_ledger.proofs.LastEventTable.{all_noted}
+
+-- ---- histories
+
+pub history_on : (queue : ℕ) (es fs : List Entry) →
+    history queue (es ++ fs) ≡ history queue es ++ history queue fs
+history_on queue [] fs = refl
+history_on queue (e ∷ es) fs =
+    elim (is_of queue e) as (λ b. cond b (e ∷ history queue (es ++ fs)) (history queue (es ++ fs))
+    ≡ cond b (e ∷ history queue es) (history queue es) ++ history queue fs) [
+      | true ↦ ap (λ gs. e ∷ gs) (history_on queue es fs)
+      | false ↦ history_on queue es fs
+    ]
+
+-- an entry of a queue goes on with the queue's history
+pub own_on : (queue : ℕ) (e : Entry) (fs : List Entry) → is_of queue e ≡ true →
+    history queue (e ∷ fs) ≡ e ∷ history queue fs
+own_on queue e fs own = ap (λ b. cond b (e ∷ history queue fs) (history queue fs)) own
+
+pub other_on : (queue : ℕ) (e : Entry) (fs : List Entry) → is_of queue e ≡ false →
+    history queue (e ∷ fs) ≡ history queue fs
+other_on queue e fs other = ap (λ b. cond b (e ∷ history queue fs) (history queue fs)) other
+
+step_in : (q : Option Bound) (es fs : List Entry) (e : Entry) → IsLegalFrom q (es ++ e ∷ fs) →
+    IsStep (replay_from q es) e
+step_in q [] fs e legal = legal.0
+step_in q (d ∷ es) fs e legal = step_in (step q d.event).state es fs e legal.1
+
+-- each entry of legal histories is a step of its queue
+pub step_at : (before rest : List Entry) (e : Entry) → AreLegal (before ++ e ∷ rest) →
+    IsStep (replay (history e.queue before)) e
+step_at before rest e legal =
+    step_in None (history e.queue before) (history e.queue rest) e
+    (subst IsLegal (history_on e.queue before (e ∷ rest)
+    ∙ ap (λ (gs : List Entry). history e.queue before ++ gs)
+    (own_on e.queue e rest (eq-eqb e.queue e.queue refl))) (legal e.queue))
+
+pub replay_on : (q : Option Bound) (es : List Entry) (e : Entry) →
+    replay_from q (es ++ e ∷ []) ≡ (step (replay_from q es) e.event).state
+replay_on q [] e = refl
+replay_on q (d ∷ es) e = replay_on (step q d.event).state es e
+
+-- ---- the events of entries
+
+happenings_on_after : (p es : List Entry) (e : Entry) →
+    happenings_after p (es ++ e ∷ []) ≡ happenings_after p es ++ happens_after (p ++ es) e
+happenings_on_after p [] e =
+    append-nil (happens_after p e)
+    ∙ ap (λ (gs : List Entry). happens_after gs e) (sym (append-nil p))
+happenings_on_after p (d ∷ es) e =
+    ap (λ hs. happens_after p d ++ hs) (happenings_on_after (p ++ d ∷ []) es e
+    ∙ ap (λ (gs : List Entry). happenings_after (p ++ d ∷ []) es ++ happens_after gs e)
+    (append_assoc p (d ∷ []) es))
+    ∙ sym (append_assoc (happens_after p d) (happenings_after (p ++ d ∷ []) es)
+    (happens_after (p ++ d ∷ es) e))
+
+pub happenings_on : (es : List Entry) (e : Entry) →
+    happenings (es ++ e ∷ []) ≡ happenings es ++ happens_after es e
+happenings_on es e = happenings_on_after [] es e
+
+-- ---- one entry more
+
+-- so many entries are followed, and these are still to come
+pub record IsUnderway (entries rest : List Entry) (queues : FollowedQueues)
+    (kept : List (Option Happening)) (count : ℕ) : Type 0 where
+  pub before : List Entry
+  pub split : entries ≡ before ++ rest
+  pub followed : AreFollowed before queues
+  pub noted : kept ≡ lasts (happenings before) 1 count
+
+-- the place of the next entry
+place_is : (before : List Entry) (queues : FollowedQueues) (e : Entry) →
+    length (history e.queue before) + 1 < 2 ^ 64 → AreFollowed before queues →
+    place_after (at_in (followed queues e.queue)) ≡ length (history e.queue before) + 1
+place_is before queues e few are =
+    ap place_after (are e.queue).at ∙ (let small : place_after (length (history e.queue before))
+    ≡ length (history e.queue before) + 1 = omega (arith, few) in small)
+
+followed_on : (before : List Entry) (old new : FollowedQueues) (e : Entry) →
+    length (history e.queue before) + 1 < 2 ^ 64 → AreFollowed before old → Follows old new e →
+    IsStep (replay (history e.queue before)) e → AreFollowed (before ++ e ∷ []) new
+followed_on before old new e few are follows is queue =
+    elim (cases_Bool (e.queue == queue)) [
+      | inl own ↦ (let same : e.queue ≡ queue = eqb-true e.queue queue own in
+          subst (λ q. IsFollowed (history q (before ++ e ∷ [])) (followed new q)) same own_is)
+      | inr other ↦ (let here : history queue (before ++ e ∷ []) ≡ history queue before =
+          history_on queue before (e ∷ [])
+          ∙ ap (λ gs. history queue before ++ gs)
+          (other_on queue e [] other) ∙ append-nil (history queue before) in
+          subst (λ gs. IsFollowed gs (followed new queue)) (sym here) (record {
+            at = (follows.others queue other).at ∙ (are queue).at;
+            waiting = (follows.others queue other).waiting ∙ (are queue).waiting;
+          }))
+    ]
+  where
+    one_more : history e.queue (before ++ e ∷ []) ≡ history e.queue before ++ e ∷ []
+    one_more =
+        history_on e.queue before (e ∷ [])
+        ∙ ap (λ gs. history e.queue before ++ gs)
+        (own_on e.queue e [] (eq-eqb e.queue e.queue refl))
+
+    own_is : IsFollowed (history e.queue (before ++ e ∷ [])) (followed new e.queue)
+    own_is = record {
+      at = follows.at ∙ place_is before old e few are
+          ∙ sym (ap length one_more ∙ length-append (history e.queue before) (e ∷ []));
+      waiting = follows.waiting
+          ∙ ap (waiting_after e.event e.reply) (are e.queue).waiting
+          ∙ (entry_tells 0 (replay (history e.queue before)) e is).1
+          ∙ sym (ap (λ gs. waiting_of (replay gs)) one_more
+          ∙ ap waiting_of (replay_on None (history e.queue before) e));
+    }
+
+told_is : (before : List Entry) (queues : FollowedQueues) (e : Entry) →
+    length (history e.queue before) + 1 < 2 ^ 64 → AreFollowed before queues →
+    IsStep (replay (history e.queue before)) e → told_by queues e ≡ happens_after before e
+told_is before queues e few are is =
+    ap (λ at. told e.queue at e.event e.reply (waiting_in (followed queues e.queue)))
+    (place_is before queues e few are)
+    ∙ ap (told e.queue (length (history e.queue before) + 1) e.event e.reply)
+    (are e.queue).waiting
+    ∙ (entry_tells (length (history e.queue before) + 1) (replay (history e.queue before)) e is).0
+
+no_longer : (queue : ℕ) (es : List Entry) → length (history queue es) < length es + 1
+no_longer queue [] = omega arith
+no_longer queue (e ∷ es) =
+    elim (is_of queue e) as (λ b.
+    length (cond b (e ∷ history queue es) (history queue es)) < length (e ∷ es) + 1) [
+      | true ↦ omega (arith, no_longer queue es)
+      | false ↦ omega (arith, no_longer queue es)
+    ]
+
+-- nothing is followed yet
+pub underway_first : (entries rest : List Entry) (queues : FollowedQueues)
+    (kept : List (Option Happening)) (count : ℕ) → rest ≡ entries → AreNew queues →
+    kept ≡ lasts [] 1 count → IsUnderway entries rest queues kept count
+underway_first entries rest queues kept count all new none = record {
+  before = [];
+  split = sym all;
+  followed = λ queue. record { at = (new queue).at; waiting = (new queue).waiting };
+  noted = none;
+}
+
+pub underway_on : (entries rest after : List Entry) (e : Entry) (old new : FollowedQueues)
+    (kept more : List (Option Happening)) (count : ℕ) → length entries < 2 ^ 64 →
+    AreLegal entries → rest ≡ e ∷ after → Follows old new e →
+    more ≡ noted_all (told_by old e) kept → IsUnderway entries rest old kept count →
+    IsUnderway entries after new more count
+underway_on entries rest after e old new kept more count few legal front follows grown u =
+    record {
+      before = u.before ++ e ∷ [];
+      split = there ∙ sym (append_assoc u.before (e ∷ []) after);
+      followed = followed_on u.before old new e short u.followed follows is;
+      noted = grown ∙ ap (λ hs. noted_all hs kept) (told_is u.before old e short u.followed is)
+          ∙ ap (noted_all (happens_after u.before e)) u.noted
+          ∙ all_noted (happenings u.before) (happens_after u.before e) count
+          ∙ ap (λ hs. lasts hs 1 count) (sym (happenings_on u.before e));
+    }
+  where
+    there : entries ≡ u.before ++ e ∷ after
+    there = u.split ∙ ap (λ (gs : List Entry). u.before ++ gs) front
+
+    is : IsStep (replay (history e.queue u.before)) e
+    is = step_at u.before after e (subst AreLegal there legal)
+
+    short : length (history e.queue u.before) + 1 < 2 ^ 64
+    short = omega (
+      arith,
+      few,
+      ap length there,
+      length-append u.before (e ∷ after),
+      no_longer e.queue u.before,
+    )

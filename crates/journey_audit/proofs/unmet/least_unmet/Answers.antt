@@ -1,0 +1,22 @@
+use Rattle.std.proofs.Common.{ℕ, List, [], ap}
+use Rattle.std.specs.Prelude.{flat_map}
+use Rattle.std.specs.BTreeMap.{is_at}
+use Rattle.std.specs.Ordering.{nat_cmp}
+use Rattle.std.specs.Map.{lookup}
+use Rattle.run_parts.specs.Entering.{cards}
+use Rattle.histories.specs.Journeys.{entering}
+use Rattle.journey_audit.specs.declared.tally.Tally.{Tally}
+use Rattle.journey_audit.proofs.Tallies.{nothing_tallied}
+use Rattle.journey_audit.proofs.LeastUneven.{least_is}
+use Rattle.journey_audit.proofs.unmet.least_unmet.Goals as goal
+
+pub returns : goal.returns
+returns c =
+    let entered = cards c.args.capture.now in
+    let asked = flat_map (entering c.args.tables.now c.args.key) entered in
+    least_is c.args.tables.now c.args.key entered c.args.histories.now.entries
+    c.follow_all.new.tallies
+    (c.in_ok-follow_all.ensures [] asked (c.in_ok-all_enter.ensures [] []
+    (nothing_tallied c.new-tallies.result
+    (λ n. ap (λ (es : List (ℕ × Tally)). lookup (is_at (nat_cmp n)) es)
+    c.new-tallies.ensures.empty)))) c.first_uneven.result c.first_uneven.ensures

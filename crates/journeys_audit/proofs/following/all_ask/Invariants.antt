@@ -1,9 +1,0 @@
-use Rattle.std.specs.Vec.Iter.{into_iter_items}
-use Rattle.journeys_audit.specs.Following.{asked_after}
-use Rattle.journeys_audit.proofs.Tallies.{IsAsking}
-use Rattle.journeys_audit.proofs.following.all_ask.Given as goal
-
-abbrev pub invariant-loop-card : goal.invariant-loop-card
-invariant-loop-card l =
-    IsAsking (asked_after l.tables l.key) l.fn.leavers.items (into_iter_items l.card-iterator)
-    l.fn.tallies l.tallies

@@ -1,0 +1,122 @@
+-- Ports that close and devices that go down: their entries put in no notice, and leave queues with
+-- their port or absent.
+use Rattle.std.proofs.Common.{◌≡◌, ℕ, List, [], ◌∷◌, ◌++◌, Option, Some, None, Bool, true, false}
+use Rattle.std.proofs.Common.{refl, sym, subst, append-nil, append_assoc, inl, inr}
+use Rattle.std.specs.Prelude.{flat_map, IfSome, IsSome, if◌then◌else◌, ◌==◌}
+use Rattle.std.proofs.lemmas.Bool.{cases_Bool}
+use Rattle.queue_core.specs.State.{Bound}
+use Rattle.queue_core.specs.Step.{step}
+use Rattle.queue_core.specs.declared.event.Event.TheVariants.{PortClosed, DeviceDown}
+use Rattle.queue_core.specs.declared.event.Reply.{Reply}
+use Rattle.mailbox.specs.Views.{SenderView}
+use Rattle.histories.specs.declared.entry.Entry.{Entry}
+use Rattle.histories.specs.States.{state_of, entry_in, every_number}
+use Rattle.histories.specs.Happenings.{closing_of, closings, down_of, downs}
+use Rattle.locked_place.specs.Points.{point_after}
+use Rattle.histories.specs.Letters.{letters_under, lacks_under}
+use Rattle.locked_place.specs.Views.{AreNotified, port_of}
+use Rattle.locked_place.proofs.EntryPoints.{Laws}
+use Rattle.locked_place.proofs.ArrivalNotices.{port_after, notified_on, follows_same}
+
+record IsQuiet (e : Entry) : Type 1 where
+  letters : (port : ℕ) (q : Option Bound) → letters_under port q e ≡ []
+  lacks : (port : ℕ) (q : Option Bound) → lacks_under port q e ≡ false
+  ports : (P : ℕ → Type 0) (q : Option Bound) → IfSome (port_of q) P →
+      IfSome (port_of (step q e.event).state) P
+
+abbrev AreQuiet : List Entry → Type 1
+AreQuiet [] = Unit {1}
+AreQuiet (e ∷ es) = IsQuiet e × AreQuiet es
+
+both_quiet : (es fs : List Entry) → AreQuiet es → AreQuiet fs → AreQuiet (es ++ fs)
+both_quiet [] fs es_are fs_are = fs_are
+both_quiet (e ∷ es) fs es_are fs_are = (es_are.0, both_quiet es fs es_are.1 fs_are)
+
+-- what they do to senders: nothing
+quiet_on : Laws → (es fs : List Entry) (senders : ℕ → Option SenderView) → AreQuiet fs →
+    AreNotified es senders → AreNotified (es ++ fs) senders
+quiet_on laws es [] senders are told =
+    subst (λ (l : List Entry). AreNotified l senders) (sym (append-nil es)) told
+quiet_on laws es (f ∷ fs) senders are told =
+    subst (λ (l : List Entry). AreNotified l senders) (append_assoc es (f ∷ []) fs)
+    (quiet_on laws (es ++ f ∷ []) fs senders are.1
+    (notified_on laws es f senders senders told
+    (λ p. follows_same (point_after es f) p (senders p)
+    (are.0.letters p (state_of es f.queue)) (are.0.lacks p (state_of es f.queue)))
+    (are.0.ports (λ p. IsSome (senders p)) (state_of es f.queue) (told.known f.queue))))
+
+-- ---- they are so
+closed_letters : (port : ℕ) (q : Option Bound) (queue closed : ℕ) (reply : Reply) →
+    letters_under port q (record { queue = queue; event = PortClosed closed; reply = reply }) ≡ []
+closed_letters port None queue closed reply = refl
+closed_letters port (Some b) queue closed reply =
+    elim (cases_Bool (port == b.port)) [ inl h ↦ rw h refl | inr h ↦ rw h refl ]
+
+closed_lacks : (port : ℕ) (q : Option Bound) (queue closed : ℕ) (reply : Reply) →
+    lacks_under port q (record { queue = queue; event = PortClosed closed; reply = reply })
+    ≡ false
+closed_lacks port None queue closed reply = refl
+closed_lacks port (Some b) queue closed reply =
+    elim (cases_Bool (port == b.port)) [ inl h ↦ rw h refl | inr h ↦ rw h refl ]
+
+down_letters : (port : ℕ) (q : Option Bound) (queue device : ℕ) (reply : Reply) →
+    letters_under port q (record { queue = queue; event = DeviceDown device; reply = reply }) ≡ []
+down_letters port None queue device reply = refl
+down_letters port (Some b) queue device reply =
+    elim (cases_Bool (port == b.port)) [ inl h ↦ rw h refl | inr h ↦ rw h refl ]
+
+down_lacks : (port : ℕ) (q : Option Bound) (queue device : ℕ) (reply : Reply) →
+    lacks_under port q (record { queue = queue; event = DeviceDown device; reply = reply })
+    ≡ false
+down_lacks port None queue device reply = refl
+down_lacks port (Some b) queue device reply =
+    elim (cases_Bool (port == b.port)) [ inl h ↦ rw h refl | inr h ↦ rw h refl ]
+
+closing_quiet : (port queue : ℕ) (q : Option Bound) → AreQuiet (closing_of port queue q)
+closing_quiet port queue None = tt
+closing_quiet port queue (Some b) = by_port (b.port == port)
+  where
+    by_port : (own : Bool) →
+        AreQuiet (if own then entry_in queue (Some b) (PortClosed port) ∷ [] else [])
+    by_port true = (
+      record {
+        letters = λ p q. closed_letters p q queue port _;
+        lacks = λ p q. closed_lacks p q queue port _;
+        ports = λ P q. port_after P q (PortClosed port) tt;
+      },
+      tt,
+    )
+    by_port false = tt
+
+down_quiet : (device queue : ℕ) (q : Option Bound) → AreQuiet (down_of device queue q)
+down_quiet device queue None = tt
+down_quiet device queue (Some b) = (
+  record {
+    letters = λ p q. down_letters p q queue device _;
+    lacks = λ p q. down_lacks p q queue device _;
+    ports = λ P q. port_after P q (DeviceDown device) tt;
+  },
+  tt,
+)
+
+all_closings : (port : ℕ) (es : List Entry) (ns : List ℕ) →
+    AreQuiet (flat_map (λ q. closing_of port q (state_of es q)) ns)
+all_closings port es [] = tt
+all_closings port es (n ∷ ns) =
+    both_quiet _ _ (closing_quiet port n (state_of es n)) (all_closings port es ns)
+
+all_downs : (device : ℕ) (es : List Entry) (ns : List ℕ) →
+    AreQuiet (flat_map (λ q. down_of device q (state_of es q)) ns)
+all_downs device es [] = tt
+all_downs device es (n ∷ ns) =
+    both_quiet _ _ (down_quiet device n (state_of es n)) (all_downs device es ns)
+
+pub closed : Laws → (es : List Entry) (port : ℕ) (senders : ℕ → Option SenderView) →
+    AreNotified es senders → AreNotified (es ++ closings port es) senders
+closed laws es port senders told =
+    quiet_on laws es (closings port es) senders (all_closings port es every_number) told
+
+pub down : Laws → (es : List Entry) (device : ℕ) (senders : ℕ → Option SenderView) →
+    AreNotified es senders → AreNotified (es ++ downs device es) senders
+down laws es device senders told =
+    quiet_on laws es (downs device es) senders (all_downs device es every_number) told

@@ -1,0 +1,9 @@
+pub mod HeldDues
+pub mod LoggedMessages
+pub mod WalkSteps
+pub mod KnownNotices
+pub mod PortLogs
+pub mod PortSequence
+pub mod NoticeStore
+pub mod NoticePerVisit
+pub mod RequestRows

@@ -1,9 +1,0 @@
-pub mod HeldDues
-pub mod Spelling
-pub mod Stepping
-pub mod Known
-pub mod Choosing
-pub mod Placed
-pub mod Keeping
-pub mod Single
-pub mod Dealing

@@ -1,7 +1,0 @@
-use Rattle.std.proofs.Common.{take}
-use Rattle.logs_audit.specs.Judged.{ArePortsWalked}
-use Rattle.logs_audit.proofs.judging.walk_all.Given as goal
-
-abbrev pub invariant-loop-place : goal.invariant-loop-place
-invariant-loop-place l =
-    ArePortsWalked l.script l.histories (take l.place l.script.ports) l.kinds.items

@@ -1,5 +1,0 @@
-use Rattle.logs_audit.proofs.Single.{only_ones}
-use Rattle.logs_audit.proofs.laws.one_arrival_makes_one_notice.Goals as goal
-
-pub returns : goal.returns
-returns c = only_ones

@@ -1,7 +1,0 @@
-use Rattle.logs_audit.specs.Stays.{ArePackets}
-use Rattle.logs_audit.proofs.Keeping.{AreKept}
-use Rattle.logs_audit.proofs.notices.notices_in.Given as goal
-
-abbrev pub invariant-loop-entry : goal.invariant-loop-entry
-invariant-loop-entry l =
-    AreKept l.entries l.entry-iterator l.queues l.notices × ArePackets l.entry-iterator

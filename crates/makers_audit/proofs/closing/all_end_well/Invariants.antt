@@ -1,7 +1,0 @@
-use Rattle.makers_audit.proofs.Walking.{IsWalked}
-use Rattle.makers_audit.specs.Closing.{EndsWell}
-use Rattle.makers_audit.proofs.closing.all_end_well.Given as goal
-
-abbrev pub invariant-loop-queue : goal.invariant-loop-queue
-invariant-loop-queue l =
-    IsWalked (EndsWell l.ports l.closed) l.fn.queues.entries l.queue-iterator

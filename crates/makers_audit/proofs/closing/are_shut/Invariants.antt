@@ -1,7 +1,0 @@
-use Rattle.makers_audit.proofs.Entries.{IsUnderway}
-use Rattle.makers_audit.proofs.Shutting.{AreShutting}
-use Rattle.makers_audit.proofs.closing.are_shut.Given as goal
-
-abbrev pub invariant-loop-entry : goal.invariant-loop-entry
-invariant-loop-entry l =
-    IsUnderway (AreShutting l.ports l.closed l.shut) l.entries l.entry-iterator l.queues

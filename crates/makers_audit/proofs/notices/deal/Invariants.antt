@@ -1,6 +1,0 @@
-use Rattle.makers_audit.specs.Noticing.{visits_by}
-use Rattle.makers_audit.proofs.Growing.{IsGrowing}
-use Rattle.makers_audit.proofs.notices.deal.Given as goal
-
-abbrev pub invariant-loop-did : goal.invariant-loop-did
-invariant-loop-did l = IsGrowing l.port visits_by l.dids l.did-iterator l.fn.rows l.rows

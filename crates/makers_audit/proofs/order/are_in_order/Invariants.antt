@@ -1,7 +1,0 @@
-use Rattle.makers_audit.specs.Dealing.{AreKept}
-use Rattle.makers_audit.proofs.Sequencing.{IsSequenced}
-use Rattle.makers_audit.proofs.order.are_in_order.Given as goal
-
-abbrev pub invariant-loop-entry : goal.invariant-loop-entry
-invariant-loop-entry l =
-    AreKept l.fn.rows → IsSequenced l.ports l.fn.rows l.entries l.entry-iterator l.ranks l.rows

@@ -1,9 +1,0 @@
-use Rattle.std.proofs.Common.{take}
-use Rattle.makers_audit.specs.Dealing.{AreDealt}
-use Rattle.makers_audit.specs.Pleading.{pleas_in_log, AllGood}
-use Rattle.makers_audit.proofs.requests.deal_all.Given as goal
-
-abbrev pub invariant-loop-port : goal.invariant-loop-port
-invariant-loop-port l =
-    AreDealt (take l.port-index l.ports) (pleas_in_log l.logs) l.rows
-    × AllGood (take l.port-index l.ports) l.logs
