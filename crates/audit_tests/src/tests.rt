@@ -18,6 +18,7 @@ use port_audit::{
     MessageKind, Rows, Side, are_closings, are_notices, are_ordered, are_ports, are_requests,
     are_roomy, push,
 };
+use queue_replay::replay_all;
 use run_audit::audit;
 use std::alloc::Global;
 use std::collections::BTreeMap;
@@ -159,7 +160,10 @@ fn fed(
     histories: &Histories,
 ) -> Result<bool, NoMemory> {
     match check_histories(alloc, histories)? {
-        None => is_fed(alloc, script, capture, histories),
+        None => {
+            let replayed = replay_all(alloc, &histories.entries)?;
+            is_fed(alloc, script, capture, histories, &replayed)
+        }
         Some(_) => Ok(true),
     }
 }
@@ -213,7 +217,8 @@ fn logs(alloc: Global, row: &str) -> Result<String, Fail> {
     let lines = format!(in alloc; "bind/whole/a1/a2/{log}")?;
     let histories = histories(alloc, lines.as_str(), changes)?;
     let script = script(alloc, rows::LOGGED)?;
-    Ok(match judge_logs(alloc, &script, &histories)? {
+    let replayed = replay_all(alloc, &histories.entries)?;
+    Ok(match judge_logs(alloc, &script, &histories, &replayed)? {
         Judged::Said { kinds } => told(alloc, &kinds)?,
         Judged::Amiss => String::from_str(alloc, "no")?,
         Judged::Foreign => String::from_str(alloc, "?")?,
@@ -227,7 +232,8 @@ fn amiss(
     histories: &Histories,
     kinds: &str,
 ) -> Result<String, Fail> {
-    let judged = judge_logs(alloc, script, histories)?;
+    let replayed = replay_all(alloc, &histories.entries)?;
+    let judged = judge_logs(alloc, script, histories, &replayed)?;
     let logged = matches!(&judged, Judged::Said { .. });
     let rows = match judged {
         Judged::Said { kinds } => kinds,
@@ -239,12 +245,12 @@ fn amiss(
     let hold = [
         logged,
         are_requests(alloc, script, histories)?,
-        are_notices(alloc, script, histories)?,
-        are_closings(alloc, script, histories)?,
+        are_notices(alloc, script, histories, &replayed)?,
+        are_closings(alloc, script, histories, &replayed)?,
         fed(alloc, script, &capture(alloc)?, histories)?,
         are_ports(script, histories),
         are_ordered(alloc, script, histories, rows)?,
-        are_roomy(alloc, script, histories)?,
+        are_roomy(alloc, script, histories, &replayed)?,
     ];
     let mut letters = String::new(alloc);
     for (letter, holds) in "abcdefgh".chars().zip(hold) {

@@ -1,6 +1,6 @@
 -- All queues are gone over, up to the first history that isn't whole.
 use Rattle.std.proofs.Common.{◌≡◌, ℕ, List, [], ◌∷◌, ◌++◌, Option, Some, Bool, true, false}
-use Rattle.std.proofs.Common.{cond, sym, ap, ◌∙◌, subst, inl, inr, append_assoc}
+use Rattle.std.proofs.Common.{cond, refl, sym, ap, ◌∙◌, subst, inl, inr, append_assoc}
 use Rattle.std.specs.Prelude.{⊤}
 use Rattle.std.specs.BTreeMap.{is_at}
 use Rattle.std.specs.Map.{lookup, keys_of}
@@ -10,6 +10,7 @@ use Rattle.std.specs.List.Sorted.{IsStrictlySortedBy}
 use Rattle.std.specs.declared.cmp.Ordering.TheVariants.{Less}
 use Rattle.std.proofs.lemmas.Bool.{cases_Bool}
 use Rattle.std.proofs.lemmas.Map.Keys.{sorted_head, sorted_tail}
+use Rattle.queue_core.specs.State.{Bound}
 use Rattle.script_lines.specs.declared.line.Down.{Down}
 use Rattle.feeder_audit.specs.declared.fed.Fed.{Fed}
 use Rattle.feeder_audit.specs.Rows.{IsFedBy, IsKept}
@@ -22,22 +23,25 @@ Kept = ℕ × Fed
 abbrev AreOrdered : List Kept → Type 0
 AreOrdered es = IsStrictlySortedBy nat_cmp (keys_of es)
 
--- each of these is whole
-abbrev pub EachWhole : List Down → List Kept → Type 0
-EachWhole downs [] = ⊤
-EachWhole downs (e ∷ es) = IsFedBy downs e.1 [] × EachWhole downs es
+-- each of these is whole, and leaves its queue in its state
+abbrev pub EachWhole : List Down → (ℕ → Option Bound) → List Kept → Type 0
+EachWhole downs states [] = ⊤
+EachWhole downs states (e ∷ es) =
+    IsFedBy downs (states e.0) e.1 [] × EachWhole downs states es
 
 -- those before the rest are whole
-pub record IsWalked (downs : List Down) (all rest : List Kept) : Type 0 where
-  pub ordered : AreOrdered all
-  pub kept : (q : ℕ) → IsKeptIn downs (lookup (is_at (nat_cmp q)) all)
-  pub done : List Kept
-  pub split : all ≡ done ++ rest
-  pub whole : EachWhole downs done
+pub record IsWalked (downs : List Down) (states : ℕ → Option Bound) (all rest : List Kept) : Type 0
+  where
+    pub ordered : AreOrdered all
+    pub kept : (q : ℕ) → IsKeptIn downs (lookup (is_at (nat_cmp q)) all)
+    pub done : List Kept
+    pub split : all ≡ done ++ rest
+    pub whole : EachWhole downs states done
 
-pub walk_begun : (downs : List Down) (all rest : List Kept) → rest ≡ all → AreOrdered all →
-    ((q : ℕ) → IsKeptIn downs (lookup (is_at (nat_cmp q)) all)) → IsWalked downs all rest
-walk_begun downs all rest same ordered kept = record {
+pub walk_begun : (downs : List Down) (states : ℕ → Option Bound) (all rest : List Kept) →
+    rest ≡ all → AreOrdered all → ((q : ℕ) → IsKeptIn downs (lookup (is_at (nat_cmp q)) all)) →
+    IsWalked downs states all rest
+walk_begun downs states all rest same ordered kept = record {
   ordered = ordered;
   kept = kept;
   done = [];
@@ -45,45 +49,53 @@ walk_begun downs all rest same ordered kept = record {
   whole = tt;
 }
 
-whole_more : (downs : List Down) (es : List Kept) (e : Kept) → EachWhole downs es →
-    IsFedBy downs e.1 [] → EachWhole downs (es ++ e ∷ [])
-whole_more downs [] e each one = (one, tt)
-whole_more downs (d ∷ es) e each one = (each.0, whole_more downs es e each.1 one)
+whole_more : (downs : List Down) (states : ℕ → Option Bound) (es : List Kept) (e : Kept) →
+    EachWhole downs states es → IsFedBy downs (states e.0) e.1 [] →
+    EachWhole downs states (es ++ e ∷ [])
+whole_more downs states [] e each one = (one, tt)
+whole_more downs states (d ∷ es) e each one =
+    (each.0, whole_more downs states es e each.1 one)
 
-pub walk_on : (downs : List Down) (all rest others : List Kept) (e : Kept) → rest ≡ e ∷ others →
-    IsFedBy downs e.1 [] → IsWalked downs all rest → IsWalked downs all others
-walk_on downs all rest others e front one walked = record {
+pub walk_on : (downs : List Down) (states : ℕ → Option Bound) (all rest others : List Kept)
+    (e : Kept) → rest ≡ e ∷ others → IsFedBy downs (states e.0) e.1 [] →
+    IsWalked downs states all rest → IsWalked downs states all others
+walk_on downs states all rest others e front one walked = record {
   ordered = walked.ordered;
   kept = walked.kept;
   done = walked.done ++ e ∷ [];
   split = walked.split ∙ ap (λ es. walked.done ++ es) front
       ∙ sym (append_assoc walked.done (e ∷ []) others);
-  whole = whole_more downs walked.done e walked.whole one;
+  whole = whole_more downs states walked.done e walked.whole one;
 }
 
 -- ---- what is found
 
 -- a look-up finds a whole one, or one of the rest
-either : (downs : List Down) (b : Bool) (f : Fed) (o : Option Fed) → IsFedBy downs f [] →
-    IsWholeIn downs o → IsWholeIn downs (cond b (Some f) o)
-either downs true f o here there = here
-either downs false f o here there = there
+either : (downs : List Down) (states : ℕ → Option Bound) (n k : ℕ) (b : Bool) (f : Fed)
+    (o : Option Fed) → is_at (nat_cmp n) k ≡ b → IsFedBy downs (states k) f [] →
+    IsWholeIn downs (states n) o → IsWholeIn downs (states n) (cond b (Some f) o)
+either downs states n k true f o same here there =
+    subst (λ m. IsFedBy downs (states m) f []) (sym (at_own n k same)) here
+either downs states n k false f o other here there = there
 
-found_whole : (downs : List Down) (n : ℕ) (done rest : List Kept) → EachWhole downs done →
-    IsWholeIn downs (lookup (is_at (nat_cmp n)) rest) →
-    IsWholeIn downs (lookup (is_at (nat_cmp n)) (done ++ rest))
-found_whole downs n [] rest each there = there
-found_whole downs n (d ∷ done) rest each there =
-    either downs (is_at (nat_cmp n) d.0) d.1 (lookup (is_at (nat_cmp n)) (done ++ rest)) each.0
-    (found_whole downs n done rest each.1 there)
+found_whole : (downs : List Down) (states : ℕ → Option Bound) (n : ℕ) (done rest : List Kept) →
+    EachWhole downs states done →
+    IsWholeIn downs (states n) (lookup (is_at (nat_cmp n)) rest) →
+    IsWholeIn downs (states n) (lookup (is_at (nat_cmp n)) (done ++ rest))
+found_whole downs states n [] rest each there = there
+found_whole downs states n (d ∷ done) rest each there =
+    either downs states n d.0 (is_at (nat_cmp n) d.0) d.1
+    (lookup (is_at (nat_cmp n)) (done ++ rest)) refl each.0
+    (found_whole downs states n done rest each.1 there)
 
 -- at the end
-pub walk_done : (downs : List Down) (queues : FedMap) (rest : List Kept) → rest ≡ [] →
-    IsWalked downs queues.entries rest → AreWhole downs queues
-walk_done downs queues rest none walked n =
-    subst (λ es. IsWholeIn downs (lookup (is_at (nat_cmp n)) es))
+pub walk_done : (downs : List Down) (states : ℕ → Option Bound) (feds : FedMap)
+    (rest : List Kept) → rest ≡ [] → IsWalked downs states feds.entries rest →
+    AreWhole downs states feds
+walk_done downs states feds rest none walked n =
+    subst (λ es. IsWholeIn downs (states n) (lookup (is_at (nat_cmp n)) es))
     (sym (walked.split ∙ ap (λ es. walked.done ++ es) none))
-    (found_whole downs n walked.done [] walked.whole tt)
+    (found_whole downs states n walked.done [] walked.whole tt)
 
 -- ---- the next one
 
@@ -112,8 +124,8 @@ found_here (d ∷ done) others e ordered =
     ∙ found_here done others e
     (sorted_tail nat_cmp d.0 (keys_of (done ++ e ∷ others)) ordered)
 
-module _ (downs : List Down) (all rest others : List Kept) (e : Kept) (front : rest ≡ e ∷ others)
-    (walked : IsWalked downs all rest) where
+module _ (downs : List Down) (states : ℕ → Option Bound) (all rest others : List Kept) (e : Kept)
+    (front : rest ≡ e ∷ others) (walked : IsWalked downs states all rest) where
   there : all ≡ walked.done ++ e ∷ others
   there = walked.split ∙ ap (λ es. walked.done ++ es) front
 
@@ -125,6 +137,6 @@ module _ (downs : List Down) (all rest others : List Kept) (e : Kept) (front : r
   pub next_kept : IsKept downs e.1
   next_kept = subst (IsKeptIn downs) found (walked.kept e.0)
 
-  pub walk_ends : ((q : ℕ) → IsWholeIn downs (lookup (is_at (nat_cmp q)) all)) →
-      IsFedBy downs e.1 []
-  walk_ends whole = subst (IsWholeIn downs) found (whole e.0)
+  pub walk_ends : ((q : ℕ) → IsWholeIn downs (states q) (lookup (is_at (nat_cmp q)) all)) →
+      IsFedBy downs (states e.0) e.1 []
+  walk_ends whole = subst (IsWholeIn downs (states e.0)) found (whole e.0)

@@ -1,7 +1,7 @@
 -- All histories, gone over entry by entry.
 use Rattle.std.proofs.Common.{◌≡◌, ◌<◌, ℕ, List, [], ◌∷◌, ◌++◌, Option, Some, None, Bool, true}
 use Rattle.std.proofs.Common.{false}
-use Rattle.std.proofs.Common.{refl, sym, ap, ◌∙◌, subst, inl, inr, append_assoc, cond}
+use Rattle.std.proofs.Common.{refl, sym, ap, ◌∙◌, subst, inl, inr, cond}
 use Rattle.std.specs.Prelude.{◌==◌, ◌↔◌, IsTrue}
 use Rattle.std.specs.BTreeMap.{get, is_at}
 use Rattle.std.specs.Ordering.{nat_cmp, is_eq}
@@ -14,15 +14,16 @@ use Rattle.queue_core.specs.State.{Bound}
 use Rattle.queue_core.specs.Step.{step}
 use Rattle.histories.specs.Numbers.{queue_count}
 use Rattle.histories.specs.declared.entry.Entry.{Entry}
-use Rattle.histories.specs.History.{history, replay, replay_from, is_of, IsStep, IsLegal, AreLegal}
-use Rattle.histories.specs.History.{IsLegalFrom}
+use Rattle.histories.specs.History.{history, replay, is_of}
 use Rattle.script_lines.specs.declared.line.Down.{Down}
 use Rattle.inspector_script.specs.Scripts.{ScriptValue}
 use Rattle.run_parts.specs.Feeder.{AreFed, IsFed, IsFedBy, downs_in_effect}
+use Rattle.queue_replay.specs.declared.found.Found.{Found}
+use Rattle.queue_replay.specs.Replays.{QueueMap, AreFound, AreReplayed}
 use Rattle.feeder_audit.specs.declared.fed.Fed.{Fed}
 use Rattle.feeder_audit.specs.Fitting.{FitsBy, Rises}
 use Rattle.feeder_audit.specs.Rows.{all}
-use Rattle.feeder_audit.specs.Queues.{FedMap, queue_in, IsKeptIn, IsFedIn, FollowsIn, AreKept}
+use Rattle.feeder_audit.specs.Queues.{FedMap, state_in, IsKeptIn, IsFedIn, FollowsIn, AreKept}
 use Rattle.feeder_audit.specs.Queues.{AreWhole, IsWholeIn, AreGoneOver}
 use Rattle.feeder_audit.proofs.RowMeaning.{from_first, all_open, all_put}
 use Rattle.feeder_audit.proofs.Items.{fits_if, is_fed_if}
@@ -41,7 +42,7 @@ at_own k q h = exact_unsigned k q (equal (nat_cmp k q) h)
 pub at_itself : (k : ℕ) → is_at (nat_cmp k) k ≡ true
 at_itself k = ap is_eq (sym (nat_cmp_is k k Equal refl))
 
-not_of : (k q : ℕ) → is_at (nat_cmp k) q ≡ false → (k == q) ≡ false
+pub not_of : (k q : ℕ) → is_at (nat_cmp k) q ≡ false → (k == q) ≡ false
 not_of k q h = ne_eqb k q (λ same.
     let at : is_at (nat_cmp k) q ≡ true =
     subst (λ n. is_at (nat_cmp k) n ≡ true) same (at_itself k) in
@@ -56,17 +57,7 @@ pub record Laws : Type 0 where
   pub state : (es : List Entry) (e : Entry) →
       replay (es ++ e ∷ []) ≡ (step (replay es) e.event).state
 
--- ---- legal histories
-
-history_on : (queue : ℕ) (es fs : List Entry) →
-    history queue (es ++ fs) ≡ history queue es ++ history queue fs
-history_on queue [] fs = refl
-history_on queue (e ∷ es) fs =
-    elim (is_of queue e) as (λ b. cond b (e ∷ history queue (es ++ fs)) (history queue (es ++ fs))
-    ≡ cond b (e ∷ history queue es) (history queue es) ++ history queue fs) [
-      | true ↦ ap (λ gs. e ∷ gs) (history_on queue es fs)
-      | false ↦ history_on queue es fs
-    ]
+-- ---- histories
 
 own_first : (queue : ℕ) (e : Entry) (fs : List Entry) → is_of queue e ≡ true →
     history queue (e ∷ fs) ≡ e ∷ history queue fs
@@ -76,141 +67,120 @@ other_first : (queue : ℕ) (e : Entry) (fs : List Entry) → is_of queue e ≡ 
     history queue (e ∷ fs) ≡ history queue fs
 other_first queue e fs other = ap (λ b. cond b (e ∷ history queue fs) (history queue fs)) other
 
-step_in : (q : Option Bound) (es fs : List Entry) (e : Entry) → IsLegalFrom q (es ++ e ∷ fs) →
-    IsStep (replay_from q es) e
-step_in q [] fs e legal = legal.0
-step_in q (d ∷ es) fs e legal = step_in (step q d.event).state es fs e legal.1
-
-step_at : (before rest : List Entry) (e : Entry) → AreLegal (before ++ e ∷ rest) →
-    IsStep (replay (history e.queue before)) e
-step_at before rest e legal =
-    step_in None (history e.queue before) (history e.queue rest) e
-    (subst IsLegal (history_on e.queue before (e ∷ rest)
-    ∙ ap (λ (gs : List Entry). history e.queue before ++ gs)
-    (own_first e.queue e rest (eq-eqb e.queue e.queue refl))) (legal e.queue))
-
 -- ---- entries that are gone over
 
 -- the lines can be put into a whole history
 abbrev Whole : List Down → List Entry → Type 0
 Whole downs h = FitsBy None 0 h downs all
 
--- these entries are still to come, and the others are gone over
-pub record IsUnderway (downs : List Down) (entries rest : List Entry) (queues : FedMap) : Type 0
-  where
-    pub before : List Entry
-    pub split : entries ≡ before ++ rest
-    pub kept : AreKept downs queues
-    pub states : (q : ℕ) → queue_in (get nat_cmp queues q) ≡ replay (history q before)
-    pub short : (q : ℕ) (f : Fed) → get nat_cmp queues q ≡ Some f → q < queue_count
-    pub goes : (q : ℕ) → Whole downs (history q entries) →
-        IsFedIn downs (get nat_cmp queues q) (history q rest)
-    pub came : (q : ℕ) → IsFedIn downs (get nat_cmp queues q) (history q rest) →
-        Whole downs (history q entries)
+-- the entries before are gone over, and this is found at the rest
+pub record AreGoing (downs : List Down) (entries : List Entry) (found : List Found) (feds : FedMap)
+    (before rest : List Entry) : Type 0 where
+  pub found_are : AreFound before rest found
+  pub kept : AreKept downs feds
+  pub short : (q : ℕ) (f : Fed) → get nat_cmp feds q ≡ Some f → q < queue_count
+  pub goes : (q : ℕ) → Whole downs (history q entries) →
+      IsFedIn downs (replay (history q before)) (get nat_cmp feds q) (history q rest)
+  pub came : (q : ℕ) →
+      IsFedIn downs (replay (history q before)) (get nat_cmp feds q) (history q rest) →
+      Whole downs (history q entries)
 
-pub begun : (downs : List Down) (entries rest : List Entry) (queues : FedMap) → rest ≡ entries →
-    ((q : ℕ) → get nat_cmp queues q ≡ None) → IsUnderway downs entries rest queues
-begun downs entries rest queues same none = record {
-  before = [];
-  split = sym same;
+pub none_gone : (downs : List Down) (entries : List Entry) (found : List Found) (feds : FedMap) →
+    AreFound [] entries found → ((q : ℕ) → get nat_cmp feds q ≡ None) →
+    AreGoing downs entries found feds [] entries
+none_gone downs entries found feds are none = record {
+  found_are = are;
   kept = λ q. subst (IsKeptIn downs) (sym (none q)) tt;
-  states = λ q. ap queue_in (none q);
-  short = λ q f found. absurd (let wrong : None ≡ Some f = sym (none q) ∙ found in cc);
-  goes = λ q fed. subst (λ o. IsFedIn downs o (history q rest)) (sym (none q))
-      (subst (λ es. Whole downs (history q es)) (sym same) fed);
-  came = λ q fed. subst (λ es. Whole downs (history q es)) same
-      (subst (λ o. IsFedIn downs o (history q rest)) (none q) fed);
+  short = λ q f there. absurd (let wrong : None ≡ Some f = sym (none q) ∙ there in cc);
+  goes = λ q fed. subst (λ o. IsFedIn downs None o (history q entries)) (sym (none q)) fed;
+  came = λ q fed. subst (λ o. IsFedIn downs None o (history q entries)) (none q) fed;
 }
 
-module _ (downs : List Down) (entries rest others : List Entry) (e : Entry) (old : FedMap)
-    (front : rest ≡ e ∷ others) (u : IsUnderway downs entries rest old) where
-  there : entries ≡ u.before ++ e ∷ others
-  there = u.split ∙ ap (λ (gs : List Entry). u.before ++ gs) front
+module _ (laws : Laws) (downs : List Down) (entries before others : List Entry) (e : Entry)
+    (found fs : List Found) (old new : FedMap)
+    (are : AreGoing downs entries found old before (e ∷ others))
+    (next : AreFound (before ++ e ∷ []) others fs)
+    (follows : FollowsIn downs (replay (history e.queue before)) old new e)
+    (few : e.queue < queue_count) where
+  -- what holds at the entry's queue, and stays so at the others
+  at_queue : (P : ℕ → Type 0) → P e.queue →
+      ((q : ℕ) → is_at (nat_cmp e.queue) q ≡ false → P q) → (q : ℕ) → P q
+  at_queue P own others_too q = elim (cases_Bool (is_at (nat_cmp e.queue) q)) [
+    | inl here ↦ subst P (at_own e.queue q here) own
+    | inr other ↦ others_too q other
+  ]
 
-  pub next_step : AreLegal entries → IsStep (queue_in (get nat_cmp old e.queue)) e
-  next_step legal =
-      subst (λ (q : Option Bound). IsStep q e) (sym (u.states e.queue))
-      (step_at u.before others e (subst AreLegal there legal))
+  own_rest : history e.queue (e ∷ others) ≡ e ∷ history e.queue others
+  own_rest = own_first e.queue e others (eq-eqb e.queue e.queue refl)
 
-  pub next_kept : IsKeptIn downs (get nat_cmp old e.queue)
-  next_kept = u.kept e.queue
+  own_state : (step (replay (history e.queue before)) e.event).state
+      ≡ replay (history e.queue (before ++ e ∷ []))
+  own_state = sym (ap replay (laws.own before e) ∙ laws.state (history e.queue before) e)
 
-  own_rest : history e.queue rest ≡ e ∷ history e.queue others
-  own_rest =
-      ap (history e.queue) front ∙ own_first e.queue e others (eq-eqb e.queue e.queue refl)
+  -- nothing is so of another queue that wasn't
+  other_fed : (q : ℕ) → is_at (nat_cmp e.queue) q ≡ false →
+      IsFedIn downs (replay (history q before)) (get nat_cmp old q) (history q (e ∷ others))
+      ≡ IsFedIn downs (replay (history q (before ++ e ∷ []))) (get nat_cmp new q)
+      (history q others)
+  other_fed q other =
+      ap (λ es. IsFedIn downs (replay (history q before)) (get nat_cmp old q) es)
+      (other_first q e others (not_of e.queue q other))
+      ∙ ap (λ es. IsFedIn downs (replay es) (get nat_cmp old q) (history q others))
+      (sym (laws.others before e q (not_of e.queue q other)))
+      ∙ ap (λ o. IsFedIn downs (replay (history q (before ++ e ∷ []))) o (history q others))
+      (sym (follows.others q other))
 
-  other_rest : (q : ℕ) → is_at (nat_cmp e.queue) q ≡ false → history q rest ≡ history q others
-  other_rest q other =
-      ap (history q) front ∙ other_first q e others (not_of e.queue q other)
-
-  module _ (laws : Laws) (new : FedMap) (follows : FollowsIn downs old new e)
-      (few : e.queue < queue_count) where
-    -- what holds at the entry's queue, and stays so at the others
-    at_queue : (P : ℕ → Type 0) → P e.queue →
-        ((q : ℕ) → is_at (nat_cmp e.queue) q ≡ false → P q) → (q : ℕ) → P q
-    at_queue P own others_too q = elim (cases_Bool (is_at (nat_cmp e.queue) q)) [
-      | inl here ↦ subst P (at_own e.queue q here) own
-      | inr other ↦ others_too q other
-    ]
-
-    pub underway_on : IsUnderway downs entries others new
-    underway_on = record {
-      before = u.before ++ e ∷ [];
-      split = there ∙ sym (append_assoc u.before (e ∷ []) others);
-      kept = at_queue (λ q. IsKeptIn downs (get nat_cmp new q)) follows.kept
-          (λ q other. subst (IsKeptIn downs) (sym (follows.others q other)) (u.kept q));
-      states = at_queue
-          (λ q. queue_in (get nat_cmp new q) ≡ replay (history q (u.before ++ e ∷ [])))
-          (follows.queue ∙ ap (λ (q : Option Bound). (step q e.event).state) (u.states e.queue)
-          ∙ sym (ap replay (laws.own u.before e) ∙ laws.state (history e.queue u.before) e))
-          (λ q other. ap queue_in (follows.others q other) ∙ u.states q
-          ∙ sym (ap replay (laws.others u.before e q (not_of e.queue q other))));
-      short = λ q f. at_queue (λ k. get nat_cmp new k ≡ Some f → k < queue_count)
-          (λ found. few)
-          (λ k other found. u.short k f (sym (follows.others k other) ∙ found)) q;
-      goes = at_queue
-          (λ q. Whole downs (history q entries) →
-          IsFedIn downs (get nat_cmp new q) (history q others))
-          (λ fed. follows.goes (history e.queue others)
-          (subst (IsFedIn downs (get nat_cmp old e.queue)) own_rest (u.goes e.queue fed)))
-          (λ q other fed. subst (λ o. IsFedIn downs o (history q others))
-          (sym (follows.others q other))
-          (subst (IsFedIn downs (get nat_cmp old q)) (other_rest q other) (u.goes q fed)));
-      came = at_queue
-          (λ q. IsFedIn downs (get nat_cmp new q) (history q others) →
-          Whole downs (history q entries))
-          (λ fed. u.came e.queue (subst (IsFedIn downs (get nat_cmp old e.queue)) (sym own_rest)
-          (follows.came (history e.queue others) fed)))
-          (λ q other fed. u.came q (subst (IsFedIn downs (get nat_cmp old q))
-          (sym (other_rest q other)) (subst (λ o. IsFedIn downs o (history q others))
-          (follows.others q other) fed)));
-    }
+  pub going_on : AreGoing downs entries fs new (before ++ e ∷ []) others
+  going_on = record {
+    found_are = next;
+    kept = at_queue (λ q. IsKeptIn downs (get nat_cmp new q)) follows.kept
+        (λ q other. subst (IsKeptIn downs) (sym (follows.others q other)) (are.kept q));
+    short = λ q f. at_queue (λ k. get nat_cmp new k ≡ Some f → k < queue_count)
+        (λ there. few)
+        (λ k other there. are.short k f (sym (follows.others k other) ∙ there)) q;
+    goes = at_queue
+        (λ q. Whole downs (history q entries) →
+        IsFedIn downs (replay (history q (before ++ e ∷ []))) (get nat_cmp new q)
+        (history q others))
+        (λ fed. subst (λ (q : Option Bound). IsFedIn downs q (get nat_cmp new e.queue)
+        (history e.queue others)) own_state (follows.goes (history e.queue others)
+        (subst (IsFedIn downs (replay (history e.queue before)) (get nat_cmp old e.queue))
+        own_rest (are.goes e.queue fed))))
+        (λ q other fed. subst (λ (T : Type 0). T) (other_fed q other) (are.goes q fed));
+    came = at_queue
+        (λ q. IsFedIn downs (replay (history q (before ++ e ∷ []))) (get nat_cmp new q)
+        (history q others) → Whole downs (history q entries))
+        (λ fed. are.came e.queue
+        (subst (IsFedIn downs (replay (history e.queue before)) (get nat_cmp old e.queue))
+        (sym own_rest) (follows.came (history e.queue others)
+        (subst (λ (q : Option Bound). IsFedIn downs q (get nat_cmp new e.queue)
+        (history e.queue others)) (sym own_state) fed))))
+        (λ q other fed. are.came q (subst (λ (T : Type 0). T) (sym (other_fed q other)) fed));
+  }
 
 -- ---- at the end
 
-module _ (downs : List Down) (entries rest : List Entry) (queues : FedMap) (none : rest ≡ [])
-    (u : IsUnderway downs entries rest queues) where
-  fed_in : (q : ℕ) (o : Option Fed) → IsWholeIn downs o → IsFedIn downs o (history q rest)
-  fed_in q None whole =
-      subst (λ es. IsFedIn downs None (history q es)) (sym none) (all_put None 0 downs all refl)
-  fed_in q (Some f) whole =
-      subst (λ es. IsFedIn downs (Some f) (history q es)) (sym none) whole
+module _ (downs : List Down) (entries : List Entry) (found : List Found) (feds : FedMap)
+    (are : AreGoing downs entries found feds entries []) where
+  fed_in : (q : Option Bound) (o : Option Fed) → IsWholeIn downs q o → IsFedIn downs q o []
+  fed_in q None whole = all_put q 0 downs all refl
+  fed_in q (Some f) whole = whole
 
-  whole_in : (q : ℕ) (o : Option Fed) → get nat_cmp queues q ≡ o →
+  whole_in : (q : ℕ) (o : Option Fed) → get nat_cmp feds q ≡ o →
       ((queue : ℕ) → queue < queue_count → Whole downs (history queue entries)) →
-      IsWholeIn downs o
-  whole_in q None found are = tt
-  whole_in q (Some f) found are =
-      subst (λ es. IsFedIn downs (Some f) (history q es)) none
-      (subst (λ o. IsFedIn downs o (history q rest)) found
-      (u.goes q (are q (u.short q f found))))
+      IsWholeIn downs (replay (history q entries)) o
+  whole_in q None there each = tt
+  whole_in q (Some f) there each =
+      subst (λ o. IsFedIn downs (replay (history q entries)) o []) there
+      (are.goes q (each q (are.short q f there)))
 
-  pub all_gone_over : AreGoneOver downs entries queues
-  all_gone_over = record {
-    kept = u.kept;
+  pub all_gone : AreGoneOver downs entries feds
+  all_gone = record {
+    kept = are.kept;
     whole = (
-      λ are q. whole_in q (get nat_cmp queues q) refl are,
-      λ are q few. u.came q (fed_in q (get nat_cmp queues q) (are q)),
+      λ each q. whole_in q (get nat_cmp feds q) refl each,
+      λ whole q few. are.came q
+          (fed_in (replay (history q entries)) (get nat_cmp feds q) (whole q)),
     );
   }
 
@@ -222,18 +192,21 @@ pub record OneFeeder : Type 0 where
   pub all : (downs : List Down) (h : List Entry) → IsFedBy 1 downs h → IsFed downs h
 
 pub fed_exactly : (law : OneFeeder) (script : ScriptValue) (frames : ℕ) (entries : List Entry)
-    (downs : List Down) (queues : FedMap) (b : Bool) → downs ≡ downs_in_effect script frames →
-    AreGoneOver downs entries queues → IsTrue b ↔ AreWhole downs queues →
+    (downs : List Down) (queues : QueueMap) (feds : FedMap) (b : Bool) →
+    downs ≡ downs_in_effect script frames → AreReplayed entries queues →
+    AreGoneOver downs entries feds → IsTrue b ↔ AreWhole downs (state_in queues) feds →
     IsTrue b ↔ AreFed 1 script frames entries
-fed_exactly law script frames entries downs queues b are gone is = (
+fed_exactly law script frames entries downs queues feds b are replayed gone is = (
   λ true_is queue few. subst (λ ds. IsFedBy 1 ds (history queue entries)) are
       (law.fed downs (history queue entries) (is_fed_if downs (history queue entries)
       (from_first 0 (history queue entries) downs rises
-      (gone.whole.1 (is.0 true_is) queue few)))),
-  λ fed. is.1 (gone.whole.0 (λ queue few.
+      (gone.whole.1 (λ q. subst (λ (o : Option Bound). IsWholeIn downs o (get nat_cmp feds q))
+      (replayed q) (is.0 true_is q)) queue few)))),
+  λ fed. is.1 (λ q. subst (λ (o : Option Bound). IsWholeIn downs o (get nat_cmp feds q))
+      (sym (replayed q)) (gone.whole.0 (λ queue few.
       all_open 0 (history queue entries) downs (fits_if downs (history queue entries)
       (law.all downs (history queue entries)
-      (subst (λ ds. IsFedBy 1 ds (history queue entries)) (sym are) (fed queue few)))))),
+      (subst (λ ds. IsFedBy 1 ds (history queue entries)) (sym are) (fed queue few))))) q)),
 )
   where
     rises : Rises 0 downs

@@ -5,8 +5,9 @@ use Rattle.std.specs.Ordering.{nat_cmp}
 use Rattle.queue_core.specs.State.{Bound}
 use Rattle.queue_core.specs.Step.{step}
 use Rattle.histories.specs.declared.entry.Entry.{Entry}
-use Rattle.histories.specs.History.{history}
+use Rattle.histories.specs.History.{history, replay}
 use Rattle.histories.specs.Numbers.{queue_count}
+use Rattle.queue_replay.specs.Replays.{QueueMap, queue_in}
 use Rattle.script_lines.specs.declared.line.Down.{Down}
 use Rattle.feeder_audit.specs.declared.fed.Fed.{Fed}
 use Rattle.feeder_audit.specs.Fitting.{FitsBy}
@@ -15,45 +16,48 @@ use Rattle.feeder_audit.specs.Rows.{IsKept, IsFedBy, all}
 abbrev pub FedMap : Type 0
 FedMap = BTreeMap ℕ Fed
 
--- a queue that isn't kept is absent, and no line is put in
-abbrev pub queue_in : Option Fed → Option Bound
-queue_in None = None
-queue_in (Some f) = f.queue
+-- the state of each queue
+abbrev pub state_in : QueueMap → ℕ → Option Bound
+state_in queues queue = queue_in (get nat_cmp queues queue)
 
 abbrev pub IsKeptIn : List Down → Option Fed → Type 0
 IsKeptIn downs None = ⊤
 IsKeptIn downs (Some f) = IsKept downs f
 
-abbrev pub IsFedIn : List Down → Option Fed → List Entry → Type 0
-IsFedIn downs None h = FitsBy None 0 h downs all
-IsFedIn downs (Some f) h = IsFedBy downs f h
+-- of a queue that isn't kept no line is put in
+abbrev pub IsFedIn : List Down → Option Bound → Option Fed → List Entry → Type 0
+IsFedIn downs q None h = FitsBy q 0 h downs all
+IsFedIn downs q (Some f) h = IsFedBy downs q f h
 
--- an entry is gone over, and the other queues stay as they were
-pub record FollowsIn (downs : List Down) (old new : FedMap) (e : Entry) : Type 0 where
-  pub queue : queue_in (get nat_cmp new e.queue)
-      ≡ (step (queue_in (get nat_cmp old e.queue)) e.event).state
-  pub kept : IsKeptIn downs (get nat_cmp new e.queue)
-  pub goes : (es : List Entry) → IsFedIn downs (get nat_cmp old e.queue) (e ∷ es) →
-      IsFedIn downs (get nat_cmp new e.queue) es
-  pub came : (es : List Entry) → IsFedIn downs (get nat_cmp new e.queue) es →
-      IsFedIn downs (get nat_cmp old e.queue) (e ∷ es)
-  pub others : (q : ℕ) → is_at (nat_cmp e.queue) q ≡ false →
-      get nat_cmp new q ≡ get nat_cmp old q
+-- an entry is gone over at a queue in this state, and the other queues stay as they were
+pub record FollowsIn (downs : List Down) (q : Option Bound) (old new : FedMap) (e : Entry) : Type 0
+  where
+    pub kept : IsKeptIn downs (get nat_cmp new e.queue)
+    pub goes : (es : List Entry) → IsFedIn downs q (get nat_cmp old e.queue) (e ∷ es) →
+        IsFedIn downs (step q e.event).state (get nat_cmp new e.queue) es
+    pub came : (es : List Entry) →
+        IsFedIn downs (step q e.event).state (get nat_cmp new e.queue) es →
+        IsFedIn downs q (get nat_cmp old e.queue) (e ∷ es)
+    pub others : (k : ℕ) → is_at (nat_cmp e.queue) k ≡ false →
+        get nat_cmp new k ≡ get nat_cmp old k
 
 -- all lines can be put into the history, which is over
-abbrev pub IsWholeIn : List Down → Option Fed → Type 0
-IsWholeIn downs None = ⊤
-IsWholeIn downs (Some f) = IsFedBy downs f []
+abbrev pub IsWholeIn : List Down → Option Bound → Option Fed → Type 0
+IsWholeIn downs q None = ⊤
+IsWholeIn downs q (Some f) = IsFedBy downs q f []
 
-abbrev pub AreWhole : List Down → FedMap → Type 0
-AreWhole downs queues = (queue : ℕ) → IsWholeIn downs (get nat_cmp queues queue)
+-- into each, where they leave the queues in these states
+abbrev pub AreWhole : List Down → (ℕ → Option Bound) → FedMap → Type 0
+AreWhole downs states feds = (queue : ℕ) →
+    IsWholeIn downs (states queue) (get nat_cmp feds queue)
 
 abbrev pub AreKept : List Down → FedMap → Type 0
-AreKept downs queues = (queue : ℕ) → IsKeptIn downs (get nat_cmp queues queue)
+AreKept downs feds = (queue : ℕ) → IsKeptIn downs (get nat_cmp feds queue)
 
 -- all entries are gone over: all lines can be put into each history exactly where they can be put
 -- into what is left of it, which is nothing
-pub record AreGoneOver (downs : List Down) (entries : List Entry) (queues : FedMap) : Type 0 where
-  pub kept : AreKept downs queues
+pub record AreGoneOver (downs : List Down) (entries : List Entry) (feds : FedMap) : Type 0 where
+  pub kept : AreKept downs feds
   pub whole : ((queue : ℕ) → queue < queue_count →
-      FitsBy None 0 (history queue entries) downs all) ↔ AreWhole downs queues
+      FitsBy None 0 (history queue entries) downs all)
+      ↔ AreWhole downs (λ queue. replay (history queue entries)) feds

@@ -1,8 +1,9 @@
 -- For proofs alone: what is kept of a queue's history so far, and how it goes on.
 use Rattle.std.specs.Prelude.{◌≡◌, ◌≤◌, ◌<◌, ℕ, zero, suc, ◌+◌, ◌&&◌, ◌==◌, List, [], ◌∷◌, length}
 use Rattle.std.specs.Prelude.{drop}
-use Rattle.std.specs.Prelude.{Bool, true, false, nat_le, nat_lt, slice_get}
+use Rattle.std.specs.Prelude.{Bool, true, false, nat_le, nat_lt, slice_get, Option}
 use Rattle.std.specs.Prelude.{unwrap_or, if◌then◌else◌}
+use Rattle.queue_core.specs.State.{Bound}
 use Rattle.queue_core.specs.Step.{step}
 use Rattle.queue_core.specs.declared.event.Event.{Event}
 use Rattle.queue_core.specs.declared.event.Event.TheVariants.{Arrive, Ask, PortClosed, DeviceDown}
@@ -71,29 +72,29 @@ pub record IsKept (downs : List Down) (f : Fed) : Type 0 where
   pub within : f.placed ≤ length downs
   pub rises : Rises f.time (drop f.placed downs)
 
--- the lines that are left can be put into what is left of the history
-abbrev pub IsFedBy : List Down → Fed → List Entry → Type 0
-IsFedBy downs f h = FitsBy f.queue f.time h (drop f.placed downs) (row_of f.ways)
+-- from a queue's state on, the lines that are left can be put into what is left of the history
+abbrev pub IsFedBy : List Down → Option Bound → Fed → List Entry → Type 0
+IsFedBy downs q f h = FitsBy q f.time h (drop f.placed downs) (row_of f.ways)
 
--- an entry is gone over
-pub record Follows (downs : List Down) (old new : Fed) (e : Entry) : Type 0 where
-  pub queue : new.queue ≡ (step old.queue e.event).state
-  pub kept : IsKept downs new
-  pub goes : (es : List Entry) → IsFedBy downs old (e ∷ es) → IsFedBy downs new es
-  pub came : (es : List Entry) → IsFedBy downs new es → IsFedBy downs old (e ∷ es)
+-- an entry is gone over at a queue in this state
+pub record Follows (downs : List Down) (q : Option Bound) (old new : Fed) (e : Entry) : Type 0
+  where
+    pub kept : IsKept downs new
+    pub goes : (es : List Entry) → IsFedBy downs q old (e ∷ es) →
+        IsFedBy downs (step q e.event).state new es
+    pub came : (es : List Entry) → IsFedBy downs (step q e.event).state new es →
+        IsFedBy downs q old (e ∷ es)
 
--- lines passed where the queue is absent
-pub record Closes (downs : List Down) (old new : Fed) : Type 0 where
-  pub queue : new.queue ≡ old.queue
+-- lines passed if the queue, which is in this state, is absent
+pub record Closes (downs : List Down) (q : Option Bound) (old new : Fed) : Type 0 where
   pub kept : IsKept downs new
-  pub opened : IsOpen new.queue (row_of new.ways)
-  pub goes : (h : List Entry) → IsFedBy downs old h → IsFedBy downs new h
-  pub came : (h : List Entry) → IsFedBy downs new h → IsFedBy downs old h
+  pub opened : IsOpen q (row_of new.ways)
+  pub goes : (h : List Entry) → IsFedBy downs q old h → IsFedBy downs q new h
+  pub came : (h : List Entry) → IsFedBy downs q new h → IsFedBy downs q old h
 
 -- ---- an event
 
 pub record Stays (old new : Fed) : Type 0 where
-  pub queue : new.queue ≡ old.queue
   pub placed : new.placed ≡ old.placed
   pub time : new.time ≡ old.time
   pub ways : new.ways ≡ old.ways
@@ -106,7 +107,6 @@ can_feed left number f =
 -- The packet with this number arrived for the first time: just the lines after earlier frames are
 -- put in.
 pub record Feeds (downs : List Down) (number : ℕ) (old new : Fed) : Type 0 where
-  pub queue : new.queue ≡ old.queue
   pub placed : new.placed ≡ old.placed + lines_before number (drop old.placed downs)
   pub within : new.placed ≤ length downs
   pub time : new.time ≡ feeding_time number + 1
@@ -114,7 +114,6 @@ pub record Feeds (downs : List Down) (number : ℕ) (old new : Fed) : Type 0 whe
 
 -- a device went down, by one of the lines that are left
 pub record Falls (downs : List Down) (device : ℕ) (old new : Fed) : Type 0 where
-  pub queue : new.queue ≡ old.queue
   pub left : drop new.placed downs ≡ drop 1 (drop old.placed downs)
   pub within : new.placed ≤ length downs
   pub time : new.time ≡ first_time old.time (drop old.placed downs)

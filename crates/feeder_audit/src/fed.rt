@@ -1,22 +1,22 @@
 //! One queue's history, gone over entry by entry.
 
-ghost use Rattle.std.specs.Prelude.{◌≡◌, ◌≤◌, ◌↔◌, [], None, length, IsTrue, OnOk};
+ghost use Rattle.std.specs.Prelude.{◌≡◌, ◌≤◌, ◌↔◌, [], Option, None, length, IsTrue, OnOk};
+ghost use Rattle.queue_core.specs.State.{Bound};
 ghost use Rattle.histories.specs.History as history;
+ghost use Rattle.queue_replay.specs.Replays.{port_in};
 ghost use Rattle.feeder_audit.specs.Rows as rows;
 
 use crate::lines::{falling_time, feeding_time, lines_before, time_behind};
 use crate::ways::Ways;
 use histories::{Entry, Event};
 use packet_entry::NoMemory;
-use queue_replay::{Standing, is_step};
+use queue_replay::Found;
 use script_lines::Down;
 use std::alloc::Global;
 
 /// A queue's history so far.
 #[derive(Drop)]
 pub(crate) struct Fed {
-    /// The state that it leads to.
-    pub(crate) queue: Option<Standing>,
     /// How many lines are put in at least.
     pub(crate) placed: usize,
     /// The time where no further line is put in: what comes next isn't earlier.
@@ -28,61 +28,63 @@ pub(crate) struct Fed {
 impl Fed {
     /// A history without an entry. The queue is absent, so any number of lines can be put in.
     pub(crate) fn new() -> Fed
-        ensures queue { result.queue ≡ None }
         ensures placed { result.placed ≡ 0 }
         ensures time { result.time ≡ 0 }
         ensures row { rows.row_of result.ways ≡ rows.all }
     {
         Fed {
-            queue: None,
             placed: 0,
             time: 0,
             ways: Ways::FromHere,
         }
     }
 
-    /// Goes over the next entry, which is a step of the queue. When memory runs out, what is kept
-    /// may be any.
+    /// Goes over the next entry, which is a step of the queue. This was found of it. When memory
+    /// runs out, what is kept may be any.
     pub(crate) fn follow(
         &mut self,
         alloc: Global,
         downs: &[Down],
+        here: Found,
         entry: &Entry,
     ) -> Result<(), NoMemory>
-        requires kept { rows.IsKept downs.now self.old }
-        requires step { history.IsStep self.old.queue entry.now }
-        ensures { OnOk result (rows.Follows downs.now self.old self.new entry.now) }
+        requires { rows.IsKept downs.now self.old }
+        ensures { OnOk result ((queue : Option Bound) → here.port ≡ port_in queue →
+            history.IsStep queue entry.now →
+            rows.Follows downs.now queue self.old self.new entry.now) }
     {
-        self.close(downs);
+        self.close(here.port, downs);
         self.go_over(alloc, downs, &entry.event)?;
-        is_step(&mut self.queue, alloc, entry)?;
         Ok(())
     }
 
-    /// Whether all lines can be put into the history, which is over.
-    pub(crate) fn is_whole(mut self, downs: &[Down]) -> bool
+    /// Whether all lines can be put into the history, which is over and leaves the queue bound to
+    /// this port.
+    pub(crate) fn is_whole(mut self, port: Option<u32>, downs: &[Down]) -> bool
         requires { rows.IsKept downs.now self }
-        ensures { IsTrue result ↔ rows.IsFedBy downs.now self [] }
+        ensures { (queue : Option Bound) → port ≡ port_in queue →
+            (IsTrue result ↔ rows.IsFedBy downs.now queue self []) }
     {
-        self.close(downs);
+        self.close(port, downs);
         self.ways.has(downs.len() - self.placed)
     }
 
-    /// Lines pass, if the queue is absent.
-    fn close(&mut self, downs: &[Down])
+    /// Lines pass, if the queue is bound to no port.
+    fn close(&mut self, port: Option<u32>, downs: &[Down])
         requires { rows.IsKept downs.now self.old }
-        ensures { rows.Closes downs.now self.old self.new }
+        ensures kept { rows.IsKept downs.now self.new }
+        ensures closes { (queue : Option Bound) → port ≡ port_in queue →
+            rows.Closes downs.now queue self.old self.new }
     {
-        if self.queue.is_none() {
+        if port.is_none() {
             self.pass(downs);
         }
     }
 
     /// Lines pass where the queue is absent: from the least number on any can have been put in.
     fn pass(&mut self, downs: &[Down])
-        requires kept { rows.IsKept downs.now self.old }
-        requires absent { self.old.queue ≡ None }
-        ensures { rows.Closes downs.now self.old self.new }
+        requires { rows.IsKept downs.now self.old }
+        ensures { rows.Closes downs.now None self.old self.new }
     {
         let left = &downs[self.placed..];
         match self.ways.least(left.len()) {

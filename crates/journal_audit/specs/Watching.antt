@@ -1,17 +1,17 @@
 -- Histories that are watched entry by entry.
 use Rattle.std.specs.Prelude.{◌≡◌, ℕ, List, [], ◌∷◌, ◌++◌, length, Option, Some, None, true, false}
+use Rattle.std.specs.Prelude.{◌↔◌, Bool, IsTrue}
 use Rattle.std.specs.BTreeMap.{BTreeMap, get, is_at}
 use Rattle.std.specs.Ordering.{nat_cmp}
 use Rattle.histories.specs.declared.entry.Entry.{Entry}
-use Rattle.histories.specs.History.{history, replay, IsLegal}
+use Rattle.histories.specs.History.{history, replay, IsLegal, IsStep}
 use Rattle.journal_audit.specs.declared.watched.Watched.{Watched}
 use Rattle.journal_audit.specs.Illegal.{IsFirstIllegal}
 
 -- what is kept of a history
 pub record IsWatched (so_far : List Entry) (w : Watched) : Type 0 where
   pub length_is : w.length ≡ length so_far
-  -- the state is kept as long as the history is legal
-  pub legal : w.is_legal ≡ true → IsLegal so_far × (w.queue ≡ replay so_far)
+  pub legal : w.is_legal ≡ true → IsLegal so_far
   pub illegal : w.is_legal ≡ false → IsLegal so_far → ⊥
 
 -- nothing is kept of a history without an entry
@@ -28,9 +28,10 @@ IsFound so_far e (Some at) = IsFirstIllegal (so_far ++ e ∷ []) at
 abbrev pub WatchedQueues : Type 0
 WatchedQueues = BTreeMap ℕ Watched
 
--- this entry is watched, and the other histories stay as they were
-pub record Watches (old new : WatchedQueues) (e : Entry) : Type 0 where
-  pub own : (so_far : List Entry) → IsWatchedIn so_far (get nat_cmp old e.queue) →
+-- this entry is watched, which is a step or not, and the other histories stay as they were
+pub record Watches (is_step : Bool) (old new : WatchedQueues) (e : Entry) : Type 0 where
+  pub own : (so_far : List Entry) → IsTrue is_step ↔ IsStep (replay so_far) e →
+      IsWatchedIn so_far (get nat_cmp old e.queue) →
       IsWatchedIn (so_far ++ e ∷ []) (get nat_cmp new e.queue)
   pub others : (q : ℕ) → is_at (nat_cmp e.queue) q ≡ false →
       get nat_cmp new q ≡ get nat_cmp old q

@@ -1,12 +1,14 @@
 //! The first place where a history isn't legal.
 
-ghost use Rattle.std.specs.Prelude.{◌≡◌, ◌↔◌, None, IfOk};
+ghost use Rattle.std.specs.Prelude.{◌≡◌, ◌↔◌, [], None, IfOk};
 ghost use Rattle.histories.specs.History as history;
+ghost use Rattle.queue_replay.specs.Replays.{AreFound, IsReplayOf};
 ghost use Rattle.journal_audit.specs.Illegal as illegal;
 
 use crate::watched::watch;
 use histories::{Entries, Histories};
-use packet_entry::NoMemory;
+use packet_entry::{NoMemory, Sequence};
+use queue_replay::{Found, Replayed, next_found, replay_all};
 use std::alloc::Global;
 use std::collections::BTreeMap;
 
@@ -29,18 +31,41 @@ pub fn check_histories(alloc: Global, histories: &Histories) -> Result<Option<Pl
     ensures none { IfOk result (λ place.
         (place ≡ None) ↔ history.AreLegal histories.now.entries) }
 {
-    first_in(alloc, &histories.entries)
+    let replayed = replay_all(alloc, &histories.entries)?;
+    find_illegal(alloc, histories, &replayed)
 }
 
-/// The first place in these entries where a history isn't legal.
-fn first_in(alloc: Global, entries: &Entries) -> Result<Option<Place1>, NoMemory>
+/// The same, of histories that were replayed.
+pub fn find_illegal(
+    alloc: Global,
+    histories: &Histories,
+    replayed: &Replayed,
+) -> Result<Option<Place1>, NoMemory>
+    requires { IsReplayOf histories.now.entries replayed.now }
+    ensures first { IfOk result (illegal.IsFirstOf histories.now.entries) }
+    ensures none { IfOk result (λ place.
+        (place ≡ None) ↔ history.AreLegal histories.now.entries) }
+{
+    first_in(alloc, &histories.entries, &replayed.found)
+}
+
+/// The first place in these entries where a history isn't legal. It is given what was found at each
+/// entry.
+fn first_in(
+    alloc: Global,
+    entries: &Entries,
+    found: &Sequence<Found>,
+) -> Result<Option<Place1>, NoMemory>
+    requires { AreFound [] entries.now found.now }
     ensures { IfOk result (illegal.IsFirstOf entries.now) }
 {
+    let mut found = found.iter();
     let mut queues = BTreeMap::new(alloc);
     let mut first = None;
     for entry in entries {
-        let found = watch(alloc, entry, &mut queues)?;
-        first = sooner(first, entry.queue, found);
+        let here = next_found(&mut found);
+        let at = watch(here.is_step, entry, &mut queues)?;
+        first = sooner(first, entry.queue, at);
     }
     Ok(first)
 }

@@ -13,7 +13,7 @@ mod laws;
 mod makers;
 mod watched;
 
-pub use first_illegal::{Place1, check_histories};
+pub use first_illegal::{Place1, check_histories, find_illegal};
 pub use journey_audit::check_journeys;
 pub use laws::{packets_of_a_capture_arrive, packets_of_a_capture_differ};
-pub use makers::check_makers;
+pub use makers::{check_makers, find_amiss};

@@ -1,15 +1,14 @@
 //! One queue's history, watched entry by entry.
 
-ghost use Rattle.std.specs.Prelude.{◌≡◌, ◌+◌, ◌++◌, ◌∷◌, [], List, OnOk, IfOk};
+ghost use Rattle.std.specs.Prelude.{◌≡◌, ◌+◌, ◌++◌, ◌∷◌, ◌↔◌, [], List, IsTrue, OnOk, IfOk};
 ghost use Rattle.std.specs.BTreeMap.{get};
 ghost use Rattle.std.specs.Ordering.{nat_cmp};
+ghost use Rattle.histories.specs.History.{replay, IsStep};
 ghost use Rattle.histories.specs.declared.entry.Entry.{Entry};
 ghost use Rattle.journal_audit.specs.Watching as watching;
 
 use histories::Entry;
 use packet_entry::NoMemory;
-use queue_replay::{Standing, is_step};
-use std::alloc::Global;
 use std::collections::BTreeMap;
 
 /// A history that was watched so far.
@@ -19,8 +18,6 @@ pub(crate) struct Watched {
     pub(crate) length: u64,
     /// Whether it is legal so far.
     pub(crate) is_legal: bool,
-    /// The state that it leads to, as long as it is legal.
-    pub(crate) queue: Option<Standing>,
 }
 
 impl Watched {
@@ -31,25 +28,26 @@ impl Watched {
         Watched {
             length: 0,
             is_legal: true,
-            queue: None,
         }
     }
 
-    /// Watches the next entry. Answers how many entries there are with it, where it is the first
-    /// with which the history isn't legal. `NoMemory` comes also at the 2^64th entry; then, or
-    /// when memory runs out, what is kept may be any.
-    fn watch(&mut self, alloc: Global, entry: &Entry) -> Result<Option<u64>, NoMemory>
-        ensures watched { OnOk result ((so_far : List Entry) → watching.IsWatched so_far self.old →
-            watching.IsWatched (so_far ++ entry.now ∷ []) self.new) }
-        ensures found { IfOk result (λ found. (so_far : List Entry) →
-            watching.IsWatched so_far self.old → watching.IsFound so_far entry.now found) }
+    /// Watches the next entry, which is a step or not. Answers how many entries there are with it,
+    /// where it is the first with which the history isn't legal. `NoMemory` comes at the 2^64th
+    /// entry alone; then what is kept may be any.
+    fn watch(&mut self, is_step: bool) -> Result<Option<u64>, NoMemory>
+        ensures watched { OnOk result ((so_far : List Entry) (e : Entry) →
+            (IsTrue is_step ↔ IsStep (replay so_far) e) → watching.IsWatched so_far self.old →
+            watching.IsWatched (so_far ++ e ∷ []) self.new) }
+        ensures found { IfOk result (λ found. (so_far : List Entry) (e : Entry) →
+            (IsTrue is_step ↔ IsStep (replay so_far) e) → watching.IsWatched so_far self.old →
+            watching.IsFound so_far e found) }
     {
         let length = one_more(self.length)?;
         self.length = length;
         if !self.is_legal {
             return Ok(None);
         }
-        if is_step(&mut self.queue, alloc, entry)? {
+        if is_step {
             return Ok(None);
         }
         self.is_legal = false;
@@ -69,12 +67,13 @@ pub(crate) type WatchedQueues = BTreeMap<u16, Watched>;
 
 /// Watches the next entry of all histories, as [`Watched::watch`] that of its queue.
 pub(crate) fn watch(
-    alloc: Global,
+    is_step: bool,
     entry: &Entry,
     queues: &mut WatchedQueues,
 ) -> Result<Option<u64>, NoMemory>
-    ensures queues { OnOk result (watching.Watches queues.old queues.new entry.now) }
+    ensures queues { OnOk result (watching.Watches is_step queues.old queues.new entry.now) }
     ensures found { IfOk result (λ found. (so_far : List Entry) →
+        (IsTrue is_step ↔ IsStep (replay so_far) entry.now) →
         watching.IsWatchedIn so_far (get nat_cmp queues.old entry.now.queue) →
         watching.IsFound so_far entry.now found) }
 {
@@ -84,5 +83,5 @@ pub(crate) fn watch(
     let Some(watched) = queues.get_mut(&entry.queue) else {
         unreachable!()
     };
-    watched.watch(alloc, entry)
+    watched.watch(is_step)
 }

@@ -1,52 +1,74 @@
 //! Entries that are followed: the arrivals that came, and those that what left a queue asks for.
 
-ghost use Rattle.std.specs.Prelude.{◌≡◌, ◌+◌, [], flat_map, OnOk, IfOk};
-ghost use Rattle.std.specs.BTreeMap.{get};
-ghost use Rattle.std.specs.Ordering.{nat_cmp};
-ghost use Rattle.queue_core.specs.Step as queue_step;
+ghost use Rattle.std.specs.Prelude.{◌≡◌, ◌+◌, ◌&&◌, [], flat_map, IsTrue, OnOk, IfOk};
 ghost use Rattle.histories.specs.History as history;
 ghost use Rattle.histories.specs.Journeys.{arrival_of, asks, came};
 ghost use Rattle.histories.specs.Moves.{moves};
-ghost use Rattle.queue_replay.specs.Going.{all_going};
+ghost use Rattle.queue_replay.specs.Replays as replays;
 ghost use Rattle.journey_audit.specs.Following as following;
 ghost use Rattle.journey_audit.specs.Tallying as tallying;
 
 use crate::arrival::{Arrival, asked_by_some};
 use crate::tally::{Tallies, note_asked, note_came};
-use histories::{
-    Entries, Entry, Event, a_legal_history_goes_on, an_entry_is_a_move,
-    an_entry_is_of_its_queue_alone,
-};
+use histories::{Entries, Entry, Event, an_entry_is_a_move};
 use hook_chain::{Decision, Tables, onward_card};
 use packet_entry::{Card, NoMemory};
-use queue_replay::{Leavers, Standing, going_on, is_step};
+use queue_replay::{Leavers, Replayed};
 use std::alloc::Global;
-use std::collections::BTreeMap;
 
-/// States by the queue's number.
-type Queues = BTreeMap<u16, Option<Standing>>;
-
-/// Notes which arrivals came in these entries, and which were asked for by what left.
+/// Replays these entries. As long as each is a step of its queue, notes which arrivals came in
+/// them, and which were asked for by what left.
 pub(crate) fn follow_all(
     alloc: Global,
     tables: &Tables,
     key: u32,
     entries: &Entries,
     tallies: &mut Tallies,
-) -> Result<(), NoMemory>
-    requires { history.AreLegal entries.now }
-    ensures { OnOk result (tallying.Grows tallies.old tallies.new
-        (flat_map came (moves entries.now)) (flat_map (asks tables.now key) (moves entries.now))) }
+) -> Result<Replayed, NoMemory>
+    ensures replayed { IfOk result (replays.IsReplayOf entries.now) }
+    ensures grows { OnOk result (history.AreLegal entries.now →
+        tallying.Grows tallies.old tallies.new (flat_map came (moves entries.now))
+        (flat_map (asks tables.now key) (moves entries.now))) }
 {
-    an_entry_is_of_its_queue_alone();
-    a_legal_history_goes_on();
     an_entry_is_a_move();
-    let mut queues = BTreeMap::new(alloc);
+    let mut replayed = Replayed::new(alloc);
+    let mut is_legal = true;
     for entry in entries {
-        arrive(alloc, entry, tallies)?;
-        let leavers = replay(alloc, entry, &mut queues)?;
-        all_ask(alloc, tables, key, leavers, tallies)?;
+        let leavers = replayed.going_on(alloc, entry)?;
+        let is_step = replayed.replay(alloc, entry)?;
+        is_legal = stays_legal(is_legal, is_step);
+        note(is_legal, alloc, tables, key, entry, leavers, tallies)?;
     }
+    Ok(replayed)
+}
+
+/// Whether all entries so far are steps, with one more.
+fn stays_legal(is_legal: bool, is_step: bool) -> bool
+    ensures { result ≡ (is_legal && is_step) }
+{
+    is_legal && is_step
+}
+
+/// Notes the arrival that an entry is, if it is one, and what these packets ask for that go on.
+/// Where not all entries so far are steps it doesn't matter, and their numbers may be any.
+fn note(
+    is_legal: bool,
+    alloc: Global,
+    tables: &Tables,
+    key: u32,
+    entry: &Entry,
+    leavers: Leavers,
+    tallies: &mut Tallies,
+) -> Result<(), NoMemory>
+    ensures { OnOk result (IsTrue is_legal → tallying.Grows tallies.old tallies.new
+        (arrival_of entry.now.queue entry.now.event)
+        (flat_map (following.asked_after tables.now key) leavers.items)) }
+{
+    if !is_legal {
+        return Ok(());
+    }
+    arrive(alloc, entry, tallies)?;
+    all_ask(alloc, tables, key, leavers, tallies)?;
     Ok(())
 }
 
@@ -70,26 +92,6 @@ fn arrive(alloc: Global, entry: &Entry, tallies: &mut Tallies) -> Result<(), NoM
         Event::PortClosed { .. } => Ok(()),
         Event::DeviceDown { .. } => Ok(()),
     }
-}
-
-/// Replays the next entry, which is a step of its queue. Answers what goes on.
-fn replay(alloc: Global, entry: &Entry, queues: &mut Queues) -> Result<Leavers, NoMemory>
-    requires { history.IsStep (following.queue_in (get nat_cmp queues.old entry.now.queue))
-        entry.now }
-    ensures queues { OnOk result (following.Replays queues.old queues.new entry.now) }
-    ensures leavers { IfOk result (λ leavers. leavers.items ≡ all_going
-        (queue_step.step (following.queue_in (get nat_cmp queues.old entry.now.queue))
-        entry.now.event).left) }
-{
-    if !queues.contains_key(&entry.queue) {
-        queues.insert(entry.queue, None)?;
-    }
-    let Some(queue) = queues.get_mut(&entry.queue) else {
-        unreachable!()
-    };
-    let leavers = going_on(queue, alloc, entry)?;
-    is_step(queue, alloc, entry)?;
-    Ok(leavers)
 }
 
 /// Notes what packets ask for that go on.

@@ -11,4 +11,4 @@ mod following;
 mod tally;
 mod unmet;
 
-pub use unmet::check_journeys;
+pub use unmet::{Followed, check_journeys, follow_journeys};

@@ -1,5 +1,5 @@
 -- Notices that are kept, entry by entry.
-use Rattle.std.proofs.Common.{◌≡◌, ◌∙◌, ℕ, List, [], ◌∷◌, refl, sym, ap, subst, inl, inr}
+use Rattle.std.proofs.Common.{◌≡◌, ◌∙◌, ℕ, List, [], ◌∷◌, ◌++◌, refl, sym, ap, subst, inl, inr}
 use Rattle.std.proofs.Common.{Bool, true, false, Option, Some, None, cond}
 use Rattle.std.specs.Prelude.{find, ◌==◌, OnOk, Result, Ok, Err, option_map}
 use Rattle.std.specs.BTreeMap.{get, is_at}
@@ -20,9 +20,10 @@ use Rattle.queue_core.specs.State.{Bound}
 use Rattle.queue_core.specs.Step.{step}
 use Rattle.queue_core.specs.WithOffer.{letter_of}
 use Rattle.histories.specs.declared.entry.Entry.{Entry}
-use Rattle.histories.specs.History.{history}
+use Rattle.histories.specs.History.{history, replay}
 use Rattle.nfqa_msgs.specs.NoticeTexts.{told_exactly}
-use Rattle.port_audit.specs.Following.{QueueMap, Replays, queue_in}
+use Rattle.queue_replay.specs.declared.found.Found.{Found}
+use Rattle.queue_replay.specs.Replays.{IsToldBy, port_in}
 use Rattle.log_audit.specs.PortWalks.{IsTold}
 use Rattle.log_audit.specs.Stays.{AreTold, Keeps, KeepsFirst, NoticeMap, all_letters, at_queue}
 use Rattle.log_audit.specs.Stays.{is_visit, known_in, letters_at, or_else, or_this, stay, stay_cmp}
@@ -135,27 +136,24 @@ keeps_one from l n old new told keeps queue number visit o is =
 
 -- what is known of a stay is what is kept of it, or else what the entries tell that are still to
 -- come
-pub record IsKeptAt (entries rest : List Entry) (queues : QueueMap) (notices : NoticeMap)
+pub record IsKeptAt (entries before rest : List Entry) (notices : NoticeMap)
     (queue number visit : ℕ) : Type 0 where
   pub letter : Option Letter
   pub told : IsTold letter (get stay_cmp notices (stay queue number visit))
   pub known : known_in entries queue number visit
       ≡ or_else letter (find (is_visit number visit)
-      (all_letters (queue_in (get nat_cmp queues queue)) (history queue rest)))
+      (all_letters (replay (history queue before)) (history queue rest)))
 
-abbrev pub AreKept : List Entry → List Entry → QueueMap → NoticeMap → Type 0
-AreKept entries rest queues notices = (queue number visit : ℕ) →
-    IsKeptAt entries rest queues notices queue number visit
+abbrev pub AreKept : List Entry → List Entry → List Entry → NoticeMap → Type 0
+AreKept entries before rest notices = (queue number visit : ℕ) →
+    IsKeptAt entries before rest notices queue number visit
 
-pub kept_begun : (entries rest : List Entry) (queues : QueueMap) (notices : NoticeMap) →
-    rest ≡ entries → ((queue : ℕ) → get nat_cmp queues queue ≡ None) →
-    ((s : Stay) → get stay_cmp notices s ≡ None) → AreKept entries rest queues notices
-kept_begun entries rest queues notices all no_queue no_notice queue number visit = record {
+pub kept_begun : (entries : List Entry) (notices : NoticeMap) →
+    ((s : Stay) → get stay_cmp notices s ≡ None) → AreKept entries [] entries notices
+kept_begun entries notices no_notice queue number visit = record {
   letter = None;
   told = subst (IsTold None) (sym (no_notice (stay queue number visit))) tt;
-  known = ap (λ es. find (is_visit number visit) (all_letters None (history queue es))) (sym all)
-      ∙ ap (λ q. find (is_visit number visit) (all_letters (queue_in q) (history queue rest)))
-      (sym (no_queue queue));
+  known = refl;
 }
 
 or_or : (o a b : Option Letter) → or_else o (option_or a b) ≡ or_else (or_else o a) b
@@ -163,114 +161,134 @@ or_or None None b = refl
 or_or None (Some l) b = refl
 or_or (Some m) a b = refl
 
--- an entry of another queue
-other_on : (number visit queue : ℕ) (e : Entry) (behind : List Entry) (queues next : QueueMap)
-    (letters : List Letter) (o : Option Letter) → (e.queue == queue) ≡ false →
-    get nat_cmp next queue ≡ get nat_cmp queues queue →
-    or_else o (find (is_visit number visit)
-    (all_letters (queue_in (get nat_cmp queues queue)) (history queue (e ∷ behind))))
-    ≡ or_else (or_else o (find (is_visit number visit) (at_queue e.queue queue letters)))
-    (find (is_visit number visit)
-    (all_letters (queue_in (get nat_cmp next queue)) (history queue behind)))
-other_on number visit queue e behind queues next letters o other stays =
-    let Found : Option Letter → Option Letter = λ f. or_else (or_else o f)
-    (find (is_visit number visit)
-    (all_letters (queue_in (get nat_cmp next queue)) (history queue behind))) in
-    ap (λ b. or_else o (find (is_visit number visit)
-    (all_letters (queue_in (get nat_cmp queues queue))
-    (cond b (e ∷ history queue behind) (history queue behind))))) other
-    ∙ ap (λ q. or_else o (find (is_visit number visit)
-    (all_letters (queue_in q) (history queue behind)))) (sym stays)
-    ∙ ap (λ f. or_else f (find (is_visit number visit)
-    (all_letters (queue_in (get nat_cmp next queue)) (history queue behind)))) (sym (or_none o))
-    ∙ ap (λ b. Found (find (is_visit number visit) (cond b letters []))) (sym other)
+module _ (number visit : ℕ) (e : Entry) (behind : List Entry) (was now : Option Bound)
+    (o : Option Letter) where
+  -- an entry of another queue
+  other_on : (queue : ℕ) (letters : List Letter) → (e.queue == queue) ≡ false → now ≡ was →
+      or_else o (find (is_visit number visit) (all_letters was (history queue (e ∷ behind))))
+      ≡ or_else (or_else o (find (is_visit number visit) (at_queue e.queue queue letters)))
+      (find (is_visit number visit) (all_letters now (history queue behind)))
+  other_on queue letters other stays =
+      let more = history queue behind in
+      let Found : Option Letter → Option Letter = λ f. or_else (or_else o f)
+      (find (is_visit number visit) (all_letters now more)) in
+      ap (λ b. or_else o (find (is_visit number visit)
+      (all_letters was (cond b (e ∷ more) more)))) other
+      ∙ ap (λ q. or_else o (find (is_visit number visit) (all_letters q more))) (sym stays)
+      ∙ ap (λ f. or_else f (find (is_visit number visit) (all_letters now more)))
+      (sym (or_none o))
+      ∙ ap (λ b. Found (find (is_visit number visit) (cond b letters []))) (sym other)
 
--- an entry of its own queue
-own_on : (number visit : ℕ) (e : Entry) (behind : List Entry) (queues next : QueueMap)
-    (o : Option Letter) →
-    queue_in (get nat_cmp next e.queue)
-    ≡ (step (queue_in (get nat_cmp queues e.queue)) e.event).state →
-    or_else o (find (is_visit number visit)
-    (all_letters (queue_in (get nat_cmp queues e.queue)) (history e.queue (e ∷ behind))))
-    ≡ or_else (or_else o (find (is_visit number visit)
-    (at_queue e.queue e.queue (letters_at (queue_in (get nat_cmp queues e.queue)) e))))
-    (find (is_visit number visit)
-    (all_letters (queue_in (get nat_cmp next e.queue)) (history e.queue behind)))
-own_on number visit e behind queues next o state =
-    let q = queue_in (get nat_cmp queues e.queue) in
-    let letters = letters_at q e in
-    let test = is_visit number visit in
-    let more = history e.queue behind in
-    let itself = eq-eqb e.queue e.queue refl in
-    let Found : Option Letter → Option Letter = λ f. or_else (or_else o f)
-    (find test (all_letters (queue_in (get nat_cmp next e.queue)) more)) in
-    ap (λ b. or_else o (find test (all_letters q (cond b (e ∷ more) more)))) itself
-    ∙ ap (or_else o) (find-append test letters (all_letters (step q e.event).state more))
-    ∙ or_or o (find test letters) (find test (all_letters (step q e.event).state more))
-    ∙ ap (λ s. or_else (or_else o (find test letters)) (find test (all_letters s more))) (sym state)
-    ∙ ap (λ b. Found (find test (cond b letters []))) (sym itself)
+  -- an entry of its own queue
+  own_on : now ≡ (step was e.event).state →
+      or_else o (find (is_visit number visit) (all_letters was (history e.queue (e ∷ behind))))
+      ≡ or_else (or_else o (find (is_visit number visit)
+      (at_queue e.queue e.queue (letters_at was e))))
+      (find (is_visit number visit) (all_letters now (history e.queue behind)))
+  own_on state =
+      let letters = letters_at was e in
+      let test = is_visit number visit in
+      let more = history e.queue behind in
+      let itself = eq-eqb e.queue e.queue refl in
+      let Found : Option Letter → Option Letter = λ f. or_else (or_else o f)
+      (find test (all_letters now more)) in
+      ap (λ b. or_else o (find test (all_letters was (cond b (e ∷ more) more)))) itself
+      ∙ ap (or_else o) (find-append test letters (all_letters (step was e.event).state more))
+      ∙ or_or o (find test letters) (find test (all_letters (step was e.event).state more))
+      ∙ ap (λ s. or_else (or_else o (find test letters)) (find test (all_letters s more)))
+      (sym state)
+      ∙ ap (λ b. Found (find test (cond b letters []))) (sym itself)
 
-not_at : (k q : ℕ) → (k == q) ≡ false → is_at (nat_cmp k) q ≡ false
-not_at k q other = elim (cases_Bool (is_at (nat_cmp k) q)) [
-  | inl same ↦
-      let is : k ≡ q = exact_unsigned k q (equal (nat_cmp k q) same) in
-      let wrong : true ≡ false = sym (eq-eqb k q is) ∙ other in absurd (clash wrong)
-  | inr apart ↦ apart
-]
-  where
-    clash : true ≡ false → ⊥
-    clash wrong = cc
+-- what laws say of one entry more
+pub record Laws : Type 0 where
+  pub own : (es : List Entry) (e : Entry) →
+      history e.queue (es ++ e ∷ []) ≡ history e.queue es ++ e ∷ []
+  pub others : (es : List Entry) (e : Entry) (queue : ℕ) → (e.queue == queue) ≡ false →
+      history queue (es ++ e ∷ []) ≡ history queue es
+  pub state : (es : List Entry) (e : Entry) →
+      replay (es ++ e ∷ []) ≡ (step (replay es) e.event).state
 
-pub kept_on : (entries rest behind : List Entry) (e : Entry) (queues next : QueueMap)
-    (notices new : NoticeMap) → rest ≡ e ∷ behind →
-    Keeps (letters_at (queue_in (get nat_cmp queues e.queue)) e) e.queue notices new →
-    Replays queues next e → AreKept entries rest queues notices →
-    AreKept entries behind next new
-kept_on entries rest behind e queues next notices new front keeps replays are queue number visit =
+pub kept_on : (laws : Laws) (entries before behind : List Entry) (e : Entry) (notices new : NoticeMap) →
+    Keeps (letters_at (replay (history e.queue before)) e) e.queue notices new →
+    AreKept entries before (e ∷ behind) notices → AreKept entries (before ++ e ∷ []) behind new
+kept_on laws entries before behind e notices new keeps are queue number visit =
     let was = are queue number visit in
-    let letters = letters_at (queue_in (get nat_cmp queues e.queue)) e in
-    let begin = ap (λ es. or_else was.letter (find (is_visit number visit)
-    (all_letters (queue_in (get nat_cmp queues queue)) (history queue es)))) front in
+    let letters = letters_at (replay (history e.queue before)) e in
+    let now : List Entry = before ++ e ∷ [] in
     record {
       letter = or_else was.letter (find (is_visit number visit) (at_queue e.queue queue letters));
       told = keeps queue number visit was.letter was.told;
-      known = was.known ∙ begin ∙ elim (cases_Bool (e.queue == queue)) [
+      known = was.known ∙ elim (cases_Bool (e.queue == queue)) [
         | inl own ↦
             let P : ℕ → Type 0 = λ q.
             or_else was.letter (find (is_visit number visit)
-            (all_letters (queue_in (get nat_cmp queues q)) (history q (e ∷ behind))))
+            (all_letters (replay (history q before)) (history q (e ∷ behind))))
             ≡ or_else (or_else was.letter
             (find (is_visit number visit) (at_queue e.queue q letters)))
             (find (is_visit number visit)
-            (all_letters (queue_in (get nat_cmp next q)) (history q behind))) in
+            (all_letters (replay (history q now)) (history q behind))) in
             subst P (eqb-true e.queue queue own)
-            (own_on number visit e behind queues next was.letter replays.own)
-        | inr other ↦ other_on number visit queue e behind queues next letters was.letter other
-            (replays.others queue (not_at e.queue queue other))
+            (own_on number visit e behind (replay (history e.queue before))
+            (replay (history e.queue now)) was.letter
+            (ap replay (laws.own before e) ∙ laws.state (history e.queue before) e))
+        | inr other ↦ other_on number visit e behind (replay (history queue before))
+            (replay (history queue now)) was.letter queue letters other
+            (ap replay (laws.others before e queue other))
       ];
     }
 
-pub kept_all : (entries rest : List Entry) (queues : QueueMap) (notices : NoticeMap) → rest ≡ [] →
-    AreKept entries rest queues notices → AreTold (known_in entries) notices
-kept_all entries rest queues notices none are queue number visit =
+pub kept_all : (entries : List Entry) (notices : NoticeMap) → AreKept entries entries [] notices →
+    AreTold (known_in entries) notices
+kept_all entries notices are queue number visit =
     let was = are queue number visit in
     subst (λ o. IsTold o (get stay_cmp notices (stay queue number visit)))
-    (sym (was.known
-    ∙ ap (λ es. or_else was.letter (find (is_visit number visit)
-    (all_letters (queue_in (get nat_cmp queues queue)) (history queue es)))) none
-    ∙ or_none was.letter)) was.told
+    (sym (was.known ∙ or_none was.letter)) was.told
+
+-- ---- the notices of an entry
+
+keeps_nothing : (from : ℕ) (notices : NoticeMap) → Keeps [] from notices notices
+keeps_nothing from notices queue number visit o is =
+    subst (λ p. IsTold p (get stay_cmp notices (stay queue number visit)))
+    (sym (ap (λ ls. or_else o (find (is_visit number visit) ls)) (by (from == queue)) ∙ or_none o))
+    is
+  where
+    by : (b : Bool) → cond b (let ls : List Letter = [] in ls) [] ≡ []
+    by true = refl
+    by false = refl
+
+-- whatever the queue is, of which this was found
+abbrev pub KeepsAt : Found → Entry → NoticeMap → NoticeMap → Type 0
+KeepsAt here e old new = (q : Option Bound) → here.port ≡ port_in q → IsToldBy q here →
+    Keeps (letters_at q e) e.queue old new
+
+pub keeps_unbound : (here : Found) (e : Entry) (notices : NoticeMap) → here.port ≡ None →
+    KeepsAt here e notices notices
+keeps_unbound here e notices none None port told = keeps_nothing e.queue notices
+keeps_unbound here e notices none (Some b) port told =
+    absurd (let wrong : None ≡ Some b.port = sym none ∙ port in cc)
+
+pub keeps_bound : {E : Type 0} (r : Result (Unit {0}) E) (here : Found) (e : Entry)
+    (old new : NoticeMap) (p : ℕ) → here.port ≡ Some p →
+    OnOk r ((b : Bound) → IsToldBy (Some b) here →
+    Keeps (letters_at (Some b) e) e.queue old new) → OnOk r (KeepsAt here e old new)
+keeps_bound {E} (Err x) here e old new p some each = tt
+keeps_bound {E} (Ok u) here e old new p some each = at
+  where
+    at : KeepsAt here e old new
+    at None port told = absurd (let wrong : Some p ≡ None = sym some ∙ port in cc)
+    at (Some b) port told = each b told
 
 -- ---- the notice of an arrival
 
-pub keeps_taken : {E : Type 0} (r : Result (Unit {0}) E) (number : ℕ) (q : Bound) (id : ℕ)
-    (card : Card) (mode range : ℕ) (n : Notice) (old new : NoticeMap) → mode ≡ q.mode →
-    range ≡ q.range →
-    option_map notice_of (told_exactly (notice number mode range id card)) ≡ Some n →
+pub keeps_taken : {E : Type 0} (r : Result (Unit {0}) E) (number : ℕ) (here : Found) (id : ℕ)
+    (card : Card) (n : Notice) (old new : NoticeMap) →
+    option_map notice_of (told_exactly (notice number here.mode here.range id card)) ≡ Some n →
     OnOk r (KeepsFirst (stay number card.number card.visit) n old new) →
-    OnOk r (Keeps (letter_of number q id card ∷ []) number old new)
-keeps_taken {E} (Ok u) number q id card mode range n old new modes ranges told keeps =
+    OnOk r ((q : Bound) → IsToldBy (Some q) here →
+    Keeps (letter_of number q id card ∷ []) number old new)
+keeps_taken {E} (Ok u) number here id card n old new told keeps = λ q is.
     keeps_one number (letter_of number q id card) n old new
-    (ap (λ m. option_map notice_of (told_exactly (notice number m q.range id card))) (sym modes)
-    ∙ ap (λ m. option_map notice_of (told_exactly (notice number mode m id card))) (sym ranges)
-    ∙ told) keeps
-keeps_taken {E} (Err e) number q id card mode range n old new modes ranges told keeps = tt
+    (ap (λ m. option_map notice_of (told_exactly (notice number m q.range id card))) (sym is.0)
+    ∙ ap (λ m. option_map notice_of (told_exactly (notice number here.mode m id card)))
+    (sym is.1) ∙ told) keeps
+keeps_taken {E} (Err e) number here id card n old new told keeps = tt

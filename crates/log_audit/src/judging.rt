@@ -1,10 +1,11 @@
 //! The logs of a script's ports, judged.
 
 ghost use Rattle.std.specs.Prelude.{◌≡◌, ◌<◌, ◌^◌, ℕ, Some, None, IfOk, OnOk, option_map, length};
-ghost use Rattle.std.specs.Prelude.{slice_get, All};
+ghost use Rattle.std.specs.Prelude.{[], slice_get, All};
 ghost use Rattle.histories.specs.declared.histories.Histories.{Histories};
 ghost use Rattle.run_parts.specs.Ports.{log_of};
 ghost use Rattle.log_walks.specs.Walking.{Known};
+ghost use Rattle.queue_replay.specs.Replays.{AreFound, IsReplayOf};
 ghost use Rattle.log_audit.specs.Judged as judged;
 ghost use Rattle.log_audit.specs.PortWalks as port_walks;
 ghost use Rattle.log_audit.specs.Stays as stays;
@@ -14,8 +15,9 @@ use crate::port_walk::walk_log;
 use histories::{Histories, Logs};
 use inspector_script::Script;
 use log_walks::{a_log_is_walked, a_walked_log_is_told};
-use packet_entry::NoMemory;
+use packet_entry::{NoMemory, Sequence};
 use port_audit::{KindAt, MessageKind, Rows, deal_kinds, log_of};
+use queue_replay::{Found, Replayed};
 use run_parts::each_port_has_its_place;
 use std::alloc::Global;
 use std::collections::BTreeMap;
@@ -45,7 +47,13 @@ pub enum Judged {
 /// Whether each port of the script has a log, which is what the script says, with notices of
 /// arrivals that queues took. In sound histories of a capture's packets the answer isn't
 /// [`Judged::Foreign`].
-pub fn judge_logs(alloc: Global, script: &Script, histories: &Histories) -> Result<Judged, NoMemory>
+pub fn judge_logs(
+    alloc: Global,
+    script: &Script,
+    histories: &Histories,
+    replayed: &Replayed,
+) -> Result<Judged, NoMemory>
+    requires { IsReplayOf histories.now.entries replayed.now }
     ensures { judged.AllOnlyOnes histories.now.entries →
         IfOk result (judged.IsJudgement script.now histories.now) }
 {
@@ -54,7 +62,7 @@ pub fn judge_logs(alloc: Global, script: &Script, histories: &Histories) -> Resu
     if !are_packets(&histories.entries) {
         return Ok(Judged::Foreign);
     }
-    match judge_ports(alloc, script, histories)? {
+    match judge_ports(alloc, script, histories, &replayed.found)? {
         Some(ports) => {
             let kinds = deal_all(alloc, ports.as_slice())?;
             Ok(Judged::Said { kinds })
@@ -79,8 +87,10 @@ fn judge_ports(
     alloc: Global,
     script: &Script,
     histories: &Histories,
+    found: &Sequence<Found>,
 ) -> Result<Option<Vec<PortKinds>>, NoMemory>
-    requires { stays.ArePackets histories.now.entries }
+    requires packets { stays.ArePackets histories.now.entries }
+    requires found { AreFound [] histories.now.entries found.now }
     ensures { judged.AllOnlyOnes histories.now.entries → IfOk result (λ kinds.
         judged.AreJudgedAll script.now histories.now (option_map (λ ks. ks.items) kinds)) }
 {
@@ -89,7 +99,7 @@ fn judge_ports(
     each_port_has_its_place();
     let ports = script.ports();
     ports_fit(ports);
-    let notices = notices_in(alloc, &histories.entries)?;
+    let notices = notices_in(alloc, &histories.entries, found)?;
     walk_all(alloc, script, &notices, histories)
 }
 

@@ -1,18 +1,19 @@
 //! The notices of arrivals that queues took.
 
-ghost use Rattle.std.specs.Prelude.{◌≡◌, ◌↔◌, ◌∷◌, [], Some, IfOk, OnOk, IsTrue, true};
-ghost use Rattle.std.specs.BTreeMap.{get};
-ghost use Rattle.std.specs.Ordering.{nat_cmp};
+ghost use Rattle.std.specs.Prelude.{◌≡◌, ◌≤◌, ◌↔◌, ◌∷◌, [], Some, IfOk, OnOk, Option, IsTrue, true};
+ghost use Rattle.nfqa_msgs.specs.Numbers.{longest_range};
 ghost use Rattle.queue_core.specs.WithOffer.{letter_of};
-ghost use Rattle.port_audit.specs.Following.{queue_in};
+ghost use Rattle.queue_core.specs.State.{Bound};
+ghost use Rattle.queue_replay.specs.Replays.{AreFound, IsToldBy, port_in};
 ghost use Rattle.log_audit.specs.Stays as stays;
 
-use histories::{Entries, Entry, Event, Reply};
+use histories::{
+    Entries, Entry, Event, Reply, a_legal_history_goes_on, an_entry_is_of_its_queue_alone,
+};
 use nfqa_msgs::{Notice, notice_of_card};
-use packet_entry::{Card, IPV4, IPV6, NoMemory};
-use port_audit::{Queues, replay};
+use packet_entry::{Card, IPV4, IPV6, NoMemory, Sequence};
 use queue_core::Outcome;
-use queue_replay::Standing;
+use queue_replay::{Found, next_found};
 use std::alloc::Global;
 use std::collections::BTreeMap;
 
@@ -59,38 +60,49 @@ fn may_arrive(entry: &Entry) -> bool
     }
 }
 
-/// The notices of the arrivals that these entries' queues took, of each stay the first.
-pub(crate) fn notices_in(alloc: Global, entries: &Entries) -> Result<Notices, NoMemory>
-    requires { stays.ArePackets entries.now }
+/// The notices of the arrivals that these entries' queues took, of each stay the first. It is given
+/// what was found at each entry.
+pub(crate) fn notices_in(
+    alloc: Global,
+    entries: &Entries,
+    found: &Sequence<Found>,
+) -> Result<Notices, NoMemory>
+    requires packets { stays.ArePackets entries.now }
+    requires found { AreFound [] entries.now found.now }
     ensures { IfOk result (stays.AreTold (stays.known_in entries.now)) }
 {
-    let mut queues: Queues = BTreeMap::new(alloc);
+    an_entry_is_of_its_queue_alone();
+    a_legal_history_goes_on();
+    let mut found = found.iter();
     let mut notices = BTreeMap::new(alloc);
     for entry in entries {
-        keep(&queues, entry, &mut notices)?;
-        replay(alloc, entry, &mut queues)?;
+        let here = next_found(&mut found);
+        keep(here, entry, &mut notices)?;
     }
     Ok(notices)
 }
 
 /// Keeps the notice of an entry, if it makes one, unless there is one of this stay.
-fn keep(queues: &Queues, entry: &Entry, notices: &mut Notices) -> Result<(), NoMemory>
-    requires { stays.IsPackets entry.now.event }
-    ensures { OnOk result (stays.Keeps
-        (stays.letters_at (queue_in (get nat_cmp queues.now entry.now.queue)) entry.now)
-        entry.now.queue notices.old notices.new) }
+fn keep(here: Found, entry: &Entry, notices: &mut Notices) -> Result<(), NoMemory>
+    requires packets { stays.IsPackets entry.now.event }
+    requires fits { here.range ≤ longest_range }
+    ensures { OnOk result ((queue : Option Bound) → here.port ≡ port_in queue →
+        IsToldBy queue here → stays.Keeps (stays.letters_at queue entry.now) entry.now.queue
+        notices.old notices.new) }
 {
-    match queues.get(&entry.queue) {
-        Some(Some(queue)) => keep_of(queue, entry, notices),
-        _ => Ok(()),
+    match here.port {
+        Some(_) => keep_of(here, entry, notices),
+        None => Ok(()),
     }
 }
 
-/// The same, of a bound queue.
-fn keep_of(queue: &Standing, entry: &Entry, notices: &mut Notices) -> Result<(), NoMemory>
-    requires { stays.IsPackets entry.now.event }
-    ensures { OnOk result (stays.Keeps (stays.letters_at (Some queue.now) entry.now)
-        entry.now.queue notices.old notices.new) }
+/// The same, at a bound queue.
+fn keep_of(here: Found, entry: &Entry, notices: &mut Notices) -> Result<(), NoMemory>
+    requires packets { stays.IsPackets entry.now.event }
+    requires fits { here.range ≤ longest_range }
+    ensures { OnOk result ((queue : Bound) → IsToldBy (Some queue) here →
+        stays.Keeps (stays.letters_at (Some queue) entry.now) entry.now.queue
+        notices.old notices.new) }
 {
     match (&entry.event, entry.reply) {
         (
@@ -98,29 +110,30 @@ fn keep_of(queue: &Standing, entry: &Entry, notices: &mut Notices) -> Result<(),
             Reply::Arrived {
                 outcome: Outcome::Taken { id },
             },
-        ) => keep_taken(queue, entry.queue, id, card, notices),
+        ) => keep_taken(here, entry.queue, id, card, notices),
         _ => Ok(()),
     }
 }
 
-/// The same, of an arrival at the queue with this number, which took it under this id.
+/// The same, of an arrival at the bound queue with this number, which took it under this id.
 fn keep_taken(
-    queue: &Standing,
+    here: Found,
     number: u16,
     id: u32,
     card: &Card,
     notices: &mut Notices,
 ) -> Result<(), NoMemory>
-    requires { stays.is_packets card.now ≡ true }
-    ensures { OnOk result (stays.Keeps (letter_of number queue.now id card.now ∷ []) number
-        notices.old notices.new) }
+    requires packet { stays.is_packets card.now ≡ true }
+    requires fits { here.range ≤ longest_range }
+    ensures { OnOk result ((queue : Bound) → IsToldBy (Some queue) here →
+        stays.Keeps (letter_of number queue id card.now ∷ []) number notices.old notices.new) }
 {
     let stay = Stay {
         queue: number,
         number: card.number,
         visit: card.visit,
     };
-    let notice = notice_of_card(number, id, queue.mode(), queue.range(), card)?;
+    let notice = notice_of_card(number, id, here.mode, here.range as u32, card)?;
     keep_first(stay, notice, notices)
 }
 

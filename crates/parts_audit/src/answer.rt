@@ -4,6 +4,7 @@ ghost use Rattle.std.specs.Prelude.{◌≡◌, ℕ, List, length, IfOk};
 ghost use Rattle.histories.specs.History as history;
 ghost use Rattle.run_parts.specs.Log.{Note};
 ghost use Rattle.port_audit.specs.Makers.{IsMakersAnswer};
+ghost use Rattle.queue_replay.specs.Replays.{IsReplayOf};
 ghost use Rattle.parts_audit.specs.Given.{AreGiven};
 
 use feeder_audit::is_fed;
@@ -15,6 +16,7 @@ use port_audit::{
     MessageKind, Rows, are_closings, are_notices, are_ordered, are_ports, are_requests, are_roomy,
     logs_tell_what_ports_did,
 };
+use queue_replay::Replayed;
 use std::alloc::Global;
 
 /// The number of the first part that doesn't hold of legal histories; `None` where the script made
@@ -25,9 +27,11 @@ pub fn first_part_amiss(
     script: &Script,
     capture: &Capture,
     histories: &Histories,
+    replayed: &Replayed,
     kinds: Rows<MessageKind>,
 ) -> Result<Option<u8>, NoMemory>
-    requires { history.AreLegal histories.now.entries }
+    requires legal { history.AreLegal histories.now.entries }
+    requires replayed { IsReplayOf histories.now.entries replayed.now }
     ensures { IfOk result (λ answer. (notes : ℕ → List Note) →
         AreGiven script.now histories.now kinds notes →
         IsMakersAnswer script.now (length capture.now.frames) histories.now answer) }
@@ -37,13 +41,13 @@ pub fn first_part_amiss(
     if !are_requests(alloc, script, histories)? {
         return Ok(Some(2));
     }
-    if !are_notices(alloc, script, histories)? {
+    if !are_notices(alloc, script, histories, replayed)? {
         return Ok(Some(3));
     }
-    if !are_closings(alloc, script, histories)? {
+    if !are_closings(alloc, script, histories, replayed)? {
         return Ok(Some(4));
     }
-    if !is_fed(alloc, script, capture, histories)? {
+    if !is_fed(alloc, script, capture, histories, replayed)? {
         return Ok(Some(5));
     }
     if !are_ports(script, histories) {
@@ -52,7 +56,7 @@ pub fn first_part_amiss(
     if !are_ordered(alloc, script, histories, kinds)? {
         return Ok(Some(7));
     }
-    if !are_roomy(alloc, script, histories)? {
+    if !are_roomy(alloc, script, histories, replayed)? {
         return Ok(Some(8));
     }
     Ok(None)

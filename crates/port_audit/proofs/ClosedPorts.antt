@@ -27,11 +27,10 @@ use Rattle.run_parts.specs.Run.{ClosingHolds}
 use Rattle.port_audit.specs.Closing.{AllShut, ShutMap, shut_at, shut_in, breaks, closing_in}
 use Rattle.port_audit.specs.Closing.{Notes}
 use Rattle.port_audit.specs.Closing.{EndsWell, ends_badly, has_closed, is_in}
-use Rattle.port_audit.specs.Following.{QueueMap, queue_in, port_in, AreReplayed}
+use Rattle.queue_replay.specs.Replays.{QueueMap, queue_in, port_in, AreReplayed}
 use Rattle.port_audit.specs.Told.{AreTold, dids_of}
-use Rattle.port_audit.proofs.Entries.{each_on, own_within, own_last, others_last}
+use Rattle.port_audit.proofs.Entries.{at_own, not_of, each_on, own_within, own_last, others_last}
 use Rattle.port_audit.proofs.Entries.{true_is_not_false}
-use Rattle.port_audit.proofs.Entries.{at_own, not_of}
 use Rattle.port_audit.proofs.HeardNotices.{or_right, or_none, or_left_none, choose, chosen}
 use Rattle.port_audit.proofs.NumberWalk.{HoldsIn}
 

@@ -1,19 +1,18 @@
--- Entries that are gone over, with their queues replayed.
-use Rattle.std.proofs.Common.{◌≡◌, ℕ, List, [], ◌∷◌, ◌++◌, Option, None, true, false, refl}
-use Rattle.std.proofs.Common.{sym, ap, ◌∙◌, subst, inl, inr, append_assoc, append-nil, cond}
+-- Entries that are gone over, and the histories of their queues.
+use Rattle.std.proofs.Common.{◌≡◌, ℕ, List, [], ◌∷◌, ◌++◌, true, false, refl, sym, ap, ◌∙◌, subst}
+use Rattle.std.proofs.Common.{inl, inr, append-nil, cond}
 use Rattle.std.specs.Prelude.{◌==◌}
-use Rattle.std.specs.BTreeMap.{get, is_at}
+use Rattle.std.specs.BTreeMap.{is_at}
 use Rattle.std.specs.Ordering.{nat_cmp, is_eq}
 use Rattle.std.specs.Cmp.{nat_cmp_is}
 use Rattle.std.specs.declared.cmp.Ordering.{Ordering}
 use Rattle.std.specs.declared.cmp.Ordering.TheVariants.{Less, Equal, Greater}
 use Rattle.std.proofs.lemmas.Bool.{cases_Bool, eq-eqb, ne_eqb}
 use Rattle.std.proofs.lemmas.Map.Lookups.{exact_unsigned}
-use Rattle.queue_core.specs.State.{Bound}
-use Rattle.queue_core.specs.Step.{step}
 use Rattle.histories.specs.declared.entry.Entry.{Entry}
-use Rattle.histories.specs.History.{history, replay, replay_from, is_of}
-use Rattle.port_audit.specs.Following.{QueueMap, queue_in, Replays, AreReplayed}
+use Rattle.histories.specs.History.{history, is_of}
+use Rattle.queue_replay.specs.declared.found.Found.{Found}
+use Rattle.queue_replay.specs.Replays.{AreFound}
 
 pub true_is_not_false : true ≡ false → ⊥
 true_is_not_false e = cc
@@ -92,71 +91,8 @@ each_on P es e each own queue = elim (cases_Bool (is_at (nat_cmp e.queue) queue)
       (each queue)
 ]
 
--- ---- replays
+-- ---- with what was found at each entry
 
-pub replay_on : (q : Option Bound) (es fs : List Entry) →
-    replay_from q (es ++ fs) ≡ replay_from (replay_from q es) fs
-replay_on q [] fs = refl
-replay_on q (e ∷ es) fs = replay_on (step q e.event).state es fs
-
-pub replayed_on : (before : List Entry) (old new : QueueMap) (e : Entry) →
-    AreReplayed before old → Replays old new e → AreReplayed (before ++ e ∷ []) new
-replayed_on before old new e are replays queue =
-    elim (cases_Bool (is_at (nat_cmp e.queue) queue)) [
-      | inl own ↦ subst (λ q. queue_in (get nat_cmp new q) ≡ replay (history q (before ++ e ∷ [])))
-          (at_own e.queue queue own)
-          (replays.own
-          ∙ ap (λ (q : Option Bound). (step q e.event).state) (are e.queue)
-          ∙ sym (ap replay (own_last before e) ∙ replay_on None (history e.queue before) (e ∷ [])))
-      | inr other ↦ ap queue_in (replays.others queue other) ∙ are queue
-          ∙ sym (ap replay (others_last before e queue (not_of e.queue queue other)))
-    ]
-
--- ---- entries that are gone over
-
--- these are still to come, and of those before them this holds
-pub record IsUnderway (P : List Entry → Type 0) (entries rest : List Entry) (queues : QueueMap)
-    : Type 0 where
-  pub before : List Entry
-  pub split : entries ≡ before ++ rest
-  pub replayed : AreReplayed before queues
-  pub kept : P before
-
-pub begun : (P : List Entry → Type 0) (entries rest : List Entry) (queues : QueueMap) →
-    rest ≡ entries → ((queue : ℕ) → get nat_cmp queues queue ≡ None) → P [] →
-    IsUnderway P entries rest queues
-begun P entries rest queues all none kept = record {
-  before = [];
-  split = sym all;
-  replayed = λ queue. ap queue_in (none queue);
-  kept = kept;
-}
-
-module _ (P : List Entry → Type 0) (entries rest others : List Entry) (e : Entry)
-    (queues : QueueMap) (front : rest ≡ e ∷ others) (u : IsUnderway P entries rest queues) where
-  pub there : entries ≡ u.before ++ e ∷ others
-  there = u.split ∙ ap (λ (gs : List Entry). u.before ++ gs) front
-
-  -- something else may be kept from there on
-  pub underway_on : (Q : List Entry → Type 0) (new : QueueMap) → Replays queues new e →
-      Q (u.before ++ e ∷ []) → IsUnderway Q entries others new
-  underway_on Q new replays kept = record {
-    before = u.before ++ e ∷ [];
-    split = there ∙ sym (append_assoc u.before (e ∷ []) others);
-    replayed = replayed_on u.before queues new e u.replayed replays;
-    kept = kept;
-  }
-
--- at the end
-pub all_gone_over : (P : List Entry → Type 0) (entries rest : List Entry) (queues : QueueMap) →
-    rest ≡ [] → IsUnderway P entries rest queues → P entries
-all_gone_over P entries rest queues none u =
-    subst P (sym (u.split ∙ ap (λ (es : List Entry). u.before ++ es) none ∙ append-nil u.before))
-    u.kept
-
-pub all_replayed : (P : List Entry → Type 0) (entries rest : List Entry) (queues : QueueMap) →
-    rest ≡ [] → IsUnderway P entries rest queues → AreReplayed entries queues
-all_replayed P entries rest queues none u =
-    subst (λ es. AreReplayed es queues)
-    (sym (u.split ∙ ap (λ (es : List Entry). u.before ++ es) none ∙ append-nil u.before))
-    u.replayed
+-- this is found at those that are still to come, and of those before them this holds
+abbrev pub WithFound : (List Entry → Type 0) → List Found → List Entry → List Entry → Type 0
+WithFound P found before rest = AreFound before rest found × P before

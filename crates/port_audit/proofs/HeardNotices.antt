@@ -24,7 +24,7 @@ use Rattle.run_parts.specs.Notices.{heard}
 use Rattle.run_parts.specs.Ports.{is_port}
 use Rattle.run_parts.specs.Room.{some_lacks}
 use Rattle.run_parts.specs.Run.{RoomHolds}
-use Rattle.port_audit.specs.Following.{port_in}
+use Rattle.queue_replay.specs.Replays.{port_in}
 use Rattle.port_audit.specs.Hearing.{heard_in, hears_few, NoneLacks, lacks_at}
 use Rattle.port_audit.specs.Makers.{none_left}
 use Rattle.port_audit.specs.Told.{AreTold, dids_of}

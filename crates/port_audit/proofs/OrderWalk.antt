@@ -22,7 +22,7 @@ use Rattle.port_audit.specs.Kinds.{kind_of, kinds_of_row, kinds_at}
 use Rattle.port_audit.specs.Ranking.{IsOrderedFrom, RankMap, early_in, late_in, early_at, late_at}
 use Rattle.port_audit.specs.Ranking.{ranks_then, KeepsRanks, AreInOrder, NextKind, NoneLeft}
 use Rattle.port_audit.proofs.RequestEntries.{plea_in, own_plea, other_pleas}
-use Rattle.port_audit.proofs.Entries.{own_first, other_first, at_own, not_of, true_is_not_false}
+use Rattle.port_audit.proofs.Entries.{at_own, not_of, own_first, other_first, true_is_not_false}
 use Rattle.port_audit.proofs.Ranks.{told_change, none_ordered, IsPlain, plain_on, plain_back}
 use Rattle.port_audit.proofs.Ranks.{arrival_plain, closing_plain, falling_plain, AreNext}
 use Rattle.port_audit.proofs.Ranks.{unasked_none, asked_on, asked_back, ranks_are, ranks_none}

@@ -28,7 +28,7 @@ use Rattle.run_parts.specs.Ports.{is_port}
 use Rattle.run_parts.specs.Run.{NoticesHold}
 use Rattle.port_audit.specs.declared.notices.Visit.{Visit}
 use Rattle.port_audit.specs.Dealing.{brought_from, AreMet, told_of, RowMap, IsMet, side, AreDealt}
-use Rattle.port_audit.specs.Following.{port_in}
+use Rattle.queue_replay.specs.Replays.{port_in}
 use Rattle.port_audit.specs.Makers.{IsAmong, none_left}
 use Rattle.port_audit.specs.Noticing.{IsOnlyOne, AreOnlyOnes, visit_of, visits_by, visits_in}
 use Rattle.port_audit.specs.Noticing.{visits_told, visits_of_event, visits_at, visits_under}

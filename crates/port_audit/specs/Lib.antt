@@ -1,6 +1,5 @@
 pub mod Makers
 pub mod Told
-pub mod Following
 pub mod Hearing
 pub mod Closing
 pub mod Dealing

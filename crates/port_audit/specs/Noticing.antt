@@ -26,7 +26,7 @@ use Rattle.run_parts.specs.Notices.{heard, letters_from}
 use Rattle.run_parts.specs.Ports.{is_port}
 use Rattle.port_audit.specs.declared.notices.Visit.{Visit}
 use Rattle.port_audit.specs.Dealing.{RowMap, Takes, row_at, side}
-use Rattle.port_audit.specs.Following.{port_in}
+use Rattle.queue_replay.specs.Replays.{port_in}
 use Rattle.port_audit.specs.Makers.{IsAmong}
 use Rattle.port_audit.specs.Told.{dids_of}
 

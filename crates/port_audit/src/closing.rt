@@ -10,16 +10,16 @@ ghost use Rattle.histories.specs.Numbers.{queue_count};
 ghost use Rattle.run_parts.specs.Closing.{is_closed};
 ghost use Rattle.run_parts.specs.Log.{Note};
 ghost use Rattle.run_parts.specs.Run.{ClosingHolds};
+ghost use Rattle.queue_replay.specs.Replays as replays;
 ghost use Rattle.port_audit.specs.Closing as closing;
-ghost use Rattle.port_audit.specs.Following as following;
 ghost use Rattle.port_audit.specs.Told.{AreTold};
 
 use crate::logs::{is_among, log_of};
-use crate::queues::{Queues, is_queue_number, replay};
+use crate::queues::is_queue_number;
 use histories::{Did, Dids, Entries, Entry, Event, Histories, Logs};
 use inspector_script::Script;
 use packet_entry::NoMemory;
-use queue_replay::{Standing, port_of};
+use queue_replay::{Queues, Replayed, Standing, port_of};
 use std::alloc::Global;
 use std::collections::BTreeMap;
 
@@ -29,13 +29,25 @@ type Shut = BTreeMap<u16, Vec<u32>>;
 /// Whether each port of the script whose log has its closing closes once at most at each queue,
 /// asks nothing there behind it, and no queue is bound to it in the end; and whether no other port
 /// of the script closes. It doesn't matter what else is told of the ports.
-pub fn are_closings(alloc: Global, script: &Script, histories: &Histories) -> Result<bool, NoMemory>
+pub fn are_closings(
+    alloc: Global,
+    script: &Script,
+    histories: &Histories,
+    replayed: &Replayed,
+) -> Result<bool, NoMemory>
+    requires { replays.IsReplayOf histories.now.entries replayed.now }
     ensures { IfOk result (λ are. (notes : ℕ → List Note) →
         AreTold script.now histories.now notes →
         (IsTrue are ↔ ClosingHolds script.now histories.now notes)) }
 {
     let closed = closed_ports(alloc, script, &histories.logs)?;
-    are_shut(alloc, script.ports(), &closed, &histories.entries)
+    are_shut(
+        alloc,
+        script.ports(),
+        &closed,
+        &histories.entries,
+        &replayed.queues,
+    )
 }
 
 /// The ports of the script whose log has their closing.
@@ -91,11 +103,12 @@ fn are_shut(
     ports: &[u32],
     closed: &[u32],
     entries: &Entries,
+    queues: &Queues,
 ) -> Result<bool, NoMemory>
+    requires { replays.AreReplayed entries.now queues.now }
     ensures { IfOk result (λ are. IsTrue are
         ↔ closing.AllShut ports.now closed.now entries.now) }
 {
-    let mut queues = BTreeMap::new(alloc);
     let mut shut = BTreeMap::new(alloc);
     for entry in entries {
         is_queue_number(entry.queue);
@@ -103,7 +116,6 @@ fn are_shut(
             return Ok(false);
         }
         note(alloc, ports, entry, &mut shut)?;
-        replay(alloc, entry, &mut queues)?;
     }
     Ok(all_end_well(ports, closed, queues))
 }
@@ -168,13 +180,14 @@ fn push(alloc: Global, queue: u16, port: u32, shut: &mut Shut) -> Result<(), NoM
 }
 
 /// Whether no queue is bound to one of the ports that closed.
-fn all_end_well(ports: &[u32], closed: &[u32], queues: Queues) -> bool
+fn all_end_well(ports: &[u32], closed: &[u32], queues: &Queues) -> bool
     ensures { IsTrue result ↔ ((queue : ℕ) → queue < queue_count →
-        closing.EndsWell ports.now closed.now (following.queue_in (get nat_cmp queues queue))) }
+        closing.EndsWell ports.now closed.now
+        (replays.queue_in (get nat_cmp queues.now queue))) }
 {
     for (queue, state) in queues {
-        is_queue_number(queue);
-        if ends_badly(ports, closed, &state) {
+        is_queue_number(*queue);
+        if ends_badly(ports, closed, state) {
             return false;
         }
     }
@@ -183,7 +196,7 @@ fn all_end_well(ports: &[u32], closed: &[u32], queues: Queues) -> bool
 
 /// Whether a queue is bound to one of the ports that closed.
 fn ends_badly(ports: &[u32], closed: &[u32], state: &Option<Standing>) -> bool
-    ensures { result ≡ closing.ends_badly ports.now closed.now (following.port_in state.now) }
+    ensures { result ≡ closing.ends_badly ports.now closed.now (replays.port_in state.now) }
 {
     match port_of(state) {
         Some(port) => is_among(ports, port) && is_among(closed, port),

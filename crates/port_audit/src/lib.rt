@@ -22,6 +22,5 @@ pub use logs::log_of;
 pub use notices::are_notices;
 pub use order::are_ordered;
 pub use ports::are_ports;
-pub use queues::{Queues, replay};
 pub use requests::are_requests;
 pub use room::are_roomy;

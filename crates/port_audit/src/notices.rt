@@ -1,9 +1,10 @@
 //! Part: each port received the notices of the arrivals that its queues took, in their order.
 
 ghost use Rattle.std.specs.Prelude.{◌≡◌, ◌≢◌, ◌↔◌, ℕ, List, AllPairs, option_to_list, IsTrue};
-ghost use Rattle.std.specs.Prelude.{IfOk, OnOk};
+ghost use Rattle.std.specs.Prelude.{[], IfOk, OnOk};
 ghost use Rattle.run_parts.specs.Log.{Note};
 ghost use Rattle.run_parts.specs.Run.{NoticesHold};
+ghost use Rattle.queue_replay.specs.Replays.{AreFound, IsReplayOf};
 ghost use Rattle.port_audit.specs.Dealing as dealing;
 ghost use Rattle.port_audit.specs.Makers.{none_left};
 ghost use Rattle.port_audit.specs.Noticing as noticing;
@@ -11,11 +12,11 @@ ghost use Rattle.port_audit.specs.Told.{AreTold};
 
 use crate::dealing::{Rows, Side, are_empty, push, take};
 use crate::logs::{is_among, log_of};
-use crate::queues::{port_at, replay};
 use histories::{Did, Dids, Entries, Entry, Event, Histories, Logs, Reply};
 use inspector_script::Script;
-use packet_entry::NoMemory;
+use packet_entry::{NoMemory, Sequence};
 use queue_core::Outcome;
+use queue_replay::{Found, Replayed, next_found};
 use std::alloc::Global;
 use std::collections::BTreeMap;
 
@@ -31,7 +32,13 @@ pub(crate) struct Visit {
 /// Whether each port of the script received the notices of all arrivals that its queues took while
 /// they were bound to it, of each queue in their order, and no others. It is told of a notice just
 /// which one it is.
-pub fn are_notices(alloc: Global, script: &Script, histories: &Histories) -> Result<bool, NoMemory>
+pub fn are_notices(
+    alloc: Global,
+    script: &Script,
+    histories: &Histories,
+    replayed: &Replayed,
+) -> Result<bool, NoMemory>
+    requires { IsReplayOf histories.now.entries replayed.now }
     ensures { IfOk result (λ are. (notes : ℕ → List Note) →
         AreTold script.now histories.now notes →
         noticing.AreOnlyOnes script.now histories.now notes →
@@ -39,7 +46,7 @@ pub fn are_notices(alloc: Global, script: &Script, histories: &Histories) -> Res
 {
     let ports = script.ports();
     let rows = deal_all(alloc, ports, &histories.logs)?;
-    are_taken(alloc, ports, &histories.entries, rows)
+    Ok(are_taken(ports, &histories.entries, &replayed.found, rows))
 }
 
 /// The notices that these ports received, which differ from each other.
@@ -108,25 +115,24 @@ fn deal_one(alloc: Global, port: u32, did: &Did, rows: &mut Rows<Visit>) -> Resu
 
 /// Whether the queues' arrivals bring just what is in the rows.
 fn are_taken(
-    alloc: Global,
     ports: &[u32],
     entries: &Entries,
+    found: &Sequence<Found>,
     mut rows: Rows<Visit>,
-) -> Result<bool, NoMemory>
-    ensures { IfOk result (λ are. (told : ℕ → ℕ → List Visit) →
-        dealing.AreDealt ports.now told rows →
-        (IsTrue are
-        ↔ dealing.AreMet ports.now told (noticing.visits_under ports.now) entries.now)) }
+) -> bool
+    requires { AreFound [] entries.now found.now }
+    ensures { (told : ℕ → ℕ → List Visit) → dealing.AreDealt ports.now told rows →
+        (IsTrue result
+        ↔ dealing.AreMet ports.now told (noticing.visits_under ports.now) entries.now) }
 {
-    let mut queues = BTreeMap::new(alloc);
+    let mut found = found.iter();
     for entry in entries {
-        let port = port_at(&queues, entry.queue);
-        if !meets_next(ports, port, entry, &mut rows) {
-            return Ok(false);
+        let here = next_found(&mut found);
+        if !meets_next(ports, here.port, entry, &mut rows) {
+            return false;
         }
-        replay(alloc, entry, &mut queues)?;
     }
-    Ok(are_empty(&rows))
+    are_empty(&rows)
 }
 
 /// Whether an entry at a queue of this port brings nothing, or brings the first of its row. Then

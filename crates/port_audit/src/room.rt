@@ -1,34 +1,37 @@
 //! Part: arrivals found no room only where their port was sent as many notices as its mailbox
 //! holds.
 
-ghost use Rattle.std.specs.Prelude.{◌≡◌, ◌↔◌, ℕ, List, filter, length, nat_lt, IsTrue, IfOk};
+ghost use Rattle.std.specs.Prelude.{◌≡◌, ◌↔◌, [], ℕ, List, filter, length, nat_lt, IsTrue, IfOk};
 ghost use Rattle.histories.specs.Letters as letters;
 ghost use Rattle.run_parts.specs.Log.{Note};
 ghost use Rattle.run_parts.specs.Run.{RoomHolds};
+ghost use Rattle.queue_replay.specs.Replays.{AreFound, IsReplayOf};
 ghost use Rattle.port_audit.specs.Hearing as hearing;
 ghost use Rattle.port_audit.specs.Makers.{none_left};
 ghost use Rattle.port_audit.specs.Told.{AreTold};
 
 use crate::logs::{is_among, log_of};
-use crate::queues::{port_at, replay};
-use histories::{
-    Did, Dids, Entries, Event, Histories, Logs, a_legal_history_goes_on,
-    an_entry_is_of_its_queue_alone,
-};
+use histories::{Did, Dids, Entries, Event, Histories, Logs};
 use inspector_script::Script;
-use packet_entry::NoMemory;
+use packet_entry::{NoMemory, Sequence};
+use queue_replay::{Found, Replayed, next_found};
 use std::alloc::Global;
-use std::collections::BTreeMap;
 
 /// Whether arrivals found no room only where a port was sent as many notices as its mailbox holds,
 /// whatever else is told of the ports.
-pub fn are_roomy(alloc: Global, script: &Script, histories: &Histories) -> Result<bool, NoMemory>
+pub fn are_roomy(
+    alloc: Global,
+    script: &Script,
+    histories: &Histories,
+    replayed: &Replayed,
+) -> Result<bool, NoMemory>
+    requires { IsReplayOf histories.now.entries replayed.now }
     ensures { IfOk result (λ are. (notes : ℕ → List Note) →
         AreTold script.now histories.now notes →
         (IsTrue are ↔ RoomHolds script.now histories.now notes none_left)) }
 {
     let few = ports_of_few(alloc, script, &histories.logs)?;
-    all_had_room(alloc, &few, &histories.entries)
+    Ok(all_had_room(&few, &histories.entries, &replayed.found))
 }
 
 /// The ports of the script that heard fewer notices than their mailboxes hold.
@@ -72,19 +75,18 @@ fn are_few(mail: u32, dids: &Dids) -> bool
 }
 
 /// Whether each arrival at a queue of these ports found room.
-fn all_had_room(alloc: Global, few: &[u32], entries: &Entries) -> Result<bool, NoMemory>
-    ensures { IfOk result (λ had. IsTrue had ↔ hearing.NoneLacks few.now entries.now) }
+fn all_had_room(few: &[u32], entries: &Entries, found: &Sequence<Found>) -> bool
+    requires { AreFound [] entries.now found.now }
+    ensures { IsTrue result ↔ hearing.NoneLacks few.now entries.now }
 {
-    an_entry_is_of_its_queue_alone();
-    a_legal_history_goes_on();
-    let mut queues = BTreeMap::new(alloc);
+    let mut found = found.iter();
     for entry in entries {
-        if lacks_at(few, port_at(&queues, entry.queue), &entry.event) {
-            return Ok(false);
+        let here = next_found(&mut found);
+        if lacks_at(few, here.port, &entry.event) {
+            return false;
         }
-        replay(alloc, entry, &mut queues)?;
     }
-    Ok(true)
+    true
 }
 
 /// Whether an event found no room at a queue of one of these ports.

@@ -3,3 +3,4 @@ pub mod Ids
 pub mod RequestResults
 pub mod StepReplies
 pub mod OnwardPackets
+pub mod Replays

@@ -1,3 +1,5 @@
 pub mod Waiting
 pub mod Going
 pub mod Telling
+pub mod Replays
+pub mod Underway

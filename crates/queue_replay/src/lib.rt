@@ -6,13 +6,17 @@
 #![tactic(auto)]
 
 mod arrivals;
+mod found;
 mod going;
+mod replayed;
 mod requests;
 mod standing;
 mod step;
 mod waiting_list;
 
+pub use found::{Found, next_found};
 pub use going::{Leavers, going_on};
+pub use replayed::{Queues, Replayed, port_at, replay_all};
 pub use requests::port_of;
 pub use standing::Standing;
 pub use step::is_step;

@@ -8,7 +8,8 @@ use crate::laws::a_run_has_no_finding;
 use histories::Histories;
 use hook_chain::Tables;
 use inspector_script::Script;
-use journal_audit::{check_histories, check_journeys, check_makers};
+use journal_audit::{find_amiss, find_illegal};
+use journey_audit::follow_journeys;
 use packet_entry::NoMemory;
 use pcap_io::Capture;
 use std::alloc::Global;
@@ -35,13 +36,14 @@ pub fn audit(
         ↔ findings.IsRunOf tables.now script.now capture.now histories.now) }
 {
     a_run_has_no_finding();
-    if let Some(place) = check_histories(alloc, histories)? {
+    let followed = follow_journeys(alloc, tables, script.key(), capture, histories)?;
+    if let Some(place) = find_illegal(alloc, histories, &followed.replayed)? {
         return Ok(Some(Finding::Entry { place }));
     }
-    if let Some(number) = check_journeys(alloc, tables, script.key(), capture, histories)? {
+    if let Some(number) = followed.unmet {
         return Ok(Some(Finding::Record { number }));
     }
-    match check_makers(alloc, script, capture, histories)? {
+    match find_amiss(alloc, script, capture, histories, &followed.replayed)? {
         Some(part) => Ok(Some(Finding::Makers { part })),
         None => Ok(None),
     }

@@ -2,7 +2,7 @@ use Rattle.std.proofs.Common.{sym, ap, ◌∙◌, subst, length}
 use Rattle.run_parts.specs.Feeder.{downs_in_effect}
 use Rattle.std.specs.Prelude.{◌↔◌, IsTrue}
 use Rattle.feeder_audit.specs.Fitting.{Rises}
-use Rattle.feeder_audit.specs.Queues.{AreWhole}
+use Rattle.feeder_audit.specs.Queues.{AreWhole, state_in}
 use Rattle.feeder_audit.proofs.AscendingTimes.{all_rise}
 use Rattle.feeder_audit.proofs.Queues.{OneFeeder, fed_exactly}
 use Rattle.feeder_audit.proofs.feeding.is_fed.Goals as goal
@@ -21,10 +21,13 @@ returns c =
     let script = c.args.script.now in
     let frames = c.args.capture.now.frames in
     let downs = c.deref.result.now in
-    let queues = c.in_ok-queues.queues in
+    let queues = c.args.replayed.now.queues in
+    let feds = c.in_ok-feds.feds in
     let same = c.deref-2.ensures.value ∙ sym c.deref.ensures.value in
     fed_exactly law script (length frames) c.args.histories.now.entries downs queues
-    c.are_whole.result
+    feds c.are_whole.result
     (c.deref.ensures.value ∙ c.in_ok-downs.ensures
-    ∙ ap (λ n. downs_in_effect script n) c.len.ensures) c.in_ok-queues.ensures
-    (subst (λ ds. IsTrue c.are_whole.result ↔ AreWhole ds queues) same c.are_whole.ensures)
+    ∙ ap (λ n. downs_in_effect script n) c.len.ensures) c.requires.replayed.queues
+    c.in_ok-feds.ensures
+    (subst (λ ds. IsTrue c.are_whole.result ↔ AreWhole ds (state_in queues) feds) same
+    c.are_whole.ensures)

@@ -1,42 +1,54 @@
-use Rattle.std.proofs.Common.{◌≡◌, ℕ, List, [], Option, sym, ap, ◌∙◌, subst, rules}
-use Rattle.std.specs.BTreeMap.{is_at}
-use Rattle.std.specs.Map.{lookup}
-use Rattle.std.specs.Ordering.{nat_cmp}
-use Rattle.queue_core.specs.State.{Bound}
-use Rattle.histories.specs.History.{history, replay}
+use Rattle.std.proofs.Common.{◌≡◌, ℕ, List, [], sym, ◌∙◌, subst, rules}
+use Rattle.histories.specs.declared.entry.Entry.{Entry}
+use Rattle.queue_replay.specs.declared.found.Found.{Found}
+use Rattle.queue_replay.specs.Replays.{AreFound}
+use Rattle.queue_replay.specs.Underway.{some_found, next_is}
+use Rattle.queue_replay.specs.Underway.{begun, there, kept_there, underway_on, all_gone_over}
 use Rattle.port_audit.specs.Dealing.{AreMet}
-use Rattle.port_audit.specs.Following.{port_in}
 use Rattle.port_audit.specs.Noticing.{visits_under, MeetsNext}
-use Rattle.port_audit.proofs.Entries.{begun, there, underway_on, all_gone_over}
-use Rattle.port_audit.proofs.Entries.{true_is_not_false}
+use Rattle.port_audit.proofs.Entries.{WithFound, true_is_not_false}
 use Rattle.port_audit.proofs.RowMatches.{told_begun, told_ends}
 use Rattle.port_audit.proofs.Visits.{Taking, next_on, next_breaks}
 use Rattle.port_audit.proofs.notices.are_taken.Goals as goal
 
 pub loop-entry-init : goal.loop-entry-init
 loop-entry-init c =
-    begun (Taking c.args.ports.now c.args.rows c.args.rows) c.args.entries.now _ _
-    c.into_iter-entry-iterator.ensures.into_iter_gives
-    (λ queue. ap (λ (es : List (ℕ × Option Bound)). lookup (is_at (nat_cmp queue)) es)
-    c.new-queues.ensures.empty)
-    (λ told dealt. told_begun c.args.ports.now told (visits_under c.args.ports.now) c.args.rows
-    dealt)
+    let found : AreFound [] c.args.entries.now c.iter-found.result =
+    subst (AreFound [] c.args.entries.now) (sym c.iter-found.ensures) c.requires in
+    begun (WithFound (Taking c.args.ports.now c.args.rows c.args.rows) c.iter-found.result)
+    c.args.entries.now _ c.into_iter-entry-iterator.ensures.into_iter_gives (
+      found,
+      λ told dealt. told_begun c.args.ports.now told (visits_under c.args.ports.now) c.args.rows
+          dealt,
+    )
+
+pub next_found-here-requires : goal.next_found-here-requires
+next_found-here-requires c =
+    let u = c.loop-entry.invariant in
+    let P : List Entry → List Entry → Type 0 =
+    WithFound (Taking c.args.ports.now c.args.rows c.loop-entry.rows) c.loop-entry.found in
+    some_found u.before c.next.new.self c.in-Some.entry.now c.loop-entry.found
+    (kept_there P c.args.entries.now c.loop-entry.entry-iterator c.next.new.self
+    c.in-Some.entry.now c.in-Some.ensures.steps u).0
 
 pub returns-then-not-meets_next : goal.returns-then-not-meets_next
 returns-then-not-meets_next c told dealt =
     let ports = c.args.ports.now in
     let e = c.in-Some.entry.now in
     let u = c.loop-entry.invariant in
-    let same : c.port_at-port.result ≡ port_in (replay (history e.queue u.before)) =
-    c.port_at-port.ensures ∙ ap port_in (u.replayed e.queue) in (
+    let P : List Entry → List Entry → Type 0 =
+    WithFound (Taking ports c.args.rows c.loop-entry.rows) c.loop-entry.found in
+    let here = (next_is u.before c.next.new.self e c.loop-entry.found c.next_found-here.new.found
+    c.next_found-here.result c.next_found-here.ensures
+    (kept_there P c.args.entries.now c.loop-entry.entry-iterator c.next.new.self e
+    c.in-Some.ensures.steps u).0).0 in (
       λ h. absurd (true_is_not_false (sym h)),
-      λ met. absurd (next_breaks ports told u.before e c.port_at-port.result same c.loop-entry.rows
-          c.meets_next.new.rows (u.kept told dealt) c.next.new.self
-          (subst (MeetsNext ports c.port_at-port.result e c.loop-entry.rows c.meets_next.new.rows)
-          c.if-not-meets_next.true c.meets_next.ensures)
+      λ met. absurd (next_breaks ports told u.before e c.next_found-here.result.port here.port
+          c.loop-entry.rows c.meets_next.new.rows (u.kept.1 told dealt) c.next.new.self
+          (subst (MeetsNext ports c.next_found-here.result.port e c.loop-entry.rows
+          c.meets_next.new.rows) c.if-not-meets_next.true c.meets_next.ensures)
           (subst (AreMet ports told (visits_under ports))
-          (there (Taking ports c.args.rows c.loop-entry.rows) c.args.entries.now
-          c.loop-entry.entry-iterator c.next.new.self e c.loop-entry.queues
+          (there P c.args.entries.now c.loop-entry.entry-iterator c.next.new.self e
           c.in-Some.ensures.steps u) met)),
     )
 
@@ -45,22 +57,29 @@ loop-entry-preserved c =
     let ports = c.args.ports.now in
     let e = c.in-Some.entry.now in
     let u = c.loop-entry.invariant in
-    let same : c.port_at-port.result ≡ port_in (replay (history e.queue u.before)) =
-    c.port_at-port.ensures ∙ ap port_in (u.replayed e.queue) in
-    underway_on (Taking ports c.args.rows c.loop-entry.rows) c.args.entries.now
-    c.loop-entry.entry-iterator c.next.new.self e c.loop-entry.queues c.in-Some.ensures.steps u
-    (Taking ports c.args.rows c.meets_next.new.rows) c.replay.new.queues c.in_ok-replay.ensures
-    (λ told dealt. next_on ports told u.before e c.port_at-port.result same c.loop-entry.rows
-    c.meets_next.new.rows (u.kept told dealt)
-    (subst (MeetsNext ports c.port_at-port.result e c.loop-entry.rows c.meets_next.new.rows)
-    c.if-not-meets_next.false c.meets_next.ensures))
+    let P : List Entry → List Entry → Type 0 =
+    WithFound (Taking ports c.args.rows c.loop-entry.rows) c.loop-entry.found in
+    let next = next_is u.before c.next.new.self e c.loop-entry.found c.next_found-here.new.found
+    c.next_found-here.result c.next_found-here.ensures
+    (kept_there P c.args.entries.now c.loop-entry.entry-iterator c.next.new.self e
+    c.in-Some.ensures.steps u).0 in
+    underway_on P c.args.entries.now c.loop-entry.entry-iterator c.next.new.self e
+    c.in-Some.ensures.steps u
+    (WithFound (Taking ports c.args.rows c.meets_next.new.rows) c.next_found-here.new.found) (
+      next.1,
+      λ told dealt. next_on ports told u.before e c.next_found-here.result.port next.0.port
+          c.loop-entry.rows c.meets_next.new.rows (u.kept.1 told dealt)
+          (subst (MeetsNext ports c.next_found-here.result.port e c.loop-entry.rows
+          c.meets_next.new.rows) c.if-not-meets_next.false c.meets_next.ensures),
+    )
 
 pub returns : goal.returns
 returns c told dealt =
     let ports = c.args.ports.now in
     let none : c.loop-entry.entry-iterator ≡ [] = search rules in
-    let is = all_gone_over (Taking ports c.args.rows c.loop-entry.rows) c.args.entries.now
-    c.loop-entry.entry-iterator c.loop-entry.queues none c.loop-entry.invariant told dealt in
+    let is = (all_gone_over (WithFound (Taking ports c.args.rows c.loop-entry.rows)
+    c.loop-entry.found) c.args.entries.now c.loop-entry.entry-iterator none
+    c.loop-entry.invariant).1 told dealt in
     let ends = told_ends ports told (visits_under ports) c.loop-entry.rows c.args.entries.now is
     in (
       λ yes. ends.0 ((c.are_empty.ensures is.kept).0 yes),

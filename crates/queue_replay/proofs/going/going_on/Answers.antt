@@ -6,4 +6,4 @@ use Rattle.queue_replay.proofs.going.going_on.Goals as goal
 pub returns : goal.returns
 returns c =
     IfOk-weaker c.told.result _ _
-    (λ leavers is. is ∙ entry_tells c.args.queue.now c.args.entry.now c.requires) c.told.ensures
+    (λ leavers is one. is ∙ entry_tells c.args.queue.now c.args.entry.now one) c.told.ensures

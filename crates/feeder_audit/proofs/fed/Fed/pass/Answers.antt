@@ -13,7 +13,7 @@ returns-in-Some c =
     let left : take (length downs - old.placed) (drop old.placed downs) ≡ drop old.placed downs =
     take_all (length downs - old.placed) (drop old.placed downs)
     (omega (arith, length-drop old.placed downs)) in
-    passed downs old _ c.requires.kept c.requires.absent refl c.in-Some.lines
+    passed downs old _ c.requires c.in-Some.lines
     (subst (λ ds. IsLeast (row_of old.ways) (length ds) c.in-Some.lines) left c.in-Some.ensures)
     refl
     (c.time_behind-self.ensures ∙ ap (λ ds. time_at old.time ds c.in-Some.lines) left) refl
@@ -25,5 +25,5 @@ returns-in-None c =
     let left : take (length downs - old.placed) (drop old.placed downs) ≡ drop old.placed downs =
     take_all (length downs - old.placed) (drop old.placed downs)
     (omega (arith, length-drop old.placed downs)) in
-    nowhere downs old _ c.requires.kept c.requires.absent refl
+    nowhere downs old _ c.requires
     (subst (λ ds. HasNone (row_of old.ways) (length ds)) left c.in-None.ensures) refl refl refl

@@ -1,6 +1,6 @@
 use Rattle.std.proofs.lemmas.Result.{IfOk-weaker}
 use Rattle.journal_audit.proofs.Beginnings.{none_if_legal}
-use Rattle.journal_audit.proofs.first_illegal.check_histories.Goals as goal
+use Rattle.journal_audit.proofs.first_illegal.find_illegal.Goals as goal
 
 pub returns-clause-none : goal.returns-clause-none
 returns-clause-none c =

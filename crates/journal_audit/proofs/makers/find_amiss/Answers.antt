@@ -4,7 +4,7 @@ use Rattle.log_audit.specs.Judged.{IsJudgement}
 use Rattle.log_audit.specs.declared.judging.Judged.{Judged}
 use Rattle.port_audit.specs.Noticing.{ArriveOnce}
 use Rattle.journal_audit.proofs.PartOrder.{answered, no_logs}
-use Rattle.journal_audit.proofs.makers.check_makers.Goals as goal
+use Rattle.journal_audit.proofs.makers.find_amiss.Goals as goal
 
 pub returns-in-Said : goal.returns-in-Said
 returns-in-Said c =

@@ -1,0 +1,120 @@
+//! Histories of all queues, replayed entry by entry.
+
+ghost use Rattle.std.specs.Prelude.{◌≡◌, ◌↔◌, ◌++◌, ◌∷◌, [], List, IsTrue, OnOk, IfOk};
+ghost use Rattle.std.specs.BTreeMap.{get};
+ghost use Rattle.std.specs.Ordering.{nat_cmp};
+ghost use Rattle.queue_core.specs.Step as queue_step;
+ghost use Rattle.histories.specs.History as history;
+ghost use Rattle.histories.specs.declared.entry.Entry.{Entry};
+ghost use Rattle.queue_replay.specs.Going.{all_going};
+ghost use Rattle.queue_replay.specs.Replays as replays;
+
+use crate::found::{Found, find};
+use crate::going::{Leavers, going_on};
+use crate::requests::port_of;
+use crate::standing::Standing;
+use histories::{Entries, Entry, a_legal_history_goes_on, an_entry_is_of_its_queue_alone};
+use packet_entry::{NoMemory, Sequence};
+use std::alloc::Global;
+use std::collections::BTreeMap;
+
+/// States by the queue's number. A queue that isn't kept is absent.
+pub type Queues = BTreeMap<u16, Option<Standing>>;
+
+/// Entries that were replayed.
+#[derive(Drop)]
+pub struct Replayed {
+    /// What was found at each of them, in their order.
+    pub found: Sequence<Found>,
+    /// The queues after the last of them.
+    pub queues: Queues,
+}
+
+/// Replays these entries, which may stand in any order of their queues, whether they are steps or
+/// not.
+pub fn replay_all(alloc: Global, entries: &Entries) -> Result<Replayed, NoMemory>
+    ensures { IfOk result (replays.IsReplayOf entries.now) }
+{
+    let mut replayed = Replayed::new(alloc);
+    for entry in entries {
+        replayed.replay(alloc, entry)?;
+    }
+    Ok(replayed)
+}
+
+impl Replayed {
+    /// Nothing is replayed so far.
+    pub fn new(alloc: Global) -> Replayed
+        ensures { replays.IsReplayOf [] result }
+    {
+        Replayed {
+            found: Sequence::new(alloc),
+            queues: BTreeMap::new(alloc),
+        }
+    }
+
+    /// Replays the next entry, and answers whether it is a step of its queue. When memory runs
+    /// out, what is kept may be any.
+    pub fn replay(&mut self, alloc: Global, entry: &Entry) -> Result<bool, NoMemory>
+        ensures replayed { OnOk result ((before : List Entry) →
+            replays.IsReplayOf before self.old →
+            replays.IsReplayOf (before ++ entry.now ∷ []) self.new) }
+        ensures is { IfOk result (λ is. IsTrue is ↔ history.IsStep
+            (replays.queue_in (get nat_cmp self.old.queues entry.now.queue)) entry.now) }
+    {
+        an_entry_is_of_its_queue_alone();
+        a_legal_history_goes_on();
+        let here = replay(alloc, entry, &mut self.queues)?;
+        keep(here, &mut self.found)?;
+        Ok(here.is_step)
+    }
+
+    /// The packets that go on in the step of the next entry, as [`going_on`] tells them.
+    pub fn going_on(&self, alloc: Global, entry: &Entry) -> Result<Leavers, NoMemory>
+        ensures { IfOk result (λ leavers. history.IsStep
+            (replays.queue_in (get nat_cmp self.now.queues entry.now.queue)) entry.now →
+            leavers.items ≡ all_going (queue_step.step
+            (replays.queue_in (get nat_cmp self.now.queues entry.now.queue))
+            entry.now.event).left) }
+    {
+        match self.queues.get(&entry.queue) {
+            Some(queue) => going_on(queue, alloc, entry),
+            None => going_on(&None, alloc, entry),
+        }
+    }
+}
+
+/// Replays the next entry at its queue. Answers what was found there.
+fn replay(alloc: Global, entry: &Entry, queues: &mut Queues) -> Result<Found, NoMemory>
+    ensures queues { OnOk result (replays.Replays queues.old queues.new entry.now) }
+    ensures found { IfOk result (replays.IsFound
+        (replays.queue_in (get nat_cmp queues.old entry.now.queue)) entry.now) }
+{
+    if !queues.contains_key(&entry.queue) {
+        queues.insert(entry.queue, None)?;
+    }
+    let Some(queue) = queues.get_mut(&entry.queue) else {
+        unreachable!()
+    };
+    find(queue, alloc, entry)
+}
+
+/// Keeps what was found.
+fn keep(here: Found, found: &mut Sequence<Found>) -> Result<(), NoMemory>
+    ensures { OnOk result (found.new ≡ found.old ++ here ∷ []) }
+{
+    let Ok(()) = found.push(here) else {
+        return Err(NoMemory);
+    };
+    Ok(())
+}
+
+/// The port that a queue is bound to.
+pub fn port_at(queues: &Queues, queue: u16) -> Option<u32>
+    ensures { result ≡ replays.port_in (replays.queue_in (get nat_cmp queues.now queue)) }
+{
+    match queues.get(&queue) {
+        Some(state) => port_of(state),
+        None => None,
+    }
+}
