@@ -1,5 +1,5 @@
 -- What the feeder does, call by call: frames that are fed and lines that take effect.
-use Rattle.std.proofs.Common.{◌≡◌, ◌<◌, ◌≤◌, ◌+◌, ◌*◌, ◌∙◌, ◌++◌, ◌∷◌, [], ℕ, List}
+use Rattle.std.proofs.Common.{◌≡◌, ◌≤◌, ◌+◌, ◌*◌, ◌∙◌, ◌++◌, ◌∷◌, [], ℕ, List}
 use Rattle.std.proofs.Common.{Option, Some, None, ap, append-nil, append_assoc, arith}
 use Rattle.std.proofs.Common.{subst, sym}
 use Rattle.std.specs.BTreeMap.{BTreeMap, get}

@@ -3,7 +3,6 @@ use Rattle.std.proofs.Common.{◌≡◌, ◌<◌, ◌+◌, ◌∙◌, [], ◌∷
 use Rattle.std.proofs.Common.{subst, sym, true, false, arith, length}
 use Rattle.std.specs.Prelude.{◌↔◌}
 use Rattle.std.proofs.lemmas.List.{length-append}
-use Rattle.mailbox.specs.declared.view.Post.{Post}
 use Rattle.mailbox.specs.Views.{ReceiverView}
 use Rattle.packet_entry.specs.declared.letter.Letter.{Letter}
 use Rattle.script_lines.specs.declared.ask.Ask.{Ask}

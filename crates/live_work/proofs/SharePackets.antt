@@ -1,7 +1,7 @@
 -- The packets of a share, frame by frame.
 use Rattle.std.proofs.Common.{◌≡◌, ◌≤◌, ◌<◌, ◌+◌, ◌-◌, ◌∙◌, ◌++◌, ◌∷◌, [], ℕ, zero, suc, List}
 use Rattle.std.proofs.Common.{Option}
-use Rattle.std.proofs.Common.{Some, None, Bool, true, false, ap, append_assoc, append-nil, arith}
+use Rattle.std.proofs.Common.{Some, None, true, false, ap, append_assoc, append-nil, arith}
 use Rattle.std.proofs.Common.{drop, length, refl, subst, sym}
 use Rattle.std.specs.Prelude.{filter, option_to_list, slice_get}
 use Rattle.std.proofs.lemmas.List.{length-append}
@@ -11,7 +11,7 @@ use Rattle.pcap_io.specs.declared.capture.Capture.{Capture}
 use Rattle.pcap_io.specs.declared.capture.Frame.{Frame}
 use Rattle.script_lines.specs.declared.line.Down.{Down}
 use Rattle.inspector_script.specs.Scripts.{ScriptValue}
-use Rattle.run_parts.specs.Entering.{card_of, cards, cards_from}
+use Rattle.run_parts.specs.Entering.{card_of, cards_from}
 use Rattle.run_parts.specs.Feeder.{downs_after, is_share}
 use Rattle.plane.specs.declared.plane.Plane.{Plane}
 use Rattle.plane.specs.Passes.{FeederView}

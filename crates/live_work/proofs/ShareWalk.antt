@@ -1,14 +1,14 @@
 -- A feeder goes through its share: a frame is fed, and then the devices go down that do so after
 -- it.
-use Rattle.std.proofs.Common.{◌≡◌, ◌<◌, ◌≤◌, ◌+◌, ◌-◌, ◌∙◌, ◌++◌, ◌∷◌, [], ℕ, List, Option, Some}
+use Rattle.std.proofs.Common.{◌≡◌, ◌<◌, ◌≤◌, ◌+◌, ◌∙◌, ◌++◌, ◌∷◌, [], ℕ, List, Option, Some}
 use Rattle.std.proofs.Common.{None, ap, append-nil, append_assoc, arith, inl, inr, length, refl}
 use Rattle.std.proofs.Common.{subst, sym, zero, suc}
-use Rattle.std.specs.Prelude.{◌⊎◌, All, filter, slice_get}
+use Rattle.std.specs.Prelude.{◌⊎◌, All, slice_get}
 use Rattle.std.proofs.lemmas.Bool.{cases_lt}
 use Rattle.std.proofs.lemmas.List.Elements.{All-head, All-tail}
 use Rattle.atomic_table.specs.Seated.{TableId}
 use Rattle.std.proofs.lemmas.List.{length-map}
-use Rattle.place_rows.specs.Rows.{HasTurned, Known, TurnedUpTo, TurnsOne, id_of}
+use Rattle.place_rows.specs.Rows.{Known, TurnsOne, id_of}
 use Rattle.turn_lock.specs.Views.{HasSeenOwn}
 use Rattle.histories.specs.History.{AreLegal}
 use Rattle.packet_entry.specs.declared.packet.Card.{Card}

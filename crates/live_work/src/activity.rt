@@ -142,8 +142,8 @@ impl Activity {
         }
     }
 
-    /// Who has fed so many frames sees so many packets wait. Where these may fill half of a mailbox,
-    /// it wakes inspectors.
+    /// Who has fed so many frames sees so many packets wait. Where these may fill half of a
+    /// mailbox, it wakes inspectors.
     pub(crate) fn see_waiting(&self, fed: u64, waiting: u64) {
         if fed % STRIDE == 0 && waiting >= self.many {
             self.ring();

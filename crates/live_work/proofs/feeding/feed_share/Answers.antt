@@ -1,17 +1,17 @@
-use Rattle.std.proofs.Common.{◌≡◌, ◌≤◌, ◌<◌, ◌+◌, ◌∙◌, ◌++◌, [], List, ap, arith, false, length}
-use Rattle.std.proofs.Common.{refl, subst}
+use Rattle.std.proofs.Common.{◌∙◌, ◌++◌, List, ap, arith, false, length}
+use Rattle.std.proofs.Common.{subst}
 use Rattle.std.proofs.Common.{sym}
 use Rattle.packet_entry.specs.declared.packet.Card.{Card}
 use Rattle.plane.specs.Passes.{FeederView}
 use Rattle.plane.specs.Planes.{places_of}
-use Rattle.feeder_set.specs.Shares.{FeederState, IsNextOf}
+use Rattle.feeder_set.specs.Shares.{FeederState}
 use Rattle.feeder_set.specs.Steps.{PassesNext, Steps}
 use Rattle.live_work.specs.Feeding.{shares_in}
-use Rattle.live_work.specs.Sharing.{SharePasses, share_cards}
+use Rattle.live_work.specs.Sharing.{SharePasses}
 use Rattle.live_work.proofs.UnchangedPass.{feeder_here, feeder_stays}
 use Rattle.live_work.proofs.SharePackets.{fed_all, fed_next, few_more, left_cards, left_first}
 use Rattle.live_work.proofs.SharePackets.{next_within}
-use Rattle.live_work.proofs.ShareWalk.{IsUpTo, ShareLaws, up_to_first, up_to_last, up_to_next}
+use Rattle.live_work.proofs.ShareWalk.{IsUpTo, up_to_first, up_to_last, up_to_next}
 use Rattle.live_work.proofs.feeding.feed_share.Goals as goal
 
 pub loop-step-init : goal.loop-step-init
