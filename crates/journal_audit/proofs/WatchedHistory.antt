@@ -3,7 +3,7 @@ use Rattle.std.proofs.Common.{◌≡◌, ◌+◌, List, [], ◌∷◌, ◌++◌,
 use Rattle.std.proofs.Common.{arith}
 use Rattle.std.proofs.Common.{length-append}
 use Rattle.histories.specs.declared.entry.Entry.{Entry}
-use Rattle.histories.specs.History.{replay, IsStep, IsLegal}
+use Rattle.histories.specs.History.{replay, IsStep}
 use Rattle.histories.proofs.LegalHistories.{legal_on}
 use Rattle.journal_audit.specs.declared.watched.Watched.{Watched}
 use Rattle.journal_audit.specs.Illegal.{IsFirstIllegal}

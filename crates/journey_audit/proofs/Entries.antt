@@ -1,5 +1,5 @@
 -- Entries that are followed: what came, and what was asked for.
-use Rattle.std.proofs.Common.{◌≡◌, ℕ, List, [], ◌∷◌, ◌++◌, Option, Bool, true, false, refl}
+use Rattle.std.proofs.Common.{◌≡◌, ℕ, List, [], ◌∷◌, ◌++◌, Option, Bool, true, refl}
 use Rattle.std.proofs.Common.{sym, ap, ◌∙◌, subst, append_assoc, append-nil}
 use Rattle.std.specs.Prelude.{flat_map, ◌&&◌, ◌↔◌, IsTrue}
 use Rattle.std.specs.BTreeMap.{get}

@@ -1,4 +1,3 @@
-use Rattle.std.proofs.Common.{◌≡◌}
 use Rattle.log_audit.proofs.NoticeStore.{keeps_bound, keeps_unbound}
 use Rattle.log_audit.proofs.notices.keep.Goals as goal
 

@@ -1,4 +1,4 @@
-use Rattle.std.proofs.Common.{◌≡◌, [], ◌∷◌, List, ℕ, ap, subst, sym, rules}
+use Rattle.std.proofs.Common.{◌≡◌, [], List, ap, subst, sym, rules}
 use Rattle.std.specs.BTreeMap.{is_at}
 use Rattle.std.specs.Map.{lookup}
 use Rattle.nfqa_msgs.specs.declared.notice.Notice.{Notice}

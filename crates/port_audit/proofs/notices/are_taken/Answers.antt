@@ -1,6 +1,5 @@
-use Rattle.std.proofs.Common.{◌≡◌, ℕ, List, [], sym, ◌∙◌, subst, rules}
+use Rattle.std.proofs.Common.{◌≡◌, List, [], sym, subst, rules}
 use Rattle.histories.specs.declared.entry.Entry.{Entry}
-use Rattle.queue_replay.specs.declared.found.Found.{Found}
 use Rattle.queue_replay.specs.Replays.{AreFound}
 use Rattle.queue_replay.specs.Underway.{some_found, next_is}
 use Rattle.queue_replay.specs.Underway.{begun, there, kept_there, underway_on, all_gone_over}
