@@ -58,7 +58,7 @@ const ROWS: [Row; 9] = [
     (UNBOUND, "live r s c o l j 2", &["o", "l", "j"]),
     (
         "port 7\nend close\n",
-        "live r s c o l j 1 2 2",
+        "live r s c o l j 1 1 2",
         &["o", "l", "j"],
     ),
 ];
