@@ -28,7 +28,11 @@ pub type Leavers = Vec<(Card, Decision)>;
 /// The packets that go on in the step of an entry at a queue number, in order. What is destroyed
 /// isn't among them; what a queue lets through goes on as if it was accepted. Of an entry that is no
 /// step it is told what its reply tells.
-pub fn going_on(queue: &Option<Standing>, alloc: Global, entry: &Entry) -> Result<Leavers, NoMemory>
+pub(crate) fn going_on(
+    queue: &Option<Standing>,
+    alloc: Global,
+    entry: &Entry,
+) -> Result<Leavers, NoMemory>
     ensures { IfOk result (λ leavers. history.IsStep queue.now entry.now →
         leavers.items ≡ going.all_going (queue_step.step queue.now entry.now.event).left) }
 {

@@ -1,8 +1,9 @@
-//! A queue's history, replayed over cards.
+//! Queues' histories, replayed over cards.
 //!
-//! [`is_step`] makes the step of an entry, and tells whether the entry is that step. [`going_on`]
-//! tells which packets an entry that is a step lets go on. A journal's cards may be no packet's, so
-//! no [`Queue`](queue_core::Queue) runs here.
+//! [`Replayed`] goes over entries: it keeps the states of their queues, and of each entry what was
+//! found at its queue and whether the entry is a step of it. [`Replayed::going_on`] tells which
+//! packets a step lets go on. A journal's cards may be no packet's, so no
+//! [`Queue`](queue_core::Queue) runs here.
 #![tactic(auto)]
 
 mod arrivals;
@@ -15,8 +16,7 @@ mod step;
 mod waiting_list;
 
 pub use found::{Found, next_found};
-pub use going::{Leavers, going_on};
+pub use going::Leavers;
 pub use replayed::{Queues, Replayed, port_at, replay_all};
 pub use requests::port_of;
 pub use standing::Standing;
-pub use step::is_step;

@@ -19,7 +19,11 @@ const OUTPUT_DEVICE: u32 = 2;
 
 /// Makes the step of an entry's event, and answers whether the entry is that step: the event may
 /// happen, and its reply is the step's. When memory runs out, the state may be any.
-pub fn is_step(queue: &mut Option<Standing>, alloc: Global, entry: &Entry) -> Result<bool, NoMemory>
+pub(crate) fn is_step(
+    queue: &mut Option<Standing>,
+    alloc: Global,
+    entry: &Entry,
+) -> Result<bool, NoMemory>
     ensures is { IfOk result (λ is. IsTrue is ↔ history.IsStep queue.old entry.now) }
     ensures state { OnOk result
         (queue.new ≡ (queue_step.step queue.old entry.now.event).state) }
