@@ -5,7 +5,13 @@ ghost use Rattle.entry_rows.specs.Rows.{no_origin, most_rows};
 ghost use Rattle.entry_rows.specs.Packed.{Grown};
 
 use crate::latest::Latest;
-use packet_entry::{Bytes, Stock, same_bytes};
+use packet_entry::{Bytes, Card, Stock, same_bytes};
+use std::mem::size_of;
+
+// What documents say of sizes.
+const _: () = prove!(size_of::<Bytes>() == 24);
+
+const _: () = prove!(size_of::<Card>() == 80);
 
 /// What stays of a packet from visit to visit, unless a verdict replaces its bytes.
 #[derive(Debug, Drop)]
