@@ -1,9 +1,10 @@
 #!/bin/sh
 # A benchmark, not a test: `nfq live` beside `nfq play` on the same inputs, the least of so many runs: one port; eight
-# ports over 1 and 8 places with 1, 2 and 4 feeders; 32 ports of which each hands its packets on to the next one's queue;
-# no frame at all over 32 ports; 64 queues where nobody answers; and a script of 1,000 lines with a pool of 1, 2 and 4
-# workers. It prints the time and the processor time of each, how often those of `play` they are, and how many packets
-# were lost for want of room. What threads gain depends on how many processors are free: the first line says so.
+# ports over 1 and 8 places with 1, 2 and 4 feeders, also where queues go by feeder; 32 ports of which each hands its
+# packets on to the next one's queue; no frame at all over 32 ports; 64 queues where nobody answers; and a script of
+# 1,000 lines with a pool of 1, 2 and 4 workers. It prints the time and the processor time of each, how often those of
+# `play` they are, and how many packets were lost for want of room. What threads gain depends on how many processors are
+# free: the first line says so.
 # usage: bench/live.sh [PROGRAM [RUNS]]    without PROGRAM nfq is built, and without RUNS there are nine
 set -eu
 top=$(cd "$(dirname "$0")/.." && pwd)
@@ -33,6 +34,9 @@ def ports(count, answer):
     """So many ports, each with a queue of its own, which answer each packet so."""
     return "".join(
         f"port {7 + q}\nopen config {q} bind params packet 0 maxlen 65536\n{answer(q)}" for q in range(count))
+
+# A packet goes to the queue of its feeder.
+FAN_OUT = rules(8).replace("0:7", "0:7 --queue-cpu-fanout")
 
 def accept(queue):
     return "on any do verdict this accept this\n"
@@ -74,6 +78,7 @@ SHAPES = [
     # name, frames, rules, script, sizes of the run
     ("1 port", 200_000, rules(1), ports(1, accept), ("1",)),
     ("8 ports", 200_000, rules(8), ports(8, accept), ("1", "8", "8 2", "8 4")),
+    ("8 ports, queues by feeder", 200_000, FAN_OUT, ports(8, accept), ("8", "8 2", "8 4")),
     ("32 hops", 6_250, rules(1), "mail 8192\n" + ports(32, onward), ("8 4",)),
     ("no frame, 32 ports", 0, rules(32), ports(32, accept), ("64",)),
     ("nobody answers, 64 queues", 4_000, rules(64), UNANSWERED, ("64", "64 4")),
