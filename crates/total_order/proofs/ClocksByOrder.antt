@@ -59,10 +59,10 @@ module _ {E : Type 0} (place : E → ℕ) (Caused : List E → E → Type 0)
   )
 
   -- the one comes before the other, and is earlier
-  abbrev Apart : E × ℕ → E × ℕ → Type 0
+  abbrev pub Apart : E × ℕ → E × ℕ → Type 0
   Apart x y = MayPrecede x.0 y.0 × (x.1 < y.1)
 
-  apart_numbered : (n : ℕ) (es : List E) → Pairs MayPrecede es → Pairs Apart (numbered n es)
+  pub apart_numbered : (n : ℕ) (es : List E) → Pairs MayPrecede es → Pairs Apart (numbered n es)
   apart_numbered n [] h = tt
   apart_numbered n (e ∷ es) h = (
     each_both (λ y. MayPrecede e y.0) (λ y. n < y.1) (numbered (n + 1) es)

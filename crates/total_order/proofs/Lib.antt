@@ -4,7 +4,13 @@ pub mod Parts
 pub mod OrderByClocks
 pub mod ClocksByOrder
 pub mod Persistence
+pub mod Joined
+pub mod Knowledge
+pub mod Logs
+pub mod Places
+pub mod OnePlace
 pub mod Ready
 pub mod OneThread
 pub mod Positions
 pub mod Examples
+pub mod TimedExamples

@@ -1,5 +1,6 @@
 -- Lists of which something holds of each element, or of each two.
-use Rattle.std.proofs.Common.{◌≡◌, Bool, false, List, [], ◌∷◌, ◌++◌, refl, filter}
+use Rattle.std.proofs.Common.{◌≡◌, ◌<◌, ◌≢◌, ℕ, zero, suc, Bool, true, false, List, [], ◌∷◌, ◌++◌}
+use Rattle.std.proofs.Common.{refl, ap, subst, arith, filter, slice_get, Some, if◌then◌else◌}
 use Rattle.total_order.specs.Orders.{EachIs, Pairs}
 
 module _ {A : Type 0} where
@@ -56,6 +57,66 @@ module _ {A : Type 0} where
       Pairs R (xs ++ ys)
   pairs_drop R [] ys s h = h.1
   pairs_drop R (x ∷ xs) ys s h = (each_drop (R x) xs ys s h.0, pairs_drop R xs ys s h.1)
+
+  pub each_filter : (P : A → Type 0) (test : A → Bool) (xs : List A) → EachIs P xs →
+      EachIs P (filter test xs)
+  each_filter P test [] h = tt
+  each_filter P test (x ∷ xs) h = by (each_filter P test xs h.1) (test x)
+    where
+      by : EachIs P (filter test xs) → (b : Bool) →
+          EachIs P (if b then x ∷ filter test xs else filter test xs)
+      by rest true = (h.0, rest)
+      by rest false = rest
+
+  pub pairs_append : (R : A → A → Type 0) (xs ys : List A) → Pairs R xs → Pairs R ys →
+      EachIs (λ x. EachIs (R x) ys) xs → Pairs R (xs ++ ys)
+  pairs_append R [] ys h k both = k
+  pairs_append R (x ∷ xs) ys h k both =
+      (each_append (R x) xs ys h.0 both.0, pairs_append R xs ys h.1 k both.1)
+
+  -- ---- by positions
+
+  pub each_by_position : (P : A → Type 0) (xs : List A) →
+      ((i : ℕ) (x : A) → slice_get xs i ≡ Some x → P x) → EachIs P xs
+  each_by_position P [] h = tt
+  each_by_position P (x ∷ xs) h =
+      (h 0 x refl, each_by_position P xs (λ i y e. h (suc i) y e))
+
+  pub pairs_by_position : (R : A → A → Type 0) (xs : List A) →
+      ((i l : ℕ) (x y : A) → slice_get xs i ≡ Some x → slice_get xs l ≡ Some y → i < l → R x y) →
+      Pairs R xs
+  pairs_by_position R [] h = tt
+  pairs_by_position R (x ∷ xs) h = (
+    each_by_position (R x) xs (λ l y e. h 0 (suc l) x y refl e (omega arith)),
+    pairs_by_position R xs (λ i l y z e f less. h (suc i) (suc l) y z e f (omega arith)),
+  )
+
+  pub each_at : (P : A → Type 0) (xs : List A) → EachIs P xs → (i : ℕ) (x : A) →
+      slice_get xs i ≡ Some x → P x
+  each_at P [] h i x e = absurd (cc e)
+  each_at P (y ∷ ys) h zero x e = subst P (cc e) h.0
+  each_at P (y ∷ ys) h (suc i) x e = each_at P ys h.1 i x e
+
+  -- what holds of each two either way round
+  pub pairs_at : (R : A → A → Type 0) (xs : List A) → Pairs (λ x y. R x y × R y x) xs →
+      (i l : ℕ) (x y : A) → slice_get xs i ≡ Some x → slice_get xs l ≡ Some y → i ≢ l → R x y
+  pairs_at R [] h i l x y e f ne = absurd (cc e)
+  pairs_at R (z ∷ zs) h zero zero x y e f ne = absurd (ne refl)
+  pairs_at R (z ∷ zs) h zero (suc l) x y e f ne =
+      let at : z ≡ x = cc e in
+      subst (λ w. R w y) at (each_at (λ w. R z w × R w z) zs h.0 l y f).0
+  pairs_at R (z ∷ zs) h (suc i) zero x y e f ne =
+      let at : z ≡ y = cc f in
+      subst (λ w. R x w) at (each_at (λ w. R z w × R w z) zs h.0 i x e).1
+  pairs_at R (z ∷ zs) h (suc i) (suc l) x y e f ne =
+      pairs_at R zs h.1 i l x y e f (λ same. ne (ap (λ n. suc n) same))
+
+  -- ---- a test
+
+  pub all_pass : (test : A → Bool) (xs : List A) → EachIs (λ x. test x ≡ true) xs →
+      filter test xs ≡ xs
+  all_pass test [] h = refl
+  all_pass test (x ∷ xs) h = rw h.0 (ap (λ zs. x ∷ zs) (all_pass test xs h.1))
 
   pub none_pass : (test : A → Bool) (xs : List A) → EachIs (λ x. test x ≡ false) xs →
       filter test xs ≡ []

@@ -12,7 +12,7 @@ module _ {A : Type 0} where
   pub prefix_self : (xs : List A) → IsPrefix xs xs
   prefix_self xs = ([], append-nil xs)
 
-  prefix_none : (xs : List A) → IsPrefix [] xs
+  pub prefix_none : (xs : List A) → IsPrefix [] xs
   prefix_none xs = (xs, refl)
 
   prefix_cons : (x : A) (xs ys : List A) → IsPrefix xs ys → IsPrefix (x ∷ xs) (x ∷ ys)

@@ -55,7 +55,7 @@ left_on number visit es fs p h =
     (subst (λ cs. Has number visit cs) (sym (departed _ es p.0))
     (has_front number visit (departures es) (departures_from (replay_from _ es) p.0) h))
 
-taken_in : (number visit : ℕ) (es fs : List Entry) → IsPrefix es fs →
+pub taken_in : (number visit : ℕ) (es fs : List Entry) → IsPrefix es fs →
     Has number visit (taken es) → Has number visit (taken fs)
 taken_in number visit es fs p h =
     subst (λ zs. Has number visit (taken zs)) p.1
@@ -68,7 +68,7 @@ taken_in number visit es fs p h =
 abbrev pub GoOn : List Entry → List Entry → Type 0
 GoOn es fs = (queue : ℕ) → IsPrefix (history queue es) (history queue fs)
 
-come_on : (number visit : ℕ) (es fs : List Entry) → GoOn es fs → HasCome number visit es →
+pub come_on : (number visit : ℕ) (es fs : List Entry) → GoOn es fs → HasCome number visit es →
     HasCome number visit fs
 come_on number zero es fs on h = tt
 come_on number (suc zero) es fs on h = tt
