@@ -7,9 +7,10 @@ ghost use Rattle.place_turns.specs.Trails.{parts_of};
 ghost use Rattle.port_scripts.specs.Downs.{AreDownsOf};
 ghost use Rattle.feeder_set.specs.Steps.{Falls, AllFall};
 
-use inspector_script::{Downs, Script};
+use crate::stage::Stage;
+use inspector_script::Downs;
 use packet_entry::NoMemory;
-use plane::{FeederPass, Plane};
+use plane::{FeederPass, Gate, Plane};
 use port_scripts::DownsByFrame;
 use std::sync::Wait;
 
@@ -46,23 +47,21 @@ fn fall_all<R: Wait>(
 
 /// The devices go down that do so after the frame with this number, in the order of the script's
 /// lines.
-pub(crate) fn fall_after<R: Wait>(
-    rt: &R,
-    plane: &Plane,
+pub(crate) fn fall_after<R: Wait, G: Gate>(
+    stage: &Stage<'_, R, G>,
     pass: &mut FeederPass,
-    script: &Script,
     downs: &DownsByFrame,
     number: u32,
 ) -> Result<(), NoMemory>
-    requires pass { IsFeederOf plane.now pass.old }
-    requires downs { AreDownsOf script.now downs.now }
-    ensures pass { IsFeederOf plane.now pass.new }
+    requires pass { IsFeederOf stage.now.plane.now pass.old }
+    requires downs { AreDownsOf stage.now.script.now downs.now }
+    ensures pass { IsFeederOf stage.now.plane.now pass.new }
     ensures parts { parts_of pass.new.trail.known ≡ parts_of pass.old.trail.known }
-    ensures fall { OnOk result (AllFall plane.now (downs_after script.now number)
-        pass.old pass.new) }
+    ensures fall { OnOk result (AllFall stage.now.plane.now
+        (downs_after stage.now.script.now number) pass.old pass.new) }
 {
     match downs.get(&number) {
-        Some(due) => fall_all(rt, plane, pass, due),
+        Some(due) => fall_all(stage.rt, stage.plane, pass, due),
         None => Ok(()),
     }
 }

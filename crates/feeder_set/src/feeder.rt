@@ -13,6 +13,7 @@ ghost use Rattle.feeder_set.specs.Steps.{Steps};
 use crate::falling::fall_after;
 use crate::feeding::feed_frame;
 use crate::share::Share;
+use crate::stage::Stage;
 use inspector_script::Script;
 use packet_entry::NoMemory;
 use pcap_io::Capture;
@@ -85,30 +86,33 @@ impl Feeder {
         // What a feeder keeps is known of one that was looked at, also where memory runs out.
         let _share = &self.share;
         let downs = downs_by_frame(alloc, script)?;
-        self.step_by(rt, alloc, plane, pass, script, &downs, capture, gate)
+        let stage = Stage {
+            rt,
+            alloc,
+            plane,
+            gate,
+            script,
+        };
+        self.step_by(&stage, pass, &downs, capture)
     }
 
     /// [`Feeder::step`], where the script's `down` lines are found by the frame's number.
     pub fn step_by<R: Wait, G: Gate>(
         &mut self,
-        rt: &R,
-        alloc: Global,
-        plane: &Plane,
+        stage: &Stage<'_, R, G>,
         pass: &mut FeederPass,
-        script: &Script,
         downs: &DownsByFrame,
         capture: &Capture,
-        gate: &G,
     ) -> Result<bool, NoMemory>
-        requires pass { IsFeederOf plane.now pass.old }
-        requires downs { AreDownsOf script.now downs.now }
+        requires pass { IsFeederOf stage.now.plane.now pass.old }
+        requires downs { AreDownsOf stage.now.script.now downs.now }
         requires few { length pass.old.fed < most_fed }
         requires frames { length capture.now.frames ≤ most_frames }
         requires bytes { All (λ f. length f.bytes ≤ longest_packet) capture.now.frames }
-        ensures pass { IsFeederOf plane.now pass.new }
+        ensures pass { IsFeederOf stage.now.plane.now pass.new }
         ensures parts { parts_of pass.new.trail.known ≡ parts_of pass.old.trail.known }
-        ensures stepped { IfOk result (Steps plane.now
-            script.now capture.now self.old self.new pass.old pass.new) }
+        ensures stepped { IfOk result (Steps stage.now.plane.now
+            stage.now.script.now capture.now self.old self.new pass.old pass.new) }
         ensures next { IsNextOf self.new.share self.new.next }
         ensures err { OnErr result (self.new ≡ self.old) }
     {
@@ -116,8 +120,8 @@ impl Feeder {
         let Some(frame) = capture.frames.get(number as usize - 1) else {
             return Ok(false);
         };
-        feed_frame(rt, alloc, plane, gate, pass, capture, number, frame)?;
-        fall_after(rt, plane, pass, script, downs, number)?;
+        feed_frame(stage, pass, capture, number, frame)?;
+        fall_after(stage, pass, downs, number)?;
         self.next = number + self.share.feeders;
         Ok(true)
     }

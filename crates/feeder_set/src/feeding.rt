@@ -8,38 +8,38 @@ ghost use Rattle.plane.specs.Passes.{IsFeederOf};
 ghost use Rattle.place_turns.specs.Trails.{parts_of};
 ghost use Rattle.feeder_set.specs.Steps.{Feeds};
 
+use crate::stage::Stage;
 use packet_entry::NoMemory;
 use pcap_io::{Capture, Frame};
-use plane::{FeederPass, Gate, Plane, Refused};
+use plane::{FeederPass, Gate, Refused};
 use port_scripts::packet_of;
-use std::alloc::Global;
 use std::sync::Wait;
 
 /// Feeds the packet of a frame, where it is IP. A packet that is lost later shows once the plane is
 /// closed.
 pub(crate) fn feed_frame<R: Wait, G: Gate>(
-    rt: &R,
-    alloc: Global,
-    plane: &Plane,
-    gate: &G,
+    stage: &Stage<'_, R, G>,
     pass: &mut FeederPass,
     capture: &Capture,
     number: u32,
     frame: &Frame,
 ) -> Result<(), NoMemory>
-    requires pass { IsFeederOf plane.now pass.old }
+    requires pass { IsFeederOf stage.now.plane.now pass.old }
     requires number { 1 ≤ number }
     requires bytes { length frame.now.bytes ≤ longest_packet }
     requires few { length pass.old.fed < most_fed }
-    ensures pass { IsFeederOf plane.now pass.new }
+    ensures pass { IsFeederOf stage.now.plane.now pass.new }
     ensures parts { parts_of pass.new.trail.known ≡ parts_of pass.old.trail.known }
-    ensures fed { OnOk result (Feeds plane.now
+    ensures fed { OnOk result (Feeds stage.now.plane.now
         (card_of capture.now number frame.now) pass.old pass.new) }
 {
     let Some(packet) = packet_of(capture, number, frame)? else {
         return Ok(());
     };
-    match plane.feed(rt, alloc, pass, gate, packet) {
+    match stage
+        .plane
+        .feed(stage.rt, stage.alloc, pass, stage.gate, packet)
+    {
         Ok(_) => Ok(()),
         Err(Refused { packet }) => {
             packet.destroy();

@@ -7,7 +7,9 @@ mod feeder;
 mod feeding;
 mod laws;
 mod share;
+mod stage;
 
 pub use feeder::Feeder;
 pub use laws::each_frame_is_one_shares;
 pub use share::Share;
+pub use stage::Stage;

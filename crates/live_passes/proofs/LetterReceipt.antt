@@ -20,12 +20,12 @@ nothing_new xs ys same = record { more = []; is = same ∙ sym (append-nil xs); 
 
 pub received_one : (old new : PortView) (l : Letter) → view.Receives old new (Some l) →
     Receives l (port_pass old) (port_pass new)
-received_one old new l is = record {
-  logged = ap (λ (p : PortView). p.dids) is.1;
-  letters = ap (λ (p : PortView). map (λ (q : Post). q.letter) p.receiver.received) is.1
-      ∙ one_more old.receiver.received (record { from = is.0; letter = l });
+received_one old new l (from, time, is) = record {
+  logged = ap (λ (p : PortView). p.dids) is;
+  letters = ap (λ (p : PortView). map (λ (q : Post). q.letter) p.receiver.received) is
+      ∙ one_more old.receiver.received (record { from = from; letter = l; time = time });
   shares = λ k. nothing_new (shares_of old.trail.known k) (shares_of new.trail.known k)
-      (ap (λ (p : PortView). shares_of p.trail.known k) is.1);
+      (ap (λ (p : PortView). shares_of p.trail.known k) is);
 }
 
 pub received_none : (old new : PortView) → view.Receives old new None →

@@ -53,8 +53,8 @@ received_stays plane old new None of is = record {
 }
 received_stays plane old new (Some l) of is = record {
   of = of;
-  port = ap (λ (p : PortView). p.port) is.1;
-  parts = ap (λ (p : PortView). parts_of p.trail.known) is.1;
+  port = ap (λ (p : PortView). p.port) is.2;
+  parts = ap (λ (p : PortView). parts_of p.trail.known) is.2;
 }
 
 pub same_stays : (plane : Plane) (old new : PortView) → IsPortOf plane new → new ≡ old →
@@ -114,8 +114,9 @@ looks_both law script places a b c port one two workers = record {
 pub one_more_heard : (old new : PortView) (l : Letter) → view.Receives old new (Some l) →
     heard_by new ≡ heard_by old + 1
 one_more_heard old new l got =
-    ap (λ (p : PortView). heard_by p) got.1
-    ∙ length-append old.receiver.received ((record { from = got.0; letter = l }) ∷ [])
+    ap (λ (p : PortView). heard_by p) got.2
+    ∙ length-append old.receiver.received
+    ((record { from = got.0; letter = l; time = got.1 }) ∷ [])
 
 -- and messages receive nothing
 pub still_heard : (old new : PortView) → HearsNothing old new → heard_by new ≡ heard_by old

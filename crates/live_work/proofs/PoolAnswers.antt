@@ -191,12 +191,6 @@ sends_first law script places all left rest asks start mid new first port says w
       (port ∙ same) says).each workers);
 }
 
-pub sends_none : (script : ScriptValue) (places : ℕ) (all : List (List Ask)) (start : PortView) →
-    LeavesAnswers script places all all start start
-sends_none script places all start = record {
-  on = λ workers behind begin pool same waits. waits;
-}
-
 -- ---- a look
 
 pub pool_is : (workers : ℕ) → 2 ≤ workers → is_pool workers ≡ true

@@ -65,7 +65,7 @@ pub received_next : (old new : PortView) (l : Letter) (n : ℕ) → n ≡ receiv
     Receives old new (Some l) → next_count n ≡ received_count new.dids
 received_next old new l n is receives =
     ap (λ (k : ℕ). next_count k) is
-    ∙ sym (ap (λ (p : PortView). received_count p.dids) receives.1
+    ∙ sym (ap (λ (p : PortView). received_count p.dids) receives.2
     ∙ count_one old.dids l.queue l.number l.visit)
 
 -- what is asked for is the answer to the notice
@@ -86,14 +86,16 @@ heard_one : (old new : PortView) (l : Letter) (m n : ℕ) →
     Receives old new (Some l) → n ≡ min (length new.receiver.received) most_counted
 heard_one old new l m n was now receives =
     let longer : length new.receiver.received
-    ≡ length (old.receiver.received ++ record { from = receives.0; letter = l } ∷ []) =
-    ap (λ (p : PortView). length p.receiver.received) receives.1 in
+    ≡ length (old.receiver.received
+    ++ record { from = receives.0; letter = l; time = receives.1 } ∷ []) =
+    ap (λ (p : PortView). length p.receiver.received) receives.2 in
     omega (
       arith,
       was,
       now,
       longer,
-      length-append old.receiver.received (record { from = receives.0; letter = l } ∷ []),
+      length-append old.receiver.received
+          (record { from = receives.0; letter = l; time = receives.1 } ∷ []),
     )
 
 pub mind_on : (script : ScriptValue) (m n : Mind) (l : Letter) →
@@ -101,7 +103,7 @@ pub mind_on : (script : ScriptValue) (m n : Mind) (l : Letter) →
     n.received ≡ min (m.received + 1) (2 ^ 128 - 1) → (old new : PortView) →
     IsMind script old m → Receives old new (Some l) → IsMind script new n
 mind_on script m n l machine received old new is receives =
-    let port : new.port ≡ old.port = ap (λ (p : PortView). p.port) receives.1 in
+    let port : new.port ≡ old.port = ap (λ (p : PortView). p.port) receives.2 in
     record {
       port = ap (λ (p : ℕ). is_port script p) port ∙ is.port;
       place = ap (λ (x : Machine). x.place) machine ∙ is.place

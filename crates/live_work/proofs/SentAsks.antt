@@ -1,20 +1,17 @@
 -- A port sends what is asked for: the words of an ask, and one ask after the other.
-use Rattle.std.proofs.Common.{◌≡◌, ◌<◌, ◌^◌, ◌∙◌, ◌∷◌, [], ℕ, Bool, List, ap, arith, false, length}
+use Rattle.std.proofs.Common.{◌≡◌, ◌∙◌, ◌∷◌, ℕ, Bool, List, ap, false}
 use Rattle.std.proofs.Common.{subst, sym, true}
-use Rattle.std.specs.Prelude.{All, Err, IfOk, Ok, OnOk, Result, is_err}
+use Rattle.std.specs.Prelude.{All, Err, Ok, OnOk, Result, is_err}
 use Rattle.std.proofs.lemmas.List.Elements.{All-head, All-tail}
-use Rattle.packet_moves.specs.Calls.{next_call}
-use Rattle.nfqa_msgs.specs.RequestWriting.{spelling}
-use Rattle.nfqa_msgs.specs.declared.request.Request.{Request}
+use Rattle.packet_moves.specs.Calls.{after_this, next_call, sent_in}
 use Rattle.histories.specs.declared.log.AskWords.{AskWords}
-use Rattle.histories.specs.declared.log.AskWords.TheVariants.{Plain, Raw}
-use Rattle.script_lines.specs.Limits.{IsAsk, IsRaw, IsRequest, IsWords}
+use Rattle.script_lines.specs.Limits.{IsAsk, IsWords}
 use Rattle.script_lines.specs.declared.ask.Ask.{Ask}
-use Rattle.script_lines.specs.declared.ask.Ask.TheVariants.{Close, Words}
+use Rattle.script_lines.specs.declared.ask.Ask.TheVariants.{Words}
 use Rattle.inspector_script.specs.Scripts.{ScriptValue}
 use Rattle.run_parts.specs.Datagrams.{bytes_of, messages_in}
 use Rattle.run_parts.specs.Log.{Due, Note, Still}
-use Rattle.port_scripts.specs.Words.{AreWords, ClosesLast}
+use Rattle.port_scripts.specs.Words.{AreWords}
 use Rattle.live_runs.specs.Doing.{HasAsked, HasSent, IsCutting, IsDoing}
 use Rattle.live_runs.specs.Passes.{Pass}
 use Rattle.live_runs.specs.Stages.{Stage}
@@ -25,16 +22,6 @@ use Rattle.live_work.specs.Sending.{HasCut, Says, SaysTo}
 pub on_ok : {X E : Type 0} (r : Result X E) (P Q : Type 0) → (P → Q) → OnOk r P → OnOk r Q
 on_ok (Ok x) P Q so is = so is
 on_ok (Err e) P Q so is = tt
-
-pub if_ok : {X E : Type 0} (r : Result X E) (P Q : X → Type 0) → ((x : X) → P x → Q x) →
-    IfOk r P → IfOk r Q
-if_ok (Ok x) P Q so is = so x is
-if_ok (Err e) P Q so is = tt
-
--- what holds anyway
-pub ok_anyway : {X E : Type 0} (r : Result X E) (P : Type 0) → P → OnOk r P
-ok_anyway (Ok x) P is = is
-ok_anyway (Err e) P is = tt
 
 -- ---- the words of an ask
 
@@ -67,37 +54,14 @@ says_so takes_up begins script places port bytes words old new fit are cut = rec
   };
 }
 
--- the bytes of a request's message, and of a datagram
-pub plain_bytes : (port call : ℕ) (bytes : List ℕ) (words : AskWords) (request : Request)
-    (pass : Pass) → words ≡ Plain request → bytes ≡ spelling port call request →
-    call ≡ next_call pass.dids → bytes ≡ bytes_of port (next_call pass.dids) words
-plain_bytes port call bytes words request pass is text number =
-    text ∙ ap (λ (n : ℕ). spelling port n request) number
-    ∙ sym (ap (λ (w : AskWords). bytes_of port (next_call pass.dids) w) is)
-
-pub raw_bytes : (port : ℕ) (bytes : List ℕ) (words : AskWords) (pass : Pass) →
-    words ≡ Raw bytes → bytes ≡ bytes_of port (next_call pass.dids) words
-raw_bytes port bytes words pass is =
-    sym (ap (λ (w : AskWords). bytes_of port (next_call pass.dids) w) is)
-
-pub plain_of : (port call : ℕ) (bytes : List ℕ) (words : AskWords) (request : Request) →
-    words ≡ Plain request → bytes ≡ spelling port call request →
-    bytes ≡ bytes_of port call words
-plain_of port call bytes words request is text =
-    text ∙ sym (ap (λ (w : AskWords). bytes_of port call w) is)
-
-pub raw_of : (port call : ℕ) (bytes : List ℕ) (words : AskWords) → words ≡ Raw bytes →
-    bytes ≡ bytes_of port call words
-raw_of port call bytes words is = sym (ap (λ (w : AskWords). bytes_of port call w) is)
-
-pub plain_fits : (words : AskWords) (request : Request) → words ≡ Plain request →
-    IsWords words → IsRequest request
-plain_fits words request is fit = subst (λ (w : AskWords). IsWords w) is fit
-
-pub raw_short : (words : AskWords) (bytes : List ℕ) → words ≡ Raw bytes → IsWords words →
-    length bytes < 2 ^ 31
-raw_short words bytes is fit =
-    let fits : IsRaw bytes = subst (λ (w : AskWords). IsWords w) is fit in omega (arith, fits.1)
+-- what was put are the bytes of the port's next message
+pub next_bytes : (bytes text : List ℕ) (port asked number : ℕ) (words : AskWords) (pass : Pass) →
+    bytes ≡ text → text ≡ bytes_of asked (after_this number) words → asked ≡ port →
+    number ≡ sent_in pass.dids → bytes ≡ bytes_of port (next_call pass.dids) words
+next_bytes bytes text port asked number words pass read put same count =
+    read ∙ put
+    ∙ ap (λ (p : ℕ). bytes_of p (after_this number) words) same
+    ∙ ap (λ (n : ℕ). bytes_of port (after_this n) words) count
 
 -- ---- one ask after the other
 
@@ -140,18 +104,6 @@ pub rest_fits : (left rest : List Ask) (words : AskWords) → left ≡ Words wor
     All IsAsk left → All IsAsk rest
 rest_fits left rest words steps fit =
     All-tail IsAsk (Words words) rest (subst (λ (l : List Ask). All IsAsk l) steps fit)
-
-pub last_on : (left rest : List Ask) (words : AskWords) → left ≡ Words words ∷ rest →
-    ClosesLast left → ClosesLast rest
-last_on left rest words steps are = subst (λ (l : List Ask). ClosesLast l) steps are
-
--- nothing stands behind a closing
-pub close_last : (left rest : List Ask) (ask : Ask) → left ≡ ask ∷ rest → ask ≡ Close →
-    ClosesLast left → left ≡ Close ∷ []
-close_last left rest ask steps is are =
-    let all : left ≡ Close ∷ rest = steps ∙ ap (λ (a : Ask). a ∷ rest) is in
-    let none : rest ≡ [] = subst (λ (l : List Ask). ClosesLast l) all are in
-    all ∙ ap (λ (l : List Ask). Close ∷ l) none
 
 -- what a call promises where it went well, by whether it failed
 pub went_well : {X E : Type 0} (r : Result X E) (failed : Bool) (P : Type 0) →

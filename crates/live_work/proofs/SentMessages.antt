@@ -1,7 +1,6 @@
 -- A port sends messages by its pass: what is known after each of them.
 use Rattle.std.proofs.Common.{◌≡◌, ◌<◌, ◌≤◌, ◌-◌, ◌+◌, ◌∙◌, ◌++◌, ◌∷◌, [], ℕ, List, Option, Some}
 use Rattle.std.proofs.Common.{None, ap, arith, cond, drop, map, subst, sym}
-use Rattle.std.specs.Prelude.{Err, IfOk, Ok, OnErr, Result}
 use Rattle.std.proofs.lemmas.List.Sums.{sum_by-append}
 use Rattle.mailbox.specs.declared.view.Post.{Post}
 use Rattle.mailbox.specs.Views.{ReceiverView}
@@ -13,10 +12,10 @@ use Rattle.histories.specs.declared.log.Did.TheVariants.{Sent}
 use Rattle.histories.specs.Logs.{is_received}
 use Rattle.packet_moves.specs.declared.setting.Setting.{Setting}
 use Rattle.inspector_script.specs.Scripts.{ScriptValue}
-use Rattle.run_parts.specs.Datagrams.{cut_in, messages_in}
+use Rattle.run_parts.specs.Datagrams.{cut_in}
 use Rattle.run_parts.specs.Log.{Due, Note, received_count}
 use Rattle.plane.specs.declared.plane.Plane.{Plane}
-use Rattle.place_turns.specs.Messages.{Sends, SendsUnread}
+use Rattle.place_turns.specs.Messages.{Sends}
 use Rattle.plane.specs.Passes.{PortView}
 use Rattle.plane.specs.Planes.{places_of, setting_of}
 use Rattle.place_turns.specs.Trails.{Trail}
@@ -76,27 +75,6 @@ count_sent places s port None dids logged old new before after used sent =
 count_sent places s port (Some (m, n)) dids logged old new before after used sent =
     ap (λ (l : List Did). received_count l) sent.1.noted ∙ sent_count dids _ _ _
 
--- also where memory ran out, so that nothing was sent
-pub counted_unread : {E : Type 0} (places : ℕ) (s : Setting) (port : ℕ)
-    (front : Option (NetlinkMessage × ℕ)) (dids logged : List Did) (old new : Trail)
-    (r : Result ℕ E) → IfOk r (SendsUnread places s port front dids logged old new) →
-    OnErr r (logged ≡ dids) → received_count logged ≡ received_count dids
-counted_unread places s port front dids logged old new (Ok used) sent none =
-    count_sent places s port front dids logged old new [] (sent []).0 used (sent []).1
-counted_unread places s port front dids logged old new (Err e) sent none =
-    ap (λ (l : List Did). received_count l) none
-
--- where it was sent
-pub if_unread : {E : Type 0} (places : ℕ) (s : Setting) (port : ℕ)
-    (front : Option (NetlinkMessage × ℕ)) (dids logged : List Did) (old new : Trail)
-    (r : Result ℕ E) (Q : ℕ → Type 0) →
-    ((used : ℕ) (after : List ℕ) →
-    Sends places s port front dids logged old new [] after used → Q used) →
-    IfOk r (SendsUnread places s port front dids logged old new) → IfOk r Q
-if_unread places s port front dids logged old new (Ok used) Q so sent =
-    so used (sent []).0 (sent []).1
-if_unread places s port front dids logged old new (Err e) Q so sent = tt
-
 pub hears_on : (a b c : PortView) → HearsNothing a b → c.receiver ≡ b.receiver →
     received_count c.dids ≡ received_count b.dids → HearsNothing a c
 hears_on a b c was receiver counted =
@@ -127,12 +105,6 @@ EnoughLaw = (workers : ℕ) (script : ScriptValue) (places : ℕ) (stage : Stage
     (pass : Pass) → 0 < places → MaySpeak script.ports port stage x → count ≤ look →
     IsCutting workers script places stage port was start x (cut_in (count - look) rest) ds pass →
     IsDoing workers script places stage port was start (side x ds) pass
-
--- none was sent yet
-pub cut_none : (script : ScriptValue) (places port : ℕ) (bytes : List ℕ) (pass : Pass) →
-    HasCutTo script places port bytes (messages_in bytes) pass pass
-cut_none script places port bytes pass =
-    record { on = λ workers stage was start x ds may is. is }
 
 -- one more was sent
 pub cut_on : NextLaw → (script : ScriptValue) (places port : ℕ) (bytes : List ℕ)

@@ -1,8 +1,5 @@
 -- What a call leaves of a pass as it is, call after call.
-use Rattle.std.proofs.Common.{◌≡◌, ◌<◌, ◌∙◌, List, ap, arith, length, refl, sym}
-use Rattle.std.proofs.lemmas.List.{length-map}
-use Rattle.atomic_table.specs.Seated.{TableId}
-use Rattle.place_rows.specs.Rows.{id_of}
+use Rattle.std.proofs.Common.{◌≡◌, ◌<◌, ◌∙◌, arith, refl}
 use Rattle.plane.specs.declared.plane.Plane.{Plane}
 use Rattle.plane.specs.Passes.{FeederView, IsFeederOf, IsPortOf, PortView}
 use Rattle.plane.specs.Planes.{places_of}
@@ -18,13 +15,6 @@ some_place plane = omega (arith, plane.shared.some, plane.shared.sized)
 
 pub port_owns : (plane : Plane) (p : PortView) → IsPortOf plane p → HaveSeenOwn p.trail.known
 port_owns plane p of = record { placed = of.balanced.placed; legal = of.balanced.legal }
-
--- it has a pass of each place's lock
-pub port_long : (plane : Plane) (p : PortView) → IsPortOf plane p →
-    places_of plane ≡ length p.trail.known
-port_long plane p of =
-    sym (of.of.as_many ∙ ap (λ (l : List TableId). length l) of.of.locks_are
-    ∙ length-map plane.shared.locks.items id_of ∙ plane.shared.sized)
 
 pub port_here : (plane : Plane) (p : PortView) → IsPortOf plane p → StaysPort plane p p
 port_here plane p of = record { of = of; port = refl; parts = refl }

@@ -5,9 +5,10 @@ use std::sync::Wait;
 use std::sync::atomic::{AtomicU64, Ordering};
 use std::time::Duration;
 
-/// So many dozes in a row, some 20 ms, an inspector waits for feeders that haven't begun. Where no
-/// thread can be made they begin when all inspectors have ended.
-const MOST_DOZES: u32 = 24;
+/// So many dozes in a row, each of a millisecond after the first few, an inspector waits for
+/// feeders that haven't begun: some 250 ms. Where no thread can be made they begin when all
+/// inspectors have ended.
+const MOST_DOZES: u32 = 250;
 
 /// How long a feeder that holds back naps, in microseconds.
 const NAP: u64 = 50;

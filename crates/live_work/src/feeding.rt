@@ -15,9 +15,9 @@ ghost use Rattle.live_work.specs.Numbers.{most_frames};
 ghost use Rattle.live_passes.specs.Numbered.{StaysFeeder};
 
 use crate::activity::Activity;
-use feeder_set::{Feeder, Share, each_frame_is_one_shares};
+use feeder_set::{Feeder, Share, Stage, each_frame_is_one_shares};
 use glance::GlancePass;
-use inspector_script::{Downs, Script};
+use inspector_script::Downs;
 use live_passes::feeders_feed_their_passes;
 use live_runs::the_feeder_keeps_its_time;
 use packet_entry::NoMemory;
@@ -26,7 +26,6 @@ use plane::{FeederPass, Gate, Plane};
 use port_scripts::{DownsByFrame, downs_by_frame};
 use script_lines::Down;
 use shared_feeding::{a_feeder_keeps_its_share, lines_of_a_share_add_up};
-use std::alloc::Global;
 use std::sync::Wait;
 
 /// Who feeds a share of the frames.
@@ -128,25 +127,23 @@ fn take_all_down<R: Wait>(
 
 /// The devices go down that do so after the frame with this number, or before the first frame for
 /// 0. `NoMemory` leaves a part of them down.
-pub fn take_down_after<R: Wait>(
-    rt: &R,
-    plane: &Plane,
-    script: &Script,
+pub fn take_down_after<R: Wait, G: Gate>(
+    stage: &Stage<'_, R, G>,
     pass: &mut FeederPass,
     downs: &DownsByFrame,
     number: u32,
 ) -> Result<(), NoMemory>
-    requires pass { IsFeederOf plane.now pass.old }
-    requires downs { AreDownsOf script.now downs.now }
-    ensures stays { StaysFeeder plane.now pass.old pass.new }
+    requires pass { IsFeederOf stage.now.plane.now pass.old }
+    requires downs { AreDownsOf stage.now.script.now downs.now }
+    ensures stays { StaysFeeder stage.now.plane.now pass.old pass.new }
     ensures none { pass.new.fed ≡ pass.old.fed }
-    ensures down { OnOk result (FedOn (places_of plane.now) (falling_time number)
-        (falling_time number) (downs_after script.now number) (shares_in pass.old)
+    ensures down { OnOk result (FedOn (places_of stage.now.plane.now) (falling_time number)
+        (falling_time number) (downs_after stage.now.script.now number) (shares_in pass.old)
         (shares_in pass.new)) }
 {
     the_feeder_keeps_its_time();
     match downs.get(&number) {
-        Some(due) => take_all_down(rt, plane, pass, due, number),
+        Some(due) => take_all_down(stage.rt, stage.plane, pass, due, number),
         None => Ok(()),
     }
 }
@@ -154,11 +151,7 @@ pub fn take_down_after<R: Wait>(
 /// The frames of a share pass, one after the other, each once not too many packets wait: its packet
 /// is fed, where it is IP, and the devices go down that do so after it.
 fn feed_share<R: Wait, G: Gate>(
-    rt: &R,
-    alloc: Global,
-    plane: &Plane,
-    gate: &G,
-    script: &Script,
+    stage: &Stage<'_, R, G>,
     capture: &Capture,
     share: Share,
     activity: &Activity,
@@ -166,30 +159,37 @@ fn feed_share<R: Wait, G: Gate>(
 ) -> Result<(), NoMemory>
     requires feeders { (1 ≤ share.feeders) × (share.feeders ≤ most_feeders) }
     requires number { share.number < share.feeders }
-    requires pass { IsFeederOf plane.now feeding.old.pass }
-    requires looks { IsFeedingOf plane.now feeding.old }
+    requires pass { IsFeederOf stage.now.plane.now feeding.old.pass }
+    requires looks { IsFeedingOf stage.now.plane.now feeding.old }
     requires frames { length capture.now.frames ≤ most_frames }
     requires bytes { All (λ f. length f.bytes ≤ longest_packet) capture.now.frames }
     requires none { feeding.old.pass.fed ≡ [] }
-    ensures stays { StaysFeeder plane.now feeding.old.pass feeding.new.pass }
-    ensures looks { IsFeedingOf plane.now feeding.new }
+    ensures stays { StaysFeeder stage.now.plane.now feeding.old.pass feeding.new.pass }
+    ensures looks { IsFeedingOf stage.now.plane.now feeding.new }
     ensures fed { OnOk result (feeding.new.pass.fed ≡ share_cards share capture.now) }
-    ensures on { OnOk result (SharePasses script.now (places_of plane.now) share
-        (length capture.now.frames) (shares_in feeding.old.pass) (shares_in feeding.new.pass)) }
+    ensures on { OnOk result (SharePasses stage.now.script.now (places_of stage.now.plane.now)
+        share (length capture.now.frames) (shares_in feeding.old.pass)
+        (shares_in feeding.new.pass)) }
 {
     a_feeder_keeps_its_share();
     lines_of_a_share_add_up();
     each_frame_is_one_shares();
     feeders_feed_their_passes();
     the_feeder_keeps_its_time();
-    let downs = downs_by_frame(alloc, script)?;
+    let downs = downs_by_frame(stage.alloc, stage.script)?;
     let mut feeder = Feeder::new(share);
     // Each step goes on by a frame at least.
     for step in 0..capture.frames.len() {
-        activity.keep_pace(rt, share.number, step as u64);
-        hold_back(rt, plane, activity, step as u64, &mut feeding.gauge);
+        activity.keep_pace(stage.rt, share.number, step as u64);
+        hold_back(
+            stage.rt,
+            stage.plane,
+            activity,
+            step as u64,
+            &mut feeding.gauge,
+        );
         let pass = &mut feeding.pass;
-        if !feeder.step_by(rt, alloc, plane, pass, script, &downs, capture, gate)? {
+        if !feeder.step_by(stage, pass, &downs, capture)? {
             return Ok(());
         }
     }
@@ -201,28 +201,23 @@ impl Feeding {
     /// each, as a worker. Where memory runs out it stops, and has failed.
     pub fn work<R: Wait, G: Gate>(
         &mut self,
-        rt: &R,
-        alloc: Global,
-        plane: &Plane,
-        gate: &G,
-        script: &Script,
+        stage: &Stage<'_, R, G>,
         capture: &Capture,
         share: Share,
         activity: &Activity,
     )
         requires feeders { (1 ≤ share.feeders) × (share.feeders ≤ most_feeders) }
         requires number { share.number < share.feeders }
-        requires pass { IsFeederOf plane.now self.old.pass }
-        requires looks { IsFeedingOf plane.now self.old }
+        requires pass { IsFeederOf stage.now.plane.now self.old.pass }
+        requires looks { IsFeedingOf stage.now.plane.now self.old }
         requires frames { length capture.now.frames ≤ most_frames }
         requires bytes { All (λ f. length f.bytes ≤ longest_packet) capture.now.frames }
         requires none { self.old.pass.fed ≡ [] }
-        ensures fed { HasFed script.now capture.now plane.now share self.old self.new }
+        ensures fed { HasFed stage.now.script.now capture.now stage.now.plane.now share self.old
+            self.new }
     {
         activity.begin(share.number);
-        let outcome = feed_share(
-            rt, alloc, plane, gate, script, capture, share, activity, self,
-        );
+        let outcome = feed_share(stage, capture, share, activity, self);
         activity.end(share.number);
         self.failed = outcome.is_err();
     }

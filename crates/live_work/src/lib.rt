@@ -11,13 +11,16 @@ mod feeding;
 mod looking;
 mod mind;
 mod pause;
+mod pool;
 mod pooling;
 mod sending;
 
 pub use activity::Activity;
+pub use feeder_set::Stage;
 pub use feeding::{Feeding, take_down_after};
 pub use looking::{inspect, look};
 pub use mind::{Mind, minds};
 pub use pause::Pause;
+pub use pool::Pool;
 pub use pooling::{inspect_by_pool, look_by_pool};
 pub use sending::say_all;

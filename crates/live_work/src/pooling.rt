@@ -3,7 +3,7 @@
 ghost use Rattle.std.specs.Prelude.{◌≡◌, ◌≤◌, ◌<◌, ◌+◌, ◌↔◌, ℕ, [], true, length, All, IfOk, OnOk};
 ghost use Rattle.script_lines.specs.Limits.{IsAsk};
 ghost use Rattle.inspector_pool.specs.Answers.{answers};
-ghost use Rattle.inspector_pool.specs.Numbers.{least_workers, most_notices, most_workers};
+ghost use Rattle.inspector_pool.specs.Numbers.{least_workers, most_notices};
 ghost use Rattle.run_parts.specs.Log.{is_pool, received_count};
 ghost use Rattle.run_parts.specs.Ports.{is_port, place_in};
 ghost use Rattle.port_scripts.specs.Words.{AreWords};
@@ -17,15 +17,16 @@ ghost use Rattle.live_work.specs.Pooling.{HasReceived, LeavesAnswers, as_many_as
 use crate::looking::LAST_LOOK;
 use crate::mind::Mind;
 use crate::pause::Pause;
+use crate::pool::Pool;
 use crate::sending::say_all;
+use feeder_set::Stage;
 use inspector_pool::{AsksList, JobGate, MOST_NOTICES, Notices, PoolAnswers, pool_answers};
 use inspector_script::Script;
 use live_passes::ports_speak_by_their_passes;
 use live_runs::{a_pool_answers_in_groups, what_a_port_does_adds_up};
 use packet_entry::NoMemory;
-use plane::{Gate, Plane, PortPass};
+use plane::{Gate, PortPass};
 use port_scripts::{notice_in, ports_close_at_the_end};
-use std::alloc::Global;
 use std::sync::Wait;
 use std::thread::Threads;
 
@@ -39,32 +40,29 @@ struct Batch {
 
 /// Receives notices until the mailbox is found empty, at most 64, or one can't be read. Each is
 /// counted.
-fn receive_batch<R: Wait>(
-    rt: &R,
-    alloc: Global,
-    plane: &Plane,
-    script: &Script,
+fn receive_batch<R: Wait, G: Gate>(
+    stage: &Stage<'_, R, G>,
     pass: &mut PortPass,
     mind: &mut Mind,
 ) -> Result<Batch, NoMemory>
-    requires pass { IsPortOf plane.now pass.old }
-    requires mind { IsMind script.now pass.old mind.old }
-    ensures stays { StaysPort plane.now pass.old pass.new }
-    ensures mind { OnOk result (IsMind script.now pass.new mind.new) }
+    requires pass { IsPortOf stage.now.plane.now pass.old }
+    requires mind { IsMind stage.now.script.now pass.old mind.old }
+    ensures stays { StaysPort stage.now.plane.now pass.old pass.new }
+    ensures mind { OnOk result (IsMind stage.now.script.now pass.new mind.new) }
     ensures few { IfOk result (λ b. length b.notices ≤ most_notices) }
-    ensures words { IfOk result (λ b. All AreWords (answers script.now
+    ensures words { IfOk result (λ b. All AreWords (answers stage.now.script.now
         mind.old.machine.place mind.old.machine.received b.notices)) }
-    ensures received { IfOk result (λ b. HasReceived script.now (places_of plane.now)
-        mind.old.machine b.notices b.unread pass.old pass.new) }
+    ensures received { IfOk result (λ b. HasReceived stage.now.script.now
+        (places_of stage.now.plane.now) mind.old.machine b.notices b.unread pass.old pass.new) }
     ensures heard { IfOk result (λ b. heard_by pass.new
         ≡ heard_by pass.old + as_many_as b.notices b.unread) }
 {
     ports_speak_by_their_passes();
     a_pool_answers_in_groups();
     ports_close_at_the_end();
-    let mut notices = Notices::new(alloc);
+    let mut notices = Notices::new(stage.alloc);
     for _received in 0..MOST_NOTICES {
-        let Some(letter) = plane.receive(rt, pass)? else {
+        let Some(letter) = stage.plane.receive(stage.rt, pass)? else {
             break;
         };
         mind.machine.count(1);
@@ -101,69 +99,68 @@ fn place_of(script: &Script, port: u32) -> u32
 
 /// Sends answers that wait, in their order.
 fn send_answers<R: Wait, G: Gate>(
-    rt: &R,
-    alloc: Global,
-    plane: &Plane,
-    gate: &G,
-    script: &Script,
+    stage: &Stage<'_, R, G>,
     pass: &mut PortPass,
     mind: &mut Mind,
     answers: AsksList,
 ) -> Result<(), NoMemory>
     requires fit { All (All IsAsk) answers }
     requires words { All AreWords answers }
-    requires pass { IsPortOf plane.now pass.old }
-    requires mind { IsMind script.now pass.old mind.old }
-    ensures stays { StaysPort plane.now pass.old pass.new }
+    requires pass { IsPortOf stage.now.plane.now pass.old }
+    requires mind { IsMind stage.now.script.now pass.old mind.old }
+    ensures stays { StaysPort stage.now.plane.now pass.old pass.new }
     ensures heard { heard_by pass.new ≡ heard_by pass.old }
-    ensures mind { OnOk result (IsMind script.now pass.new mind.new) }
-    ensures sent { OnOk result (LeavesAnswers script.now (places_of plane.now) answers []
-        pass.old pass.new) }
+    ensures mind { OnOk result (IsMind stage.now.script.now pass.new mind.new) }
+    ensures sent { OnOk result (LeavesAnswers stage.now.script.now
+        (places_of stage.now.plane.now) answers [] pass.old pass.new) }
 {
     what_a_port_does_adds_up();
     a_pool_answers_in_groups();
     let mut left = answers;
     while let Some(asks) = left.take_first() {
-        say_all(rt, alloc, plane, gate, script, pass, mind, asks)?;
+        say_all(stage, pass, mind, asks)?;
     }
     Ok(())
 }
 
 /// A port looks into its mailbox: the notices that it finds, at most 64, are received, a pool works
 /// out the answers, and they are sent in the order of the notices. Whether there was a notice.
-/// `NoMemory` leaves a part of the answers sent. `jobs` is told of each job of the pool.
+/// `NoMemory` leaves a part of the answers sent. `pool.jobs` is told of each job.
 pub fn look_by_pool<R: Threads + Wait + Sync, G: Gate, J: JobGate>(
-    rt: &R,
-    alloc: Global,
-    plane: &Plane,
-    gate: &G,
-    jobs: &J,
-    script: &Script,
-    workers: u32,
+    stage: &Stage<'_, R, G>,
+    pool: &Pool<'_, J>,
     pass: &mut PortPass,
     mind: &mut Mind,
 ) -> Result<bool, NoMemory>
-    requires workers { (least_workers ≤ workers) × (workers ≤ most_workers) }
-    requires pass { IsPortOf plane.now pass.old }
-    requires mind { IsMind script.now pass.old mind.old }
-    ensures stays { StaysPort plane.now pass.old pass.new }
-    ensures mind { OnOk result (IsMind script.now pass.new mind.new) }
-    ensures on { OnOk result (LooksOn workers script.now (places_of plane.now) pass.old pass.new) }
+    requires workers { least_workers ≤ pool.now.workers }
+    requires pass { IsPortOf stage.now.plane.now pass.old }
+    requires mind { IsMind stage.now.script.now pass.old mind.old }
+    ensures stays { StaysPort stage.now.plane.now pass.old pass.new }
+    ensures mind { OnOk result (IsMind stage.now.script.now pass.new mind.new) }
+    ensures on { OnOk result (LooksOn pool.now.workers stage.now.script.now
+        (places_of stage.now.plane.now) pass.old pass.new) }
     ensures found { IfOk result (λ found.
         (found ≡ true) ↔ (heard_by pass.old < heard_by pass.new)) }
 {
     what_a_port_does_adds_up();
     a_pool_answers_in_groups();
-    let place = place_of(script, pass.port());
+    let place = place_of(stage.script, pass.port());
     let counted = mind.machine.counted();
-    let Batch { notices, unread } = receive_batch(rt, alloc, plane, script, pass, mind)?;
+    let Batch { notices, unread } = receive_batch(stage, pass, mind)?;
     if !unread && notices.is_empty() {
         return Ok(false);
     }
     let PoolAnswers { answers, shares: _ } = pool_answers(
-        rt, alloc, script, place, counted, &notices, workers, jobs,
+        stage.rt,
+        stage.alloc,
+        stage.script,
+        place,
+        counted,
+        &notices,
+        pool.workers,
+        pool.jobs,
     )?;
-    send_answers(rt, alloc, plane, gate, script, pass, mind, answers)?;
+    send_answers(stage, pass, mind, answers)?;
     Ok(true)
 }
 
@@ -171,35 +168,31 @@ pub fn look_by_pool<R: Threads + Wait + Sync, G: Gate, J: JobGate>(
 /// After one that does it pauses, so that others come to work, unless nothing is left to do.
 /// `NoMemory` leaves a part of an answer sent.
 pub fn inspect_by_pool<R: Threads + Wait + Sync, G: Gate, J: JobGate>(
-    rt: &R,
-    alloc: Global,
-    plane: &Plane,
-    gate: &G,
-    jobs: &J,
-    script: &Script,
-    workers: u32,
+    stage: &Stage<'_, R, G>,
+    pool: &Pool<'_, J>,
     pause: &mut Pause<'_>,
     pass: &mut PortPass,
     mind: &mut Mind,
 ) -> Result<(), NoMemory>
-    requires workers { (least_workers ≤ workers) × (workers ≤ most_workers) }
-    requires pass { IsPortOf plane.now pass.old }
-    requires mind { IsMind script.now pass.old mind.old }
-    ensures stays { StaysPort plane.now pass.old pass.new }
-    ensures mind { OnOk result (IsMind script.now pass.new mind.new) }
-    ensures on { OnOk result (LooksOn workers script.now (places_of plane.now) pass.old pass.new) }
+    requires workers { least_workers ≤ pool.now.workers }
+    requires pass { IsPortOf stage.now.plane.now pass.old }
+    requires mind { IsMind stage.now.script.now pass.old mind.old }
+    ensures stays { StaysPort stage.now.plane.now pass.old pass.new }
+    ensures mind { OnOk result (IsMind stage.now.script.now pass.new mind.new) }
+    ensures on { OnOk result (LooksOn pool.now.workers stage.now.script.now
+        (places_of stage.now.plane.now) pass.old pass.new) }
 {
     what_a_port_does_adds_up();
     let mut empty = 0;
-    for _ in rt.forever() {
+    for _ in stage.rt.forever() {
         if empty >= LAST_LOOK {
             return Ok(());
         }
-        if look_by_pool(rt, alloc, plane, gate, jobs, script, workers, pass, mind)? {
+        if look_by_pool(stage, pool, pass, mind)? {
             pause.found();
             empty = 0;
         } else {
-            pause.pause(rt);
+            pause.pause(stage.rt);
             empty += 1;
         }
     }

@@ -2,44 +2,40 @@
 
 ghost use Rattle.std.specs.Prelude.{◌≡◌, ◌<◌, ◌^◌, [], length, All, OnOk};
 ghost use Rattle.script_lines.specs.Limits.{IsAsk, IsWords};
+ghost use Rattle.run_parts.specs.Datagrams.{bytes_of};
 ghost use Rattle.plane.specs.Passes.{IsPortOf};
 ghost use Rattle.plane.specs.Planes.{places_of};
 ghost use Rattle.live_passes.specs.Views.{port_pass};
 ghost use Rattle.live_work.specs.Minds.{HearsNothing};
 ghost use Rattle.live_passes.specs.Numbered.{StaysPort};
-ghost use Rattle.live_work.specs.Sending.{HasCut, Says, SaysTo};
+ghost use Rattle.live_work.specs.Sending.{HasCut, SaysTo};
 ghost use Rattle.port_scripts.specs.Words.{AreWords};
 
 use crate::mind::Mind;
+use feeder_set::Stage;
 use histories::AskWords;
-use inspector_script::{Asks, Script};
+use inspector_script::Asks;
 use live_passes::ports_speak_by_their_passes;
 use live_runs::{a_port_does_what_is_next, messages_are_sent_one_by_one, what_a_port_does_adds_up};
 use packet_entry::NoMemory;
-use plane::{Gate, Plane, PortPass};
+use plane::{Gate, PortPass};
 use port_scripts::{behind, put_text};
-use run_parts::datagrams_are_short;
 use script_lines::Ask;
-use std::alloc::Global;
 use std::sync::Wait;
 
 /// A port sends the messages of some bytes, one after the other, as far as they can be cut into
 /// messages.
 fn send_all<R: Wait, G: Gate>(
-    rt: &R,
-    alloc: Global,
-    plane: &Plane,
-    gate: &G,
-    script: &Script,
+    stage: &Stage<'_, R, G>,
     pass: &mut PortPass,
     datagram: &[u8],
 ) -> Result<(), NoMemory>
     requires short { length datagram.now < 2 ^ 31 }
-    requires pass { IsPortOf plane.now pass.old }
-    ensures stays { StaysPort plane.now pass.old pass.new }
+    requires pass { IsPortOf stage.now.plane.now pass.old }
+    ensures stays { StaysPort stage.now.plane.now pass.old pass.new }
     ensures hears { HearsNothing pass.old pass.new }
-    ensures sent { OnOk result (HasCut script.now (places_of plane.now) pass.old.port datagram.now
-        (port_pass pass.old) (port_pass pass.new)) }
+    ensures sent { OnOk result (HasCut stage.now.script.now (places_of stage.now.plane.now)
+        pass.old.port datagram.now (port_pass pass.old) (port_pass pass.new)) }
 {
     ports_speak_by_their_passes();
     messages_are_sent_one_by_one();
@@ -47,7 +43,9 @@ fn send_all<R: Wait, G: Gate>(
     // Each message uses a byte at least.
     for _look in 0..datagram.len() {
         // Nobody reads the replies: the pass's log has what they would say.
-        let used = plane.message_unread(rt, alloc, pass, gate, rest)?;
+        let used = stage
+            .plane
+            .message_unread(stage.rt, stage.alloc, pass, stage.gate, rest)?;
         if used == 0 {
             return Ok(());
         }
@@ -56,38 +54,19 @@ fn send_all<R: Wait, G: Gate>(
     Ok(())
 }
 
-/// A port sends the bytes of an ask, a request as the message with the port's next number.
-fn send_words<R: Wait, G: Gate>(
-    rt: &R,
-    alloc: Global,
-    plane: &Plane,
-    gate: &G,
-    script: &Script,
-    pass: &mut PortPass,
-    mind: &mut Mind,
-    words: AskWords,
-) -> Result<(), NoMemory>
-    requires fit { IsWords words }
-    requires pass { IsPortOf plane.now pass.old }
-    ensures stays { StaysPort plane.now pass.old pass.new }
-    ensures hears { HearsNothing pass.old pass.new }
-    ensures counts { (mind.new.machine ≡ mind.old.machine)
-        × (mind.new.received ≡ mind.old.received) }
-    ensures sent { OnOk result (Says script.now (places_of plane.now) pass.old.port words
-        (port_pass pass.old) (port_pass pass.new)) }
+/// The bytes of an ask, sent as the port's message with this number, in place of what the buffer
+/// held.
+fn put_words(text: &mut Vec<u8>, port: u32, call: u32, words: AskWords) -> Result<(), NoMemory>
+    requires { IsWords words }
+    ensures text { OnOk result (text.new.items ≡ bytes_of port call words) }
+    ensures short { OnOk result (length text.new.items < 2 ^ 31) }
 {
-    a_port_does_what_is_next();
-    messages_are_sent_one_by_one();
-    datagrams_are_short();
     match words {
-        AskWords::Plain { request } => {
-            let call = pass.calls().wrapping_add(1);
-            put_text(&mut mind.text, pass.port(), call, &request)?;
-            let text = mind.text.as_slice();
-            send_all(rt, alloc, plane, gate, script, pass, text)
-        }
+        AskWords::Plain { request } => put_text(text, port, call, &request),
         AskWords::Raw { bytes } => {
-            send_all(rt, alloc, plane, gate, script, pass, bytes.as_slice())
+            text.clear();
+            text.extend_from_slice(bytes.as_slice())?;
+            Ok(())
         }
     }
 }
@@ -95,34 +74,33 @@ fn send_words<R: Wait, G: Gate>(
 /// A port sends all that an answer or an opening asks for, in its order. `NoMemory` leaves a part
 /// of it sent. The gate is told of each turn, and of the answer to each request.
 pub fn say_all<R: Wait, G: Gate>(
-    rt: &R,
-    alloc: Global,
-    plane: &Plane,
-    gate: &G,
-    script: &Script,
+    stage: &Stage<'_, R, G>,
     pass: &mut PortPass,
     mind: &mut Mind,
     asks: Asks,
 ) -> Result<(), NoMemory>
     requires fit { All IsAsk asks }
     requires words { AreWords asks }
-    requires pass { IsPortOf plane.now pass.old }
-    ensures stays { StaysPort plane.now pass.old pass.new }
+    requires pass { IsPortOf stage.now.plane.now pass.old }
+    ensures stays { StaysPort stage.now.plane.now pass.old pass.new }
     ensures hears { HearsNothing pass.old pass.new }
     ensures counts { (mind.new.machine ≡ mind.old.machine)
         × (mind.new.received ≡ mind.old.received) }
-    ensures sent { OnOk result (SaysTo script.now (places_of plane.now) pass.old.port asks []
-        (port_pass pass.old) (port_pass pass.new)) }
+    ensures sent { OnOk result (SaysTo stage.now.script.now (places_of stage.now.plane.now)
+        pass.old.port asks [] (port_pass pass.old) (port_pass pass.new)) }
 {
     what_a_port_does_adds_up();
+    a_port_does_what_is_next();
+    messages_are_sent_one_by_one();
     let mut left = asks;
     while let Some(ask) = left.take_first() {
-        match ask {
-            Ask::Words { words } => {
-                send_words(rt, alloc, plane, gate, script, pass, mind, words)?;
-            }
-            Ask::Close => unreachable!(),
-        }
+        let Ask::Words { words } = ask else {
+            unreachable!()
+        };
+        // A request is the message with the port's next number.
+        let call = pass.calls().wrapping_add(1);
+        put_words(&mut mind.text, pass.port(), call, words)?;
+        send_all(stage, pass, mind.text.as_slice())?;
     }
     // The next answer takes the memory of this one.
     mind.room = left.into_vec();

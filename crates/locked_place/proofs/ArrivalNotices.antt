@@ -1,7 +1,8 @@
 -- What an arrival puts into mailboxes.
-use Rattle.std.proofs.Common.{◌≡◌, ◌≢◌, ℕ, ◌+◌, List, [], ◌∷◌, ◌++◌, Option, Some, None, Bool, true}
-use Rattle.std.proofs.Common.{false, refl, sym, ap, ◌∙◌, append-nil, subst, inl, inr, arith, length}
-use Rattle.std.specs.Prelude.{IfSome, IsSome, option_map, ◌==◌, ◌||◌}
+use Rattle.std.proofs.Common.{◌≡◌, ◌≢◌, ℕ, ◌+◌, List, [], ◌∷◌, ◌++◌, Option, Some, None, Bool}
+use Rattle.std.proofs.Common.{true, false, refl, sym, ap, ◌∙◌, append-nil, subst, inl, inr, arith}
+use Rattle.std.proofs.Common.{length}
+use Rattle.std.specs.Prelude.{IfSome, IsSome, option_map, map, ◌==◌, ◌||◌}
 use Rattle.std.proofs.lemmas.Bool.{cases_Bool, eqb-true, eqb-false, eq-eqb, ne_eqb}
 use Rattle.packet_entry.specs.declared.packet.Card.{Card}
 use Rattle.packet_entry.specs.declared.letter.Letter.{Letter}
@@ -10,17 +11,15 @@ use Rattle.nfqa_msgs.specs.Numbers.{copy_none}
 use Rattle.queue_core.specs.State.{Bound, fails_open}
 use Rattle.queue_core.specs.Step.{step, next_id, is_decided_early}
 use Rattle.queue_core.specs.WithOffer.{letter_of}
-use Rattle.queue_core.specs.declared.event.Event.{Event}
 use Rattle.queue_core.specs.declared.event.Event.TheVariants.{Arrive}
-use Rattle.queue_core.specs.Owners.{IsOwned, IsAsked, owned_after}
 use Rattle.queue_core.specs.declared.event.Reply.{Reply}
 use Rattle.queue_core.specs.declared.event.Reply.TheVariants.{Arrived}
 use Rattle.queue_core.specs.declared.offers.Outcome.{Outcome}
 use Rattle.queue_core.specs.declared.offers.Outcome.TheVariants as outcome
 use Rattle.queue_core.specs.Laws.{TellsArrival}
+use Rattle.mailbox.specs.declared.view.Mail.{Mail}
 use Rattle.mailbox.specs.Views.{SenderView, sender_with, sender_back}
 use Rattle.histories.specs.declared.entry.Entry.{Entry}
-use Rattle.histories.specs.History.{is_of}
 use Rattle.histories.specs.Journeys.{Arrival}
 use Rattle.histories.specs.States.{state_of, entry_of}
 use Rattle.histories.specs.Happenings.{arrive}
@@ -28,10 +27,12 @@ use Rattle.place_history.specs.Calls.{IsOffered, IsTurnedAway}
 use Rattle.locked_place.specs.Points.{Point, point_after}
 use Rattle.histories.specs.Letters.{letters_under, lacks_under, letters_of_outcome}
 use Rattle.histories.specs.Letters.{letters_of_reply}
-use Rattle.locked_place.specs.Notices.{HasSent, letters_at, lacks_at}
-use Rattle.locked_place.specs.Views.{AreNotified, port_of}
-use Rattle.locked_place.proofs.EntryPoints.{Laws, once, letters_on, lacking_on, state_own}
-use Rattle.locked_place.proofs.EntryPoints.{state_other}
+use Rattle.locked_place.specs.Mails.{MailsGoOn}
+use Rattle.locked_place.specs.Notices.{letters_at, lacks_at}
+use Rattle.locked_place.specs.Views.{AreNotified}
+use Rattle.locked_place.proofs.EntryPoints.{Laws, once}
+use Rattle.locked_place.proofs.SenderSteps.{following, follows_same, notified_on, mails_go_on}
+use Rattle.locked_place.proofs.SenderSteps.{mails_at, port_after}
 
 -- ---- the step of an arrival
 first_false : (a b : Bool) → (a || b) ≡ false → a ≡ false
@@ -67,87 +68,7 @@ not_without_room queue q card bypass late =
       | inr h ↦ rw (visit, mode, full, h) refl
     ]
 
--- ---- senders
--- what a point makes of the sender of a port
-abbrev pub following : Point → ℕ → SenderView → SenderView
-following p port s =
-    record s {
-      sent = s.sent ++ letters_at port p;
-      full = s.full + once (lacks_at port p);
-    }
-
-posted_on : (es : List Entry) (e : Entry) (port : ℕ) (old new : Option SenderView) →
-    IfSome old (HasSent es port) → new ≡ option_map (following (point_after es e) port) old →
-    IfSome new (HasSent (es ++ e ∷ []) port)
-posted_on es e port None new was is = rw is tt
-posted_on es e port (Some s) new was is =
-    rw is
-    (record {
-      sent = ap (λ (l : List Letter). l ++ letters_at port (point_after es e)) was.sent
-          ∙ sym (letters_on port es e);
-      full = ap (λ n. n + once (lacks_at port (point_after es e))) was.full
-          ∙ sym (lacking_on port es e);
-    })
-
-still_some : (old new : Option SenderView) (f : SenderView → SenderView) → new ≡ option_map f old →
-    IsSome old → IsSome new
-still_some None new f is some = absurd (cc)
-still_some (Some s) new f is some = rw is refl
-
-mapped : (P Q : ℕ → Type 0) → ((n : ℕ) → P n → Q n) → (o : Option ℕ) → IfSome o P → IfSome o Q
-mapped P Q f None h = tt
-mapped P Q f (Some n) h = f n h
-
--- an entry that leaves its queue with a port that has a sender, or absent
-pub notified_on : Laws → (es : List Entry) (e : Entry) (olds news : ℕ → Option SenderView) →
-    AreNotified es olds →
-    ((port : ℕ) → news port ≡ option_map (following (point_after es e) port) (olds port)) →
-    IfSome (port_of (step (state_of es e.queue) e.event).state) (λ p. IsSome (olds p)) →
-    AreNotified (es ++ e ∷ []) news
-notified_on laws es e olds news told is has = record {
-  each = λ port. posted_on es e port (olds port) (news port) (told.each port) (is port);
-  known = λ queue.
-      mapped (λ p. IsSome (olds p)) (λ p. IsSome (news p))
-      (λ p some. still_some (olds p) (news p) (following (point_after es e) p) (is p) some) _
-      (has_at queue);
-}
-  where
-    has_at : (queue : ℕ) →
-        IfSome (port_of (state_of (es ++ e ∷ []) queue)) (λ p. IsSome (olds p))
-    has_at queue =
-        elim (cases_Bool (is_of queue e)) [
-          | inl own ↦ subst (λ (q : Option Bound). IfSome (port_of q) (λ p. IsSome (olds p)))
-              (sym (state_own laws es e queue own))
-              (subst (λ n. IfSome (port_of (step (state_of es n) e.event).state)
-              (λ p. IsSome (olds p))) (eqb-true e.queue queue own) has)
-          | inr other ↦ subst (λ (q : Option Bound). IfSome (port_of q) (λ p. IsSome (olds p)))
-              (sym (state_other laws es e queue other)) (told.known queue)
-        ]
-
--- a step leaves its queue bound to the port that it was bound to, or to the one that asks
-pub port_after : (P : ℕ → Type 0) (q : Option Bound) (e : Event) → IsAsked P e →
-    IfSome (port_of q) P → IfSome (port_of (step q e).state) P
-port_after P q e by has = of_port (step q e).state (owned_after P q e by (owned q has))
-  where
-    owned : (q : Option Bound) → IfSome (port_of q) P → IsOwned P q
-    owned None has = tt
-    owned (Some b) has = has
-
-    of_port : (q : Option Bound) → IsOwned P q → IfSome (port_of q) P
-    of_port None has = tt
-    of_port (Some b) has = has
-
 -- ---- arrivals
--- nothing is put in, and nothing comes back
-pub follows_same : (p : Point) (port : ℕ) (o : Option SenderView) → letters_at port p ≡ [] →
-    lacks_at port p ≡ false → o ≡ option_map (following p port) o
-follows_same p port None none has = refl
-follows_same p port (Some s) none has =
-    ap (λ (l : List Letter). Some (record s { sent = l }))
-    (sym (ap (λ (l : List Letter). s.sent ++ l) none ∙ append-nil s.sent))
-    ∙ ap (λ n. Some (record s { sent = s.sent ++ letters_at port p; full = n }))
-    (omega (arith, ap once has))
-
 -- an outcome by which a packet left isn't that of a taken one
 not_taken : (queue : ℕ) (q : Bound) (card : Card) (o : Outcome) → TellsArrival (Arrived o) 1 →
     letters_of_outcome queue q card o ≡ []
@@ -178,22 +99,34 @@ no_lack port (Some q) queue a reply =
     elim (cases_Bool (port == q.port)) [ inl h ↦ rw h refl | inr h ↦ rw h refl ]
 
 -- an arrival that is turned away before a notice is offered
-pub turned_away : Laws → (es : List Entry) (a : Arrival) (o : Outcome) (back : Card)
-    (senders : ℕ → Option SenderView) → AreNotified es senders → IsTurnedAway a true o back es →
-    AreNotified (es ++ entry_of es a.queue (arrive a true) ∷ []) senders
-turned_away laws es a o back senders told away =
-    let e = entry_of es a.queue (arrive a true) in
-    let q = state_of es a.queue in
-    let tells : TellsArrival (Arrived o) 1 =
-    rw away.reply at (subst (λ n. TellsArrival (step q (arrive a true)).reply n)
-    (ap length away.leaves) (laws.tells q (arrive a true))) in
-    notified_on laws es e senders senders told
-    (λ port. follows_same (point_after es e) port (senders port)
-    (ap (λ (r : Reply).
-    letters_under port q (record { queue = a.queue; event = arrive a true; reply = r })) away.reply
-    ∙ no_letters port q a.queue a true o tells)
-    (no_lack port q a.queue a e.reply))
-    (port_after (λ p. IsSome (senders p)) q (arrive a true) tt (told.known a.queue))
+module _ (laws : Laws) (es : List Entry) (a : Arrival) (o : Outcome) (back : Card)
+    (senders : ℕ → Option SenderView) (away : IsTurnedAway a true o back es) where
+  abbrev it : Entry
+  it = entry_of es a.queue (arrive a true)
+
+  tells : TellsArrival (Arrived o) 1
+  tells =
+      rw away.reply at (subst (λ n.
+      TellsArrival (step (state_of es a.queue) (arrive a true)).reply n)
+      (ap length away.leaves) (laws.tells (state_of es a.queue) (arrive a true)))
+
+  stays : (time port : ℕ) →
+      senders port ≡ option_map (following time (point_after es it) port) (senders port)
+  stays time port =
+      follows_same time (point_after es it) port (senders port)
+      (ap (λ (r : Reply). letters_under port (state_of es a.queue)
+      (record { queue = a.queue; event = arrive a true; reply = r })) away.reply
+      ∙ no_letters port (state_of es a.queue) a.queue a true o tells)
+      (no_lack port (state_of es a.queue) a.queue a it.reply)
+
+  pub turned_away : AreNotified es senders → AreNotified (es ++ it ∷ []) senders
+  turned_away told =
+      notified_on laws es it 0 senders senders told (stays 0)
+      (port_after (λ p. IsSome (senders p)) (state_of es a.queue) (arrive a true) tt
+      (told.known a.queue))
+
+  pub mails_turned_away : (time : ℕ) → MailsGoOn time es senders (es ++ it ∷ []) senders
+  mails_turned_away time = mails_go_on time es it senders senders (stays time)
 
 -- the port of a notice that is offered has a sender
 pub has_sender : (es : List Entry) (a : Arrival) (port : ℕ) (letter : Letter)
@@ -202,32 +135,52 @@ pub has_sender : (es : List Entry) (a : Arrival) (port : ℕ) (letter : Letter)
 has_sender es a port letter senders told offered =
     rw offered.to_port (rw offered.state at (told.known a.queue))
 
+-- a notice at a time
+abbrev noted : ℕ → Letter → Mail
+noted time l = record { letter = l; time = time }
+
 -- one sender has one notice more
-put_in : (q : Bound) (queue : ℕ) (card : Card) (port : ℕ) (old new : Option SenderView)
-    (p : Point) → letters_at port p ≡ letter_of queue q (next_id q) card ∷ [] →
-    lacks_at port p ≡ false → IsSome old →
-    IfSome old (λ s. new ≡ Some (sender_with s (letter_of queue q (next_id q) card))) →
-    new ≡ option_map (following p port) old
-put_in q queue card port None new p letters lack there is = absurd (cc)
-put_in q queue card port (Some s) new p letters lack there is =
+put_in : (letter : Letter) (time port : ℕ) (old new : Option SenderView) (p : Point) →
+    letters_at port p ≡ letter ∷ [] → lacks_at port p ≡ false → IsSome old →
+    IfSome old (λ s. new ≡ Some (sender_with s (noted time letter))) →
+    new ≡ option_map (following time p port) old
+put_in letter time port None new p letters lack there is = absurd (cc)
+put_in letter time port (Some s) new p letters lack there is =
     is
-    ∙ ap (λ (l : List Letter). Some (record s { sent = s.sent ++ l })) (sym letters)
-    ∙ ap (λ n. Some (record s { sent = s.sent ++ letters_at port p; full = n }))
+    ∙ ap (λ (l : List Letter). Some (record s {
+      sent = s.sent ++ l;
+      mails = s.mails ++ map (noted time) l;
+    })) (sym letters)
+    ∙ ap (λ n. Some (record s {
+      sent = s.sent ++ letters_at port p;
+      mails = s.mails ++ mails_at time port p;
+      full = n;
+    }))
     (omega (arith, ap once lack))
 
-came_back : (port : ℕ) (old new : Option SenderView) (p : Point) → letters_at port p ≡ [] →
+came_back : (time port : ℕ) (old new : Option SenderView) (p : Point) → letters_at port p ≡ [] →
     lacks_at port p ≡ true → IsSome old → IfSome old (λ s. new ≡ Some (sender_back s)) →
-    new ≡ option_map (following p port) old
-came_back port None new p letters lack there is = absurd (cc)
-came_back port (Some s) new p letters lack there is =
+    new ≡ option_map (following time p port) old
+came_back time port None new p letters lack there is = absurd (cc)
+came_back time port (Some s) new p letters lack there is =
     is
     ∙ ap (λ (l : List Letter). Some (record s { sent = l; full = s.full + 1 }))
     (sym (ap (λ (l : List Letter). s.sent ++ l) letters ∙ append-nil s.sent))
-    ∙ ap (λ n. Some (record s { sent = s.sent ++ letters_at port p; full = n }))
+    ∙ ap (λ (m : List Mail). Some (record s {
+      sent = s.sent ++ letters_at port p;
+      mails = m;
+      full = s.full + 1;
+    }))
+    (sym (ap (λ (l : List Letter). s.mails ++ map (noted time) l) letters ∙ append-nil s.mails))
+    ∙ ap (λ n. Some (record s {
+      sent = s.sent ++ letters_at port p;
+      mails = s.mails ++ mails_at time port p;
+      full = n;
+    }))
     (omega (arith, ap once lack))
 
 -- what a point of an arrival at a bound queue is to a port, where its notice was offered
-module _ (laws : Laws) (es : List Entry) (a : Arrival) (q : Bound)
+module _ (es : List Entry) (a : Arrival) (q : Bound)
     (state : state_of es a.queue ≡ Some q) (late : is_decided_early (Some q) a.card ≡ false) where
   abbrev at : Bool → Point
   at room = point_after es (entry_of es a.queue (arrive a room))
@@ -253,50 +206,93 @@ module _ (laws : Laws) (es : List Entry) (a : Arrival) (q : Bound)
   lack_own : lacks_at q.port (at false) ≡ true
   lack_own = rw state (rw (eq-eqb q.port q.port refl) refl)
 
-  pub posted_so : (room : Bool) (olds news : ℕ → Option SenderView) → AreNotified es olds →
+  pub follows_so : (time : ℕ) (room : Bool) (olds news : ℕ → Option SenderView) →
       IsSome (olds q.port) →
-      (room ≡ true → IfSome (olds q.port)
-      (λ s. news q.port ≡ Some (sender_with s (letter_of a.queue q (next_id q) a.card)))) →
+      (room ≡ true → IfSome (olds q.port) (λ s. news q.port
+      ≡ Some (sender_with s (noted time (letter_of a.queue q (next_id q) a.card))))) →
       (room ≡ false → IfSome (olds q.port) (λ s. news q.port ≡ Some (sender_back s))) →
       ((p : ℕ) → p ≢ q.port → news p ≡ olds p) →
-      AreNotified (es ++ entry_of es a.queue (arrive a room) ∷ []) news
-  posted_so room olds news told there put back others =
-      notified_on laws es (entry_of es a.queue (arrive a room)) olds news told (λ p.
+      (p : ℕ) → news p ≡ option_map (following time (at room) p) (olds p)
+  follows_so time room olds news there put back others p =
       elim (cases_Bool (p == q.port)) [
-        | inl own ↦ subst (λ n. news n ≡ option_map (following (at room) n) (olds n))
+        | inl own ↦ subst (λ n. news n ≡ option_map (following time (at room) n) (olds n))
             (sym (eqb-true p q.port own)) (own_one room put back)
-        | inr other ↦ others p (eqb_no p other)
-            ∙ follows_same (at room) p (olds p) (letter_other p room (eqb_no p other))
-            (lack_other p room (eqb_no p other))
-      ])
-      (port_after (λ p. IsSome (olds p)) (state_of es a.queue) (arrive a room) tt
-      (told.known a.queue))
+        | inr other ↦ others p (eqb_no other)
+            ∙ follows_same time (at room) p (olds p) (letter_other p room (eqb_no other))
+            (lack_other p room (eqb_no other))
+      ]
     where
-      eqb_no : (p : ℕ) → (p == q.port) ≡ false → p ≢ q.port
-      eqb_no p no_ same = eqb-false p q.port no_ same
+      eqb_no : (p == q.port) ≡ false → p ≢ q.port
+      eqb_no no_ same = eqb-false p q.port no_ same
 
       own_one : (room : Bool) →
-          (room ≡ true → IfSome (olds q.port)
-          (λ s. news q.port ≡ Some (sender_with s (letter_of a.queue q (next_id q) a.card)))) →
+          (room ≡ true → IfSome (olds q.port) (λ s. news q.port
+          ≡ Some (sender_with s (noted time (letter_of a.queue q (next_id q) a.card))))) →
           (room ≡ false → IfSome (olds q.port) (λ s. news q.port ≡ Some (sender_back s))) →
-          news q.port ≡ option_map (following (at room) q.port) (olds q.port)
+          news q.port ≡ option_map (following time (at room) q.port) (olds q.port)
       own_one true put back =
-          put_in q a.queue a.card q.port (olds q.port) (news q.port) (at true) letter_own
-          (no_lack q.port (state_of es a.queue) a.queue a _) there (put refl)
+          put_in (letter_of a.queue q (next_id q) a.card) time q.port (olds q.port) (news q.port)
+          (at true) letter_own (no_lack q.port (state_of es a.queue) a.queue a _) there
+          (put refl)
       own_one false put back =
-          came_back q.port (olds q.port) (news q.port) (at false) letter_none lack_own there
+          came_back time q.port (olds q.port) (news q.port) (at false) letter_none lack_own there
           (back refl)
 
--- the same of an offer
-pub offered : Laws → (es : List Entry) (a : Arrival) (room : Bool) (port : ℕ) (letter : Letter)
-    (olds news : ℕ → Option SenderView) → AreNotified es olds → IsOffered a port letter es →
-    (room ≡ true → IfSome (olds port) (λ s. news port ≡ Some (sender_with s letter))) →
-    (room ≡ false → IfSome (olds port) (λ s. news port ≡ Some (sender_back s))) →
-    ((p : ℕ) → p ≢ port → news p ≡ olds p) →
-    AreNotified (es ++ entry_of es a.queue (arrive a room) ∷ []) news
-offered laws es a room port letter olds news told is put back others =
-    let q = is.bound in
-    posted_so laws es a q is.state is.undecided room olds news told
-    (rw is.to_port at (has_sender es a port letter olds told is))
-    (rw (is.to_port, is.notice) at put) (rw is.to_port at back)
-    (rw is.to_port at others)
+-- what was put in at a time was put in at some time
+pub at_some_time : (letter : Letter) (time : ℕ) (old new : Option SenderView) →
+    IfSome old (λ s. new ≡ Some (sender_with s (noted time letter))) →
+    IfSome old (λ s. (t : ℕ) × (new ≡ Some (sender_with s (noted t letter))))
+at_some_time letter time None new put = tt
+at_some_time letter time (Some s) new put = (time, put)
+
+-- a notice that was put in has some time
+time_found : (room : Bool) (letter : Letter) (old new : Option SenderView) →
+    (room ≡ true → IfSome old
+    (λ s. (time : ℕ) × (new ≡ Some (sender_with s (noted time letter))))) →
+    (time : ℕ)
+    × (room ≡ true → IfSome old (λ s. new ≡ Some (sender_with s (noted time letter))))
+time_found false letter old new put = (0, λ yes_. absurd (cc))
+time_found true letter None new put = (0, λ yes_. tt)
+time_found true letter (Some s) new put = ((put refl).0, λ yes_. (put refl).1)
+
+-- an arrival whose notice is offered
+module _ (es : List Entry) (a : Arrival) (room : Bool) (port : ℕ) (letter : Letter)
+    (olds news : ℕ → Option SenderView) where
+  follows_offer : (time : ℕ) → IsSome (olds port) → IsOffered a port letter es →
+      (room ≡ true → IfSome (olds port)
+      (λ s. news port ≡ Some (sender_with s (noted time letter)))) →
+      (room ≡ false → IfSome (olds port) (λ s. news port ≡ Some (sender_back s))) →
+      ((p : ℕ) → p ≢ port → news p ≡ olds p) → (p : ℕ) →
+      news p
+      ≡ option_map (following time (point_after es (entry_of es a.queue (arrive a room))) p)
+      (olds p)
+  follows_offer time there is put back others =
+      let q = is.bound in
+      follows_so es a q is.state is.undecided time room olds news
+      (rw is.to_port at there)
+      (rw (is.to_port, is.notice) at put) (rw is.to_port at back)
+      (rw is.to_port at others)
+
+  pub offered : Laws → AreNotified es olds → IsOffered a port letter es →
+      (room ≡ true → IfSome (olds port)
+      (λ s. (time : ℕ) × (news port ≡ Some (sender_with s (noted time letter))))) →
+      (room ≡ false → IfSome (olds port) (λ s. news port ≡ Some (sender_back s))) →
+      ((p : ℕ) → p ≢ port → news p ≡ olds p) →
+      AreNotified (es ++ entry_of es a.queue (arrive a room) ∷ []) news
+  offered laws told is put back others =
+      let found = time_found room letter (olds port) (news port) put in
+      let there = has_sender es a port letter olds told is in
+      notified_on laws es (entry_of es a.queue (arrive a room)) found.0 olds news told
+      (follows_offer found.0 there is found.1 back others)
+      (port_after (λ p. IsSome (olds p)) (state_of es a.queue) (arrive a room) tt
+      (told.known a.queue))
+
+  pub mails_offered : (time : ℕ) → IsSome (olds port) → IsOffered a port letter es →
+      (room ≡ true → IfSome (olds port)
+      (λ s. news port ≡ Some (sender_with s (noted time letter)))) →
+      (room ≡ false → IfSome (olds port) (λ s. news port ≡ Some (sender_back s))) →
+      ((p : ℕ) → p ≢ port → news p ≡ olds p) →
+      MailsGoOn time es olds (es ++ entry_of es a.queue (arrive a room) ∷ []) news
+  mails_offered time there is put back others =
+      mails_go_on time es (entry_of es a.queue (arrive a room)) olds news
+      (follows_offer time there is put back others)

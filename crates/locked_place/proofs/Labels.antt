@@ -1,8 +1,8 @@
 -- Labels of places.
-use Rattle.std.proofs.Common.{◌≡◌, ℕ, Option, ap, ◌∙◌}
+use Rattle.std.proofs.Common.{◌≡◌, ℕ, Option, Some, ap, ◌∙◌}
 use Rattle.mailbox.specs.Views.{SenderView}
 use Rattle.glance.specs.Views.{BoardView}
-use Rattle.locked_place.specs.Views.{LockedView, label_of, made_senders, sender_in}
+use Rattle.locked_place.specs.Views.{LockedView, PlaceLabel, label_of, made_senders, sender_in}
 
 -- a label is the same where its five fields are
 pub same_label : (old new : LockedView) → new.number ≡ old.number → new.places ≡ old.places →
@@ -20,3 +20,11 @@ same_label old new number places senders board writer =
     ∙ ap (λ (b : BoardView). record (label_of old) { board = b; writes_for = new.writer.place })
     board
     ∙ ap (λ n. record (label_of old) { writes_for = n }) writer
+
+-- a turn begins at the place that the pass's label names
+pub label_begun : (held old begun : LockedView) (time : ℕ) (named : PlaceLabel)
+    (label : Option PlaceLabel) → old ≡ held → begun ≡ record old { latest = time } →
+    label ≡ Some (label_of held) → label ≡ Some named → label_of begun ≡ named
+label_begun held old begun time named label here now found named_so =
+    let same : label_of held ≡ named = cc in
+    ap (λ (v : LockedView). label_of v) now ∙ (ap (λ (v : LockedView). label_of v) here ∙ same)

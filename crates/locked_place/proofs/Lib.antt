@@ -1,7 +1,11 @@
+pub mod EntryTimes
+pub mod PlaceInvariant
 pub mod EntryPoints
+pub mod SenderSteps
 pub mod ArrivalNotices
 pub mod QuietEntries
 pub mod RequestEffects
 pub mod BoardContent
+pub mod TurnTimes
 pub mod Labels
 pub mod Results

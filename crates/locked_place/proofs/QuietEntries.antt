@@ -4,19 +4,23 @@ use Rattle.std.proofs.Common.{◌≡◌, ℕ, List, [], ◌∷◌, ◌++◌, Opt
 use Rattle.std.proofs.Common.{refl, sym, subst, append-nil, append_assoc, inl, inr}
 use Rattle.std.specs.Prelude.{flat_map, IfSome, IsSome, if◌then◌else◌, ◌==◌}
 use Rattle.std.proofs.lemmas.Bool.{cases_Bool}
+use Rattle.std.proofs.lemmas.List.{append_cancel_left}
 use Rattle.queue_core.specs.State.{Bound}
 use Rattle.queue_core.specs.Step.{step}
 use Rattle.queue_core.specs.declared.event.Event.TheVariants.{PortClosed, DeviceDown}
 use Rattle.queue_core.specs.declared.event.Reply.{Reply}
 use Rattle.mailbox.specs.Views.{SenderView}
+use Rattle.total_order.specs.Orders.{untimed}
 use Rattle.histories.specs.declared.entry.Entry.{Entry}
 use Rattle.histories.specs.States.{state_of, entry_in, every_number}
 use Rattle.histories.specs.Happenings.{closing_of, closings, down_of, downs}
 use Rattle.locked_place.specs.Points.{point_after}
 use Rattle.histories.specs.Letters.{letters_under, lacks_under}
+use Rattle.locked_place.specs.Mails.{MailsGoOn}
+use Rattle.locked_place.specs.Times.{all_at, AreMailed}
 use Rattle.locked_place.specs.Views.{AreNotified, port_of}
 use Rattle.locked_place.proofs.EntryPoints.{Laws}
-use Rattle.locked_place.proofs.ArrivalNotices.{port_after, notified_on, follows_same}
+use Rattle.locked_place.proofs.SenderSteps.{port_after, notified_on, mailed_on, follows_same}
 
 record IsQuiet (e : Entry) : Type 1 where
   letters : (port : ℕ) (q : Option Bound) → letters_under port q e ≡ []
@@ -40,10 +44,30 @@ quiet_on laws es [] senders are told =
 quiet_on laws es (f ∷ fs) senders are told =
     subst (λ (l : List Entry). AreNotified l senders) (append_assoc es (f ∷ []) fs)
     (quiet_on laws (es ++ f ∷ []) fs senders are.1
-    (notified_on laws es f senders senders told
-    (λ p. follows_same (point_after es f) p (senders p)
+    (notified_on laws es f 0 senders senders told
+    (λ p. follows_same 0 (point_after es f) p (senders p)
     (are.0.letters p (state_of es f.queue)) (are.0.lacks p (state_of es f.queue)))
     (are.0.ports (λ p. IsSome (senders p)) (state_of es f.queue) (told.known f.queue))))
+
+quiet_mails : (time : ℕ) (xs : List (Entry × ℕ)) (fs : List Entry)
+    (senders : ℕ → Option SenderView) → AreQuiet fs → AreMailed xs senders →
+    AreMailed (xs ++ all_at time fs) senders
+quiet_mails time xs [] senders are told =
+    subst (λ (l : List (Entry × ℕ)). AreMailed l senders) (sym (append-nil xs)) told
+quiet_mails time xs (f ∷ fs) senders are told =
+    subst (λ (l : List (Entry × ℕ)). AreMailed l senders)
+    (append_assoc xs ((f, time) ∷ []) (all_at time fs))
+    (quiet_mails time (xs ++ (f, time) ∷ []) fs senders are.1
+    (mailed_on xs f time senders senders told
+    (λ p. follows_same time (point_after (untimed xs) f) p (senders p)
+    (are.0.letters p (state_of (untimed xs) f.queue))
+    (are.0.lacks p (state_of (untimed xs) f.queue)))))
+
+quiet_go_on : (time : ℕ) (es fs : List Entry) (senders : ℕ → Option SenderView) → AreQuiet fs →
+    MailsGoOn time es senders (es ++ fs) senders
+quiet_go_on time es fs senders are xs more same on told =
+    subst (λ (m : List Entry). AreMailed (xs ++ all_at time m) senders)
+    (append_cancel_left es fs more on) (quiet_mails time xs fs senders are told)
 
 -- ---- they are so
 closed_letters : (port : ℕ) (q : Option Bound) (queue closed : ℕ) (reply : Reply) →
@@ -120,3 +144,13 @@ pub down : Laws → (es : List Entry) (device : ℕ) (senders : ℕ → Option S
     AreNotified es senders → AreNotified (es ++ downs device es) senders
 down laws es device senders told =
     quiet_on laws es (downs device es) senders (all_downs device es every_number) told
+
+pub mails_closed : (es : List Entry) (port time : ℕ) (senders : ℕ → Option SenderView) →
+    MailsGoOn time es senders (es ++ closings port es) senders
+mails_closed es port time senders =
+    quiet_go_on time es (closings port es) senders (all_closings port es every_number)
+
+pub mails_down : (es : List Entry) (device time : ℕ) (senders : ℕ → Option SenderView) →
+    MailsGoOn time es senders (es ++ downs device es) senders
+mails_down es device time senders =
+    quiet_go_on time es (downs device es) senders (all_downs device es every_number)

@@ -1,6 +1,9 @@
 pub mod Points
 pub mod Notices
+pub mod Times
+pub mod Stamps
 pub mod Shown
 pub mod Views
+pub mod Mails
 pub mod Passes
 pub mod Turns

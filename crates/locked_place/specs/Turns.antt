@@ -20,6 +20,7 @@ use Rattle.turn_lock.specs.declared.view.Turn.TheVariants.{Outside}
 use Rattle.turn_lock.specs.Places.{places_after}
 use Rattle.locked_place.specs.declared.arrivals.Placed.{Placed}
 use Rattle.locked_place.specs.declared.arrivals.Placed.TheVariants.{Waiting, Back}
+use Rattle.locked_place.specs.Times.{plain_view, TakesTime}
 use Rattle.locked_place.specs.Views.{port_at}
 
 -- ---- what happens in one
@@ -119,3 +120,30 @@ module _ {S : Type 0} where
     pub turn : IsTurn v found (found ++ downs device found) w
     pub legal : AreLegal (found ++ downs device found)
     pub counted : count ≡ told (taken_in (downs device found))
+
+-- ---- the same turns, with the time at which each took place
+
+module _ {S : Type 0} where
+  pub record TimedLook (clock time : ℕ) (v w : View (Entry × ℕ) S) : Type 0 where
+    pub plain : LooksOn (plain_view v) (plain_view w)
+    pub in_time : TakesTime clock time v w plain.found plain.found
+
+  pub record TimedArrival (clock time : ℕ) (a : Arrival) (v w : View (Entry × ℕ) S)
+      (placed : Placed) : Type 0 where
+    pub plain : ArrivesIn a (plain_view v) (plain_view w) placed
+    pub in_time : TakesTime clock time v w plain.found plain.then_
+
+  pub record TimedRequest (clock time port call : ℕ) (request : Request)
+      (v w : View (Entry × ℕ) S) (errno : ℕ) (handed : List (Card × Decision)) : Type 0 where
+    pub plain : AsksIn port call request (plain_view v) (plain_view w) errno handed
+    pub in_time : TakesTime clock time v w plain.found plain.then_
+
+  pub record TimedClosing (clock time port : ℕ) (v w : View (Entry × ℕ) S) (count : ℕ) : Type 0
+    where
+      pub plain : ClosesIn port (plain_view v) (plain_view w) count
+      pub in_time : TakesTime clock time v w plain.found (plain.found ++ closings port plain.found)
+
+  pub record TimedDown (clock time device : ℕ) (v w : View (Entry × ℕ) S) (count : ℕ) : Type 0
+    where
+      pub plain : GoesDownIn device (plain_view v) (plain_view w) count
+      pub in_time : TakesTime clock time v w plain.found (plain.found ++ downs device plain.found)

@@ -1,5 +1,6 @@
 -- What contracts see of a place behind a lock, its label, and what it keeps between turns.
-use Rattle.std.specs.Prelude.{◌≡◌, ℕ, List, [], Option, None, false, IfSome, IsSome, option_map}
+use Rattle.std.specs.Prelude.{◌≡◌, ◌++◌, ℕ, List, [], map, Option, None, false, IfSome, IsSome}
+use Rattle.std.specs.Prelude.{option_map}
 use Rattle.std.specs.BTreeMap.{BTreeMap, get, is_at}
 use Rattle.std.specs.Map.{lookup}
 use Rattle.std.specs.Ordering.{nat_cmp}
@@ -12,6 +13,7 @@ use Rattle.place_history.specs.PlaceState.{PlaceState}
 use Rattle.locked_place.specs.declared.outlets.Outlets.{Outlets}
 use Rattle.locked_place.specs.Notices.{HasSent}
 use Rattle.locked_place.specs.Shown.{IsShown}
+use Rattle.locked_place.specs.Times.{timed, AreTimed, AreMailed}
 
 pub record LockedView : Type 0 where
   -- which of how many places it is
@@ -20,18 +22,33 @@ pub record LockedView : Type 0 where
   -- each port's sender, by port
   pub senders : List (ℕ × SenderView)
   pub writer : WriterView
-  -- all that happened
+  -- all that happened, the time of each entry, and the latest time
   pub entries : List Entry
+  pub times : List ℕ
+  pub latest : ℕ
 
-abbrev pub locked_of : PlaceState → BTreeMap ℕ SenderView → WriterView → LockedView
-locked_of place senders writer =
+abbrev pub locked_of : PlaceState → BTreeMap ℕ SenderView → WriterView → List ℕ → ℕ → LockedView
+locked_of place senders writer times latest =
     record {
       number = place.number;
       places = place.places;
       senders = senders.entries;
       writer = writer;
       entries = place.entries;
+      times = times;
+      latest = latest;
     }
+
+-- the entries with their times
+abbrev pub timed_entries : LockedView → List (Entry × ℕ)
+timed_entries v = timed v.entries v.times
+
+-- what a call appended has the latest time
+pub record StampsAll (old new : LockedView) : Type 0 where
+  pub more : List Entry
+  pub entered : new.entries ≡ old.entries ++ more
+  pub stamped : new.times ≡ old.times ++ map (λ e. old.latest) more
+  pub same : new.latest ≡ old.latest
 
 -- the sender of a port
 abbrev pub sender_in : List (ℕ × SenderView) → ℕ → Option SenderView
@@ -44,7 +61,7 @@ senders_of senders port = get nat_cmp senders port
 
 -- a sender as it was made: what no turn changes of it
 abbrev pub as_made : SenderView → SenderView
-as_made s = record s { sent = []; full = 0 }
+as_made s = record s { sent = []; mails = []; full = 0 }
 
 abbrev pub made_senders : (ℕ → Option SenderView) → ℕ → Option SenderView
 made_senders senders port = option_map as_made (senders port)
@@ -102,8 +119,10 @@ pub record IsSettled (place : PlaceState) : Type 0 where
 -- What is kept whenever the lock is free. That each queue is the replay of its history, which is
 -- legal, the place itself keeps.
 pub record IsLockedPlace (place : PlaceState) (senders : ℕ → Option SenderView)
-    (writer : WriterView) : Type 0 where
+    (writer : WriterView) (times : List ℕ) (latest : ℕ) : Type 0 where
   pub settled : IsSettled place
   pub notified : AreNotified place.entries senders
   pub writes_for : writer.place ≡ place.number
   pub shown : IsShown place.entries writer.published
+  pub in_time : AreTimed place.entries times latest
+  pub mailed : AreMailed (timed place.entries times) senders

@@ -9,11 +9,12 @@ ghost use Rattle.mailbox.specs.Views.{SenderView, sender_with, sender_back};
 ghost use Rattle.place_history.specs.PlaceState.{IsAt};
 ghost use Rattle.locked_place.specs.Views.{AreMailboxesOf, AreNotified, IsSettled, made_senders};
 ghost use Rattle.locked_place.specs.Views.{senders_of};
+ghost use Rattle.locked_place.specs.Mails.{MailsGoOn, arrival_of};
 ghost use Rattle.locked_place.specs.Turns.{Arrives, HasSender};
 
-use crate::senders_keep_up;
-use mailbox::{Mailbox, Sender};
-use packet_entry::{Letter, Packet};
+use crate::laws::{mails_keep_up, senders_keep_up};
+use mailbox::{Mail, Mailbox, Sender};
+use packet_entry::Packet;
 use place_history::Place;
 use queue_core::{Begun, NoRoom, Outcome, Settled};
 use std::alloc::Global;
@@ -28,6 +29,14 @@ pub enum Placed {
     Back { outcome: Outcome, packet: Packet },
 }
 
+/// A packet that arrives, and when.
+pub(crate) struct Coming {
+    pub queue: u16,
+    pub bypass: bool,
+    pub packet: Packet,
+    pub time: u64,
+}
+
 /// A packet arrives: it waits, and its notice is in the mailbox of its queue's port; or it comes
 /// back. When memory runs out nothing has happened.
 pub(crate) fn arrive<R: Wait>(
@@ -36,34 +45,40 @@ pub(crate) fn arrive<R: Wait>(
     mailboxes: &BTreeMap<u32, Mailbox>,
     place: &mut Place,
     senders: &mut BTreeMap<u32, Sender>,
-    queue: u16,
-    bypass: bool,
-    packet: Packet,
+    coming: Coming,
 ) -> Result<Placed, NoRoom>
     requires mailboxes { AreMailboxesOf mailboxes.now (made_senders (senders_of senders.old)) }
-    requires here { IsAt place.old queue }
-    requires visited { 1 ≤ packet.visit }
+    requires here { IsAt place.old coming.queue }
+    requires visited { 1 ≤ coming.packet.visit }
     requires settled { IsSettled place.old }
     requires notified { AreNotified place.old.entries (senders_of senders.old) }
     ensures settled { IsSettled place.new }
     ensures notified { AreNotified place.new.entries (senders_of senders.new) }
     ensures arrives { IfOk result
-        (Arrives (record { queue = queue; card = packet; bypass = bypass })
-        place.old.entries place.new.entries) }
+        (Arrives (arrival_of coming) place.old.entries place.new.entries) }
     ensures sender { IfOk result (HasSender (senders_of senders.old)) }
     ensures begins { IsPrefix place.old.entries place.new.entries }
     ensures number { (place.new.number ≡ place.old.number)
         × (place.new.places ≡ place.old.places) }
     ensures made { made_senders (senders_of senders.new)
         ≡ made_senders (senders_of senders.old) }
-    ensures returned { IfErr result (λ back. back.packet ≡ packet) }
+    ensures mailed { MailsGoOn coming.time place.old.entries (senders_of senders.old)
+        place.new.entries (senders_of senders.new) }
+    ensures returned { IfErr result (λ back. back.packet ≡ coming.packet) }
     ensures err { OnErr result (place.new ≡ place.old) }
 {
     senders_keep_up();
+    mails_keep_up();
+    let Coming {
+        queue,
+        bypass,
+        packet,
+        time,
+    } = coming;
     match place.begin(alloc, queue, bypass, packet)? {
         Begun::Back { outcome, packet } => Ok(Placed::Back { outcome, packet }),
         Begun::Offered { port, letter } => {
-            let room = send(rt, mailboxes, senders, port, letter);
+            let room = send(rt, mailboxes, senders, port, Mail { letter, time });
             match place.settle(room) {
                 Settled::Waiting { id: _ } => Ok(Placed::Waiting { port }),
                 Settled::Back { outcome, packet } => Ok(Placed::Back { outcome, packet }),
@@ -78,12 +93,12 @@ fn send<R: Wait>(
     mailboxes: &BTreeMap<u32, Mailbox>,
     senders: &mut BTreeMap<u32, Sender>,
     port: u32,
-    letter: Letter,
+    mail: Mail,
 ) -> bool
     requires mailboxes { AreMailboxesOf mailboxes.now (made_senders (senders_of senders.old)) }
     requires there { IsSome (get nat_cmp senders.old port) }
     ensures put { result ≡ true → IfSome (get nat_cmp senders.old port)
-        (λ (s : SenderView). get nat_cmp senders.new port ≡ Some (sender_with s letter)) }
+        (λ (s : SenderView). get nat_cmp senders.new port ≡ Some (sender_with s mail)) }
     ensures back { result ≡ false → IfSome (get nat_cmp senders.old port)
         (λ (s : SenderView). get nat_cmp senders.new port ≡ Some (sender_back s)) }
     ensures others { (p : ℕ) → p ≢ port → get nat_cmp senders.new p ≡ get nat_cmp senders.old p }
@@ -93,5 +108,5 @@ fn send<R: Wait>(
     let (Some(mailbox), Some(sender)) = (mailboxes.get(&port), senders.get_mut(&port)) else {
         unreachable!()
     };
-    mailbox.send(rt, sender, letter).is_ok()
+    mailbox.send_mail(rt, sender, mail).is_ok()
 }

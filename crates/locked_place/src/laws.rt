@@ -14,6 +14,7 @@ ghost use Rattle.histories.specs.States.{entry_of};
 ghost use Rattle.histories.specs.Happenings.{arrive, queue_of, closings, downs};
 ghost use Rattle.place_history.specs.Calls.{IsOffered, IsTurnedAway};
 ghost use Rattle.locked_place.specs.Points.{points, point_after};
+ghost use Rattle.locked_place.specs.Mails.{MailsGoOn};
 ghost use Rattle.locked_place.specs.Views.{AreNotified};
 
 use histories::{a_legal_history_goes_on, an_entry_is_of_its_queue_alone};
@@ -41,7 +42,8 @@ pub fn senders_keep_up()
     ensures offered { (es : List Entry) (a : Arrival) (room : Bool) (port : ℕ) (letter : Letter)
         (olds news : ℕ → Option SenderView) → AreNotified es olds →
         IsOffered a port letter es →
-        (room ≡ true → IfSome (olds port) (λ s. news port ≡ Some (sender_with s letter))) →
+        (room ≡ true → IfSome (olds port) (λ s. (time : ℕ) × (news port
+        ≡ Some (sender_with s (record { letter = letter; time = time }))))) →
         (room ≡ false → IfSome (olds port) (λ s. news port ≡ Some (sender_back s))) →
         ((p : ℕ) → p ≢ port → news p ≡ olds p) →
         AreNotified (es ++ entry_of es a.queue (arrive a room) ∷ []) news }
@@ -52,6 +54,33 @@ pub fn senders_keep_up()
         AreNotified es senders → AreNotified (es ++ closings port es) senders }
     ensures down { (es : List Entry) (device : ℕ) (senders : ℕ → Option SenderView) →
         AreNotified es senders → AreNotified (es ++ downs device es) senders }
+{
+    an_entry_is_of_its_queue_alone();
+    a_legal_history_goes_on();
+    replies_tell_how_many_left();
+}
+
+/// The same of the mails that they sent, each with the time of the entry that put it in: what is
+/// appended, and what is sent meanwhile, has one time.
+pub(crate) fn mails_keep_up()
+    ensures turned_away { (es : List Entry) (a : Arrival) (outcome : Outcome) (back : Card)
+        (time : ℕ) (senders : ℕ → Option SenderView) → IsTurnedAway a true outcome back es →
+        MailsGoOn time es senders (es ++ entry_of es a.queue (arrive a true) ∷ []) senders }
+    ensures offered { (es : List Entry) (a : Arrival) (room : Bool) (port : ℕ) (letter : Letter)
+        (time : ℕ) (olds news : ℕ → Option SenderView) → IsSome (olds port) →
+        IsOffered a port letter es →
+        (room ≡ true → IfSome (olds port) (λ s. news port
+        ≡ Some (sender_with s (record { letter = letter; time = time })))) →
+        (room ≡ false → IfSome (olds port) (λ s. news port ≡ Some (sender_back s))) →
+        ((p : ℕ) → p ≢ port → news p ≡ olds p) →
+        MailsGoOn time es olds (es ++ entry_of es a.queue (arrive a room) ∷ []) news }
+    ensures asked { (es : List Entry) (port call : ℕ) (r : Request) (time : ℕ)
+        (senders : ℕ → Option SenderView) →
+        MailsGoOn time es senders (es ++ entry_of es (queue_of r) (Ask port call r) ∷ []) senders }
+    ensures closed { (es : List Entry) (port time : ℕ) (senders : ℕ → Option SenderView) →
+        MailsGoOn time es senders (es ++ closings port es) senders }
+    ensures down { (es : List Entry) (device time : ℕ) (senders : ℕ → Option SenderView) →
+        MailsGoOn time es senders (es ++ downs device es) senders }
 {
     an_entry_is_of_its_queue_alone();
     a_legal_history_goes_on();

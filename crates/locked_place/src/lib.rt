@@ -9,6 +9,7 @@ mod outlets;
 mod place;
 mod requests;
 mod showing;
+mod stamps;
 mod turns;
 
 pub use arrivals::Placed;
@@ -16,4 +17,5 @@ pub use gate::{Gate, OpenGate};
 pub use laws::{an_entry_is_a_point, senders_keep_up};
 pub use outlets::Outlets;
 pub use place::{Left, LockedPlace};
-pub use turns::{arrive, ask, close_port, device_down, put_lines};
+pub use stamps::Stamps;
+pub use turns::{Entrance, Question, arrive, ask, close_port, device_down, put_lines};

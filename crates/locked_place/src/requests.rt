@@ -8,9 +8,10 @@ ghost use Rattle.histories.specs.Happenings.{queue_of};
 ghost use Rattle.place_history.specs.PlaceState.{IsAt};
 ghost use Rattle.packet_moves.specs.HandedOn.{AreInTime};
 ghost use Rattle.locked_place.specs.Views.{AreNotified, IsSettled};
+ghost use Rattle.locked_place.specs.Mails.{MailsGoOn};
 ghost use Rattle.locked_place.specs.Turns.{Asks, handed_by};
 
-use crate::senders_keep_up;
+use crate::laws::{mails_keep_up, senders_keep_up};
 use crate::showing::legal_at;
 use histories::{Lost, queue_of};
 use nfqa_msgs::Request;
@@ -37,6 +38,8 @@ pub(crate) fn ask(
     ensures settled { IsSettled place.new }
     ensures notified { (senders : ℕ → Option SenderView) → AreNotified place.old.entries senders →
         IsSome (senders port) → AreNotified place.new.entries senders }
+    ensures mailed { (time : ℕ) (senders : ℕ → Option SenderView) →
+        MailsGoOn time place.old.entries senders place.new.entries senders }
     ensures asks { IfOk result (Asks port call request place.old.entries place.new.entries) }
     ensures handed { OnOk result (handed.new.items
         ≡ handed.old.items ++ handed_by port call request place.old.entries) }
@@ -53,6 +56,7 @@ pub(crate) fn ask(
     histories_stay_sound();
     what_goes_on_is_in_time();
     senders_keep_up();
+    mails_keep_up();
     let waiting = place.waiting_in(queue_of(&request));
     lost.make_room(waiting as usize)?;
     place.ask(alloc, port, call, request, handed)

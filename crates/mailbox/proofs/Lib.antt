@@ -1,5 +1,6 @@
 mod Seats
 mod EndRoles
 mod LetterCount
+mod BareLetters
 mod QueueRule
 mod ReceiverFields

@@ -1,69 +1,49 @@
 -- Each kind of step keeps the rule of the queue, and tells what it says.
-use Rattle.std.proofs.Common.{◌≡◌, ℕ, ◌+◌, ◌≢◌, ◌<◌, ◌≤◌, inl, inr, ⊎_elim, Bool, true, false}
+use Rattle.std.proofs.Common.{◌≡◌, ℕ, ◌+◌, ◌≢◌, ◌<◌, ◌≤◌, ⊎_elim, Bool, true, false}
 use Rattle.std.proofs.lemmas.Bool.{cases_lt}
 use Rattle.std.proofs.Common.{List, [], ◌∷◌, ◌++◌, length, set, refl, sym, ap, ◌∙◌, subst}
 use Rattle.std.proofs.Common.{arith, true≢false, append_assoc, append-nil, length-append, nat_eq}
 use Rattle.std.proofs.Common.{if◌then◌else◌}
 use mathlib.Core.Option.{some, some-ne-none}
-use mathlib.Core.List.{IsPrefix}
 use borrow.Author.Tests.{eq-eqb, ne_eqb}
 use lib.ListN.{get_elem?}
 use Rattle.crossbeam_queue.specs.Fifo.{Pushes, Pops, Forks, Merges, Learns}
-use Rattle.packet_entry.specs.declared.letter.Letter.{Letter}
+use Rattle.mailbox.specs.declared.view.Mail.{Mail}
 use Rattle.mailbox.specs.declared.view.Role.{Role}
 use Rattle.mailbox.specs.declared.view.Line.{Line}
 use Rattle.mailbox.specs.declared.view.Post.{Post}
 use Rattle.mailbox.specs.Roles.{In, HasAll, AreDistinct}
-use Rattle.mailbox.specs.Views.{letters_of, numbers, letters_in, All, AreOf}
-use Rattle.mailbox.specs.Lines.{Knows, InOrder, IsTold, weight, first_line, sending_line}
+use Rattle.mailbox.specs.Views.{mail_of, mails_of, bare_letters, bare_senders, letters_in, AreOf}
+use Rattle.mailbox.specs.Lines.{known_numbers, Knows, InOrder, IsTold, weight, first_line}
+use Rattle.mailbox.specs.Lines.{sending_line}
 use Rattle.mailbox.specs.Lines.{receiving_line, spent_line, parent_line, child_line, put_line}
 use Rattle.mailbox.specs.Lines.{got_line, joined_line}
 use Rattle.mailbox.proofs.Seats.{each_set, each_new, each_joined, was_there, total_set}
 use Rattle.mailbox.proofs.Seats.{total_more, total_joined, only, set_there}
+use Rattle.mailbox.proofs.BareLetters.{letters_of_mails, numbers_more, letters_in_more, sent_same}
+use Rattle.mailbox.proofs.BareLetters.{sent_more, timed_prefixes, bare_prefixes, bare_wholes}
 use Rattle.mailbox.proofs.EndRoles.{opens, stays, cuts, splits, joins, alone, one_gets, one_number}
 
 -- ---- letters of one sender
-pub letters_append : (k : ℕ) (xs ys : List Post) → letters_of k (xs ++ ys)
-    ≡ letters_of k xs ++ letters_of k ys
-letters_append k [] ys = refl
-letters_append k (p ∷ ps) ys =
-    let rest = letters_append k ps ys in
-    by_test (nat_eq p.from k) p.letter (letters_of k (ps ++ ys)) (letters_of k ps)
-    (letters_of k ys) rest
+mails_append : (k : ℕ) (xs ys : List Post) → mails_of k (xs ++ ys)
+    ≡ mails_of k xs ++ mails_of k ys
+mails_append k [] ys = refl
+mails_append k (p ∷ ps) ys =
+    let rest = mails_append k ps ys in
+    by_test (nat_eq p.from k) (mail_of p) (mails_of k (ps ++ ys)) (mails_of k ps)
+    (mails_of k ys) rest
   where
-    by_test : (b : Bool) (x : Letter) (all xs zs : List Letter) → all ≡ xs ++ zs
+    by_test : (b : Bool) (x : Mail) (all xs zs : List Mail) → all ≡ xs ++ zs
         → (if b then x ∷ all else all) ≡ (if b then x ∷ xs else xs) ++ zs
     by_test true x all xs zs e = ap (λ l. x ∷ l) e
     by_test false x all xs zs e = e
 
 -- one post is a letter of its sender, and of no other
-pub own_post : (k : ℕ) (p : Post) → p.from ≡ k → letters_of k (p ∷ []) ≡ p.letter ∷ []
-own_post k p e = ap (λ b. if b then p.letter ∷ [] else []) (eq-eqb p.from k e)
+own_post : (k : ℕ) (p : Post) → p.from ≡ k → mails_of k (p ∷ []) ≡ mail_of p ∷ []
+own_post k p e = ap (λ b. if b then mail_of p ∷ [] else []) (eq-eqb p.from k e)
 
-pub other_post : (k : ℕ) (p : Post) → p.from ≢ k → letters_of k (p ∷ []) ≡ []
-other_post k p e = ap (λ b. if b then p.letter ∷ [] else []) (ne_eqb p.from k e)
-
--- ---- what holds of each sender
-pub all_map : (P Q : ℕ × List Letter → Type 0) (known : List (ℕ × List Letter))
-    → ((s : ℕ × List Letter) → In s.0 (numbers known) → P s → Q s) → All P known → All Q known
-all_map P Q [] f a = tt
-all_map P Q (s ∷ ss) f a =
-    (f s (inl refl) a.0, all_map P Q ss (λ t i p. f t (inr i) p) a.1)
-
-pub all_more : (P : ℕ × List Letter → Type 0) (known : List (ℕ × List Letter))
-    (s : ℕ × List Letter) → All P known → P s → All P (known ++ s ∷ [])
-all_more P [] s a p = (p, tt)
-all_more P (t ∷ ts) s a p = (a.0, all_more P ts s a.1 p)
-
-pub numbers_more : (known : List (ℕ × List Letter)) (s : ℕ × List Letter)
-    → numbers (known ++ s ∷ []) ≡ numbers known ++ s.0 ∷ []
-numbers_more [] s = refl
-numbers_more (t ∷ ts) s = ap (λ l. t.0 ∷ l) (numbers_more ts s)
-
-pub letters_in_more : (known : List (ℕ × List Letter)) (s : ℕ × List Letter)
-    → letters_in (known ++ s ∷ []) ≡ letters_in known + length s.1
-letters_in_more [] s = omega arith
-letters_in_more (t ∷ ts) s = let r = letters_in_more ts s in omega arith
+other_post : (k : ℕ) (p : Post) → p.from ≢ k → mails_of k (p ∷ []) ≡ []
+other_post k p e = ap (λ b. if b then mail_of p ∷ [] else []) (ne_eqb p.from k e)
 
 none_left : {A : Type 0} (xs : List A) → length xs ≡ 0 → xs ≡ []
 none_left [] e = refl
@@ -97,36 +77,37 @@ line_opens = record {
 }
 
 -- an end that neither sends nor receives weighs nothing
-weightless : (sent : ℕ → List Letter) (taken : List Post) (v : Line) → Knows sent taken v
+weightless : (sent : ℕ → List Mail) (taken : List Post) (v : Line) → Knows sent taken v
     → v.role.sends ≡ false → v.role.gets ≡ false → weight v ≡ 0
 weightless sent taken v k sends gets =
     let a : length v.put ≡ 0 = ap length (k.silent sends) in
-    let b : letters_in v.known ≡ 0 = ap letters_in (k.blind gets) in omega arith
+    let b : letters_in (bare_senders v.known) ≡ 0 =
+    ap (λ l. letters_in (bare_senders l)) (k.blind gets) in omega arith
 
 -- a letter that is in a list is one of its sender's
 has_letter : (before after : List Post) (p : Post) →
-    letters_of p.from (before ++ p ∷ after) ≡ [] → ⊥
+    mails_of p.from (before ++ p ∷ after) ≡ [] → ⊥
 has_letter before after p e =
-    let a = letters_append p.from before (p ∷ after) in
-    let b = letters_append p.from (p ∷ []) after in
-    let c : length (letters_of p.from before ++ letters_of p.from (p ∷ after)) ≡ 0 =
+    let a = mails_append p.from before (p ∷ after) in
+    let b = mails_append p.from (p ∷ []) after in
+    let c : length (mails_of p.from before ++ mails_of p.from (p ∷ after)) ≡ 0 =
     ap length (sym a ∙ e) in
-    let d = length-append (letters_of p.from before) (letters_of p.from (p ∷ after)) in
-    let f : length (letters_of p.from (p ∷ after))
-    ≡ length ((p.letter ∷ []) ++ letters_of p.from after) =
-    ap length (b ∙ ap (λ l. l ++ letters_of p.from after) (own_post p.from p refl)) in
+    let d = length-append (mails_of p.from before) (mails_of p.from (p ∷ after)) in
+    let f : length (mails_of p.from (p ∷ after))
+    ≡ length ((mail_of p ∷ []) ++ mails_of p.from after) =
+    ap length (b ∙ ap (λ l. l ++ mails_of p.from after) (own_post p.from p refl)) in
     omega arith
 
 -- where all senders are known, each letter is of one of them
-of_known : (sent : ℕ → List Letter) (made : ℕ) (known : List ℕ) (whole : List Post)
-    → ((k : ℕ) → letters_of k whole ≡ sent k)
+of_known : (sent : ℕ → List Mail) (made : ℕ) (known : List ℕ) (whole : List Post)
+    → ((k : ℕ) → mails_of k whole ≡ sent k)
     → ((k : ℕ) → made ≤ k → sent k ≡ []) → ((k : ℕ) → k < made → In k known)
     → (before got items : List Post) → whole ≡ before ++ (got ++ items) → AreOf got known
 of_known sent made known whole all unmade has before [] items e = tt
 of_known sent made known whole all unmade has before (p ∷ ps) items e = (
   ⊎_elim (λ (h : p.from < made). has p.from h)
       (λ (h : made ≤ p.from). absurd (has_letter before (ps ++ items) p
-      (ap (letters_of p.from) (sym e) ∙ (all p.from ∙ unmade p.from h))))
+      (ap (mails_of p.from) (sym e) ∙ (all p.from ∙ unmade p.from h))))
       (cases_lt p.from made),
   of_known sent made known whole all unmade has (before ++ p ∷ []) ps items
       (e ∙ sym (append_assoc before (p ∷ []) (ps ++ items))),
@@ -143,26 +124,27 @@ pub tells : (items : List Post) (views : List Line) (r : InOrder items views) (p
     → get_elem? views port ≡ some v → v.role.sends ≡ false → v.role.gets ≡ true → IsTold v
 tells items views r port v at sends gets =
     let k = r.each port v at in
-    let split : (s : ℕ × List Letter) → s.1 ≡ r.sent s.0
-    → letters_of s.0 v.got ++ letters_of s.0 items ≡ s.1 =
-    λ s e. ap (λ (g : List Post). letters_of s.0 g ++ letters_of s.0 items) (k.got gets)
-    ∙ (sym (letters_append s.0 r.got items) ∙ (r.all s.0 ∙ sym e)) in record {
-      prefix = all_map (λ s. s.1 ≡ r.sent s.0) (λ s. IsPrefix (letters_of s.0 v.got) s.1) v.known
-          (λ s _ e. (letters_of s.0 items, split s e)) (k.known gets);
+    let split : (n : ℕ) → mails_of n v.got ++ mails_of n items ≡ r.sent n =
+    λ n. ap (λ (g : List Post). mails_of n g ++ mails_of n items) (k.got gets)
+    ∙ (sym (mails_append n r.got items) ∙ r.all n) in
+    let timed = timed_prefixes r.sent v.got v.known (λ n. (mails_of n items, split n))
+    (k.known gets) in record {
+      prefix = bare_prefixes v.got v.known timed;
+      in_time = timed;
       senders = λ has.
           let has' : HasAll v.role.made v.role.joined =
           subst (HasAll v.role.made) (sym (k.names gets)) has in
           let zero_in = has'.0 in
           let ended = ((r.ends.fits port v at).receiver gets).1 0 zero_in in
           let made : v.role.made ≡ r.ends.made = (r.ends.fits port v at).all_made gets ended in
-          of_known r.sent v.role.made (numbers v.known) (r.got ++ items) r.all
+          of_known r.sent v.role.made (known_numbers v) (r.got ++ items) r.all
           (λ n h. r.unmade n (omega arith)) has.1 [] v.got items
           (ap (λ (g : List Post). g ++ items) (sym (k.got gets)));
       once = subst AreDistinct (k.names gets) ((r.ends.fits port v at).once gets);
       made = λ zero_in n n_in.
           let role = r.ends.fits port v at in
           let ends = (role.receiver gets).1 in
-          let in_role : (j : ℕ) → In j (numbers v.known) → In j v.role.joined =
+          let in_role : (j : ℕ) → In j (known_numbers v) → In j v.role.joined =
           λ j i. subst (In j) (sym (k.names gets)) i in
           let made : v.role.made ≡ r.ends.made =
           role.all_made gets (ends 0 (in_role 0 zero_in)) in
@@ -174,18 +156,18 @@ tells items views r port v at sends gets =
           let made : v.role.made ≡ r.ends.made =
           role.all_made gets ((role.receiver gets).1 0
           (subst (In 0) (sym (k.names gets)) zero_in)) in
-          none_before (letters_of n v.got) (letters_of n items)
-          (ap (λ (g : List Post). letters_of n g ++ letters_of n items) (k.got gets)
-          ∙ (sym (letters_append n r.got items) ∙ (r.all n ∙ r.unmade n (omega arith))));
+          letters_of_mails n v.got
+          ∙ ap bare_letters (none_before (mails_of n v.got) (mails_of n items)
+          (split n ∙ r.unmade n (omega arith)));
       inside = λ has.
           let zero_in = subst (In 0) (sym (k.names gets)) has.0 in
           let role = r.ends.fits port v at in
           let made : v.role.made ≡ r.ends.made =
           role.all_made gets ((role.receiver gets).1 0 zero_in) in record {
             inside = items;
-            whole = all_map (λ s. s.1 ≡ r.sent s.0) (λ s. letters_of s.0 (v.got ++ items) ≡ s.1)
-                v.known (λ s _ e. letters_append s.0 v.got items ∙ split s e) (k.known gets);
-            senders = of_known r.sent v.role.made (numbers v.known) (r.got ++ items) r.all
+            whole = bare_wholes r.sent (v.got ++ items) v.known
+                (λ n. mails_append n v.got items ∙ split n) (k.known gets);
+            senders = of_known r.sent v.role.made (known_numbers v) (r.got ++ items) r.all
                 (λ n h. r.unmade n (omega arith)) has.1 [] (v.got ++ items) []
                 (ap (λ (g : List Post). g ++ items) (sym (k.got gets))
                 ∙ sym (append-nil (v.got ++ items)));
@@ -200,25 +182,24 @@ tells items views r port v at sends gets =
           let taken : length v.got ≡ length r.got = ap length (k.got gets) in
           let c = r.counted in
           let none : items ≡ [] = none_left items (omega arith) in
-          all_map (λ s. s.1 ≡ r.sent s.0) (λ s. letters_of s.0 v.got ≡ s.1) v.known
-          (λ s _ e. sym (append-nil (letters_of s.0 v.got))
-          ∙ (ap (λ (l : List Post). letters_of s.0 v.got ++ letters_of s.0 l) (sym none)
-          ∙ split s e))
+          bare_wholes r.sent v.got v.known
+          (λ n. sym (append-nil (mails_of n v.got))
+          ∙ (ap (λ (l : List Post). mails_of n v.got ++ mails_of n l) (sym none) ∙ split n))
           (k.known gets);
     }
 
 -- ---- a letter is put in
 pub puts : (n port : ℕ) (v : Line) (post : Post) → v.role.sends ≡ true
     → post.from ≡ v.role.number → v.role.gets ≡ false
-    → Pushes InOrder n port v post (λ w. w ≡ put_line v post.letter)
+    → Pushes InOrder n port v post (λ w. w ≡ put_line v (mail_of post))
 puts n port v post sends from gets items views _ r at =
-    let w : Line = put_line v post.letter in
-    let sent : ℕ → List Letter = λ k. r.sent k ++ letters_of k (post ∷ []) in
+    let w : Line = put_line v (mail_of post) in
+    let sent : ℕ → List Mail = λ k. r.sent k ++ mails_of k (post ∷ []) in
     let mine = r.each port v at in
     let seated = (r.ends.fits port v at).sender sends in
     let low = seated.1 in
     let p = total_set weight views port v w at in
-    let q = length_more v.put post.letter in
+    let q = length_more v.put (mail_of post) in
     let t = length_more items post in
     let c = r.counted in
     let K : ℕ → Line → Type 0 = λ id u. Knows sent r.got u in (
@@ -227,15 +208,15 @@ puts n port v post sends from gets items views _ r at =
         ends = stays role_of views r.ends port v w at refl;
         sent = sent;
         got = r.got;
-        all = λ k. ap (letters_of k) (sym (append_assoc r.got items (post ∷ [])))
-            ∙ (letters_append k (r.got ++ items) (post ∷ [])
-            ∙ ap (λ l. l ++ letters_of k (post ∷ [])) (r.all k));
-        unmade = λ k h. ap (λ l. l ++ letters_of k (post ∷ [])) (r.unmade k h)
+        all = λ k. ap (mails_of k) (sym (append_assoc r.got items (post ∷ [])))
+            ∙ (mails_append k (r.got ++ items) (post ∷ [])
+            ∙ ap (λ l. l ++ mails_of k (post ∷ [])) (r.all k));
+        unmade = λ k h. ap (λ l. l ++ mails_of k (post ∷ [])) (r.unmade k h)
             ∙ other_post k post (λ e. omega arith);
         counted = omega arith;
         each = each_set K views port w
             (record {
-              put = λ _. ap (λ l. l ++ post.letter ∷ []) (mine.put sends)
+              put = λ _. ap (λ l. l ++ mail_of post ∷ []) (mine.put sends)
                   ∙ ap (λ l. r.sent v.role.number ++ l) (sym (own_post v.role.number post from));
               got = mine.got;
               known = λ h. absurd (true≢false (sym h ∙ gets));
@@ -251,14 +232,13 @@ puts n port v post sends from gets items views _ r at =
                   (λ e. one_number role_of views r.ends port i v u at at_u sends h ne
                   (sym e ∙ from)))));
               got = k.got;
-              known = λ h. all_map (λ s. s.1 ≡ r.sent s.0) (λ s. s.1 ≡ sent s.0) u.known
-                  (λ s is e. e
-                  ∙ (sym (append-nil (r.sent s.0))
-                  ∙ ap (λ l. r.sent s.0 ++ l)
-                  (sym (other_post s.0 post (λ (f : post.from ≡ s.0). true≢false
-                  (sym (((r.ends.fits i u at_u).receiver h).1 s.0
-                  (subst (In s.0) (sym (k.names h)) is))
-                  ∙ (ap r.ends.ended (sym f ∙ from) ∙ seated.2)))))))
+              known = λ h. sent_same r.sent sent u.known
+                  (λ n is. sym (append-nil (r.sent n))
+                  ∙ ap (λ l. r.sent n ++ l)
+                  (sym (other_post n post (λ (f : post.from ≡ n). true≢false
+                  (sym (((r.ends.fits i u at_u).receiver h).1 n
+                  (subst (In n) (sym (k.names h)) is))
+                  ∙ (ap r.ends.ended (sym f ∙ from) ∙ seated.2))))))
                   (k.known h);
               names = k.names;
               silent = k.silent;
@@ -283,7 +263,7 @@ pops port v sends gets post items views r at =
       ends = stays role_of views r.ends port v w at refl;
       sent = r.sent;
       got = got;
-      all = λ k. ap (letters_of k) (append_assoc r.got (post ∷ []) items) ∙ r.all k;
+      all = λ k. ap (mails_of k) (append_assoc r.got (post ∷ []) items) ∙ r.all k;
       unmade = r.unmade;
       counted = omega arith;
       each = each_set K views port w
@@ -399,7 +379,8 @@ line_joins port v other w sends gets sends_w gets_w items views r at ne at_o =
     let K : ℕ → Line → Type 0 = λ id u. Knows r.sent r.got u in
     let p = total_joined weight views port other v w b spent_line at at_o in
     let q = letters_in_more v.known (n, w.put) in
-    let t : letters_in w.known ≡ 0 = ap letters_in (theirs.blind gets_w) in
+    let t : letters_in (bare_senders w.known) ≡ 0 =
+    ap (λ l. letters_in (bare_senders l)) (theirs.blind gets_w) in
     let c = r.counted in record {
       ends = joins role_of views r.ends port other v w b spent_line at at_w ne sends gets sends_w
           refl refl;
@@ -412,7 +393,7 @@ line_joins port v other w sends gets sends_w gets_w items views r at ne at_o =
           (record {
             put = λ h. absurd (true≢false (sym h ∙ sends));
             got = mine.got;
-            known = λ h. all_more (λ s. s.1 ≡ r.sent s.0) v.known (n, w.put) (mine.known h)
+            known = λ h. sent_more r.sent v.known (n, w.put) (mine.known h)
                 (theirs.put sends_w);
             names = λ h. ap (λ l. l ++ n ∷ []) (mine.names h)
                 ∙ sym (numbers_more v.known (n, w.put));

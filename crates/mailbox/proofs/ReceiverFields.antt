@@ -7,16 +7,16 @@ use Rattle.mailbox.specs.declared.view.Line.{Line}
 use Rattle.mailbox.specs.declared.view.Post.{Post}
 use Rattle.mailbox.specs.declared.view.Fill.{Fill}
 use Rattle.mailbox.specs.Roles.{HasAll, joined_role}
-use Rattle.mailbox.specs.Lines.{IsTold, got_line, joined_line}
+use Rattle.mailbox.specs.Lines.{IsTold, got_line, joined_line, known_letters, known_numbers}
 use Rattle.mailbox.specs.Fills.{empty_look, freeing, joined_fill}
-use Rattle.mailbox.specs.Views.{numbers, letters_in, Wholes, receiver_with}
+use Rattle.mailbox.specs.Views.{bare_senders, letters_in, Wholes, mail_of, receiver_with}
 use Rattle.mailbox.specs.Views.{receiver_empty}
 use Rattle.mailbox.specs.Invariants.{IsReceiver, IsSender, receiver_of}
-use Rattle.mailbox.proofs.QueueRule.{numbers_more, letters_in_more}
+use Rattle.mailbox.proofs.BareLetters.{numbers_more, letters_in_more}
 
 -- that all senders are joined, as the seat at the gauge knows it
 pub has_in_seat : (p : Pass Post Line) (c : Seat ℕ Fill) → IsReceiver p c
-    → HasAll (view p).role.made (numbers (view p).known)
+    → HasAll (view p).role.made (known_numbers (view p))
     → HasAll c.me.0.role.made c.me.0.role.joined
 has_in_seat p c i has =
     subst (λ r. HasAll r.made r.joined) (sym i.role)
@@ -25,7 +25,7 @@ has_in_seat p c i has =
 -- once all senders are joined, an empty mailbox is one from which all was received
 pub whole_when_empty : (p : Pass Post Line) (c : Seat ℕ Fill) → IsReceiver p c
     → (HasAll c.me.0.role.made c.me.0.role.joined → c.me.0.claims ≡ c.me.0.freed)
-    → HasAll (view p).role.made (numbers (view p).known) → Wholes (view p).got (view p).known
+    → HasAll (view p).role.made (known_numbers (view p)) → Wholes (view p).got (known_letters (view p))
 whole_when_empty p c i same has =
     let e = same (has_in_seat p c i has) in
     let a = i.claims in
@@ -36,8 +36,8 @@ pub full_when_joined : (p : Pass Post Line) (c : Seat ℕ Fill) (cap : ℕ) → 
     → c.me.0.capacity ≡ cap
     → (HasAll c.me.0.role.made c.me.0.role.joined → 0 < c.me.0.full
     → c.me.0.capacity ≤ c.me.0.claims)
-    → HasAll (view p).role.made (numbers (view p).known) → 0 < c.me.0.full
-    → cap ≤ letters_in (view p).known
+    → HasAll (view p).role.made (known_numbers (view p)) → 0 < c.me.0.full
+    → cap ≤ letters_in (known_letters (view p))
 full_when_joined p c cap i own tells has full =
     let e = tells (has_in_seat p c i has) full in
     let a = i.claims in omega arith
@@ -53,7 +53,8 @@ view_empty p c c' t e i = record {
   };
   received = (view p).got;
   empty = (e i).0.empty;
-  joined = (view p).known;
+  joined = known_letters (view p);
+  mails = (view p).known;
   made = (view p).role.made;
   full = (e i).0.full;
 }
@@ -69,7 +70,8 @@ view_same p p' c q v i = record {
   };
   received = (v i).got;
   empty = c.me.0.empty;
-  joined = (v i).known;
+  joined = known_letters (v i);
+  mails = (v i).known;
   made = (v i).role.made;
   full = c.me.0.full;
 }
@@ -77,7 +79,7 @@ view_same p p' c q v i = record {
 pub view_got : (p p' : Pass Post Line) (c c' : Seat ℕ Fill) (post : Post) → p'.table_id ≡ p.table_id
     → c'.table_id ≡ c.table_id → view p' ≡ got_line (view p) post
     → c'.me ≡ (freeing c.me.0, c.me.1)
-    → receiver_of p' c' ≡ receiver_with (receiver_of p c) post.from post.letter
+    → receiver_of p' c' ≡ receiver_with (receiver_of p c) post.from (mail_of post)
 view_got p p' c c' post q t v e i = record {
   mailbox = record {
     queue = q i;
@@ -86,7 +88,8 @@ view_got p p' c c' post q t v e i = record {
   };
   received = (v i).got;
   empty = (e i).0.empty;
-  joined = (v i).known;
+  joined = known_letters (v i);
+  mails = (v i).known;
   made = (v i).role.made;
   full = (e i).0.full;
 }
@@ -106,15 +109,15 @@ keeps_joined p p' q c c' d number made i s clear v e told = record {
   names = ap (λ l. l.role.joined) v
       ∙ (ap (λ l. l ++ (view q).role.number ∷ []) i.names
       ∙ (sym (numbers_more (view p).known ((view q).role.number, (view q).put))
-      ∙ sym (ap (λ l. numbers l.known) v)));
+      ∙ sym (ap known_numbers v)));
   freed = ap (λ m. m.0.freed) e ∙ (i.freed ∙ sym (ap (λ l. length l.got) v));
   claims =
       let a = i.claims in
       let b = s.counted in
       let f : c'.me.0.claims ≡ c.me.0.claims + d.me.0.claims = ap (λ m. m.0.claims) e in
       let g = letters_in_more (view p).known ((view q).role.number, (view q).put) in
-      let h : letters_in (view p').known
-      ≡ letters_in ((view p).known ++ ((view q).role.number, (view q).put) ∷ []) =
-      ap (λ l. letters_in l.known) v in omega arith;
+      let h : letters_in (known_letters (view p'))
+      ≡ letters_in (bare_senders ((view p).known ++ ((view q).role.number, (view q).put) ∷ [])) =
+      ap (λ l. letters_in (known_letters l)) v in omega arith;
   told = told;
 }

@@ -9,8 +9,9 @@ use Rattle.mailbox.specs.declared.view.Line.{Line}
 use Rattle.mailbox.specs.declared.view.Post.{Post}
 use Rattle.mailbox.specs.declared.view.Fill.{Fill}
 use Rattle.mailbox.specs.Numbers.{least_capacity, most_capacity}
-use Rattle.mailbox.specs.Lines.{IsTold}
-use Rattle.mailbox.specs.Views.{MailboxView, SenderView, ReceiverView, numbers, letters_in}
+use Rattle.mailbox.specs.Lines.{IsTold, known_letters, known_numbers}
+use Rattle.mailbox.specs.Views.{MailboxView, SenderView, ReceiverView, letters_in}
+use Rattle.mailbox.specs.Views.{bare_letters}
 
 -- ---- the mailbox
 abbrev pub queue_id : {T V Q A : Type 0} → Slotted (Option T) (Doing T V) Q A → TableId
@@ -40,7 +41,8 @@ sender_of p c =
       mailbox = mailbox_of p.table_id c.table_id c.me.0.capacity;
       number = (view p).role.number;
       made = (view p).role.made;
-      sent = (view p).put;
+      sent = bare_letters (view p).put;
+      mails = (view p).put;
       full = c.me.0.full;
     }
 
@@ -62,7 +64,8 @@ receiver_of p c =
       mailbox = mailbox_of p.table_id c.table_id c.me.0.capacity;
       received = (view p).got;
       empty = c.me.0.empty;
-      joined = (view p).known;
+      joined = known_letters (view p);
+      mails = (view p).known;
       made = (view p).role.made;
       full = c.me.0.full;
     }
@@ -74,7 +77,7 @@ pub record IsReceiver (p : Pass Post Line) (c : Seat ℕ Fill) : Type 0 where
   pub role : c.me.0.role ≡ (view p).role
   pub sends : (view p).role.sends ≡ false
   pub gets : (view p).role.gets ≡ true
-  pub names : (view p).role.joined ≡ numbers (view p).known
+  pub names : (view p).role.joined ≡ known_numbers (view p)
   pub freed : c.me.0.freed ≡ length (view p).got
-  pub claims : c.me.0.claims ≡ letters_in (view p).known
+  pub claims : c.me.0.claims ≡ letters_in (known_letters (view p))
   pub told : IsTold (view p)

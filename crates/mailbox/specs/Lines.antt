@@ -1,14 +1,15 @@
 -- The queue of a mailbox: what each end knows of it, its rule, and what each step makes of it.
 use Rattle.std.specs.Prelude.{◌≡◌, ℕ, ◌+◌, ◌≤◌, true, false, List, [], ◌∷◌, ◌++◌, length}
 use Rattle.packet_entry.specs.declared.letter.Letter.{Letter}
+use Rattle.mailbox.specs.declared.view.Mail.{Mail}
 use Rattle.mailbox.specs.declared.view.Role.{Role}
 use Rattle.mailbox.specs.declared.view.Line.{Line}
 use Rattle.mailbox.specs.declared.view.Post.{Post}
 use Rattle.mailbox.specs.Roles.{In, HasAll, AreDistinct, Manned, Each, total, first_role}
 use Rattle.mailbox.specs.Roles.{sending_role}
 use Rattle.mailbox.specs.Roles.{receiving_role, spent_role, parent_role, child_role, joined_role}
-use Rattle.mailbox.specs.Views.{letters_of, numbers, letters_in, All, Prefixes, Wholes, AreOf}
-use Rattle.mailbox.specs.Views.{AreMade, AccountFor}
+use Rattle.mailbox.specs.Views.{letters_of, mails_of, bare_senders, numbers, letters_in}
+use Rattle.mailbox.specs.Views.{Prefixes, TimedPrefixes, Wholes, AreOf, AreMade, AccountFor}
 
 -- an end that has put in and taken out nothing
 abbrev pub line_of : Role → Line
@@ -33,8 +34,8 @@ abbrev pub child_line : Line → Line
 child_line v = line_of (child_role v.role)
 
 -- a letter was put in
-abbrev pub put_line : Line → Letter → Line
-put_line v letter = record v { put = v.put ++ letter ∷ [] }
+abbrev pub put_line : Line → Mail → Line
+put_line v mail = record v { put = v.put ++ mail ∷ [] }
 
 -- a letter was taken out
 abbrev pub got_line : Line → Post → Line
@@ -48,17 +49,30 @@ joined_line v w =
       known = v.known ++ (w.role.number, w.put) ∷ [];
     }
 
+-- the senders joined into an end, each with the letters that it had put in
+abbrev pub known_letters : Line → List (ℕ × List Letter)
+known_letters v = bare_senders v.known
+
+-- and the numbers of these senders
+abbrev pub known_numbers : Line → List ℕ
+known_numbers v = numbers (known_letters v)
+
 -- how many letters an end knows to have been put in: its own, and those of senders joined into it
 abbrev pub weight : Line → ℕ
-weight v = length v.put + letters_in v.known
+weight v = length v.put + letters_in (known_letters v)
+
+-- of each sender, the letters known with their times are those that it sent
+abbrev pub AreSent : (ℕ → List Mail) → List (ℕ × List Mail) → Type 0
+AreSent sent [] = Unit {0}
+AreSent sent (s ∷ ss) = (s.1 ≡ sent s.0) × AreSent sent ss
 
 -- what an end knows of the letters: a sender of what it put in, the receiver of all that was taken
 -- out and of what those put in that were joined
-pub record Knows (sent : ℕ → List Letter) (taken : List Post) (v : Line) : Type 0 where
+pub record Knows (sent : ℕ → List Mail) (taken : List Post) (v : Line) : Type 0 where
   pub put : v.role.sends ≡ true → v.put ≡ sent v.role.number
   pub got : v.role.gets ≡ true → v.got ≡ taken
-  pub known : v.role.gets ≡ true → All (λ s. s.1 ≡ sent s.0) v.known
-  pub names : v.role.gets ≡ true → v.role.joined ≡ numbers v.known
+  pub known : v.role.gets ≡ true → AreSent sent v.known
+  pub names : v.role.gets ≡ true → v.role.joined ≡ known_numbers v
   pub silent : v.role.sends ≡ false → v.put ≡ []
   pub blind : v.role.gets ≡ false → v.known ≡ []
 
@@ -66,22 +80,23 @@ pub record Knows (sent : ℕ → List Letter) (taken : List Post) (v : Line) : T
 pub record InOrder (items : List Post) (views : List Line) : Type 0 where
   pub ends : Manned (λ (v : Line). v.role) views
   -- what each sender put in, by its number
-  pub sent : ℕ → List Letter
+  pub sent : ℕ → List Mail
   -- what was taken out
   pub got : List Post
   -- of each sender, what was taken out and then what is still inside is what it put in
-  pub all : (k : ℕ) → letters_of k (got ++ items) ≡ sent k
+  pub all : (k : ℕ) → mails_of k (got ++ items) ≡ sent k
   pub unmade : (k : ℕ) → ends.made ≤ k → sent k ≡ []
   pub counted : total weight views ≡ length got + length items
   pub each : Each (λ id v. Knows sent got v) views
 
 -- what the receiver is told of the senders joined into it
 pub record IsTold (v : Line) : Type 0 where
-  pub prefix : Prefixes v.got v.known
-  pub senders : HasAll v.role.made (numbers v.known) → AreOf v.got (numbers v.known)
-  pub whole : HasAll v.role.made (numbers v.known) → letters_in v.known ≡ length v.got
-      → Wholes v.got v.known
-  pub once : AreDistinct (numbers v.known)
-  pub made : AreMade v.role.made (numbers v.known)
-  pub beyond : In 0 (numbers v.known) → (k : ℕ) → v.role.made ≤ k → letters_of k v.got ≡ []
-  pub inside : HasAll v.role.made (numbers v.known) → AccountFor v.got v.known
+  pub prefix : Prefixes v.got (known_letters v)
+  pub in_time : TimedPrefixes v.got v.known
+  pub senders : HasAll v.role.made (known_numbers v) → AreOf v.got (known_numbers v)
+  pub whole : HasAll v.role.made (known_numbers v) → letters_in (known_letters v) ≡ length v.got
+      → Wholes v.got (known_letters v)
+  pub once : AreDistinct (known_numbers v)
+  pub made : AreMade v.role.made (known_numbers v)
+  pub beyond : In 0 (known_numbers v) → (k : ℕ) → v.role.made ≤ k → letters_of k v.got ≡ []
+  pub inside : HasAll v.role.made (known_numbers v) → AccountFor v.got (known_letters v)

@@ -4,6 +4,7 @@ use Rattle.std.specs.Prelude.{if◌then◌else◌}
 use mathlib.Core.List.{IsPrefix}
 use Rattle.atomic_table.specs.Seated.{TableId}
 use Rattle.packet_entry.specs.declared.letter.Letter.{Letter}
+use Rattle.mailbox.specs.declared.view.Mail.{Mail}
 use Rattle.mailbox.specs.declared.view.Post.{Post}
 use Rattle.mailbox.specs.Roles.{HasAll, In, made_known}
 
@@ -21,18 +22,22 @@ pub record SenderView : Type 0 where
   pub made : ℕ
   -- the letters that it sent, in this order
   pub sent : List Letter
+  -- the letters that it sent, each with its time
+  pub mails : List Mail
   -- how often a look found the mailbox full, and a letter came back
   pub full : ℕ
 
 -- what the receiver knows
 pub record ReceiverView : Type 0 where
   pub mailbox : MailboxView
-  -- the letters that it received, in this order, each with the number of its sender
+  -- the letters that it received, in this order, each with its time and its sender's number
   pub received : List Post
   -- how often a look found the mailbox empty
   pub empty : ℕ
   -- the senders that were joined into it, by number, each with the letters that it had sent
   pub joined : List (ℕ × List Letter)
+  -- the same with times
+  pub mails : List (ℕ × List Mail)
   -- how many senders were made, once number 0 is joined; before, 0
   pub made : ℕ
   -- how often a letter came back to those joined
@@ -41,11 +46,12 @@ pub record ReceiverView : Type 0 where
 -- ---- senders
 -- the sender that a new mailbox has
 abbrev pub opening_sender : MailboxView → SenderView
-opening_sender m = record { mailbox = m; number = 0; made = 1; sent = []; full = 0 }
+opening_sender m =
+    record { mailbox = m; number = 0; made = 1; sent = []; mails = []; full = 0 }
 
 -- a letter more was sent
-abbrev pub sender_with : SenderView → Letter → SenderView
-sender_with s letter = record s { sent = s.sent ++ letter ∷ [] }
+abbrev pub sender_with : SenderView → Mail → SenderView
+sender_with s m = record s { sent = s.sent ++ m.letter ∷ []; mails = s.mails ++ m ∷ [] }
 
 -- a letter came back
 abbrev pub sender_back : SenderView → SenderView
@@ -57,18 +63,21 @@ parent_sender s = record s { made = s.made + 1 }
 
 -- and the other: its number is how many were made before
 abbrev pub child_sender : SenderView → SenderView
-child_sender s = record { mailbox = s.mailbox; number = s.made; made = 0; sent = []; full = 0 }
+child_sender s =
+    record { mailbox = s.mailbox; number = s.made; made = 0; sent = []; mails = []; full = 0 }
 
 -- ---- the receiver
 -- the receiver that a new mailbox has
 abbrev pub opening_receiver : MailboxView → ReceiverView
 opening_receiver m =
-    record { mailbox = m; received = []; empty = 0; joined = []; made = 0; full = 0 }
+    record { mailbox = m; received = []; empty = 0; joined = []; mails = []; made = 0; full = 0 }
 
 -- a letter more was received
-abbrev pub receiver_with : ReceiverView → ℕ → Letter → ReceiverView
-receiver_with r from letter =
-    record r { received = r.received ++ record { from = from; letter = letter } ∷ [] }
+abbrev pub receiver_with : ReceiverView → ℕ → Mail → ReceiverView
+receiver_with r from m =
+    record r {
+      received = r.received ++ record { from = from; letter = m.letter; time = m.time } ∷ [];
+    }
 
 -- the mailbox was found empty
 abbrev pub receiver_empty : ReceiverView → ReceiverView
@@ -79,6 +88,7 @@ abbrev pub receiver_joined : ReceiverView → SenderView → ReceiverView
 receiver_joined r s =
     record r {
       joined = r.joined ++ (s.number, s.sent) ∷ [];
+      mails = r.mails ++ (s.number, s.mails) ∷ [];
       made = made_known s.number s.made r.made;
       full = r.full + s.full;
     }
@@ -89,6 +99,24 @@ abbrev pub letters_of : ℕ → List Post → List Letter
 letters_of k [] = []
 letters_of k (p ∷ ps) =
     if nat_eq p.from k then p.letter ∷ letters_of k ps else letters_of k ps
+
+-- a letter received, with its time
+abbrev pub mail_of : Post → Mail
+mail_of p = record { letter = p.letter; time = p.time }
+
+-- the letters of one sender, in their order, each with its time
+abbrev pub mails_of : ℕ → List Post → List Mail
+mails_of k [] = []
+mails_of k (p ∷ ps) =
+    if nat_eq p.from k then mail_of p ∷ mails_of k ps else mails_of k ps
+
+-- letters without their times
+abbrev pub bare_letters : List Mail → List Letter
+bare_letters mails = map (λ m. m.letter) mails
+
+-- the senders, each with its letters without their times
+abbrev pub bare_senders : List (ℕ × List Mail) → List (ℕ × List Letter)
+bare_senders known = map (λ s. (s.0, bare_letters s.1)) known
 
 -- the numbers of the senders
 abbrev pub numbers : List (ℕ × List Letter) → List ℕ
@@ -107,6 +135,12 @@ All P (s ∷ ss) = P s × All P ss
 -- of each sender, the letters received are a prefix of those that it sent
 abbrev pub Prefixes : List Post → List (ℕ × List Letter) → Type 0
 Prefixes received known = All (λ s. IsPrefix (letters_of s.0 received) s.1) known
+
+-- of each sender, the letters received with their times are a prefix of those that it sent
+abbrev pub TimedPrefixes : List Post → List (ℕ × List Mail) → Type 0
+TimedPrefixes received [] = Unit {0}
+TimedPrefixes received (s ∷ ss) =
+    IsPrefix (mails_of s.0 received) s.1 × TimedPrefixes received ss
 
 -- of each sender, the letters received are those that it sent
 abbrev pub Wholes : List Post → List (ℕ × List Letter) → Type 0
@@ -145,6 +179,9 @@ AreAccountedFor r = AccountFor r.received r.joined
 
 abbrev pub ArePrefixes : ReceiverView → Type 0
 ArePrefixes r = Prefixes r.received r.joined
+
+abbrev pub AreTimedPrefixes : ReceiverView → Type 0
+AreTimedPrefixes r = TimedPrefixes r.received r.mails
 
 abbrev pub AreWhole : ReceiverView → Type 0
 AreWhole r = Wholes r.received r.joined

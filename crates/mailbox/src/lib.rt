@@ -1,5 +1,6 @@
-//! Letters to a port: each sender's are received in its order, each once. A letter comes back
-//! exactly where the mailbox was found full, and none is received exactly where it was found empty.
+//! Letters to a port, each with a time: each sender's are received in its order, each once. A letter
+//! comes back exactly where the mailbox was found full, and none is received exactly where it was
+//! found empty.
 #![tactic(auto)]
 
 mod fill;
@@ -12,3 +13,4 @@ mod view;
 pub use mailbox::Mailbox;
 pub use receiver::Receiver;
 pub use sender::Sender;
+pub use view::Mail;

@@ -3,6 +3,7 @@ ghost use Rattle.std.specs.Prelude.{◌≡◌};
 ghost use Rattle.mailbox.specs.Lines.{InOrder, first_line, sending_line, receiving_line};
 ghost use Rattle.mailbox.specs.Lines.{parent_line, child_line, joined_line, spent_line};
 ghost use Rattle.mailbox.specs.Lines.{put_line, got_line, IsTold};
+ghost use Rattle.mailbox.specs.Views.{mail_of};
 
 use crate::view::{Line, Post};
 use crossbeam_queue::protocol::{Join, Lesson, Outcome, Protocol, Split};
@@ -52,7 +53,7 @@ impl Join<Line> for TakeIn {
 pub(crate) struct Puts;
 
 impl Outcome<Post, Line> for Puts {
-    ghost then = { λ v post w. w ≡ put_line v post.letter };
+    ghost then = { λ v post w. w ≡ put_line v (mail_of post) };
 }
 
 /// A letter is taken out.

@@ -6,7 +6,7 @@ use crate::fill::{self, Chair, Claim, FILL, Free, Gauge, Learn, LookForLetters, 
 use crate::line::{self, Gets, LinePass, Puts, Queue, Tells};
 use crate::receiver::Receiver;
 use crate::sender::Sender;
-use crate::view::Post;
+use crate::view::{Mail, Post};
 use packet_entry::{Letter, NoMemory};
 use std::alloc::Global;
 use std::marker::Model;
@@ -38,7 +38,7 @@ impl Model for Mailbox {
 
 /// What one turn at receiving came to.
 enum Turn {
-    Got(Letter),
+    Got(Mail),
     /// The mailbox was found empty.
     Empty,
     /// Room was claimed for a letter, but none can be taken yet.
@@ -55,6 +55,7 @@ impl Mailbox {
     ghost use Rattle.mailbox.specs.Views.{receiver_with, receiver_empty, receiver_joined};
     ghost use Rattle.mailbox.specs.Views.{HasAllSenders, ArePrefixes, AreOfJoined, AreWhole};
     ghost use Rattle.mailbox.specs.Views.{numbers, AreMade, NoneBeyond, AreAccountedFor};
+    ghost use Rattle.mailbox.specs.Views.{AreTimedPrefixes, mail_of};
     ghost use Rattle.mailbox.specs.Roles.{AreDistinct};
     ghost use Rattle.mailbox.specs.Fills.{claiming, full_look, freeing};
     ghost use Rattle.mailbox.specs.Lines.{put_line};
@@ -117,31 +118,68 @@ impl Mailbox {
         })
     }
 
-    /// Sends a letter. It comes back exactly where a look of this call found that the mailbox held
-    /// its capacity; the sender counts these looks. What it promises holds once it returns; that it
-    /// returns, no clause says. It takes no memory.
+    /// Sends a letter at time 0, as `send_mail` does.
     pub fn send<R: Wait>(&self, rt: &R, sender: &mut Sender, letter: Letter) -> Result<(), Letter>
         requires mailbox { sender.old.mailbox ≡ self.now }
-        ensures { MatchResult result (λ _. sender.new ≡ sender_with sender.old letter)
+        ensures { MatchResult result
+            (λ _. sender.new ≡ sender_with sender.old (record { letter = letter; time = 0 }))
             (λ back. (back ≡ letter) × (sender.new ≡ sender_back sender.old)) }
     {
+        match self.send_mail(rt, sender, Mail { letter, time: 0 }) {
+            Ok(()) => Ok(()),
+            Err(back) => Err(back.letter),
+        }
+    }
+
+    /// Sends a letter with its time. It comes back exactly where a look of this call found that the
+    /// mailbox held its capacity; the sender counts these looks. What it promises holds once it
+    /// returns; that it returns, no clause says. It takes no memory.
+    pub fn send_mail<R: Wait>(&self, rt: &R, sender: &mut Sender, mail: Mail) -> Result<(), Mail>
+        requires mailbox { sender.old.mailbox ≡ self.now }
+        ensures { MatchResult result (λ _. sender.new ≡ sender_with sender.old mail)
+            (λ back. (back ≡ mail) × (sender.new ≡ sender_back sender.old)) }
+    {
         if !self.claim(rt, &mut sender.chair) {
-            return Err(letter);
+            return Err(mail);
         }
         let from = sender.number;
-        self.put(rt, &mut sender.pass, Post { from, letter });
+        let Mail { letter, time } = mail;
+        self.put(rt, &mut sender.pass, Post { from, letter, time });
         Ok(())
     }
 
-    /// Receives a letter; those of each sender come in the order in which it sent them. None comes
-    /// exactly where a look of this call found that the mailbox held nothing; the receiver counts
-    /// these looks. What it promises holds once it returns; that it returns, no clause says. It
-    /// takes no memory.
+    /// Receives a letter, whatever its time, as `receive_mail` does.
     pub fn receive<R: Wait>(&self, rt: &R, receiver: &mut Receiver) -> Option<Letter>
         requires mailbox { receiver.old.mailbox ≡ self.now }
         ensures received { MatchOption result (receiver.new ≡ receiver_empty receiver.old)
-            (λ letter. (from : ℕ) × (receiver.new ≡ receiver_with receiver.old from letter)) }
+            (λ letter. (from time : ℕ) × (receiver.new
+            ≡ receiver_with receiver.old from (record { letter = letter; time = time }))) }
         ensures prefix { ArePrefixes receiver.new }
+        ensures in_time { AreTimedPrefixes receiver.new }
+        ensures senders { HasAllSenders receiver.new → AreOfJoined receiver.new }
+        ensures whole { HasAllSenders receiver.new
+            → letters_in receiver.new.joined ≡ length receiver.new.received
+            → AreWhole receiver.new }
+        ensures beyond { NoneBeyond receiver.new }
+        ensures inside { HasAllSenders receiver.new → AreAccountedFor receiver.new }
+        ensures empty { IfNone result (HasAllSenders receiver.new → AreWhole receiver.new) }
+    {
+        match self.receive_mail(rt, receiver) {
+            Some(mail) => Some(mail.letter),
+            None => None,
+        }
+    }
+
+    /// Receives a letter with its time; those of each sender come in the order in which it sent
+    /// them. None comes exactly where a look of this call found that the mailbox held nothing; the
+    /// receiver counts these looks. What it promises holds once it returns; that it returns, no
+    /// clause says. It takes no memory.
+    pub fn receive_mail<R: Wait>(&self, rt: &R, receiver: &mut Receiver) -> Option<Mail>
+        requires mailbox { receiver.old.mailbox ≡ self.now }
+        ensures received { MatchOption result (receiver.new ≡ receiver_empty receiver.old)
+            (λ mail. (from : ℕ) × (receiver.new ≡ receiver_with receiver.old from mail)) }
+        ensures prefix { ArePrefixes receiver.new }
+        ensures in_time { AreTimedPrefixes receiver.new }
         ensures senders { HasAllSenders receiver.new → AreOfJoined receiver.new }
         ensures whole { HasAllSenders receiver.new
             → letters_in receiver.new.joined ≡ length receiver.new.received
@@ -152,7 +190,7 @@ impl Mailbox {
     {
         for _ in rt.forever() {
             match self.turn(rt, receiver) {
-                Turn::Got(letter) => return Some(letter),
+                Turn::Got(mail) => return Some(mail),
                 Turn::Empty => return None,
                 Turn::Again => yield_now(),
             }
@@ -161,15 +199,16 @@ impl Mailbox {
     }
 
     /// Joins a sender into the receiver, which ends it. Each number is joined once at most. The
-    /// letters received of each sender that was joined are a prefix of those that it sent. Once
-    /// number 0 is joined it is known how many were made, and no letter is of any further number.
-    /// Once all senders are joined, the letters received and those still inside are those that
-    /// they sent, nothing is inside where as many were received as were sent, and where one ever
-    /// came back, at least `capacity` were sent. It takes no memory.
+    /// letters received of each sender that was joined are a prefix of those that it sent, each
+    /// with its time. Once number 0 is joined it is known how many were made, and no letter is of
+    /// any further number. Once all senders are joined, the letters received and those still inside
+    /// are those that they sent, nothing is inside where as many were received as were sent, and
+    /// where one ever came back, at least `capacity` were sent. It takes no memory.
     pub fn join(&self, receiver: &mut Receiver, sender: Sender)
         requires mailbox { (receiver.old.mailbox ≡ self.now) × (sender.mailbox ≡ self.now) }
         ensures joined { receiver.new ≡ receiver_joined receiver.old sender }
         ensures prefix { ArePrefixes receiver.new }
+        ensures in_time { AreTimedPrefixes receiver.new }
         ensures senders { HasAllSenders receiver.new → AreOfJoined receiver.new }
         ensures whole { HasAllSenders receiver.new
             → letters_in receiver.new.joined ≡ length receiver.new.received
@@ -226,7 +265,7 @@ impl Mailbox {
         requires gets { (view pass.old).role.gets ≡ false }
         requires from { post.from ≡ (view pass.old).role.number }
         ensures queue { IsSamePass pass.old pass.new }
-        ensures put { view pass.new ≡ put_line (view pass.old) post.letter }
+        ensures put { view pass.new ≡ put_line (view pass.old) (mail_of post) }
     {
         let mut post = post;
         for _ in rt.forever() {
@@ -245,9 +284,15 @@ impl Mailbox {
         ensures { TurnTells receiver.old receiver.new result }
     {
         match self.queue.try_pop_as::<Gets>(&mut receiver.pass) {
-            Some(Post { from: _, letter }) => {
+            Some(
+                Post {
+                    from: _,
+                    letter,
+                    time,
+                },
+            ) => {
                 self.free(rt, &mut receiver.chair);
-                Turn::Got(letter)
+                Turn::Got(Mail { letter, time })
             }
             None => self.look(receiver),
         }

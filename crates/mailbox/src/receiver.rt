@@ -3,9 +3,9 @@ use crate::fill::Chair;
 use crate::line::LinePass;
 use std::marker::Model;
 
-/// The right to receive from one mailbox. Contracts see the letters that it received, each with the
-/// number of its sender, how often it found the mailbox empty, and the senders that were joined
-/// into it, each with the letters that it had sent.
+/// The right to receive from one mailbox. Contracts see the letters that it received, each with its
+/// time and the number of its sender, how often it found the mailbox empty, and the senders that
+/// were joined into it, each with the letters that it had sent.
 #[derive(Drop)]
 pub struct Receiver {
     pub(crate) pass: LinePass,

@@ -4,8 +4,9 @@ use crate::line::LinePass;
 use std::marker::Model;
 
 /// The right to send to one mailbox, under a number. Contracts see this number, the letters that
-/// it sent, in this order, and how often one came back; of number 0 also how many senders were
-/// made. It is joined into the receiver at its end; one that is dropped is never joined.
+/// it sent, in this order and with their times, and how often one came back; of number 0 also how
+/// many senders were made. It is joined into the receiver at its end; one that is dropped is never
+/// joined.
 #[derive(Drop)]
 pub struct Sender {
     pub(crate) pass: LinePass,

@@ -1,13 +1,22 @@
-//! What the ends of a mailbox know. But for `Post`, no value of these types is made: they are what
-//! contracts see of an end.
+//! A letter with its time, and what the ends of a mailbox know. But for `Mail` and `Post`, no value
+//! of these types is made: they are what contracts see of an end.
 use packet_entry::Letter;
 use std::collections::LinkedList;
 
-/// A letter in the queue, and the number of the sender that put it there.
+/// A letter and its time.
+#[derive(Drop)]
+pub struct Mail {
+    pub letter: Letter,
+    /// The time, as a logical clock gives it.
+    pub time: u64,
+}
+
+/// A letter in the queue with its time, and the number of the sender that put it there.
 #[derive(Drop)]
 pub(crate) struct Post {
     pub from: u32,
     pub letter: Letter,
+    pub time: u64,
 }
 
 /// What an end may do, and what it knows of the mailbox's senders.
@@ -26,12 +35,12 @@ pub(crate) struct Role {
 /// What an end knows of the queue.
 pub(crate) struct Line {
     pub role: Role,
-    /// The letters that it put in, in this order.
-    pub put: LinkedList<Letter>,
+    /// The letters that it put in, in this order, each with its time.
+    pub put: LinkedList<Mail>,
     /// The letters that it took out, in this order.
     pub got: LinkedList<Post>,
     /// The senders that were joined into it, each with the letters that it had put in.
-    pub known: LinkedList<(u64, LinkedList<Letter>)>,
+    pub known: LinkedList<(u64, LinkedList<Mail>)>,
 }
 
 /// What an end knows of the word that counts letters.

@@ -13,7 +13,8 @@ use Rattle.inspector_script.specs.Scripts.{ScriptValue}
 use Rattle.run_parts.specs.Ports.{is_port}
 use Rattle.plane.specs.declared.plane.Plane.{Plane}
 use Rattle.plane.specs.Passes.{IsPortOf, PortView}
-use Rattle.plane.specs.Planes.{order_of}
+use Rattle.place_rows.specs.Rows.{id_of}
+use Rattle.plane.specs.Planes.{order_of, places_of}
 use Rattle.live_runs.specs.Calls.{ShutsAll}
 use Rattle.live_runs.specs.ClosedPlanes.{sent_at, sent_by_all}
 use Rattle.live_runs.specs.Doing.{GoesOn}
@@ -33,6 +34,13 @@ use Rattle.nfq_live.proofs.AllPasses.{GoesOnAt, closes_at, in_order}
 use Rattle.live_work.proofs.MailboxLooks.{NextLookLaw, NoLookLaw}
 use Rattle.nfq_live.proofs.PortNumbers.{its_number, number_at, zip_at}
 use Rattle.nfq_live.proofs.WholeLocks.{UnionLaws, every_index}
+
+-- a port's pass has a pass of each place's lock
+pub port_long : (plane : Plane) (p : PortView) → IsPortOf plane p →
+    places_of plane ≡ length p.trail.known
+port_long plane p of =
+    sym (of.of.as_many ∙ ap length of.of.locks_are ∙ length-map plane.shared.locks.items id_of
+    ∙ plane.shared.sized)
 
 -- ---- the same crew
 

@@ -8,6 +8,8 @@ pub mod FedPlaces
 pub mod JoinedShares
 pub mod FeederParts
 pub mod PortEndStage
+pub mod EndWords
+pub mod UnreadMessages
 pub mod PortEnd
 pub mod PortEndMeeting
 pub mod WholeRun

@@ -2,8 +2,8 @@
 use Rattle.std.proofs.Common.{◌≡◌, ◌≤◌, ◌<◌, ◌+◌, ◌⊎◌, ◌∙◌, ◌++◌, ◌∷◌, [], ℕ, List, true, false, ap}
 use Rattle.std.proofs.Common.{append-nil}
 use Rattle.std.proofs.Common.{arith, inl, inr, length, map, refl, subst, suc, sym, zero}
-use Rattle.std.specs.Prelude.{All, Err, IfSome, Ok, OnOk, Option, Result, Some, count_by, nat_eq}
-use Rattle.std.specs.Prelude.{slice_index, sum_by}
+use Rattle.std.specs.Prelude.{All, Bool, Err, IfSome, Ok, OnOk, Option, Result, Some, count_by}
+use Rattle.std.specs.Prelude.{nat_eq, slice_index, sum_by}
 use Rattle.hook_chain.specs.Rules.{RuleTables}
 use Rattle.std.specs.List.{list_any}
 use Rattle.std.proofs.lemmas.Bool.{cases_Bool, eq-eqb, ne_eqb}
@@ -31,6 +31,7 @@ use Rattle.plane.specs.Closings.{IsClosed, all_holders, port_holds}
 use Rattle.plane.specs.Opening.{IsOpened}
 use Rattle.plane.specs.Passes.{FeederView, PortView}
 use Rattle.plane.specs.Planes.{board_of, order_of, places_of, setting_of}
+use Rattle.plane.specs.Remaining.{times_in}
 use Rattle.live_runs.specs.ClosedPlanes.{IsClosedPlane, sent_by_all}
 use Rattle.live_runs.specs.Meetings.{ArePorts, IsMeeting, IsNew, IsOpenTo}
 use Rattle.live_runs.specs.Owners.{IsFedByAll, IsFeeding}
@@ -292,3 +293,14 @@ short_for law script places size c h some m closed =
 pub at_any : {X E : Type 0} (r : Result X E) (P : Type 0) → P → OnOk r P
 at_any (Ok y) P is = is
 at_any (Err e) P is = tt
+
+-- each port is at most once among those that are open or closed
+pub once_each : (plane : Plane) (feeder : FeederView) (ports closed : List PortView) →
+    AreAll plane feeder ports closed → (port : ℕ) → times_in port (ports ++ closed) ≤ 1
+once_each plane feeder ports closed all port =
+    by_test (list_any (nat_eq port) (order_of plane)) refl
+  where
+    by_test : (b : Bool) → list_any (nat_eq port) (order_of plane) ≡ b →
+        times_in port (ports ++ closed) ≤ 1
+    by_test true e = let one = all.each port e in omega arith
+    by_test false e = let none = all.nobody port e in omega arith

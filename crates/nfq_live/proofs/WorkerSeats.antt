@@ -125,6 +125,14 @@ refilled {X} n new old was is =
     ap (λ (l : List X). take n (new ++ l)) none ∙ ap (λ (l : List X). take n l) (append-nil new)
     ∙ take_all n new (omega (arith, is))
 
+-- what is known of the part that was lent and what came back is known of the whole list
+pub lent_back : {X : Type 0} (R : List X → List X → Type 0) (n : ℕ) (lent old new : List X) →
+    lent ≡ old → length old ≡ n → length new ≡ n → R lent new →
+    R old (take n (new ++ drop (length new) old))
+lent_back {X} R n lent old new same is was r =
+    subst (λ (l : List X). R old l) (sym (refilled n new old is was))
+    (subst (λ (l : List X). R l new) same r)
+
 -- ---- the way to the seats and back
 
 -- all passes went to the seats, of which none was taken before

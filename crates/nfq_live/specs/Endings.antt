@@ -1,6 +1,6 @@
 -- How far a run has ended its ports: between two meetings, call by call.
 use Rattle.std.specs.Prelude.{◌≡◌, ◌≢◌, ◌<◌, ◌≤◌, ◌++◌, ◌⊎◌, ℕ, zero, suc, Bool, true, false, List}
-use Rattle.std.specs.Prelude.{[]}
+use Rattle.std.specs.Prelude.{[], slice_index_or}
 use Rattle.std.specs.Prelude.{if◌then◌else◌, ◌∷◌, length, map, All}
 use Rattle.netlink_codec.specs.Messages.{NetlinkMessage}
 use Rattle.histories.specs.declared.log.AskWords.{AskWords}
@@ -19,7 +19,10 @@ use Rattle.live_runs.specs.Stages.{Stage, Went, Working, Ending}
 use Rattle.live_runs.specs.Stands.{AtEnd, Stand, cut_side, idle, opened, shut_stand, side}
 use Rattle.live_runs.specs.Sums.{WasSent}
 use Rattle.nfq_live.specs.declared.crew.Crew.{Crew}
-use Rattle.nfq_live.specs.Crews.{is_open_in, passes_of}
+use Rattle.plane.specs.declared.plane.Plane.{Plane}
+use Rattle.plane.specs.Passes.{PortView}
+use Rattle.plane.specs.Planes.{order_of, places_of}
+use Rattle.nfq_live.specs.Crews.{AreReceived, HaveMinds, IsCrewOf, is_open_in, passes_of}
 use Rattle.nfq_live.specs.Sizes.{Size}
 use Rattle.live_work.specs.Sharing.{AreFedByAll}
 
@@ -123,6 +126,17 @@ pub record IsAtMeeting (script : ScriptValue) (places : ℕ) (size : Size) (plac
       is_open_in c port ≡ (stands port).is_open
 
 -- ---- what the calls of an end do, whatever the size of the run
+
+-- The open port at this index is the one at a place of the script. It may send and close: all
+-- passes are the plane's, and each open port received what was sent to it.
+pub record MayEnd (script : ScriptValue) (plane : Plane) (place at : ℕ) (c : Crew) : Type 0 where
+  pub crew : IsCrewOf plane c
+  pub order : order_of plane ≡ script.ports
+  pub minds : HaveMinds script c
+  pub within : at < length c.ports.items
+  pub its : (d : PortView) →
+      place_in (slice_index_or c.ports.items at d).port script.ports ≡ place
+  pub received : AreReceived script.ports (places_of plane) c
 
 -- Of the messages that bytes are cut into, these are left, and then these are due.
 pub record CutsEndTo (script : ScriptValue) (places place : ℕ) (bytes : List ℕ)

@@ -5,30 +5,21 @@ ghost use Rattle.plane.specs.Planes.{order_of, places_of};
 ghost use Rattle.nfq_live.specs.Crews.{AllLookOn, AreReceived, HaveMinds, IsCrewOf};
 
 use crate::crew::Crew;
-use inspector_script::Script;
 use live_runs::what_a_port_does_adds_up;
-use live_work::look;
+use live_work::{Stage, look};
 use packet_entry::NoMemory;
-use plane::{Gate, Plane, parts_stay_whole};
-use std::alloc::Global;
+use plane::{Gate, parts_stay_whole};
 use std::sync::Wait;
 
 impl Crew {
     /// Each open port looks once, in the script's order. Whether there was a notice.
-    fn round<R: Wait, G: Gate>(
-        &mut self,
-        rt: &R,
-        alloc: Global,
-        plane: &Plane,
-        gate: &G,
-        script: &Script,
-    ) -> Result<bool, NoMemory>
-        requires crew { IsCrewOf plane.now self.old }
-        requires minds { HaveMinds script.now self.old }
-        ensures crew { IsCrewOf plane.now self.new }
-        ensures minds { OnOk result (HaveMinds script.now self.new) }
+    fn round<R: Wait, G: Gate>(&mut self, stage: &Stage<'_, R, G>) -> Result<bool, NoMemory>
+        requires crew { IsCrewOf stage.now.plane.now self.old }
+        requires minds { HaveMinds stage.now.script.now self.old }
+        ensures crew { IsCrewOf stage.now.plane.now self.new }
+        ensures minds { OnOk result (HaveMinds stage.now.script.now self.new) }
         ensures on { OnOk result
-            (AllLookOn script.now (places_of plane.now) self.old self.new) }
+            (AllLookOn stage.now.script.now (places_of stage.now.plane.now) self.old self.new) }
     {
         parts_stay_whole();
         what_a_port_does_adds_up();
@@ -36,7 +27,7 @@ impl Crew {
         for at in 0..self.ports.len() {
             let pass = &mut self.ports[at];
             let mind = &mut self.minds[at];
-            found = look(rt, alloc, plane, gate, script, pass, mind)? | found;
+            found = look(stage, pass, mind)? | found;
         }
         Ok(found)
     }
@@ -45,24 +36,20 @@ impl Crew {
     /// Nobody else is at work, so that no notice is on its way meanwhile.
     pub(crate) fn empty<R: Wait, G: Gate>(
         &mut self,
-        rt: &R,
-        alloc: Global,
-        plane: &Plane,
-        gate: &G,
-        script: &Script,
+        stage: &Stage<'_, R, G>,
     ) -> Result<(), NoMemory>
-        requires crew { IsCrewOf plane.now self.old }
-        requires minds { HaveMinds script.now self.old }
-        ensures crew { IsCrewOf plane.now self.new }
-        ensures minds { OnOk result (HaveMinds script.now self.new) }
+        requires crew { IsCrewOf stage.now.plane.now self.old }
+        requires minds { HaveMinds stage.now.script.now self.old }
+        ensures crew { IsCrewOf stage.now.plane.now self.new }
+        ensures minds { OnOk result (HaveMinds stage.now.script.now self.new) }
         ensures on { OnOk result
-            (AllLookOn script.now (places_of plane.now) self.old self.new) }
+            (AllLookOn stage.now.script.now (places_of stage.now.plane.now) self.old self.new) }
         ensures received { OnOk result
-            (AreReceived (order_of plane.now) (places_of plane.now) self.new) }
+            (AreReceived (order_of stage.now.plane.now) (places_of stage.now.plane.now) self.new) }
     {
         what_a_port_does_adds_up();
-        for _ in rt.forever() {
-            let found = self.round(rt, alloc, plane, gate, script)?;
+        for _ in stage.rt.forever() {
+            let found = self.round(stage)?;
             if !found && self.has_received_all() {
                 return Ok(());
             }

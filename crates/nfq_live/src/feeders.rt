@@ -3,27 +3,25 @@
 ghost use Rattle.std.specs.Prelude.{◌≡◌, ◌≤◌, ◌<◌, ◌+◌, ◌++◌, ℕ, [], length, slice_index_or, All};
 ghost use Rattle.std.specs.Prelude.{IsTrue, OnOk, false};
 ghost use Rattle.std.specs.Thread.{IsSend, IsSync};
-ghost use Rattle.hook_chain.specs.Numbers.{most_feeders};
-ghost use Rattle.packet_entry.specs.Numbers.{longest_packet};
 ghost use Rattle.place_rows.specs.Lists.{Every};
 ghost use Rattle.plane.specs.Passes.{IsFeederOf};
 ghost use Rattle.live_work.specs.contracts.feeding.Feeding.{the_row};
 ghost use Rattle.live_work.specs.declared.feeding.Feeding as view;
-ghost use Rattle.live_work.specs.Feeding.{HasFed, IsFeedingOf, shares_in};
-ghost use Rattle.live_work.specs.Numbers.{most_frames, one_feeder};
-ghost use Rattle.nfq_live.specs.Feeders.{AllFeed, AllJoin, HaveItsParts, IsFresh, IsHelper};
+ghost use Rattle.live_work.specs.Feeding.{HasFed, shares_in};
+ghost use Rattle.live_work.specs.Numbers.{one_feeder};
+ghost use Rattle.nfq_live.specs.Feeders.{AllJoin, HaveItsParts, IsFresh, IsHelper};
 ghost use Rattle.nfq_live.specs.Feeders.{fed_by, share_of};
 
+use crate::setup::Run;
 use feeder_set::Share;
-use inspector_script::Script;
+use inspector_pool::JobGate;
 use live_passes::rows_are_split_and_joined;
 use live_work::{Activity, Feeding};
 use packet_entry::NoMemory;
-use pcap_io::Capture;
 use plane::{FeederPass, Gate, Plane};
 use std::alloc::Global;
 use std::sync::Wait;
-use std::thread::{self, Threads, join_mut};
+use std::thread::{self, Threads};
 use turn_lock::{a_part_is_known_by_its_ways, parts_are_put_together_in_any_order};
 
 /// Passes for the feeders beside the first are split off its own, so that there are so many
@@ -98,136 +96,40 @@ pub(crate) fn feeders_may_change_threads()
     it_may_change_threads::<Feeding>();
 }
 
-/// The feeders beside the first feed their shares, each in a thread of its own where there are
-/// enough. The one at index 0 has the number 1.
-fn feed_all<R: Threads + Wait + Sync, G: Gate>(
-    rt: &R,
-    alloc: Global,
-    plane: &Plane,
-    gate: &G,
-    script: &Script,
-    capture: &Capture,
-    feeders: u32,
-    activity: &Activity,
-    helpers: &mut [Feeding],
-)
-    requires feeders { feeders ≤ most_feeders }
-    requires few { length helpers.old < feeders }
-    requires frames { length capture.now.frames ≤ most_frames }
-    requires bytes { All (λ f. length f.bytes ≤ longest_packet) capture.now.frames }
-    requires helpers { All (λ h. IsFresh plane.now h) helpers.old }
-    ensures len { length helpers.new ≡ length helpers.old }
-    ensures each { (i : ℕ) (d : _) → i < length helpers.old →
-        HasFed script.now capture.now plane.now (share_of feeders (i + 1))
-        (slice_index_or helpers.old i d) (slice_index_or helpers.new i d) }
-{
-    feeders_may_change_threads();
-    let threads = helpers.len();
-    if threads > 0 {
-        thread::for_each_mut(
-            rt,
-            helpers,
-            threads,
-            &|at: usize, one: &mut Feeding|
-                requires { IsSync G.row × (at + 1 < feeders) × (feeders ≤ most_feeders)
-                    × (length capture.now.frames ≤ most_frames)
-                    × All (λ f. length f.bytes ≤ longest_packet) capture.now.frames
-                    × IsFresh plane.now one.now }
-                ensures { HasFed script.entry.now capture.entry.now plane.entry.now
-                    (share_of feeders (at + 1)) one.entry.now one.exit.now }
-            {
-                let share = Share {
-                    number: at as u32 + 1,
-                    feeders,
-                };
-                one.work(rt, alloc, plane, gate, script, capture, share, activity)
-            },
-        );
+impl<R: Threads + Wait + Sync, G: Gate, J: JobGate> Run<'_, R, G, J> {
+    /// The feeders beside the first feed their shares, each in a thread of its own where there are
+    /// enough. The one at index 0 has the number 1.
+    pub(crate) fn feed_all(&self, activity: &Activity, helpers: &mut [Feeding])
+        requires few { length helpers.old < self.now.feeders }
+        requires helpers { All (λ h. IsFresh self.now.stage.plane.now h) helpers.old }
+        ensures len { length helpers.new ≡ length helpers.old }
+        ensures each { (i : ℕ) (d : _) → i < length helpers.old →
+            HasFed self.now.stage.script.now self.now.capture.now self.now.stage.plane.now
+            (share_of self.now.feeders (i + 1))
+            (slice_index_or helpers.old i d) (slice_index_or helpers.new i d) }
+    {
+        feeders_may_change_threads();
+        let run = self;
+        let threads = helpers.len();
+        if threads > 0 {
+            thread::for_each_mut(
+                self.stage.rt,
+                helpers,
+                threads,
+                &|at: usize, one: &mut Feeding|
+                    requires { IsSync G.row × IsSync J.row × IsSync R.row
+                        × (at + 1 < run.now.feeders) × IsFresh run.now.stage.plane.now one.now }
+                    ensures { HasFed run.entry.now.stage.script.now run.entry.now.capture.now
+                        run.entry.now.stage.plane.now (share_of run.entry.now.feeders (at + 1))
+                        one.entry.now one.exit.now }
+                {
+                    let share = Share {
+                        number: at as u32 + 1,
+                        feeders: run.feeders,
+                    };
+                    one.work(&run.stage, run.capture, share, activity)
+                },
+            );
+        }
     }
-}
-
-/// The first feeder feeds its share, and the others beside it. Takes no memory, and where no thread
-/// can be made they feed one after the other.
-fn feed_beside<R: Threads + Wait + Sync, G: Gate>(
-    rt: &R,
-    alloc: Global,
-    plane: &Plane,
-    gate: &G,
-    script: &Script,
-    capture: &Capture,
-    feeders: u32,
-    activity: &Activity,
-    feeding: &mut Feeding,
-    helpers: &mut [Feeding],
-)
-    requires feeders { (one_feeder ≤ feeders) × (feeders ≤ most_feeders) }
-    requires few { length helpers.old < feeders }
-    requires frames { length capture.now.frames ≤ most_frames }
-    requires bytes { All (λ f. length f.bytes ≤ longest_packet) capture.now.frames }
-    requires pass { IsFeederOf plane.now feeding.old.pass }
-    requires looks { IsFeedingOf plane.now feeding.old }
-    requires none { feeding.old.pass.fed ≡ [] }
-    requires helpers { All (λ h. IsFresh plane.now h) helpers.old }
-    ensures fed { HasFed script.now capture.now plane.now (share_of feeders 0) feeding.old
-        feeding.new }
-    ensures len { length helpers.new ≡ length helpers.old }
-    ensures each { (i : ℕ) (d : _) → i < length helpers.old →
-        HasFed script.now capture.now plane.now (share_of feeders (i + 1))
-        (slice_index_or helpers.old i d) (slice_index_or helpers.new i d) }
-{
-    join_mut(
-        rt,
-        &mut ||
-            requires { IsFeederOf plane.now feeding.now.pass × IsFeedingOf plane.now feeding.now
-                × (one_feeder ≤ feeders) × (feeders ≤ most_feeders)
-                × (length capture.now.frames ≤ most_frames)
-                × All (λ f. length f.bytes ≤ longest_packet) capture.now.frames
-                × (feeding.now.pass.fed ≡ []) }
-        {
-            let share = Share { number: 0, feeders };
-            feeding.work(rt, alloc, plane, gate, script, capture, share, activity)
-        },
-        &mut ||
-            requires { IsSync G.row × IsSync R.row × (feeders ≤ most_feeders)
-                × (length helpers.now < feeders) × (length capture.now.frames ≤ most_frames)
-                × All (λ f. length f.bytes ≤ longest_packet) capture.now.frames
-                × All (λ h. IsFresh plane.now h) helpers.now }
-        {
-            feed_all(
-                rt, alloc, plane, gate, script, capture, feeders, activity, helpers,
-            )
-        },
-    );
-}
-
-/// The same of feeders in a list.
-pub(crate) fn feed_together<R: Threads + Wait + Sync, G: Gate>(
-    rt: &R,
-    alloc: Global,
-    plane: &Plane,
-    gate: &G,
-    script: &Script,
-    capture: &Capture,
-    feeders: u32,
-    activity: &Activity,
-    feeding: &mut Feeding,
-    helpers: &mut Vec<Feeding>,
-)
-    requires feeders { (one_feeder ≤ feeders) × (feeders ≤ most_feeders) }
-    requires few { length helpers.old.items < feeders }
-    requires frames { length capture.now.frames ≤ most_frames }
-    requires bytes { All (λ f. length f.bytes ≤ longest_packet) capture.now.frames }
-    requires pass { IsFeederOf plane.now feeding.old.pass }
-    requires looks { IsFeedingOf plane.now feeding.old }
-    requires none { feeding.old.pass.fed ≡ [] }
-    requires helpers { All (λ h. IsFresh plane.now h) helpers.old.items }
-    ensures fed { HasFed script.now capture.now plane.now (share_of feeders 0) feeding.old
-        feeding.new }
-    ensures all { AllFeed script.now capture.now plane.now feeders 1 helpers.old.items
-        helpers.new.items }
-{
-    let others = helpers.as_mut_slice();
-    feed_beside(
-        rt, alloc, plane, gate, script, capture, feeders, activity, feeding, others,
-    );
 }

@@ -14,6 +14,7 @@ mod ending;
 mod feeders;
 mod opening;
 mod run;
+mod setup;
 mod workers;
 
 pub use run::{run_feeders, run_pools, run_workers};

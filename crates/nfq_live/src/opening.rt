@@ -10,73 +10,65 @@ ghost use Rattle.nfq_live.specs.Openings.{AreReady, HaveOpened};
 ghost use Rattle.live_work.specs.Sending.{SaysTo};
 
 use crate::crew::Crew;
-use inspector_script::Script;
 use live_runs::{ports_open_one_after_the_other, the_feeder_keeps_its_time};
-use live_work::{say_all, take_down_after};
+use live_work::{Stage, say_all, take_down_after};
 use packet_entry::NoMemory;
-use plane::{Gate, Plane, parts_stay_whole};
+use plane::{Gate, parts_stay_whole};
 use port_scripts::{DownsByFrame, ports_close_at_the_end};
 use run_parts::each_port_has_its_place;
-use std::alloc::Global;
 use std::sync::Wait;
 
 impl Crew {
     /// The port at a place of the script, which is open as all are, sends its opening messages.
     fn say_opening<R: Wait, G: Gate>(
         &mut self,
-        rt: &R,
-        alloc: Global,
-        plane: &Plane,
-        gate: &G,
-        script: &Script,
+        stage: &Stage<'_, R, G>,
         place: usize,
     ) -> Result<(), NoMemory>
-        requires crew { IsCrewOf plane.now self.old }
-        requires order { order_of plane.now ≡ script.now.ports }
-        requires minds { HaveMinds script.now self.old }
-        requires place { place < length script.now.ports }
-        requires opened { HaveOpened script.now (places_of plane.now) place self.old }
-        ensures crew { IsCrewOf plane.now self.new }
-        ensures minds { HaveMinds script.now self.new }
-        ensures said { OnOk result (SaysTo script.now (places_of plane.now)
-            (slice_index script.now.ports place)
-            (opening script.now (place_in (slice_index script.now.ports place) script.now.ports)) []
-            (passes_of self.old (slice_index script.now.ports place))
-            (passes_of self.new (slice_index script.now.ports place))) }
-        ensures others { OnePass (slice_index script.now.ports place) self.old self.new }
+        requires crew { IsCrewOf stage.now.plane.now self.old }
+        requires order { order_of stage.now.plane.now ≡ stage.now.script.now.ports }
+        requires minds { HaveMinds stage.now.script.now self.old }
+        requires place { place < length stage.now.script.now.ports }
+        requires opened { HaveOpened stage.now.script.now (places_of stage.now.plane.now) place
+            self.old }
+        ensures crew { IsCrewOf stage.now.plane.now self.new }
+        ensures minds { HaveMinds stage.now.script.now self.new }
+        ensures said { OnOk result (SaysTo stage.now.script.now (places_of stage.now.plane.now)
+            (slice_index stage.now.script.now.ports place)
+            (opening stage.now.script.now
+            (place_in (slice_index stage.now.script.now.ports place) stage.now.script.now.ports)) []
+            (passes_of self.old (slice_index stage.now.script.now.ports place))
+            (passes_of self.new (slice_index stage.now.script.now.ports place))) }
+        ensures others { OnePass (slice_index stage.now.script.now.ports place) self.old self.new }
     {
         parts_stay_whole();
         ports_close_at_the_end();
         let pass = &mut self.ports[place];
         let mind = &mut self.minds[place];
-        let asks = mind.machine.opening(alloc, script)?;
-        say_all(rt, alloc, plane, gate, script, pass, mind, asks)
+        let asks = mind.machine.opening(stage.alloc, stage.script)?;
+        say_all(stage, pass, mind, asks)
     }
 
     /// The ports open, in the script's order, and behind each all passes meet.
     pub(crate) fn open_all<R: Wait, G: Gate>(
         &mut self,
-        rt: &R,
-        alloc: Global,
-        plane: &Plane,
-        gate: &G,
-        script: &Script,
+        stage: &Stage<'_, R, G>,
     ) -> Result<(), NoMemory>
-        requires crew { IsCrewOf plane.now self.old }
-        requires order { order_of plane.now ≡ script.now.ports }
-        requires minds { HaveMinds script.now self.old }
-        requires none { HaveOpened script.now (places_of plane.now) 0 self.old }
-        ensures crew { IsCrewOf plane.now self.new }
-        ensures minds { OnOk result (HaveMinds script.now self.new) }
-        ensures opened { OnOk result (HaveOpened script.now (places_of plane.now)
-            (length script.now.ports) self.new) }
+        requires crew { IsCrewOf stage.now.plane.now self.old }
+        requires order { order_of stage.now.plane.now ≡ stage.now.script.now.ports }
+        requires minds { HaveMinds stage.now.script.now self.old }
+        requires none { HaveOpened stage.now.script.now (places_of stage.now.plane.now) 0 self.old }
+        ensures crew { IsCrewOf stage.now.plane.now self.new }
+        ensures minds { OnOk result (HaveMinds stage.now.script.now self.new) }
+        ensures opened { OnOk result (HaveOpened stage.now.script.now
+            (places_of stage.now.plane.now) (length stage.now.script.now.ports) self.new) }
     {
         each_port_has_its_place();
         ports_open_one_after_the_other();
         the_feeder_keeps_its_time();
-        for place in 0..script.ports().len() {
-            self.say_opening(rt, alloc, plane, gate, script, place)?;
-            self.meet(alloc, plane)?;
+        for place in 0..stage.script.ports().len() {
+            self.say_opening(stage, place)?;
+            self.meet(stage.alloc, stage.plane)?;
         }
         Ok(())
     }
@@ -84,25 +76,22 @@ impl Crew {
     /// The ports open, and then the devices go down that do so before the first frame.
     pub(crate) fn make_ready<R: Wait, G: Gate>(
         &mut self,
-        rt: &R,
-        alloc: Global,
-        plane: &Plane,
-        gate: &G,
-        script: &Script,
+        stage: &Stage<'_, R, G>,
         downs: &DownsByFrame,
     ) -> Result<(), NoMemory>
-        requires crew { IsCrewOf plane.now self.old }
-        requires order { order_of plane.now ≡ script.now.ports }
-        requires minds { HaveMinds script.now self.old }
-        requires downs { AreDownsOf script.now downs.now }
-        requires none { HaveOpened script.now (places_of plane.now) 0 self.old }
-        ensures crew { IsCrewOf plane.now self.new }
-        ensures minds { OnOk result (HaveMinds script.now self.new) }
-        ensures ready { OnOk result (AreReady script.now (places_of plane.now) self.new) }
+        requires crew { IsCrewOf stage.now.plane.now self.old }
+        requires order { order_of stage.now.plane.now ≡ stage.now.script.now.ports }
+        requires minds { HaveMinds stage.now.script.now self.old }
+        requires downs { AreDownsOf stage.now.script.now downs.now }
+        requires none { HaveOpened stage.now.script.now (places_of stage.now.plane.now) 0 self.old }
+        ensures crew { IsCrewOf stage.now.plane.now self.new }
+        ensures minds { OnOk result (HaveMinds stage.now.script.now self.new) }
+        ensures ready { OnOk result
+            (AreReady stage.now.script.now (places_of stage.now.plane.now) self.new) }
     {
         parts_stay_whole();
-        self.open_all(rt, alloc, plane, gate, script)?;
-        take_down_after(rt, plane, script, &mut self.feeding.pass, downs, 0)?;
+        self.open_all(stage)?;
+        take_down_after(stage, &mut self.feeding.pass, downs, 0)?;
         Ok(())
     }
 }

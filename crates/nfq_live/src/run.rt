@@ -10,6 +10,7 @@ ghost use Rattle.histories.specs.Journeys.{AreSound};
 ghost use Rattle.histories.specs.Lengths.{AreShort};
 ghost use Rattle.histories.specs.Numbers.{queue_count};
 ghost use Rattle.inspector_pool.specs.Numbers.{most_workers};
+ghost use Rattle.total_order.specs.TotalOrder.{HasTotalOrder};
 ghost use Rattle.run_parts.specs.Entering.{cards};
 ghost use Rattle.place_rows.specs.Lists.{Every};
 ghost use Rattle.plane.specs.Opening.{IsNew};
@@ -23,6 +24,7 @@ ghost use Rattle.nfq_live.specs.Run.{IsLiveRun, IsLiveRunBy, IsOpenedFor, tables
 ghost use Rattle.nfq_live.specs.Sizes.{size_of};
 
 use crate::crew::Crew;
+use crate::setup::Run;
 use histories::{Entries, Histories};
 use inspector_pool::{JobGate, OpenJobGate};
 use inspector_script::Script;
@@ -31,10 +33,10 @@ use live_runs::{
     a_run_with_threads_is_made_by_its_script, nothing_is_sent_to_a_closed_port,
     ports_open_one_after_the_other, the_feeder_keeps_its_time,
 };
-use live_work::{Feeding, minds};
+use live_work::{Feeding, Pool, Stage, minds};
 use packet_entry::{NoMemory, Sequence};
 use pcap_io::Capture;
-use plane::{Gate, Opened, Plane};
+use plane::{Gate, Opened};
 use port_scripts::downs_by_frame;
 use std::alloc::Global;
 use std::sync::Wait;
@@ -56,38 +58,41 @@ fn queues_are_short(entries: &Entries)
 
 /// All that happens between the opening of the plane and its closing: the ports open, the frames
 /// pass while the inspectors answer, the mailboxes are emptied, and the ports end.
-fn go<R: Threads + Wait + Sync, G: Gate, J: JobGate>(
-    rt: &R,
-    alloc: Global,
-    plane: &Plane,
-    gate: &G,
-    jobs: &J,
-    script: &Script,
-    capture: &Capture,
+fn go<'a, R: Threads + Wait + Sync, G: Gate, J: JobGate>(
+    stage: Stage<'a, R, G>,
+    pool: Pool<'a, J>,
+    capture: &'a Capture,
     feeders: u32,
-    pool: u32,
     crew: &mut Crew,
 ) -> Result<(), NoMemory>
     requires feeders { (one_feeder ≤ feeders) × (feeders ≤ most_feeders) }
-    requires pool { (one_worker ≤ pool) × (pool ≤ most_workers) }
-    requires crew { IsCrewOf plane.now crew.old }
-    requires order { order_of plane.now ≡ script.now.ports }
     requires frames { length capture.now.frames ≤ most_frames }
     requires bytes { All (λ f. length f.bytes ≤ longest_packet) capture.now.frames }
-    requires none { HaveOpened script.now (places_of plane.now) 0 crew.old }
+    requires crew { IsCrewOf stage.plane.now crew.old }
+    requires order { order_of stage.plane.now ≡ stage.script.now.ports }
+    requires none { HaveOpened stage.script.now (places_of stage.plane.now) 0 crew.old }
     requires new { Every IsNew crew.old.ports.items }
-    ensures crew { IsCrewOf plane.now crew.new }
-    ensures ended { OnOk result (IsAtMeeting script.now (places_of plane.now)
-        (size_of pool feeders capture.now) (length script.now.ports) crew.new) }
-    ensures received { OnOk result
-        (AreReceived script.now.ports (places_of plane.now) crew.new) }
+    ensures crew { IsCrewOf stage.entry.plane.now crew.new }
+    ensures ended { OnOk result
+        (IsAtMeeting stage.entry.script.now (places_of stage.entry.plane.now)
+        (size_of pool.entry.workers feeders capture.now) (length stage.entry.script.now.ports)
+        crew.new) }
+    ensures received { OnOk result (AreReceived stage.entry.script.now.ports
+        (places_of stage.entry.plane.now) crew.new) }
     ensures fed { OnOk result (AreTheSame crew.new.feeding.pass.fed (cards capture.now)) }
 {
-    let downs = downs_by_frame(alloc, script)?;
-    crew.minds = minds(alloc, script)?;
-    crew.make_ready(rt, alloc, plane, gate, script, &downs)?;
-    crew.work(rt, alloc, plane, gate, jobs, script, capture, feeders, pool)?;
-    crew.end_all(rt, alloc, plane, gate, script)
+    let run = Run {
+        stage,
+        pool,
+        capture,
+        feeders,
+    };
+    let stage = &run.stage;
+    let downs = downs_by_frame(stage.alloc, stage.script)?;
+    crew.minds = minds(stage.alloc, stage.script)?;
+    crew.make_ready(stage, &downs)?;
+    crew.work(&run)?;
+    crew.end_all(stage)
 }
 
 /// Runs a script over the packets of a capture, of at most 200,000 frames of at most 262,144 bytes
@@ -95,21 +100,22 @@ fn go<R: Threads + Wait + Sync, G: Gate, J: JobGate>(
 /// which share out the frames, and an inspector for each port work beside each other, where threads
 /// can be made. Behind each inspector a pool of 2 to 16 workers works out the answers, or with 1 it
 /// does so alone. What happened is a run of the script, in which every notice was received and no
-/// packet is lost. It is legal, and sound for the packets of the capture. Rules that fan out by
+/// packet is lost. It is legal, and sound for the packets of the capture, and all events of all
+/// queues have one order. Rules that fan out by
 /// feeder do so by the number of feeders that the plane's tables have. `NoMemory` also where memory
 /// ran out between two queues, so that a packet was lost. The gate is told of each turn
 /// that feeds a packet or carries out a message, and of the answer to each request; `jobs` of each
 /// job of a pool.
-pub fn run_pools<R: Threads + Wait + Sync, G: Gate, J: JobGate>(
-    rt: &R,
+pub fn run_pools<'a, R: Threads + Wait + Sync, G: Gate, J: JobGate>(
+    rt: &'a R,
     alloc: Global,
     opened: Opened,
-    script: &Script,
-    capture: &Capture,
+    script: &'a Script,
+    capture: &'a Capture,
     feeders: u32,
     pool: u32,
-    gate: &G,
-    jobs: &J,
+    gate: &'a G,
+    jobs: &'a J,
 ) -> Result<Histories, NoMemory>
     requires feeders { (one_feeder ≤ feeders) × (feeders ≤ most_feeders) }
     requires pool { (one_worker ≤ pool) × (pool ≤ most_workers) }
@@ -123,6 +129,7 @@ pub fn run_pools<R: Threads + Wait + Sync, G: Gate, J: JobGate>(
     ensures short { IfOk result (λ h. AreShort h.entries) }
     ensures grouped { IfOk result (λ h. (es : List Entry) × IsGrouped es h.entries) }
     ensures whole { IfOk result (λ h. h.lost ≡ []) }
+    ensures order { IfOk result HasTotalOrder }
 {
     let _ports = script.ports();
     a_run_with_threads_is_made_by_its_script();
@@ -147,10 +154,19 @@ pub fn run_pools<R: Threads + Wait + Sync, G: Gate, J: JobGate>(
         minds: Vec::new(alloc),
         closed: Vec::new(alloc),
     };
+    let stage = Stage {
+        rt,
+        alloc,
+        plane: &plane,
+        gate,
+        script,
+    };
+    let pool = Pool {
+        jobs,
+        workers: pool,
+    };
     // Packets may wait in the plane: it is closed before anything is answered.
-    let outcome = go(
-        rt, alloc, &plane, gate, jobs, script, capture, feeders, pool, &mut crew,
-    );
+    let outcome = go(stage, pool, capture, feeders, &mut crew);
     let Crew {
         feeding,
         ports,
@@ -194,6 +210,7 @@ pub fn run_feeders<R: Threads + Wait + Sync, G: Gate>(
     ensures short { IfOk result (λ h. AreShort h.entries) }
     ensures grouped { IfOk result (λ h. (es : List Entry) × IsGrouped es h.entries) }
     ensures whole { IfOk result (λ h. h.lost ≡ []) }
+    ensures order { IfOk result HasTotalOrder }
 {
     let jobs = OpenJobGate;
     run_pools(rt, alloc, opened, script, capture, feeders, 1, gate, &jobs)
@@ -218,6 +235,7 @@ pub fn run_workers<R: Threads + Wait + Sync, G: Gate>(
     ensures short { IfOk result (λ h. AreShort h.entries) }
     ensures grouped { IfOk result (λ h. (es : List Entry) × IsGrouped es h.entries) }
     ensures whole { IfOk result (λ h. h.lost ≡ []) }
+    ensures order { IfOk result HasTotalOrder }
 {
     run_feeders(rt, alloc, opened, script, capture, 1, gate)
 }

@@ -1,16 +1,14 @@
 -- Each entry of a place's list is one row's own, and no other's.
-use Rattle.std.proofs.Common.{◌≡◌, ◌<◌, ◌≤◌, ◌+◌, ℕ, zero, suc, List, [], ◌∷◌, length, refl, ◌∙◌}
+use Rattle.std.proofs.Common.{◌≡◌, ◌<◌, ◌≤◌, ◌+◌, ℕ, zero, suc, List, [], ◌∷◌, refl, ◌∙◌}
 use Rattle.std.proofs.Common.{arith, inl, inr}
-use Rattle.std.specs.Prelude.{slice_get, Some, sum_by, nat_eq, if◌then◌else◌}
+use Rattle.std.specs.Prelude.{slice_get, Some, sum_by, nat_eq}
 use Rattle.std.specs.List.{range_with_len}
 use Rattle.std.proofs.lemmas.List.Sums.{sum_by-cons}
 use Rattle.std.proofs.lemmas.Bool.{cases_Bool, eqb-true, eqb-false, eq-eqb}
-use Rattle.histories.specs.declared.entry.Entry.{Entry}
-use Rattle.place_rows.specs.Rows.{Known}
+use Rattle.turn_lock.specs.declared.view.View.{View}
 use Rattle.place_rows.specs.Joining.{own_at, is_place}
-use Rattle.place_rows.specs.Ending.{IsListOf}
 
-at_other : (i j : ℕ) → (j ≡ i → ⊥) → is_place i j ≡ 0
+pub at_other : (i j : ℕ) → (j ≡ i → ⊥) → is_place i j ≡ 0
 at_other i j other =
     elim (cases_Bool (nat_eq j i)) [
       | inl h ↦ absurd (other (eqb-true j i h))
@@ -51,10 +49,11 @@ one_within i low (suc n) most few =
     ]
 
 -- over all rows, a place of the list is own once
-pub own_once : (places : ℕ) (rows : List (List Known)) (k : ℕ) (list : List Entry) (i : ℕ) →
-    IsListOf places rows k list → i < length list → sum_by (own_at (is_place i) k) rows ≡ 1
-own_once places rows k list i is few =
-    is.once (is_place i) ∙ one_within i 0 (length list) (omega arith) (omega (arith, few))
+pub own_once : {E S : Type 0} (rows : List (List (View E S))) (k n i : ℕ) →
+    ((f : ℕ → ℕ) → sum_by (own_at f k) rows ≡ sum_by f (range_with_len 0 n)) → i < n →
+    sum_by (own_at (is_place i) k) rows ≡ 1
+own_once rows k n i once few =
+    once (is_place i) ∙ one_within i 0 n (omega arith) (omega (arith, few))
 
 -- so there is a pass whose it is
 pub owner : {X : Type 0} (f : X → ℕ) (xs : List X) → 0 < sum_by f xs →

@@ -1,9 +1,8 @@
 -- All places that ended: their lists are all rows' own, legal and sound.
-use Rattle.std.proofs.Common.{◌≡◌, ◌<◌, ◌≤◌, ◌+◌, ◌%◌, ℕ, List, [], ◌∷◌, ◌++◌, length, refl, sym}
-use Rattle.std.proofs.Common.{ap, ◌∙◌, subst, arith, append_assoc, append-nil, map}
-use Rattle.std.specs.Prelude.{slice_get, Option, Some, None, option_map, sum_by, IfSome, flat_map}
+use Rattle.std.proofs.Common.{◌≡◌, ◌<◌, ◌+◌, ℕ, List, [], ◌∷◌, ◌++◌, length, refl, sym}
+use Rattle.std.proofs.Common.{◌∙◌, subst, arith}
+use Rattle.std.specs.Prelude.{slice_get, Option, Some, None, sum_by, IfSome, flat_map}
 use Rattle.std.specs.List.{range_with_len, AllZip}
-use mathlib.Core.List.{IsPrefix}
 use Rattle.std.proofs.lemmas.List.Sums.{sum_by-cons, sum_by-append}
 use Rattle.std.proofs.Math.Nat.{mod-lt}
 use Rattle.packet_entry.specs.declared.packet.Card.{Card}
@@ -15,22 +14,20 @@ use Rattle.histories.specs.Grouping.{IsGrouped}
 use Rattle.histories.specs.History.{AreLegal, history, IsLegal}
 use Rattle.histories.specs.Journeys.{AreSound, IsSoundBut}
 use Rattle.histories.specs.Moves.{Move, moves, moves_after}
-use Rattle.place_history.specs.PlaceState.{AreHere}
 use Rattle.packet_moves.specs.declared.setting.Setting.{Setting}
-use Rattle.locked_place.specs.Notices.{letters_to}
 use Rattle.place_rows.specs.declared.ending.PortReceiver.{PortReceiver}
 use Rattle.place_rows.specs.Lists.{Every, AllFrom, flat}
 use Rattle.place_rows.specs.Rows.{Known}
 use Rattle.place_rows.specs.Shares.{own_moves, all_moves, IsBalanced}
-use Rattle.place_rows.specs.Joining.{AllJoined, Begins, own_at, own_sum}
+use Rattle.place_rows.specs.Joining.{AllJoined}
 use Rattle.place_rows.specs.Ending.{IsListAt, IsListOf, Holder, rows_of, all_fed, all_lost}
 use Rattle.place_rows.specs.Ending.{AreBalanced}
 use Rattle.place_rows.specs.Hearing.{HearsAs, IsHeard}
 use Rattle.place_rows.specs.Ended.{AreAllEntries}
-use Rattle.place_rows.proofs.Lists.{every_mapped, all_from_mapped, prefix_trans}
+use Rattle.place_rows.proofs.Lists.{every_mapped}
 use Rattle.place_rows.proofs.ItemSums.{sum_flat, moves_longer, moves_long}
 use Rattle.place_rows.proofs.RowBalance.{both_sound, same_sound}
-use Rattle.place_rows.proofs.RowJoins.{under, begins_longer}
+use Rattle.place_rows.proofs.RowJoins.{all_begin, all_own}
 use Rattle.place_rows.proofs.PlaceLists.{legal_from, flat_moves}
 use Rattle.place_rows.proofs.PlaceEnds.{here_all}
 use Rattle.place_rows.proofs.RowSums.{all_told}
@@ -41,23 +38,9 @@ use Rattle.place_rows.proofs.HeardNotices.{all_sent, all_hear}
 list_of : (places k : ℕ) (vs us : List Known) (rows : List (List Known)) (list : List Entry) →
     AllJoined rows vs us → IsListAt places us k list → IsListOf places (vs ∷ rows) k list
 list_of places k vs us rows list joined is =
-    let u = is.all in
-    let v = under k vs us rows u joined is.at in
     record {
-      begins = (
-        subst (λ (o : Option Known). IfSome (option_map (λ (x : Known). x.seen) o) (λ seen.
-            IsPrefix seen list))
-            (sym v.1.0) (prefix_trans v.0.seen u.seen list v.1.1.first is.begins),
-        every_mapped (Begins k u.seen) (Begins k list) rows
-            (λ ws. begins_longer k u.seen list ws is.begins) v.1.1.begins,
-      );
-      once = λ f. omega (
-        arith,
-        sum_by-cons (own_at f k) vs rows,
-        ap (own_sum f) v.1.0,
-        v.1.1.own f,
-        ap (sum_by f) is.own,
-      );
+      begins = all_begin k vs us rows is.all list joined is.at is.begins;
+      once = all_own k vs us rows is.all (range_with_len 0 (length list)) joined is.at is.own;
       here = is.here;
     }
 

@@ -1,5 +1,5 @@
 -- Locks that are made one after the other, each with its first pass.
-use Rattle.std.proofs.Common.{◌≡◌, ◌<◌, ◌+◌, ℕ, zero, suc, List, [], ◌∷◌, ◌++◌, length}
+use Rattle.std.proofs.Common.{◌≡◌, ◌<◌, ℕ, zero, suc, List, [], ◌∷◌, ◌++◌, length}
 use Rattle.std.proofs.Common.{refl, sym, ap, ◌∙◌, subst, arith, map, inl, inr}
 use Rattle.std.specs.Prelude.{slice_get, Option, Some, None, option_map, IfSome, nat_eq}
 use Rattle.std.specs.BTreeMap.{BTreeMap, get}
@@ -20,10 +20,11 @@ use Rattle.histories.specs.declared.entry.Entry.{Entry}
 use Rattle.locked_place.specs.declared.outlets.Outlets.{Outlets}
 use Rattle.locked_place.specs.Views.{LockedView, PlaceLabel, label_of, as_made}
 use Rattle.locked_place.specs.Passes.{IsPassOf}
-use Rattle.place_rows.specs.Rows.{Known, ArePasses, IsKnown, label_at, sender_made, lock_of, id_of}
+use Rattle.place_rows.specs.Rows.{TimedKnown, ArePasses, IsKnown, label_at, sender_made, lock_of}
+use Rattle.place_rows.specs.Rows.{id_of}
 use Rattle.place_rows.specs.Opening.{IsFirst, AreFirst}
 use Rattle.place_rows.proofs.Lists.{one_item, get_longer, get_seam}
-use Rattle.place_rows.proofs.RowPasses.{known_of}
+use Rattle.place_rows.proofs.RowPasses.{known_pass}
 
 -- a place as it is made
 abbrev pub place_made : ℕ → ℕ → BTreeMap ℕ SenderView → WriterView → LockedView
@@ -33,6 +34,8 @@ place_made number places senders writer = record {
   senders = senders.entries;
   writer = writer;
   entries = [];
+  times = [];
+  latest = 0;
 }
 
 -- its label is the one that it is to have
@@ -64,36 +67,38 @@ label_made outlets number places senders writer many are is =
 -- such a sender has sent nothing
 pub none_sent : (places number : ℕ) (o : Option SenderView) (m : Option MailboxView) →
     o ≡ option_map (sender_made places number) m →
-    IfSome o (λ (s : SenderView). (s.sent ≡ []) × (s.full ≡ 0))
+    IfSome o (λ (s : SenderView). (s.sent ≡ []) × (s.mails ≡ []) × (s.full ≡ 0))
 none_sent places number o None is = rw is tt
-none_sent places number o (Some m) is = rw is (refl, refl)
+none_sent places number o (Some m) is = rw is (refl, refl, refl)
 
 -- the first pass of a lock that was made
-pub first_of : {g : Ghosts LockedView Entry} (lock : TurnLock LockedView Entry)
-    (pass : Pass LockedView Entry g) (place : LockedView) (named : PlaceLabel) →
+pub first_of : {g : Ghosts LockedView (Entry × ℕ)} (lock : TurnLock LockedView (Entry × ℕ))
+    (pass : Pass LockedView (Entry × ℕ) g) (place : LockedView) (named : PlaceLabel) →
     IsOf lock pass → view_of pass ≡ views.opening_view place → label_of place ≡ named →
     IsPassOf label_of named lock pass × IsFirst (view_of pass)
 first_of lock pass place named of view is = (
   record {
     of = of;
-    outside = ap (λ (v : Known). v.turn) view;
-    named_so = ap (λ (v : Known). views.label_of label_of v) view ∙ ap (λ n. Some n) is;
+    outside = ap (λ (v : TimedKnown). v.turn) view;
+    named_so = ap (λ (v : TimedKnown). views.label_of label_of v) view ∙ ap (λ n. Some n) is;
   },
   record {
-    none_seen = ap (λ (v : Known). v.seen) view;
-    none_own = ap (λ (v : Known). v.own) view;
-    whole = ap (λ (v : Known). v.part) view;
+    none_seen = ap (λ (v : TimedKnown). v.seen) view;
+    none_own = ap (λ (v : TimedKnown). v.own) view;
+    whole = ap (λ (v : TimedKnown). v.part) view;
   },
 )
 
 -- ---- one lock more
 
-module _ {g : Ghosts LockedView Entry} (named : ℕ → PlaceLabel)
-    (locks : List (TurnLock LockedView Entry)) (row : List (Pass LockedView Entry g)) where
+module _ {g : Ghosts LockedView (Entry × ℕ)} (named : ℕ → PlaceLabel)
+    (locks : List (TurnLock LockedView (Entry × ℕ)))
+    (row : List (Pass LockedView (Entry × ℕ) g)) where
   pub row_long : ArePasses label_of named locks row → length row ≡ length locks
   row_long are = sym (length-map row lock_of) ∙ ap length are.locks_are ∙ length-map locks id_of
 
-  pub one_lock_more : (lock : TurnLock LockedView Entry) (pass : Pass LockedView Entry g) →
+  pub one_lock_more : (lock : TurnLock LockedView (Entry × ℕ))
+      (pass : Pass LockedView (Entry × ℕ) g) →
       ArePasses label_of named locks row → IsPassOf label_of (named (length locks)) lock pass →
       ArePasses label_of named (locks ++ lock ∷ []) (row ++ pass ∷ [])
   one_lock_more lock pass are is = record {
@@ -103,7 +108,8 @@ module _ {g : Ghosts LockedView Entry} (named : ℕ → PlaceLabel)
         ∙ sym (map-append id_of locks (lock ∷ []));
     known = λ k v at.
         let there : slice_get (map view_of row ++ view_of pass ∷ []) k ≡ Some v =
-        ap (λ (l : List Known). slice_get l k) (sym (map-append view_of row (pass ∷ []))) ∙ at in
+        ap (λ (l : List TimedKnown). slice_get l k) (sym (map-append view_of row (pass ∷ [])))
+        ∙ at in
         let long : length (map view_of row) ≡ length locks = length-map row view_of
         ∙ row_long are in
         elim (cases_Bool (nat_eq k (length locks))) [
@@ -113,7 +119,7 @@ module _ {g : Ghosts LockedView Entry} (named : ℕ → PlaceLabel)
               ∙ ap (slice_get (map view_of row ++ view_of pass ∷ [])) (long ∙ sym e) ∙ there) in
               subst (IsKnown label_of (named k)) v_is
               (subst (λ n. IsKnown label_of (named n) (view_of pass)) (sym e)
-              (known_of label_of (named (length locks)) lock pass is)))
+              (known_pass label_of (named (length locks)) lock pass is)))
           | inr other ↦ (let few : k < length (map view_of row) =
               omega (
                 arith,
@@ -127,8 +133,9 @@ module _ {g : Ghosts LockedView Entry} (named : ℕ → PlaceLabel)
   }
 
 -- the first passes have the whole of their locks
-pub wholes : (known : List Known) → AreFirst known → (k : ℕ) (v : Known) →
+pub wholes : (known : List TimedKnown) → AreFirst known → (k : ℕ) (v : TimedKnown) →
     slice_get known k ≡ Some v → v.part ≡ Whole
 wholes [] all k v at = absurd (cc at)
-wholes (w ∷ known) all zero v at = ap (λ (x : Known). x.part) (sym (one_item w v at)) ∙ all.0.whole
+wholes (w ∷ known) all zero v at =
+    ap (λ (x : TimedKnown). x.part) (sym (one_item w v at)) ∙ all.0.whole
 wholes (w ∷ known) all (suc k) v at = wholes known all.1 k v at

@@ -1,14 +1,14 @@
 -- What ports heard of all places' lists.
-use Rattle.std.proofs.Common.{◌≡◌, ◌≢◌, ◌<◌, ◌≤◌, ◌+◌, ℕ, zero, suc, List, [], ◌∷◌, ◌++◌}
+use Rattle.std.proofs.Common.{◌≡◌, ◌<◌, ◌≤◌, ◌+◌, ℕ, zero, suc, List, [], ◌∷◌, ◌++◌}
 use Rattle.std.proofs.Common.{length, refl, sym, ap, ◌∙◌, subst, arith, inl, inr}
 use Rattle.std.proofs.Common.{append-nil, map, Bool, true, false, cond}
 use Rattle.std.specs.Prelude.{slice_get, Option, Some, None, sum_by, IfSome, flat_map, nat_eq}
-use Rattle.std.specs.Prelude.{nat_lt, filter, count_by, if◌then◌else◌, ◌==◌}
+use Rattle.std.specs.Prelude.{nat_lt, filter, count_by, ◌==◌}
 use Rattle.std.specs.List.{AllZip}
 use mathlib.Core.List.{IsPrefix}
 use Rattle.std.proofs.lemmas.List.Elements.{filter-append}
 use Rattle.std.proofs.lemmas.List.{length-append}
-use Rattle.std.proofs.lemmas.List.Sums.{sum_by-cons, sum_by-append}
+use Rattle.std.proofs.lemmas.List.Sums.{sum_by-cons}
 use Rattle.std.proofs.lemmas.Bool.{cases_Bool, eqb-true, eqb-false, eq-eqb}
 use Rattle.std.proofs.lemmas.Bool.Decides.{nat_tests}
 use Rattle.packet_entry.specs.declared.letter.Letter.{Letter}
@@ -23,7 +23,7 @@ use Rattle.queue_core.specs.declared.offers.Outcome.TheVariants.{Taken, Overflow
 use Rattle.queue_core.specs.declared.offers.Outcome.TheVariants.{UserFull, UserFullOpen, NoQueue}
 use Rattle.queue_core.specs.declared.offers.Outcome.TheVariants.{Bypassed, CopyNone, Loop}
 use Rattle.mailbox.specs.declared.view.Post.{Post}
-use Rattle.mailbox.specs.Roles.{In, HasAll}
+use Rattle.mailbox.specs.Roles.{In}
 use Rattle.mailbox.specs.Views.{ReceiverView, letters_of, letters_in, numbers, HasAllSenders}
 use Rattle.mailbox.specs.Views as views
 use Rattle.turn_lock.specs.Views.{HasSeenOwn}
@@ -70,7 +70,7 @@ of_all Q k x [] all h = absurd h
 of_all Q k x (y ∷ known) all (inl e) = subst Q (sym e) all.0
 of_all Q k x (y ∷ known) all (inr h) = of_all Q k x known all.1 h
 
-has_all : (places : ℕ) (lists : List (List Entry)) (port : ℕ) (r : ReceiverView) → 0 < places →
+pub has_all : (places : ℕ) (lists : List (List Entry)) (port : ℕ) (r : ReceiverView) → 0 < places →
     length lists ≡ places → Hears places 0 lists port r → HasAllSenders r
 has_all places lists port r some long hears =
     let made : r.made ≡ places = hears.made refl (omega (arith, some, long)) in
@@ -87,7 +87,7 @@ both_from P Q n [] one two = tt
 both_from P Q n (x ∷ xs) one two = ((one.0, two.0), both_from P Q (n + 1) xs one.1 two.1)
 
 -- each letter is of a sender below n, where none is of another
-all_within : (n : ℕ) (ps : List Post) → ((k : ℕ) → n ≤ k → letters_of k ps ≡ []) →
+pub all_within : (n : ℕ) (ps : List Post) → ((k : ℕ) → n ≤ k → letters_of k ps ≡ []) →
     Every (λ (p : Post). p.from < n) ps
 all_within n [] none = tt
 all_within n (p ∷ ps) none = (here, all_within n ps tail)
@@ -211,7 +211,7 @@ twice queue (d ∷ es) =
       | inr h ↦ rw h (twice queue es)
     ]
 
-pushed : (queue : ℕ) (es : List Entry) (e : Entry) → is_of queue e ≡ true →
+pub pushed : (queue : ℕ) (es : List Entry) (e : Entry) → is_of queue e ≡ true →
     history queue (es ++ e ∷ []) ≡ history queue es ++ e ∷ []
 pushed queue es e own = filter-append (is_of queue) es (e ∷ []) ∙ rw own refl
 

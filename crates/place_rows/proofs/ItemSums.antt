@@ -1,7 +1,7 @@
 -- Items at places of lists, weighed and put together.
 use Rattle.std.proofs.Common.{◌≡◌, ◌≤◌, ◌+◌, ◌-◌, ℕ, List, [], ◌∷◌, ◌++◌, length, refl, sym, ap}
 use Rattle.std.proofs.Common.{◌∙◌, arith, append-nil, append_assoc, inl, inr}
-use Rattle.std.specs.Prelude.{slice_get, Option, Some, option_to_list, sum_by, flat_map, nat_lt}
+use Rattle.std.specs.Prelude.{slice_get, Option, option_to_list, sum_by, flat_map, nat_lt}
 use Rattle.std.specs.List.{range_with_len}
 use Rattle.std.proofs.lemmas.List.{length-append}
 use Rattle.std.proofs.lemmas.List.Sums.{sum_by-append, sum_by-cons}

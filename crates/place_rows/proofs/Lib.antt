@@ -8,9 +8,13 @@ pub mod ToldRows
 pub mod PlaceLists
 pub mod Senders
 pub mod PlaceEnds
+pub mod PlainRows
 pub mod RowSums
 pub mod EntryOwners
 pub mod HeardNotices
+pub mod TimedLists
+pub mod PostedNotices
+pub mod TimedEntries
 pub mod FinalLists
 pub mod Results
 pub mod RowMeetings

@@ -23,7 +23,7 @@ use Rattle.place_rows.proofs.Lists.{one_item, item_at, get_same, get_other, ever
 
 -- a sender that isn't the first one knows of no other
 pub made_other : (places n : ℕ) (mailbox : MailboxView) → 1 ≤ n →
-    record { mailbox = mailbox; number = n; made = 0; sent = []; full = 0 }
+    record { mailbox = mailbox; number = n; made = 0; sent = []; mails = []; full = 0 }
     ≡ sender_made places n mailbox
 made_other places n mailbox least =
     elim (cases_Bool (nat_eq n 0)) [

@@ -1,7 +1,7 @@
 -- What telling leaves untouched: a row's own entries, and its balance.
 use Rattle.std.proofs.Common.{◌≡◌, ◌<◌, ◌≤◌, ℕ, suc, List, [], ◌∷◌, ◌++◌, length, refl, sym, ap}
 use Rattle.std.proofs.Common.{◌∙◌, subst, arith, ◌⊎◌, ⊎_elim, inl, inr}
-use Rattle.std.specs.Prelude.{slice_get, Some, sum_by, nat_lt, flat_map}
+use Rattle.std.specs.Prelude.{slice_get, Some, sum_by, nat_lt}
 use mathlib.Core.List.{IsPrefix}
 use Rattle.std.proofs.lemmas.Option.{slice_get_within}
 use Rattle.std.proofs.lemmas.Bool.{cases_Bool}
@@ -13,9 +13,9 @@ use Rattle.histories.specs.declared.entry.Entry.{Entry}
 use Rattle.histories.specs.declared.histories.Lost.{Lost}
 use Rattle.histories.specs.History.{AreLegal}
 use Rattle.histories.specs.Journeys.{Arrival, IsSoundBut}
-use Rattle.histories.specs.Moves.{Move, moves, moves_after}
+use Rattle.histories.specs.Moves.{Move, moves_after}
 use Rattle.packet_moves.specs.declared.setting.Setting.{Setting}
-use Rattle.locked_place.specs.Points.{Point, points, points_after}
+use Rattle.locked_place.specs.Points.{points_after}
 use Rattle.place_rows.specs.Rows.{Known}
 use Rattle.place_rows.specs.Shares.{at_places, own_moves, all_moves, IsBalancedBut}
 use Rattle.place_rows.specs.Shares.{notices_at, sent_at}

@@ -1,5 +1,5 @@
 -- Places that end, one after the other.
-use Rattle.std.proofs.Common.{◌≡◌, ◌<◌, ◌≤◌, ◌+◌, ◌⊎◌, ℕ, List, [], ◌∷◌, ◌++◌, length, refl, sym}
+use Rattle.std.proofs.Common.{◌≡◌, ◌<◌, ◌≤◌, ◌+◌, ℕ, List, [], ◌∷◌, ◌++◌, length, refl, sym}
 use Rattle.std.proofs.Common.{ap, ◌∙◌, subst, arith, inl, inr, Bool, true, false}
 use Rattle.std.specs.Prelude.{map, slice_get, Option, Some, None, option_map, nat_eq, IfSome}
 use Rattle.std.specs.Prelude.{if◌then◌else◌, ◌&&◌}
@@ -12,6 +12,7 @@ use Rattle.std.proofs.lemmas.Option.{slice_get-map}
 use Rattle.std.specs.BTreeMap.{BTreeMap, get}
 use Rattle.std.specs.Ordering.{nat_cmp}
 use Rattle.packet_entry.specs.declared.letter.Letter.{Letter}
+use Rattle.mailbox.specs.declared.view.Mail.{Mail}
 use Rattle.mailbox.specs.Views.{MailboxView, SenderView, ReceiverView, receiver_joined, letters_in}
 use Rattle.turn_lock.specs.declared.storied.Storied.{Ghosts}
 use Rattle.turn_lock.specs.declared.pass.Pass.{Pass}
@@ -19,15 +20,18 @@ use Rattle.turn_lock.specs.declared.lock.TurnLock.{TurnLock}
 use Rattle.turn_lock.specs.Passes.{view_of}
 use Rattle.histories.specs.declared.entry.Entry.{Entry}
 use Rattle.histories.specs.History.{history, is_of}
+use Rattle.total_order.specs.Orders.{untimed}
 use Rattle.place_history.specs.PlaceState.{AreHere}
 use Rattle.locked_place.specs.Notices.{letters_to, lacking, HasSent}
-use Rattle.locked_place.specs.Views.{LockedView, AreNotified, PlaceLabel, senders_of, made_senders}
+use Rattle.locked_place.specs.Views.{LockedView, AreNotified, PlaceLabel, senders_of}
 use Rattle.locked_place.specs.Views.{as_made, label_of}
+use Rattle.locked_place.specs.Times.{AreMailed, mails_to}
 use Rattle.locked_place.specs.Passes.{IsPassOf}
 use Rattle.place_rows.specs.declared.ending.PortReceiver.{PortReceiver}
 use Rattle.place_rows.specs.Lists.{Every, AllFrom, flat}
-use Rattle.place_rows.specs.Rows.{Known, ArePasses, sender_made}
+use Rattle.place_rows.specs.Rows.{Known, TimedKnown, known_of, ArePasses, sender_made}
 use Rattle.place_rows.specs.Ending.{IsListAt}
+use Rattle.place_rows.specs.Timed.{IsTimedListAt, HearsInTime}
 use Rattle.place_rows.specs.Hearing.{Hears, HearsAs, Among, times_in, with_sender, with_its_sender}
 use Rattle.place_rows.specs.Hearing.{HasSender, HasMailbox, IsHeard}
 use Rattle.place_rows.proofs.Lists.{one_item, all_from_mapped, last_of}
@@ -45,14 +49,33 @@ pub made_one : (places n : ℕ) (m : MailboxView) (o : Option SenderView) →
 made_one places n m None e = absurd (cc e)
 made_one places n m (Some s) e = record { sender = s; is = refl; made = one_item _ _ e }
 
+-- ---- lists without times
+
+-- lists of places that ended
+pub plain_lists : (places : ℕ) (us : List TimedKnown) (n : ℕ) (lists : List (List (Entry × ℕ))) →
+    AllFrom (IsTimedListAt places us) n lists →
+    AllFrom (IsListAt places (known_of us)) n (map untimed lists)
+plain_lists places us n [] all = tt
+plain_lists places us n (l ∷ ls) all = (all.0.plain, plain_lists places us (n + 1) ls all.1)
+
+-- and what ports heard of them
+pub plain_hears : (places n : ℕ) (lists : List (List (Entry × ℕ))) (olds news : List PortReceiver) →
+    AllZip (HearsInTime places n lists) olds news →
+    AllZip (HearsAs places n (map untimed lists)) olds news
+plain_hears places n lists [] [] zip = tt
+plain_hears places n lists [] (q ∷ qs) zip = absurd zip
+plain_hears places n lists (p ∷ ps) [] zip = absurd zip
+plain_hears places n lists (p ∷ ps) (q ∷ qs) zip =
+    (zip.0.plain, plain_hears places n lists ps qs zip.1)
+
 -- ---- what a receiver hears
-among_front : (x : ℕ × List Letter) (xs ys : List (ℕ × List Letter)) → Among x xs → Among x (xs ++
-    ys)
+among_front : {X : Type 0} (x : ℕ × List X) (xs ys : List (ℕ × List X)) → Among x xs →
+    Among x (xs ++ ys)
 among_front x [] ys h = absurd h
 among_front x (y ∷ xs) ys (inl e) = inl e
 among_front x (y ∷ xs) ys (inr h) = inr (among_front x xs ys h)
 
-among_last : (x : ℕ × List Letter) (xs : List (ℕ × List Letter)) → Among x (xs ++ x ∷ [])
+among_last : {X : Type 0} (x : ℕ × List X) (xs : List (ℕ × List X)) → Among x (xs ++ x ∷ [])
 among_last x [] = inl refl
 among_last x (y ∷ xs) = inr (among_last x xs)
 
@@ -67,12 +90,12 @@ hears_more : (places n : ℕ) (lists : List (List Entry)) (list : List Entry) (p
     Hears places n (list ∷ lists) port (receiver_joined r s)
 hears_more places n lists list port r s m hears made sent_so =
     let number : s.number ≡ n = ap (λ (x : SenderView). x.number) made in
-    let pair : (s.number, s.sent) ≡ (n, letters_to port list) =
-    ap (λ (k : ℕ). (k, s.sent)) number ∙ ap (λ (l : List Letter). (n, l)) sent_so.sent in
     record {
       joined = (
         subst (λ (x : ℕ × List Letter). Among (n, letters_to port list) (r.joined ++ x ∷ []))
-            (sym pair) (among_last (n, letters_to port list) r.joined),
+            (sym (ap (λ (k : ℕ). (k, s.sent)) number
+            ∙ ap (λ (l : List Letter). (n, l)) sent_so.sent))
+            (among_last (n, letters_to port list) r.joined),
         all_from_mapped (λ k l. Among (k, letters_to port l) r.joined)
             (λ k l. Among (k, letters_to port l) (r.joined ++ (s.number, s.sent) ∷ [])) (n + 1)
             lists
@@ -98,6 +121,22 @@ hears_more places n lists list port r s m hears made sent_so =
           ∙ ap (λ (x : SenderView). x.made) made
           ∙ ap (λ k. if nat_eq k 0 then places else 0) is_zero;
     }
+
+-- and with times
+mails_more : (places n : ℕ) (lists : List (List (Entry × ℕ))) (list : List (Entry × ℕ)) (port : ℕ)
+    (r : ReceiverView) (s : SenderView) (m : MailboxView) →
+    AllFrom (λ k l. Among (k, mails_to port l) r.mails) (n + 1) lists →
+    as_made s ≡ sender_made places n m → s.mails ≡ mails_to port list →
+    AllFrom (λ k l. Among (k, mails_to port l) (receiver_joined r s).mails) n (list ∷ lists)
+mails_more places n lists list port r s m mails made sent_so = (
+  subst (λ (x : ℕ × List Mail). Among (n, mails_to port list) (r.mails ++ x ∷ []))
+      (sym (ap (λ (k : ℕ). (k, s.mails)) (ap (λ (x : SenderView). x.number) made)
+      ∙ ap (λ (l : List Mail). (n, l)) sent_so))
+      (among_last (n, mails_to port list) r.mails),
+  all_from_mapped (λ k l. Among (k, mails_to port l) r.mails)
+      (λ k l. Among (k, mails_to port l) (r.mails ++ (s.number, s.mails) ∷ [])) (n + 1) lists
+      (λ k l h. among_front (k, mails_to port l) r.mails ((s.number, s.mails) ∷ []) h) mails,
+)
 
 pub hears_none : (places n port : ℕ) (r : ReceiverView) → r.joined ≡ [] → r.full ≡ 0 →
     Hears places n [] port r
@@ -144,29 +183,39 @@ module _ (mailboxes : BTreeMap ℕ MailboxView) (places n : ℕ) (senders : BTre
         have_senders m lists ps qs has.1 hears.1,
       )
 
-  heard_more : (lists : List (List Entry)) (list : List Entry) (olds news : List PortReceiver) →
-      AreNotified list (senders_of senders) → Every (HasMailbox mailboxes) olds →
-      AllZip (HearsAs places (n + 1) lists) olds news →
-      AllZip (HearsAs places n (list ∷ lists)) olds (map (with_its_sender senders) news)
-  heard_more lists list [] [] notified has hears = tt
-  heard_more lists list [] (q ∷ qs) notified has hears = absurd hears
-  heard_more lists list (p ∷ ps) [] notified has hears = absurd hears
-  heard_more lists list (p ∷ ps) (q ∷ qs) notified has hears =
-      let one = one_made p q (n + 1) lists has.0 hears.0 in
+  heard_more : (lists : List (List (Entry × ℕ))) (list : List (Entry × ℕ))
+      (olds news : List PortReceiver) → AreNotified (untimed list) (senders_of senders) →
+      AreMailed list (senders_of senders) → Every (HasMailbox mailboxes) olds →
+      AllZip (HearsInTime places (n + 1) lists) olds news →
+      AllZip (HearsInTime places n (list ∷ lists)) olds (map (with_its_sender senders) news)
+  heard_more lists list [] [] notified mailed has hears = tt
+  heard_more lists list [] (q ∷ qs) notified mailed has hears = absurd hears
+  heard_more lists list (p ∷ ps) [] notified mailed has hears = absurd hears
+  heard_more lists list (p ∷ ps) (q ∷ qs) notified mailed has hears =
+      let plain = hears.0.plain in
+      let one = one_made p q (n + 1) (map untimed lists) has.0 plain in
       let s = one.sender in
-      let sent_so : HasSent list q.port s =
-      subst (λ (o : Option SenderView). IfSome o (HasSent list q.port)) one.is
-      (notified.each q.port) in (
-        subst (HearsAs places n (list ∷ lists) p) (ap (with_sender q) (sym one.is))
+      let sent_so : HasSent (untimed list) q.port s =
+      subst (λ (o : Option SenderView). IfSome o (HasSent (untimed list) q.port)) one.is
+      (notified.each q.port) in
+      let mailed_so : s.mails ≡ mails_to q.port list =
+      subst (λ (o : Option SenderView).
+      IfSome o (λ (x : SenderView). x.mails ≡ mails_to q.port list)) one.is (mailed q.port) in (
+        subst (HearsInTime places n (list ∷ lists) p) (ap (with_sender q) (sym one.is))
             (record {
-              port = hears.0.port;
-              received = hears.0.received;
-              mailbox = hears.0.mailbox;
-              hears = hears_more places n lists list p.port q.receiver s p.receiver.mailbox
-                  hears.0.hears one.made
-                  (subst (λ k. HasSent list k s) hears.0.port sent_so);
+              plain = record {
+                port = plain.port;
+                received = plain.received;
+                mailbox = plain.mailbox;
+                hears = hears_more places n (map untimed lists) (untimed list) p.port q.receiver s
+                    p.receiver.mailbox plain.hears one.made
+                    (subst (λ k. HasSent (untimed list) k s) plain.port sent_so);
+              };
+              mails = mails_more places n lists list p.port q.receiver s p.receiver.mailbox
+                  hears.0.mails one.made
+                  (subst (λ k. s.mails ≡ mails_to k list) plain.port mailed_so);
             }),
-        heard_more lists list ps qs notified has.1 hears.1,
+        heard_more lists list ps qs notified mailed has.1 hears.1,
       )
 
 abbrev is_one : ℕ → ℕ → ℕ
@@ -198,29 +247,33 @@ times_few places n lists olds news hears apart port =
 -- ---- the loop
 
 -- all places from n on have ended
-pub record PlacesLeft (places : ℕ) (us : List Known) (n : ℕ) (kept : Bool) (gathered : List Entry)
-    (olds news : List PortReceiver) : Type 0 where
-  pub lists : List (List Entry)
+pub record PlacesLeft (places : ℕ) (us : List TimedKnown) (n : ℕ) (kept : Bool)
+    (gathered : List Entry) (olds news : List PortReceiver) : Type 0 where
+  pub lists : List (List (Entry × ℕ))
   pub count : n + length lists ≡ length us
-  pub each : AllFrom (IsListAt places us) n lists
-  pub same : kept ≡ true → (queue : ℕ) → history queue gathered ≡ history queue (flat lists)
-  pub receivers : AllZip (HearsAs places n lists) olds news
+  pub each : AllFrom (IsTimedListAt places us) n lists
+  pub same : kept ≡ true → (queue : ℕ) →
+      history queue gathered ≡ history queue (flat (map untimed lists))
+  pub receivers : AllZip (HearsInTime places n lists) olds news
   pub heard : 0 < length lists → Every IsHeard news
 
 hear_none : (mailboxes : BTreeMap ℕ MailboxView) (places n : ℕ) (ps : List PortReceiver) →
-    Every (HasMailbox mailboxes) ps → AllZip (HearsAs places n []) ps ps
+    Every (HasMailbox mailboxes) ps → AllZip (HearsInTime places n []) ps ps
 hear_none mailboxes places n [] all = tt
 hear_none mailboxes places n (p ∷ ps) all = (
   record {
-    port = refl;
-    received = refl;
-    mailbox = refl;
-    hears = hears_none places n p.port p.receiver all.0.none_joined all.0.none_back;
+    plain = record {
+      port = refl;
+      received = refl;
+      mailbox = refl;
+      hears = hears_none places n p.port p.receiver all.0.none_joined all.0.none_back;
+    };
+    mails = tt;
   },
   hear_none mailboxes places n ps all.1,
 )
 
-pub none_ended : (mailboxes : BTreeMap ℕ MailboxView) (places : ℕ) (us : List Known) (n : ℕ)
+pub none_ended : (mailboxes : BTreeMap ℕ MailboxView) (places : ℕ) (us : List TimedKnown) (n : ℕ)
     (gathered : List Entry) (ps : List PortReceiver) → n ≡ length us → gathered ≡ [] →
     Every (HasMailbox mailboxes) ps → PlacesLeft places us n true gathered ps ps
 none_ended mailboxes places us n gathered ps all none has = record {
@@ -237,47 +290,53 @@ pub here_all : (places : ℕ) (us : List Known) (n : ℕ) (lists : List (List En
 here_all places us n lists =
     all_from_mapped (IsListAt places us) (AreHere places) n lists (λ k l is. is.here)
 
-pub one_ended : (mailboxes : BTreeMap ℕ MailboxView) (places n : ℕ) (us : List Known)
+pub one_ended : (mailboxes : BTreeMap ℕ MailboxView) (places n : ℕ) (us : List TimedKnown)
     (kept still : Bool) (gathered more : List Entry) (olds news nexts : List PortReceiver)
-    (list : List Entry) (senders : BTreeMap ℕ SenderView) →
-    PlacesLeft places us (n + 1) kept gathered olds news →
-    IsListAt places us n list → AreNotified list (senders_of senders) →
-    AreMade mailboxes places n senders → Every (HasMailbox mailboxes) olds →
-    nexts ≡ map (with_its_sender senders) news → Every IsHeard nexts →
-    (still ≡ true → (kept ≡ true) × (more ≡ gathered ++ list)) →
+    (es : List Entry) (list : List (Entry × ℕ)) (senders : BTreeMap ℕ SenderView) →
+    PlacesLeft places us (n + 1) kept gathered olds news → untimed list ≡ es →
+    IsTimedListAt places us n list → AreNotified es (senders_of senders) →
+    AreMailed list (senders_of senders) → AreMade mailboxes places n senders →
+    Every (HasMailbox mailboxes) olds → nexts ≡ map (with_its_sender senders) news →
+    Every IsHeard nexts → (still ≡ true → (kept ≡ true) × (more ≡ gathered ++ es)) →
     PlacesLeft places us n still more olds nexts
-one_ended mailboxes places n us kept still gathered more olds news nexts list senders s list_is
-    notified made has nexts_are nexts_heard kept_is =
+one_ended mailboxes places n us kept still gathered more olds news nexts es list senders s es_are
+    list_is notified mailed made has nexts_are nexts_heard kept_is =
     record {
       lists = list ∷ s.lists;
       count = omega (arith, s.count);
       each = (list_is, s.each);
       same = λ is_kept queue.
           let both = kept_is is_kept in
-          ap (history queue) both.1 ∙ filter-append (is_of queue) gathered list
-          ∙ ap (λ (h : List Entry). h ++ history queue list) (s.same both.0 queue)
-          ∙ either_end places n queue list s.lists
-          (list_is.here, here_all places us (n + 1) s.lists s.each)
-          ∙ sym (filter-append (is_of queue) list (flat s.lists));
-      receivers = subst (AllZip (HearsAs places n (list ∷ s.lists)) olds) (sym nexts_are)
-          (heard_more mailboxes places n senders made s.lists list olds news notified has
-          s.receivers);
+          let xs = untimed list in
+          let xss = map untimed s.lists in
+          let here = here_all places (known_of us) (n + 1) xss
+          (plain_lists places us (n + 1) s.lists s.each) in
+          ap (history queue) (both.1 ∙ ap (λ (l : List Entry). gathered ++ l) (sym es_are))
+          ∙ filter-append (is_of queue) gathered xs
+          ∙ ap (λ (h : List Entry). h ++ history queue xs) (s.same both.0 queue)
+          ∙ either_end places n queue xs xss (list_is.plain.here, here)
+          ∙ sym (filter-append (is_of queue) xs (flat xss));
+      receivers = subst (AllZip (HearsInTime places n (list ∷ s.lists)) olds) (sym nexts_are)
+          (heard_more mailboxes places n senders made s.lists list olds news
+          (subst (λ (l : List Entry). AreNotified l (senders_of senders)) (sym es_are) notified)
+          mailed has s.receivers);
       heard = λ some. nexts_heard;
     }
 
 -- ---- the last lock and its pass
 
-pub record LastOf {g : Ghosts LockedView Entry} (named : ℕ → PlaceLabel)
-    (all : List (Pass LockedView Entry g)) (n m : ℕ) (lock : TurnLock LockedView Entry)
-    (pass : Pass LockedView Entry g) : Type 0 where
+pub record LastOf {g : Ghosts LockedView (Entry × ℕ)} (named : ℕ → PlaceLabel)
+    (all : List (Pass LockedView (Entry × ℕ) g)) (n m : ℕ) (lock : TurnLock LockedView (Entry × ℕ))
+    (pass : Pass LockedView (Entry × ℕ) g) : Type 0 where
   pub many : n ≡ m
   pub of : IsPassOf label_of (named n) lock pass
   pub at : slice_get (map view_of all) n ≡ Some (view_of pass)
 
-pub last_pass : {g : Ghosts LockedView Entry} (named : ℕ → PlaceLabel)
-    (all row front : List (Pass LockedView Entry g))
-    (every locks before : List (TurnLock LockedView Entry)) (lock : TurnLock LockedView Entry)
-    (pass : Pass LockedView Entry g) → ArePasses label_of named every all →
+pub last_pass : {g : Ghosts LockedView (Entry × ℕ)} (named : ℕ → PlaceLabel)
+    (all row front : List (Pass LockedView (Entry × ℕ) g))
+    (every locks before : List (TurnLock LockedView (Entry × ℕ)))
+    (lock : TurnLock LockedView (Entry × ℕ))
+    (pass : Pass LockedView (Entry × ℕ) g) → ArePasses label_of named every all →
     IsPrefix locks every → IsPrefix row all → locks ≡ before ++ lock ∷ [] →
     row ≡ front ++ pass ∷ [] → length locks ≡ length row →
     LastOf named all (length before) (length front) lock pass
@@ -303,7 +362,7 @@ last_pass named all row front every locks before lock pass are locks_begin row_b
       at = slice_get-map view_of all (length before) ∙ ap (option_map view_of) at;
     }
 
-pub left_then : {X : Type 0} (places : ℕ) (us : List Known) (locks before : List X) (lock : X)
+pub left_then : {X : Type 0} (places : ℕ) (us : List TimedKnown) (locks before : List X) (lock : X)
     (kept : Bool) (gathered : List Entry) (olds news : List PortReceiver) →
     locks ≡ before ++ lock ∷ [] →
     PlacesLeft places us (length locks) kept gathered olds news →

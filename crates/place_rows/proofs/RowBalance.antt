@@ -1,5 +1,5 @@
 -- Rows stay balanced.
-use Rattle.std.proofs.Common.{◌≡◌, ◌≢◌, ◌<◌, ◌+◌, ℕ, suc, List, [], ◌∷◌, ◌++◌, length, refl, sym}
+use Rattle.std.proofs.Common.{◌≡◌, ◌+◌, ℕ, suc, List, [], ◌∷◌, ◌++◌, length, refl, sym}
 use Rattle.std.proofs.Common.{ap}
 use Rattle.std.proofs.Common.{◌∙◌, subst, arith, inl, inr, append-nil, cond}
 use Rattle.std.specs.Prelude.{slice_get, slice_set, Some, sum_by, count_by, nat_eq, nat_lt, ◌==◌}

@@ -5,7 +5,7 @@ use Rattle.std.specs.Prelude.{slice_get, slice_set, Option, Some, None, option_m
 use Rattle.std.specs.Prelude.{nat_lt}
 use Rattle.std.specs.List.{AllZip}
 use mathlib.Core.List.{IsPrefix}
-use Rattle.std.proofs.lemmas.List.{length-set, length-append}
+use Rattle.std.proofs.lemmas.List.{length-append}
 use Rattle.std.proofs.lemmas.Option.{slice_get_within}
 use Rattle.std.proofs.lemmas.Bool.{cases_Bool, eqb-true, eqb-false}
 use Rattle.std.proofs.lemmas.Bool.Decides.{nat_tests}
@@ -15,11 +15,10 @@ use Rattle.histories.specs.declared.entry.Entry.{Entry}
 use Rattle.place_rows.specs.Lists.{Every, OneIs, EveryBelow}
 use Rattle.place_rows.specs.Rows.{Known}
 use Rattle.place_rows.specs.Joining.{seen_at, Begins, part_in, together_at}
-use Rattle.place_rows.specs.Meeting.{Told, ToldUpTo, SharesAlone, Sees, MeetsAt, HaveMet}
+use Rattle.place_rows.specs.Meeting.{Told, ToldUpTo, SharesAlone, Sees, HaveMet}
 use Rattle.place_rows.specs.Meeting.{AreNormal, TellsFirst, TellsRow, HaveShared, HasGathered}
 use Rattle.place_rows.specs.Meeting.{HasSpread}
 use Rattle.place_rows.proofs.Lists.{one_item, item_at, get_same, get_other, prefix_self}
-use Rattle.place_rows.proofs.Lists.{prefix_trans, prefix_length}
 use Rattle.place_rows.proofs.RowJoins.{begins_longer}
 
 -- ---- lists of which one item changes

@@ -1,9 +1,9 @@
 -- Passes of a row: the one of a place, and one that changes.
-use Rattle.std.proofs.Common.{◌≡◌, ◌≢◌, ◌<◌, ◌≤◌, ◌+◌, ℕ, suc, List, [], ◌∷◌, ◌++◌, length, refl}
+use Rattle.std.proofs.Common.{◌≡◌, ◌<◌, ◌+◌, ℕ, suc, List, [], ◌∷◌, ◌++◌, length, refl}
 use Rattle.std.proofs.Common.{sym, ap, ◌∙◌, subst, arith, inl, inr}
-use Rattle.std.specs.Prelude.{map, slice_get, slice_set, Option, Some, None, option_map, get_or}
+use Rattle.std.specs.Prelude.{map, slice_get, slice_set, Some, option_map, get_or}
 use Rattle.std.specs.Prelude.{nat_eq}
-use Rattle.std.proofs.lemmas.List.{length-set, map-set, length-map, length-append}
+use Rattle.std.proofs.lemmas.List.{map-set, length-map, length-append}
 use Rattle.std.proofs.lemmas.Option.{slice_get_read, slice_get-map, slice_get_within}
 use Rattle.std.proofs.lemmas.Bool.{cases_Bool, eqb-true, eqb-false}
 use Rattle.atomic_table.specs.Seated.{TableId}
@@ -18,10 +18,10 @@ use Rattle.place_rows.proofs.Lists.{one_item, get_same, get_other, same_again, i
 use Rattle.place_rows.proofs.Lists.{get_seam}
 
 -- what a pass of a lock knows
-pub known_of : {S E : Type 0} {g : Ghosts S E} {L : Type 0} (label : S → L) (named : L)
+pub known_pass : {S E : Type 0} {g : Ghosts S E} {L : Type 0} (label : S → L) (named : L)
     (lock : TurnLock S E) (pass : Pass S E g) → IsPassOf label named lock pass →
     IsKnown label named (view_of pass)
-known_of label named lock pass is = record {
+known_pass label named lock pass is = record {
   outside = is.outside;
   named_so = is.named_so;
   normal = pass.normal;
@@ -80,7 +80,7 @@ module _ {S E : Type 0} {g : Ghosts S E} {L : Type 0} (label : S → L) (named :
               ∙ at) in
               subst (IsKnown label (named j)) is_v
               (subst (λ n. IsKnown label (named n) (view_of new)) (sym e)
-              (known_of label (named k) lock new new_is)))
+              (known_pass label (named k) lock new new_is)))
           | inr other ↦ all.known j v
               (sym (get_other (map view_of passes) k j (view_of new) (eqb-false j k other))
               ∙ ap (λ (l : List (View E S)). slice_get l j) (sym (map-set view_of passes k new))
@@ -202,5 +202,5 @@ module _ {S E : Type 0} {g : Ghosts S E} {L : Type 0} (label : S → L) (named :
         subst (IsKnown label (named k))
         (one_item (view_of pass.0) v
         (sym (slice_get-map view_of row k ∙ ap (option_map view_of) pass.1) ∙ at))
-        (known_of label (named k) here.lock pass.0 here.of);
+        (known_pass label (named k) here.lock pass.0 here.of);
   }

@@ -1,5 +1,5 @@
 -- Rows that are split off others, and joined again: their balance, what they sent, and their parts.
-use Rattle.std.proofs.Common.{◌≡◌, ◌<◌, ◌+◌, ℕ, zero, suc, List, [], ◌∷◌, ◌++◌, length, refl, sym}
+use Rattle.std.proofs.Common.{◌≡◌, ◌+◌, ℕ, zero, suc, List, [], ◌∷◌, ◌++◌, length, refl, sym}
 use Rattle.std.proofs.Common.{ap, ◌∙◌, subst, arith}
 use Rattle.std.specs.Prelude.{map, slice_get, Option, Some, None, sum_by, option_map}
 use Rattle.std.specs.Prelude.{true, false}

@@ -1,7 +1,7 @@
 -- Rows that tell one another, and rows that are split off another.
-use Rattle.std.proofs.Common.{◌≡◌, ◌≢◌, ◌<◌, ◌≤◌, ◌+◌, ℕ, List, [], ◌∷◌, ◌++◌, length, refl, sym}
+use Rattle.std.proofs.Common.{◌≡◌, ◌<◌, ◌≤◌, ◌+◌, ℕ, List, [], ◌∷◌, ◌++◌, length, refl, sym}
 use Rattle.std.proofs.Common.{ap, ◌∙◌, subst, arith, inl, inr, append-nil, append_assoc}
-use Rattle.std.specs.Prelude.{map, slice_get, slice_set, Option, Some, None, option_map, get_or}
+use Rattle.std.specs.Prelude.{map, slice_get, slice_set, option_map, get_or}
 use Rattle.std.specs.Prelude.{nat_eq}
 use Rattle.std.proofs.lemmas.List.{map-set, length-set, length-map, length-append, map-append}
 use Rattle.std.proofs.lemmas.Option.{slice_get_read, slice_get-map, slice_get_within}
@@ -11,9 +11,9 @@ use Rattle.turn_lock.specs.declared.view.View.{View}
 use Rattle.turn_lock.specs.declared.pass.Pass.{Pass}
 use Rattle.turn_lock.specs.Passes.{view_of}
 use Rattle.turn_lock.specs.Views.{kept_view, split_view}
-use Rattle.place_rows.specs.Rows.{Known, TurnsOne}
+use Rattle.place_rows.specs.Rows.{TurnsOne}
 use Rattle.place_rows.specs.Joining.{Splits}
-use Rattle.place_rows.specs.Meeting.{Told, ToldAt, ToldUpTo, TellsOne}
+use Rattle.place_rows.specs.Meeting.{Told, ToldUpTo, TellsOne}
 use Rattle.place_rows.proofs.Lists.{one_item, get_same, get_other, get_seam, set_seam}
 
 pub tells_one : {S E : Type 0} {g : Ghosts S E} (froms tos : List (Pass S E g)) (k : ℕ)
@@ -96,93 +96,94 @@ module _ {E S : Type 0} where
 
 -- ---- splitting
 
--- of a row whose passes before this place were split: what it then has, and what was made
-pub record SplitUpTo (n : ℕ) (olds news made : List Known) : Type 0 where
-  pub done : List Known
-  pub rest : List Known
-  pub was : olds ≡ done ++ rest
-  pub count : length done ≡ n
-  pub kept : news ≡ map kept_view done ++ rest
-  pub split : made ≡ map split_view done
+module _ {E S : Type 0} where
+  -- of a row whose passes before this place were split: what it then has, and what was made
+  pub record SplitUpTo (n : ℕ) (olds news made : List (View E S)) : Type 0 where
+    pub done : List (View E S)
+    pub rest : List (View E S)
+    pub was : olds ≡ done ++ rest
+    pub count : length done ≡ n
+    pub kept : news ≡ map kept_view done ++ rest
+    pub split : made ≡ map split_view done
 
-pub none_split : (olds made : List Known) → made ≡ [] → SplitUpTo 0 olds olds made
-none_split olds made none = record {
-  done = [];
-  rest = olds;
-  was = refl;
-  count = refl;
-  kept = refl;
-  split = none;
-}
+  pub none_split : (olds made : List (View E S)) → made ≡ [] → SplitUpTo 0 olds olds made
+  none_split olds made none = record {
+    done = [];
+    rest = olds;
+    was = refl;
+    count = refl;
+    kept = refl;
+    split = none;
+  }
 
-pub one_split : (n : ℕ) (olds news made afters more : List Known) (piece : Known) →
-    SplitUpTo n olds news made → TurnsOne n news afters (Splits piece) →
-    more ≡ made ++ piece ∷ [] → SplitUpTo (n + 1) olds afters more
-one_split n olds news made afters more piece s one pushed = inner s.rest refl
-  where
-    inner : (rest : List Known) → s.rest ≡ rest → SplitUpTo (n + 1) olds afters more
-    inner [] none =
-        let whole : news ≡ map kept_view s.done =
-        s.kept ∙ ap (λ (l : List Known). map kept_view s.done ++ l) none
-        ∙ append-nil (map kept_view s.done) in
-        absurd (omega (
-          arith,
-          slice_get_within news n one.before one.had,
-          ap length whole,
-          length-map s.done kept_view,
-          s.count,
-        ))
-    inner (v ∷ vs) some =
-        let f : Known → Known = kept_view in
-        let split : news ≡ map f s.done ++ v ∷ vs =
-        s.kept ∙ ap (λ (l : List Known). map f s.done ++ l) some in
-        let at : n ≡ length (map f s.done) = omega (arith, s.count, length-map s.done f) in
-        let before_is : one.before ≡ v =
-        one_item one.before v (sym one.had ∙ ap (λ (l : List Known). slice_get l n) split
-        ∙ ap (slice_get (map f s.done ++ v ∷ vs)) at ∙ get_seam (map f s.done) v vs) in
-        record {
-          done = s.done ++ v ∷ [];
-          rest = vs;
-          was = s.was ∙ ap (λ (l : List Known). s.done ++ l) some
-              ∙ sym (append_assoc s.done (v ∷ []) vs);
-          count = omega (arith, length-append s.done (v ∷ []), s.count);
-          kept = one.has ∙ ap (λ (l : List Known). slice_set l n one.after) split
-              ∙ ap (λ k. slice_set (map f s.done ++ v ∷ vs) k one.after) at
-              ∙ set_seam (map f s.done) v one.after vs
-              ∙ ap (λ (x : Known). map f s.done ++ x ∷ vs) (one.turns.kept ∙ ap f before_is)
-              ∙ sym (append_assoc (map f s.done) (f v ∷ []) vs)
-              ∙ ap (λ (l : List Known). l ++ vs) (sym (map-append f s.done (v ∷ [])));
-          split = pushed
-              ∙ ap (λ (l : List Known). l ++ piece ∷ []) s.split
-              ∙ ap (λ (x : Known). map split_view s.done ++ x ∷ [])
-              (one.turns.split ∙ ap (λ (x : Known). split_view x) before_is)
-              ∙ sym (map-append (λ (x : Known). split_view x) s.done (v ∷ []));
-        }
+  pub one_split : (n : ℕ) (olds news made afters more : List (View E S)) (piece : View E S) →
+      SplitUpTo n olds news made → TurnsOne n news afters (Splits piece) →
+      more ≡ made ++ piece ∷ [] → SplitUpTo (n + 1) olds afters more
+  one_split n olds news made afters more piece s one pushed = inner s.rest refl
+    where
+      inner : (rest : List (View E S)) → s.rest ≡ rest → SplitUpTo (n + 1) olds afters more
+      inner [] none =
+          let whole : news ≡ map kept_view s.done =
+          s.kept ∙ ap (λ (l : List (View E S)). map kept_view s.done ++ l) none
+          ∙ append-nil (map kept_view s.done) in
+          absurd (omega (
+            arith,
+            slice_get_within news n one.before one.had,
+            ap length whole,
+            length-map s.done kept_view,
+            s.count,
+          ))
+      inner (v ∷ vs) some =
+          let f : View E S → View E S = kept_view in
+          let split : news ≡ map f s.done ++ v ∷ vs =
+          s.kept ∙ ap (λ (l : List (View E S)). map f s.done ++ l) some in
+          let at : n ≡ length (map f s.done) = omega (arith, s.count, length-map s.done f) in
+          let before_is : one.before ≡ v =
+          one_item one.before v (sym one.had ∙ ap (λ (l : List (View E S)). slice_get l n) split
+          ∙ ap (slice_get (map f s.done ++ v ∷ vs)) at ∙ get_seam (map f s.done) v vs) in
+          record {
+            done = s.done ++ v ∷ [];
+            rest = vs;
+            was = s.was ∙ ap (λ (l : List (View E S)). s.done ++ l) some
+                ∙ sym (append_assoc s.done (v ∷ []) vs);
+            count = omega (arith, length-append s.done (v ∷ []), s.count);
+            kept = one.has ∙ ap (λ (l : List (View E S)). slice_set l n one.after) split
+                ∙ ap (λ k. slice_set (map f s.done ++ v ∷ vs) k one.after) at
+                ∙ set_seam (map f s.done) v one.after vs
+                ∙ ap (λ (x : View E S). map f s.done ++ x ∷ vs) (one.turns.kept ∙ ap f before_is)
+                ∙ sym (append_assoc (map f s.done) (f v ∷ []) vs)
+                ∙ ap (λ (l : List (View E S)). l ++ vs) (sym (map-append f s.done (v ∷ [])));
+            split = pushed
+                ∙ ap (λ (l : List (View E S)). l ++ piece ∷ []) s.split
+                ∙ ap (λ (x : View E S). map split_view s.done ++ x ∷ [])
+                (one.turns.split ∙ ap (λ (x : View E S). split_view x) before_is)
+                ∙ sym (map-append (λ (x : View E S). split_view x) s.done (v ∷ []));
+          }
 
--- all of the row were split
-pub record AllSplit (olds news made : List Known) : Type 0 where
-  pub kept : news ≡ map kept_view olds
-  pub split : made ≡ map split_view olds
+  -- all of the row were split
+  pub record AllSplit (olds news made : List (View E S)) : Type 0 where
+    pub kept : news ≡ map kept_view olds
+    pub split : made ≡ map split_view olds
 
-pub all_split : (n : ℕ) (olds news made : List Known) → SplitUpTo n olds news made →
-    length olds ≤ n → AllSplit olds news made
-all_split n olds news made s most = inner s.rest refl
-  where
-    inner : (rest : List Known) → s.rest ≡ rest → AllSplit olds news made
-    inner [] none =
-        let all : s.done ≡ olds =
-        sym (s.was ∙ ap (λ (l : List Known). s.done ++ l) none ∙ append-nil s.done) in
-        record {
-          kept = s.kept ∙ ap (λ (l : List Known). map kept_view s.done ++ l) none
-              ∙ append-nil (map kept_view s.done) ∙ ap (map kept_view) all;
-          split = s.split ∙ ap (map split_view) all;
-        }
-    inner (v ∷ vs) some =
-        absurd (omega (
-          arith,
-          most,
-          s.count,
-          ap length s.was,
-          length-append s.done s.rest,
-          ap (λ (l : List Known). length l) some,
-        ))
+  pub all_split : (n : ℕ) (olds news made : List (View E S)) → SplitUpTo n olds news made →
+      length olds ≤ n → AllSplit olds news made
+  all_split n olds news made s most = inner s.rest refl
+    where
+      inner : (rest : List (View E S)) → s.rest ≡ rest → AllSplit olds news made
+      inner [] none =
+          let all : s.done ≡ olds =
+          sym (s.was ∙ ap (λ (l : List (View E S)). s.done ++ l) none ∙ append-nil s.done) in
+          record {
+            kept = s.kept ∙ ap (λ (l : List (View E S)). map kept_view s.done ++ l) none
+                ∙ append-nil (map kept_view s.done) ∙ ap (map kept_view) all;
+            split = s.split ∙ ap (map split_view) all;
+          }
+      inner (v ∷ vs) some =
+          absurd (omega (
+            arith,
+            most,
+            s.count,
+            ap length s.was,
+            length-append s.done s.rest,
+            ap (λ (l : List (View E S)). length l) some,
+          ))

@@ -1,5 +1,5 @@
 -- Places that ended: the list of each, and the entries of all.
-use Rattle.std.specs.Prelude.{◌≡◌, ◌<◌, ℕ, List, [], ◌∷◌, length, slice_get, Some, sum_by, map}
+use Rattle.std.specs.Prelude.{◌≡◌, ℕ, List, length, slice_get, Some, sum_by, map}
 use Rattle.std.specs.Prelude.{flat_map}
 use Rattle.std.specs.List.{range_with_len}
 use mathlib.Core.List.{IsPrefix}

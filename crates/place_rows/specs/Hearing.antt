@@ -1,14 +1,14 @@
 -- What ports received, against what the places' lists say.
-use Rattle.std.specs.Prelude.{◌≡◌, ◌<◌, ◌≤◌, ◌+◌, ◌⊎◌, ℕ, List, [], ◌∷◌, length, map, Option, Some}
+use Rattle.std.specs.Prelude.{◌≡◌, ◌<◌, ◌≤◌, ◌⊎◌, ℕ, List, [], ◌∷◌, length, map, Option, Some}
 use Rattle.std.specs.Prelude.{None}
-use Rattle.std.specs.Prelude.{sum_by, filter, nat_eq, if◌then◌else◌, ◌==◌, Bool}
+use Rattle.std.specs.Prelude.{sum_by, filter, nat_eq, if◌then◌else◌, ◌==◌}
 use mathlib.Core.List.{IsPrefix}
 use Rattle.std.specs.BTreeMap.{BTreeMap, get}
 use Rattle.std.specs.Ordering.{nat_cmp}
 use Rattle.packet_entry.specs.declared.letter.Letter.{Letter}
 use Rattle.mailbox.specs.declared.view.Post.{Post}
 use Rattle.mailbox.specs.Views.{MailboxView, SenderView, ReceiverView, receiver_joined, letters_in}
-use Rattle.mailbox.specs.Views.{ArePrefixes, AreWhole, HasAllSenders, NoneBeyond}
+use Rattle.mailbox.specs.Views.{ArePrefixes, AreTimedPrefixes, AreWhole, HasAllSenders, NoneBeyond}
 use Rattle.histories.specs.declared.entry.Entry.{Entry}
 use Rattle.histories.specs.History.{history}
 use Rattle.locked_place.specs.Notices.{letters_to, lacking}
@@ -51,6 +51,7 @@ times_in port ps = sum_by (λ (p : PortReceiver). if nat_eq p.port port then 1 e
 pub record HasMailbox (mailboxes : BTreeMap ℕ MailboxView) (p : PortReceiver) : Type 0 where
   pub mailbox : get nat_cmp mailboxes p.port ≡ Some p.receiver.mailbox
   pub none_joined : p.receiver.joined ≡ []
+  pub none_mailed : p.receiver.mails ≡ []
   pub none_back : p.receiver.full ≡ 0
 
 -- there is a sender to its mailbox among these
@@ -70,11 +71,12 @@ abbrev pub with_its_sender : BTreeMap ℕ SenderView → PortReceiver → PortRe
 with_its_sender senders p = with_sender p (get nat_cmp senders p.port)
 
 -- What a mailbox tells as a sender is joined. Of each sender that was joined the letters received
--- are a prefix of those that it sent, and all of them once all were joined and as many were
--- received as were sent; no letter is of a sender that was never made; and where a letter came
--- back, as many were sent as the mailbox holds.
+-- are a prefix of those that it sent, also with their times, and all of them once all were joined
+-- and as many were received as were sent; no letter is of a sender that was never made; and where a
+-- letter came back, as many were sent as the mailbox holds.
 pub record IsHeardAll (r : ReceiverView) : Type 0 where
   pub prefix : ArePrefixes r
+  pub in_time : AreTimedPrefixes r
   pub whole : HasAllSenders r → letters_in r.joined ≡ length r.received → AreWhole r
   pub full : HasAllSenders r → 0 < r.full → r.mailbox.capacity ≤ letters_in r.joined
   pub beyond : NoneBeyond r
@@ -85,7 +87,7 @@ IsHeard p = IsHeardAll p.receiver
 -- ---- senders joined into a receiver
 
 -- this one is among those
-abbrev pub Among : ℕ × List Letter → List (ℕ × List Letter) → Type 0
+abbrev pub Among : {X : Type 0} → ℕ × List X → List (ℕ × List X) → Type 0
 Among x [] = ⊥
 Among x (y ∷ ys) = (x ≡ y) ⊎ Among x ys
 

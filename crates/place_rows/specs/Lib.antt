@@ -6,4 +6,5 @@ pub mod Meeting
 pub mod Ending
 pub mod Hearing
 pub mod Ended
+pub mod Timed
 pub mod Opening

@@ -1,16 +1,17 @@
 -- Places that open, and the mailboxes of ports, whose senders are dealt to them.
-use Rattle.std.specs.Prelude.{◌≡◌, ◌≢◌, ◌≤◌, ◌<◌, ℕ, List, [], ◌∷◌, length, map, slice_get, Some}
+use Rattle.std.specs.Prelude.{◌≡◌, ◌≢◌, ℕ, List, [], length, map, slice_get, Some}
 use Rattle.std.specs.Prelude.{None}
 use Rattle.std.specs.Prelude.{option_map, IfSome, IsSome}
 use Rattle.std.specs.BTreeMap.{BTreeMap, get}
 use Rattle.std.specs.Ordering.{nat_cmp}
 use Rattle.mailbox.specs.Roles.{In}
 use Rattle.mailbox.specs.Views.{MailboxView, SenderView, opening_receiver}
+use Rattle.turn_lock.specs.declared.view.View.{View}
 use Rattle.turn_lock.specs.Parts.{Whole}
 use Rattle.place_rows.specs.declared.ending.PortReceiver.{PortReceiver}
 use Rattle.place_rows.specs.declared.opening.Dealt.{Dealt}
 use Rattle.place_rows.specs.Lists.{Every}
-use Rattle.place_rows.specs.Rows.{Known, sender_made}
+use Rattle.place_rows.specs.Rows.{sender_made}
 
 -- ---- senders
 
@@ -64,11 +65,12 @@ pub record IsDealt (places mail : ℕ) (ports : List ℕ) (d : Dealt) : Type 0 w
 
 -- ---- rows
 
--- the first pass of a place, which has seen nothing and has the whole of its lock
-pub record IsFirst (v : Known) : Type 0 where
-  pub none_seen : v.seen ≡ []
-  pub none_own : v.own ≡ []
-  pub whole : v.part ≡ Whole
+module _ {E S : Type 0} where
+  -- the first pass of a place, which has seen nothing and has the whole of its lock
+  pub record IsFirst (v : View E S) : Type 0 where
+    pub none_seen : v.seen ≡ []
+    pub none_own : v.own ≡ []
+    pub whole : v.part ≡ Whole
 
-abbrev pub AreFirst : List Known → Type 0
-AreFirst known = Every IsFirst known
+  abbrev pub AreFirst : List (View E S) → Type 0
+  AreFirst known = Every IsFirst known

@@ -20,10 +20,19 @@ use Rattle.locked_place.specs.declared.outlets.Outlets.{Outlets}
 use Rattle.locked_place.specs.Views.{LockedView, PlaceLabel}
 use Rattle.locked_place.specs.Passes.{IsPassOf}
 use Rattle.locked_place.specs.Turns.{IsTurn}
+use Rattle.locked_place.specs.Times.{plain_view}
 
 -- what a pass knows of a place; a row knows one of these for each place, in the places' order
 abbrev pub Known : Type 0
 Known = View Entry LockedView
+
+-- the same with the time of each entry
+abbrev pub TimedKnown : Type 0
+TimedKnown = View (Entry × ℕ) LockedView
+
+-- without times
+abbrev pub known_of : List TimedKnown → List Known
+known_of timed = map plain_view timed
 
 -- ---- labels
 
@@ -36,6 +45,7 @@ sender_made places number mailbox =
       number = number;
       made = if nat_eq number 0 then places else 0;
       sent = [];
+      mails = [];
       full = 0;
     }
 

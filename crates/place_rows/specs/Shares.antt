@@ -3,7 +3,6 @@ use Rattle.std.specs.Prelude.{◌≡◌, ℕ, List, [], ◌∷◌, ◌++◌, len
 use Rattle.std.specs.Prelude.{flat_map, sum_by}
 use Rattle.packet_entry.specs.declared.packet.Card.{Card}
 use Rattle.turn_lock.specs.Views.{HasSeenOwn}
-use Rattle.histories.specs.declared.entry.Entry.{Entry}
 use Rattle.histories.specs.declared.histories.Lost.{Lost}
 use Rattle.histories.specs.History.{AreLegal}
 use Rattle.histories.specs.Moves.{Move, moves}

@@ -12,18 +12,20 @@ ghost use Rattle.mailbox.specs.Views.{SenderView, receiver_joined};
 ghost use Rattle.histories.specs.declared.entry.Entry.{Entry};
 ghost use Rattle.packet_moves.specs.declared.setting.Setting.{Setting};
 ghost use Rattle.histories.specs.History.{AreLegal, history};
+ghost use Rattle.total_order.specs.Orders.{untimed};
 ghost use Rattle.place_history.specs.PlaceState.{AreHere};
 ghost use Rattle.locked_place.specs.Views.{PlaceLabel, label_of, senders_of, made_senders};
 ghost use Rattle.locked_place.specs.Views.{AreNotified};
+ghost use Rattle.locked_place.specs.Times.{timed, AreTimed, AreMailed};
 ghost use Rattle.locked_place.specs.Passes.{IsPassOf};
 ghost use Rattle.place_rows.specs.Lists.{Every, AllFrom, flat};
-ghost use Rattle.place_rows.specs.Rows.{Known, ArePasses, label_at};
+ghost use Rattle.place_rows.specs.Rows.{TimedKnown, known_of, ArePasses, label_at};
+ghost use Rattle.place_rows.specs.Timed.{IsTimedListAt, HearsInTime, AreTimedEntries};
 ghost use Rattle.place_rows.specs.Joining.{AllJoined};
-ghost use Rattle.place_rows.specs.Ending.{IsListAt, Holder, rows_of, AreBalanced};
+ghost use Rattle.place_rows.specs.Ending.{Holder, rows_of, AreBalanced};
 ghost use Rattle.place_rows.specs.Ended.{AreAllEntries};
 ghost use Rattle.place_rows.specs.Hearing.{times_in, with_its_sender, HasSender, HasMailbox};
 ghost use Rattle.place_rows.specs.Hearing.{IsHeard};
-ghost use Rattle.place_rows.specs.Hearing.{HearsAs};
 
 use crate::rows::{Locks, Row};
 use histories::{
@@ -49,7 +51,7 @@ pub struct PortReceiver {
 fn end_place(lock: TurnLock<LockedPlace>, pass: Pass<LockedPlace>) -> Left
     requires pass { (named : PlaceLabel) × IsPassOf label_of named lock pass }
     requires whole { (view_of pass).part ≡ Whole }
-    ensures begins { IsPrefix (view_of pass).seen result.entries }
+    ensures begins { IsPrefix (view_of pass).seen (timed result.entries result.stamps) }
     ensures own { (view_of pass).own ≡ range_with_len 0 (length result.entries) }
     ensures senders { (named : PlaceLabel) → IsPassOf label_of named lock pass →
         made_senders (senders_of result.senders) ≡ named.senders }
@@ -57,6 +59,9 @@ fn end_place(lock: TurnLock<LockedPlace>, pass: Pass<LockedPlace>) -> Left
     ensures here { (named : PlaceLabel) → IsPassOf label_of named lock pass →
         AreHere named.places named.number result.entries }
     ensures legal { AreLegal result.entries }
+    ensures in_time { (latest : ℕ) × AreTimed result.entries result.stamps latest }
+    ensures mailed { AreMailed (timed result.entries result.stamps)
+        (senders_of result.senders) }
 {
     lock.close(pass).end()
 }
@@ -120,16 +125,17 @@ pub fn end_places(
 ) -> bool
     requires places { (1 ≤ length locks.items) × (length locks.items ≡ outlets.now.board.places) }
     requires row { ArePasses label_of (label_at outlets.now) locks.items row.items }
-    requires whole { (k : ℕ) (v : Known) → slice_get (map view_of row.items) k ≡ Some v →
+    requires whole { (k : ℕ) (v : TimedKnown) → slice_get (map view_of row.items) k ≡ Some v →
         v.part ≡ Whole }
     requires none { entries.old.items ≡ [] }
     requires mailboxes { Every (HasMailbox outlets.now.mailboxes) receivers.old.items }
     requires apart { (port : ℕ) → times_in port receivers.old.items ≤ 1 }
-    ensures { (lists : List (List Entry)) × (length lists ≡ length locks.items)
-        × AllFrom (IsListAt outlets.now.board.places (map view_of row.items)) 0 lists
+    ensures { (lists : List (List (Entry × ℕ))) × (length lists ≡ length locks.items)
+        × AllFrom (IsTimedListAt outlets.now.board.places (map view_of row.items)) 0 lists
         × (result ≡ true → (queue : ℕ) →
-        history queue entries.new.items ≡ history queue (flat lists))
-        × AllZip (HearsAs outlets.now.board.places 0 lists) receivers.old.items receivers.new.items
+        history queue entries.new.items ≡ history queue (flat (map untimed lists)))
+        × AllZip (HearsInTime outlets.now.board.places 0 lists)
+        receivers.old.items receivers.new.items
         × Every IsHeard receivers.new.items }
 {
     let mut kept = true;
@@ -139,6 +145,7 @@ pub fn end_places(
         };
         let Left {
             entries: list,
+            stamps: _stamps,
             senders,
         } = end_place(lock, pass);
         join_senders(&outlets.mailboxes, senders, receivers);
@@ -151,8 +158,9 @@ pub fn end_places(
 
 /// Ends all places, each by the pass that has the whole of its lock: all entries, by ascending
 /// queue number. Where holders had joined their rows into that one, the entries are all theirs:
-/// legal, and sound for all that they fed and lost; and the ports heard of them. When memory runs
-/// out the locks are taken apart just the same.
+/// legal, and sound for all that they fed and lost; and the ports heard of them. Along each place's
+/// list times never descend, and each letter that a port received is that of an arrival that was no
+/// later. When memory runs out the locks are taken apart just the same.
 pub fn end_rows(
     alloc: Global,
     outlets: &Outlets,
@@ -162,15 +170,18 @@ pub fn end_rows(
 ) -> Result<Entries, NoMemory>
     requires places { (1 ≤ length locks.items) × (length locks.items ≡ outlets.now.board.places) }
     requires row { ArePasses label_of (label_at outlets.now) locks.items row.items }
-    requires whole { (k : ℕ) (v : Known) → slice_get (map view_of row.items) k ≡ Some v →
+    requires whole { (k : ℕ) (v : TimedKnown) → slice_get (map view_of row.items) k ≡ Some v →
         v.part ≡ Whole }
     requires mailboxes { Every (HasMailbox outlets.now.mailboxes) receivers.items }
     requires apart { (port : ℕ) → times_in port receivers.items ≤ 1 }
-    ensures { (s : Setting) (first : Holder) (others : List Holder) →
+    ensures entries { (s : Setting) (first : Holder) (others : List Holder) →
         AreBalanced s (first ∷ others) →
-        AllJoined (rows_of others) first.known (map view_of row.items) →
+        AllJoined (rows_of others) first.known (known_of (map view_of row.items)) →
         IfOk result
         (AreAllEntries s outlets.now.board.places (first ∷ others) receivers.items) }
+    ensures timed { (first : List TimedKnown) (others : List (List TimedKnown)) →
+        AllJoined others first (map view_of row.items) → IfOk result
+        (AreTimedEntries outlets.now.board.places (first ∷ others) receivers.items) }
 {
     soundness_is_kept_move_by_move();
     soundness_is_of_each_queue();
@@ -185,7 +196,7 @@ pub fn end_rows(
 /// of it.
 pub fn close_all(mut locks: Locks, mut row: Row)
     requires row { (named : ℕ → PlaceLabel) × ArePasses label_of named locks.items row.items }
-    requires whole { (k : ℕ) (v : Known) → slice_get (map view_of row.items) k ≡ Some v →
+    requires whole { (k : ℕ) (v : TimedKnown) → slice_get (map view_of row.items) k ≡ Some v →
         v.part ≡ Whole }
 {
     while let Some(lock) = locks.pop() {

@@ -17,9 +17,11 @@ ghost use Rattle.histories.specs.Places.{place_for};
 ghost use Rattle.packet_moves.specs.declared.setting.Setting.{Setting};
 ghost use Rattle.locked_place.specs.Points.{points_after};
 ghost use Rattle.locked_place.specs.Turns.{IsTurn};
-ghost use Rattle.place_rows.specs.Rows.{Known, IsTurnAt};
+ghost use Rattle.place_rows.specs.Rows.{Known, TimedKnown, known_of, AreKnown, IsTurnAt};
 ghost use Rattle.place_rows.specs.Lists.{Every, AllFrom, flat};
 ghost use Rattle.place_rows.specs.Ending.{IsListOf};
+ghost use Rattle.place_rows.specs.Opening.{AreFirst};
+ghost use Rattle.locked_place.specs.Views.{PlaceLabel, label_of};
 ghost use Rattle.place_rows.specs.Joining.{Joins, RowJoined, AllJoined, AreWhole, own_at, is_place};
 ghost use Rattle.place_rows.specs.Joining.{together_at};
 ghost use Rattle.place_rows.specs.Meeting.{ToldUpTo, AreNormal, TellsFirst, TellsRow};
@@ -135,6 +137,11 @@ pub fn rows_are_joined_one_by_one()
     ensures one { (rows : List (List Known)) (into before from after : List Known) →
         AllJoined rows into before → RowJoined 0 before from after →
         AllJoined (rows ++ from ∷ []) into after }
+    ensures none_timed { (into : List TimedKnown) → AllJoined [] into into }
+    ensures one_timed { (rows : List (List TimedKnown))
+        (into before from after : List TimedKnown) →
+        AllJoined rows into before → RowJoined 0 before from after →
+        AllJoined (rows ++ from ∷ []) into after }
     ensures whole { (places : ℕ) (into after : List Known) (rows : List (List Known)) →
         AllJoined rows into after → length after ≡ places → AreWhole places (into ∷ rows) →
         (k : ℕ) (v : Known) → slice_get after k ≡ Some v → v.part ≡ Whole }
@@ -184,6 +191,28 @@ pub fn rows_meet_by_the_first()
     parts_are_put_together_in_any_order();
     a_part_is_known_by_its_ways();
 }
+
+/// What rows know with times is the same as without: as they are opened, split and joined, and as
+/// they let each other see what they have seen.
+pub fn rows_know_the_same_without_times()
+    ensures known { (named : ℕ → PlaceLabel) (row : List TimedKnown) →
+        AreKnown label_of named row → AreKnown label_of named (known_of row) }
+    ensures timed { (named : ℕ → PlaceLabel) (row : List TimedKnown) →
+        AreKnown label_of named (known_of row) → AreKnown label_of named row }
+    ensures first { (row : List TimedKnown) → AreFirst row → AreFirst (known_of row) }
+    ensures kept { (row : List TimedKnown) →
+        known_of (map kept_view row) ≡ map kept_view (known_of row) }
+    ensures split { (row : List TimedKnown) →
+        known_of (map split_view row) ≡ map split_view (known_of row) }
+    ensures joined { (n : ℕ) (intos froms afters : List TimedKnown) →
+        RowJoined n intos froms afters →
+        RowJoined n (known_of intos) (known_of froms) (known_of afters) }
+    ensures all_joined { (rows : List (List TimedKnown)) (into after : List TimedKnown) →
+        AllJoined rows into after → AllJoined (map known_of rows) (known_of into) (known_of after) }
+    ensures told { (n : ℕ) (froms intos froms_then intos_then : List TimedKnown) →
+        ToldUpTo n froms intos froms_then intos_then →
+        ToldUpTo n (known_of froms) (known_of intos) (known_of froms_then) (known_of intos_then) }
+{}
 
 /// Each entry of a place's list is one row's own, and no other's; and among the entries of all
 /// places a queue has those of the list of its own place.

@@ -25,7 +25,7 @@ ghost use Rattle.place_rows.specs.Opening.{IsFirst, AreFirst};
 use crate::ending::{PortReceiver, close_all};
 use crate::rows::{Locks, Row};
 use glance::{Writer, Writers};
-use locked_place::{LockedPlace, Outlets};
+use locked_place::{LockedPlace, Outlets, Stamps};
 use mailbox::{Mailbox, Sender};
 use packet_entry::NoMemory;
 use std::alloc::Global;
@@ -139,6 +139,12 @@ pub fn deal_ports(alloc: Global, places: u8, mail: u32, ports: &[u32]) -> Result
     Ok(dealt)
 }
 
+/// The locks of the places that are open, and the row that has the whole of each.
+struct Opened {
+    locks: Locks,
+    row: Row,
+}
+
 /// Makes the lock of the place with this number, with its first pass. There is room for both.
 fn open_place(
     alloc: Global,
@@ -147,30 +153,30 @@ fn open_place(
     places: u8,
     senders: Senders,
     writer: Writer,
-    locks: &mut Locks,
-    row: &mut Row,
+    opened: &mut Opened,
 ) -> Result<(), NoMemory>
     requires number { (number < places) × (places ≤ most_places) }
     requires places { outlets.now.board.places ≡ places }
     requires senders { (port : ℕ) → get nat_cmp senders port
         ≡ option_map (sender_made places number) (get nat_cmp outlets.now.mailboxes port) }
     requires writer { writer ≡ opening_writer outlets.now.board number }
-    requires locks { vec_len locks.old + 1 ≤ vec_capacity locks.old }
-    requires row { vec_len row.old + 1 ≤ vec_capacity row.old }
+    requires locks { vec_len opened.old.locks + 1 ≤ vec_capacity opened.old.locks }
+    requires row { vec_len opened.old.row + 1 ≤ vec_capacity opened.old.row }
     ensures made { OnOk result ((lock : TurnLock _ _) × (pass : Pass _ _ _)
-        × (locks.new.items ≡ locks.old.items ++ lock ∷ [])
-        × (row.new.items ≡ row.old.items ++ pass ∷ [])
+        × (opened.new.locks.items ≡ opened.old.locks.items ++ lock ∷ [])
+        × (opened.new.row.items ≡ opened.old.row.items ++ pass ∷ [])
         × IsPassOf label_of (label_at outlets.now number) lock pass × IsFirst (view_of pass)) }
-    ensures capacity { (vec_capacity locks.new ≡ vec_capacity locks.old)
-        × (vec_capacity row.new ≡ vec_capacity row.old) }
-    ensures err { OnErr result ((locks.new.items ≡ locks.old.items)
-        × (row.new.items ≡ row.old.items)) }
+    ensures capacity { (vec_capacity opened.new.locks ≡ vec_capacity opened.old.locks)
+        × (vec_capacity opened.new.row ≡ vec_capacity opened.old.row) }
+    ensures err { OnErr result ((opened.new.locks.items ≡ opened.old.locks.items)
+        × (opened.new.row.items ≡ opened.old.row.items)) }
 {
-    let place = LockedPlace::new(alloc, number, places, senders, writer);
+    let stamps = Stamps::new(alloc)?;
+    let place = LockedPlace::new(alloc, number, places, senders, writer, stamps);
     match TurnLock::new(alloc, place) {
         Ok((lock, pass)) => {
-            locks.push_reserved(lock);
-            row.push_reserved(pass);
+            opened.locks.push_reserved(lock);
+            opened.row.push_reserved(pass);
             Ok(())
         }
         Err(Unmade { state }) => {
@@ -197,18 +203,19 @@ pub fn open_places(
         (λ made. ArePasses label_of (label_at outlets.now) made.0.items made.1.items) }
     ensures first { IfOk result (λ made. AreFirst (map view_of made.1.items)) }
 {
-    let mut row = Vec::with_capacity(alloc, usize::from(places))?;
-    let mut locks = Vec::with_capacity(alloc, usize::from(places))?;
+    let row = Vec::with_capacity(alloc, usize::from(places))?;
+    let locks = Vec::with_capacity(alloc, usize::from(places))?;
+    let mut opened = Opened { locks, row };
     let mut number = 0u8;
     for own in senders {
         let writer = writers.take(number);
-        let Ok(()) = open_place(
-            alloc, outlets, number, places, own, writer, &mut locks, &mut row,
-        ) else {
+        let Ok(()) = open_place(alloc, outlets, number, places, own, writer, &mut opened) else {
+            let Opened { locks, row } = opened;
             close_all(locks, row);
             return Err(NoMemory);
         };
         number += 1;
     }
+    let Opened { locks, row } = opened;
     Ok((locks, row))
 }

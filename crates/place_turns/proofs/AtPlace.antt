@@ -9,27 +9,60 @@ use Rattle.turn_lock.specs.Passes.{view_of}
 use Rattle.histories.specs.declared.entry.Entry.{Entry}
 use Rattle.locked_place.specs.Passes.{IsPassOf}
 use Rattle.locked_place.specs.Views.{LockedView, PlaceLabel, label_of}
-use Rattle.place_rows.specs.Rows.{ArePasses, lock_of, label_at}
+use Rattle.locked_place.specs.Times.{plain_view}
+use Rattle.place_rows.specs.Rows.{TimedKnown, ArePasses, AreKnown, known_of, lock_of, label_at}
 use Rattle.place_turns.specs.declared.places.Places.{Places}
 use Rattle.place_turns.specs.Passes.{AreOf}
 use Rattle.place_turns.proofs.PassTurns.{as_many, pass_there, passes_set}
 
-module _ {g : Ghosts LockedView Entry} (places : Places) (row : List (Pass LockedView Entry g))
-    (k : ℕ) (lock : TurnLock LockedView Entry) (pass : Pass LockedView Entry g) where
+-- what the laws of rows say of what is known, with times and without
+abbrev pub PlainKnown : Type 0
+PlainKnown = (named : ℕ → PlaceLabel) (row : List TimedKnown) → AreKnown label_of named row →
+    AreKnown label_of named (known_of row)
+
+abbrev pub WithTimes : Type 0
+WithTimes = (named : ℕ → PlaceLabel) (row : List TimedKnown) →
+    AreKnown label_of named (known_of row) → AreKnown label_of named row
+
+-- passes of the places' locks, from what they know without times, and back
+pub passes_of : {g : Ghosts LockedView (Entry × ℕ)} → WithTimes → (places : Places)
+    (row : List (Pass LockedView (Entry × ℕ) g)) →
+    AreOf places (map lock_of row) (known_of (map view_of row)) →
+    ArePasses label_of (label_at places.outlets) places.locks.items row
+passes_of timed places row is = record {
+  locks_are = is.locks_are;
+  known = timed (label_at places.outlets) (map view_of row) is.known_so;
+}
+
+pub are_of : {g : Ghosts LockedView (Entry × ℕ)} → PlainKnown → (places : Places)
+    (row : List (Pass LockedView (Entry × ℕ) g)) →
+    ArePasses label_of (label_at places.outlets) places.locks.items row →
+    AreOf places (map lock_of row) (known_of (map view_of row))
+are_of plain places row are = record {
+  locks_are = are.locks_are;
+  as_many = length-map (map view_of row) plain_view ∙ length-map row view_of
+      ∙ sym (length-map row lock_of);
+  known_so = plain (label_at places.outlets) (map view_of row) are.known;
+}
+
+module _ {g : Ghosts LockedView (Entry × ℕ)} (plain : PlainKnown) (timed : WithTimes)
+    (places : Places) (row : List (Pass LockedView (Entry × ℕ) g)) (k : ℕ)
+    (lock : TurnLock LockedView (Entry × ℕ)) (pass : Pass LockedView (Entry × ℕ) g) where
   -- it is of the lock there, and after a turn all are passes of these locks again
   pub record AtPlace : Type 0 where
     pub inside : k < length row
     pub of : IsPassOf label_of (label_at places.outlets k) lock pass
-    pub after : (new : Pass LockedView Entry g) → (view_of new).part ≡ (view_of pass).part →
+    pub after : (new : Pass LockedView (Entry × ℕ) g) → (view_of new).part ≡ (view_of pass).part →
         ((named : PlaceLabel) → IsPassOf label_of named lock pass →
         IsPassOf label_of named lock new) →
-        AreOf places (map lock_of (slice_set row k new)) (map view_of (slice_set row k new))
+        AreOf places (map lock_of (slice_set row k new))
+        (known_of (map view_of (slice_set row k new)))
 
-  pub at_place : AreOf places (map lock_of row) (map view_of row) → k < length places.locks.items →
-      lock ≡ get_or places.locks.items k lock → pass ≡ get_or row k pass → AtPlace
+  pub at_place : AreOf places (map lock_of row) (known_of (map view_of row)) →
+      k < length places.locks.items → lock ≡ get_or places.locks.items k lock →
+      pass ≡ get_or row k pass → AtPlace
   at_place is there at has =
-      let all : ArePasses label_of (label_at places.outlets) places.locks.items row =
-      record { locks_are = is.locks_are; known = is.known_so } in
+      let all = passes_of timed places row is in
       let of =
       pass_there label_of (label_at places.outlets) places.locks.items row k lock pass all there at
       has in
@@ -41,13 +74,8 @@ module _ {g : Ghosts LockedView Entry} (places : Places) (row : List (Pass Locke
         );
         of = of;
         after = λ new part keeps.
-            let then_all =
-            passes_set label_of (label_at places.outlets) places.locks.items row k lock pass new all
-            there at has part (keeps (label_at places.outlets k) of) in
-            record {
-              locks_are = then_all.locks_are;
-              as_many = length-map (slice_set row k new) view_of
-                  ∙ sym (length-map (slice_set row k new) lock_of);
-              known_so = then_all.known;
-            };
+            are_of plain places (slice_set row k new)
+            (passes_set label_of (label_at places.outlets) places.locks.items row k lock pass new
+            all
+            there at has part (keeps (label_at places.outlets k) of));
       }

@@ -14,3 +14,12 @@ mod RequestBalance
 mod Results
 mod PacketStep
 mod ToldCounts
+mod EarlyLetters
+mod OwnEntries
+mod TimelyTurns
+mod TimelyCalls
+mod Departures
+mod LongerViews
+mod PlaceCalls
+mod ToldTimes
+mod LogEnds

@@ -2,13 +2,14 @@
 use Rattle.std.proofs.Common.{◌≡◌, ◌≢◌, ◌<◌, ◌+◌, ℕ, List, [], ◌∷◌, length}
 use Rattle.std.proofs.Common.{refl, sym, ap, ◌∙◌, subst, arith, Option, Some}
 use Rattle.std.proofs.Common.{None, inl, inr}
-use Rattle.std.specs.Prelude.{slice_get, slice_set, IsSome, map}
+use Rattle.std.specs.Prelude.{slice_get, slice_set, IsSome, map, option_map}
 use Rattle.std.specs.BTreeMap.{BTreeMap, is_at, IsEmpty}
 use Rattle.std.specs.Map.{lookup}
 use Rattle.std.specs.Ordering.{nat_cmp}
 use Rattle.std.proofs.lemmas.Bool.{cases_Bool, cases_eq, eqb-true}
 use Rattle.std.proofs.lemmas.List.Elements.{All-head, All-tail}
 use Rattle.std.proofs.lemmas.List.{map-set}
+use Rattle.std.proofs.lemmas.Option.{slice_get-map}
 use Rattle.turn_lock.specs.declared.storied.Storied.{Ghosts}
 use Rattle.turn_lock.specs.declared.pass.Pass.{Pass}
 use Rattle.turn_lock.specs.Passes.{view_of}
@@ -22,7 +23,9 @@ use Rattle.place_history.specs.Lines.{text_at, text_of, AreLined}
 use Rattle.place_history.specs.PlaceState.{AreHere}
 use Rattle.locked_place.specs.Turns.{LooksOn}
 use Rattle.locked_place.specs.Views.{LockedView}
-use Rattle.place_rows.specs.Rows.{Known, TurnsOne}
+use Rattle.locked_place.specs.Passes.{plain_view_of}
+use Rattle.locked_place.specs.Times.{plain_view}
+use Rattle.place_rows.specs.Rows.{Known, TimedKnown, TurnsOne, known_of}
 use Rattle.place_turns.specs.Listings.{PutsLines, AreLinesUpTo, state_seen}
 use Rattle.packet_entry.specs.declared.packet.Card.{Card}
 use Rattle.histories.specs.declared.histories.Lost.{Lost}
@@ -53,12 +56,14 @@ absent_elsewhere places k queue es here other =
 
 -- ---- one place
 
-pub view_there : {g : Ghosts LockedView Entry} (row : List (Pass LockedView Entry g)) (k : ℕ)
-    (new : Pass LockedView Entry g) → k < length (map view_of row) →
-    slice_get (map view_of (slice_set row k new)) k ≡ Some (view_of new)
+pub view_there : {g : Ghosts LockedView (Entry × ℕ)} (row : List (Pass LockedView (Entry × ℕ) g))
+    (k : ℕ) (new : Pass LockedView (Entry × ℕ) g) → k < length (map view_of row) →
+    slice_get (known_of (map view_of (slice_set row k new))) k ≡ Some (plain_view_of new)
 view_there row k new there =
-    ap (λ (l : List Known). slice_get l k) (map-set view_of row k new)
-    ∙ get_same (map view_of row) k (view_of new) there
+    slice_get-map plain_view (map view_of (slice_set row k new)) k
+    ∙ ap (option_map plain_view)
+    (ap (λ (l : List TimedKnown). slice_get l k) (map-set view_of row k new)
+    ∙ get_same (map view_of row) k (view_of new) there)
 
 one_state : (queue : ℕ) (es : List Entry) (olds news : BTreeMap ℕ (List ℕ)) (s : Option Bound) →
     state_of es queue ≡ s → queue < queue_count → AreLined es olds news →
@@ -68,7 +73,8 @@ one_state queue es olds news (Some b) is few lined none =
     lined.bound queue few (subst (λ o. IsSome o) (sym is) refl)
     ∙ ap (line_of queue) is
 
-pub puts_so : (places place : ℕ) (known : List Known) (v : Known) (olds news : BTreeMap ℕ (List ℕ)) →
+pub puts_so : (places place : ℕ) (known : List Known) (v : Known)
+    (olds news : BTreeMap ℕ (List ℕ)) →
     slice_get known place ≡ Some v → AreHere places place v.seen → AreLined v.seen olds news →
     PutsLines places place known olds news
 puts_so places place known v olds news at here lined = record {

@@ -8,7 +8,7 @@ use Rattle.std.specs.List.{range_with_len}
 use Rattle.std.specs.BTreeMap.{BTreeMap, get}
 use Rattle.std.specs.Ordering.{nat_cmp}
 use Rattle.std.proofs.lemmas.Bool.{cases_Bool, eqb-true, eqb-false, eq-eqb}
-use Rattle.std.proofs.lemmas.List.{length-set}
+use Rattle.std.proofs.lemmas.List.{length-set, length-map}
 use Rattle.std.proofs.lemmas.List.Sums.{sum_by-append, sum_by-cons}
 use Rattle.std.proofs.lemmas.Option.{slice_get_within}
 use Rattle.packet_entry.specs.declared.packet.Card.{Card}
@@ -40,7 +40,8 @@ use Rattle.hook_chain.specs.declared.chain.Decision.{Decision}
 use Rattle.locked_place.specs.Turns.{IsTurn, ArrivesIn, AsksIn, ClosesIn, GoesDownIn, LooksOn}
 use Rattle.locked_place.specs.Turns.{PlacesAs, IsPosted}
 use Rattle.locked_place.specs.Views.{label_of, port_of}
-use Rattle.place_rows.specs.Rows.{Known, IsTurnAt}
+use Rattle.locked_place.specs.Times.{plain_view}
+use Rattle.place_rows.specs.Rows.{Known, TimedKnown, IsTurnAt}
 use Rattle.place_rows.specs.Shares.{at_places, notices_at, sent_at, sent_in}
 use Rattle.place_turns.specs.Counts.{count_of, most_entries, IsCounted, AreCounted}
 use Rattle.place_turns.proofs.PassTurns.{get_same, get_other, some_same}
@@ -240,9 +241,18 @@ ascends_wider low high higher (k ∷ ks) a most =
     (a.0, (omega (arith, a.1.0, most), ascends_wider (k + 1) high higher ks a.1.1 most))
 
 -- 64 bits count what it has seen, and so the entries up to the last of its own
-pub few_own : (v : Known) → HasSeenOwn v → length v.seen < 2 ^ 64 → Ascends 0 most_entries v.own
+pub few_own : (v : TimedKnown) → HasSeenOwn v → length v.seen < 2 ^ 64 →
+    Ascends 0 most_entries v.own
 few_own v placed short =
     ascends_wider 0 (length v.seen) most_entries v.own placed (omega (arith, short))
+
+-- the same without times
+pub placed_so : (v : TimedKnown) → HasSeenOwn v → HasSeenOwn (plain_view v)
+placed_so v placed =
+    subst (λ n. Ascends 0 n v.own) (sym (length-map v.seen (λ x. x.0))) placed
+
+pub short_so : (v : TimedKnown) → length v.seen < 2 ^ 64 → length (plain_view v).seen < 2 ^ 64
+short_so v short = omega (arith, short, length-map v.seen (λ (x : Entry × ℕ). x.0))
 
 -- a look adds no entry to its own
 pub look_own : (v w : Known) → LooksOn v w → w.own ≡ v.own

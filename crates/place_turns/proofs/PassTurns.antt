@@ -14,6 +14,8 @@ use Rattle.turn_lock.specs.declared.lock.TurnLock.{TurnLock}
 use Rattle.turn_lock.specs.Parts.{Tree, void, is_normal}
 use Rattle.turn_lock.specs.Passes.{view_of}
 use Rattle.locked_place.specs.Passes.{IsPassOf}
+use Rattle.locked_place.specs.Times.{plain_view}
+use Rattle.place_rows.specs.Rows.{Known, TimedKnown, known_of}
 use Rattle.place_rows.specs.Rows.{ArePasses, IsKnown, TurnsOne, TurnedUpTo}
 use Rattle.place_rows.specs.Rows.{lock_of, id_of}
 
@@ -127,6 +129,19 @@ turns_one row k old new Turns there is turns = record {
       ∙ ap (option_map view_of) (slice_get_read row (length row) k old refl there is);
   has = map-set view_of row k new;
   turns = turns;
+}
+
+-- a turn with times is one without
+pub plain_one : (k : ℕ) (olds news : List TimedKnown) (Turns : TimedKnown → TimedKnown → Type 0)
+    (Plain : Known → Known → Type 0) →
+    ((v w : TimedKnown) → Turns v w → Plain (plain_view v) (plain_view w)) →
+    TurnsOne k olds news Turns → TurnsOne k (known_of olds) (known_of news) Plain
+plain_one k olds news Turns Plain plain one = record {
+  before = plain_view one.before;
+  after = plain_view one.after;
+  had = slice_get-map plain_view olds k ∙ ap (option_map plain_view) one.had;
+  has = ap known_of one.has ∙ map-set plain_view olds k one.after;
+  turns = plain one.before one.after one.turns;
 }
 
 -- ---- turns at each place, one after the other

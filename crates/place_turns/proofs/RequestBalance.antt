@@ -64,6 +64,14 @@ visit_in_time : (visit : ℕ) → is_out_of_time visit ≡ false →
     (visit < last_visit) × (1 ≤ visit)
 visit_in_time visit is = grind (arith, nat_tests)
 
+-- of packets that are in time, all but the first are
+pub rest_in_time : (h : Card × Decision) (hs : List (Card × Decision)) → AreInTime (h ∷ hs) →
+    AreInTime hs
+rest_in_time h hs in_time =
+    let both =
+    sum_by-cons (λ (g : Card × Decision). once (is_out_of_time g.0.visit)) h hs in
+    omega (arith, both, in_time)
+
 all_keep : Laws → (places : ℕ) (s : Setting) (entered : List Card) (hs : List (Card × Decision))
     (t u : Trail) (owed : List Arrival) → AreInTime hs → CarriesAll places s hs t u →
     IsEven s entered (owed_all s hs ++ owed) t → IsEven s entered owed u

@@ -18,3 +18,8 @@ either_way (Err e) P Q R p q f g = g q
 pub on_ok_mapped : {A B : Type 0} (r : Result A B) (P Q : Type 0) → (P → Q) → OnOk r P → OnOk r Q
 on_ok_mapped (Ok x) P Q f h = f h
 on_ok_mapped (Err e) P Q f h = tt
+
+pub ok_on : {A B : Type 0} (r : Result A B) (P : A → Type 0) (Q : Type 0) → ((x : A) → P x → Q) →
+    IfOk r P → OnOk r Q
+ok_on (Ok x) P Q f h = f x h
+ok_on (Err e) P Q f h = tt

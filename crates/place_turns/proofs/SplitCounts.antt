@@ -1,12 +1,11 @@
 -- Counts of passes that were split, split off, or joined.
-use Rattle.std.proofs.Common.{◌≡◌, ◌<◌, ◌≤◌, ◌+◌, ℕ, zero, suc, List, [], ◌∷◌, length, refl, sym}
+use Rattle.std.proofs.Common.{◌≡◌, ◌+◌, ℕ, zero, suc, List, [], ◌∷◌, length, refl, sym}
 use Rattle.std.proofs.Common.{ap, ◌∙◌, subst, arith}
-use Rattle.std.specs.Prelude.{map, slice_get, Option, Some, None, IfSome, IsSome}
-use Rattle.std.specs.BTreeMap.{BTreeMap, get}
-use Rattle.std.specs.Ordering.{nat_cmp}
+use Rattle.std.specs.Prelude.{map, slice_get, Option, Some, None, IfSome}
+use Rattle.std.specs.BTreeMap.{BTreeMap}
 use Rattle.std.proofs.lemmas.List.{length-map}
 use Rattle.std.proofs.lemmas.Option.{slice_get_within}
-use Rattle.turn_lock.specs.Places.{Ascends, NoneInCommon, merged, longer}
+use Rattle.turn_lock.specs.Places.{Ascends, NoneInCommon, merged}
 use Rattle.turn_lock.specs.Views as lock
 use Rattle.turn_lock.specs.Views.{HasSeenOwn, kept_view, split_view, joined_view}
 use Rattle.locked_place.specs.Points.{points}
@@ -14,7 +13,7 @@ use Rattle.locked_place.specs.Views.{PlaceLabel, label_of}
 use Rattle.place_rows.specs.Joining.{Joins, RowJoined}
 use Rattle.place_rows.specs.Rows.{Known, AreKnown}
 use Rattle.place_rows.specs.Shares.{sent_at}
-use Rattle.place_turns.specs.Counts.{count_of, most_entries, IsCounted, AreCounted, AreZeroed}
+use Rattle.place_turns.specs.Counts.{most_entries, IsCounted, AreCounted, AreZeroed}
 use Rattle.place_turns.specs.Counts.{HaveZeros, CanAdd, CanAddAll, AreSums, AreAllSums}
 use Rattle.place_turns.proofs.NoticeCounts.{counts_there, places_few, ascend_few}
 use Rattle.place_turns.proofs.PassTurns.{some_same}

@@ -12,8 +12,10 @@ use Rattle.turn_lock.specs.Views.{HasSeenOwn}
 use Rattle.histories.specs.declared.entry.Entry.{Entry}
 use Rattle.locked_place.specs.Views.{LockedView, PlaceLabel, label_of}
 use Rattle.place_rows.specs.Meeting.{KeepsOwn}
-use Rattle.place_rows.specs.Rows.{Known, AreKnown, IsKnown}
+use Rattle.locked_place.specs.Passes.{plain_view_of}
+use Rattle.place_rows.specs.Rows.{Known, TimedKnown, AreKnown, IsKnown, known_of}
 use Rattle.place_turns.specs.Counts.{most_entries, IsCounted, AreCounted}
+use Rattle.place_turns.proofs.NoticeCounts.{placed_so}
 use Rattle.place_turns.proofs.PassTurns.{some_same}
 
 pub item_at : {X : Type 0} (xs : List X) (k : ℕ) → k < length xs →
@@ -23,11 +25,20 @@ item_at (x ∷ xs) zero few = (x, refl)
 item_at (x ∷ xs) (suc k) few = item_at xs k (omega (arith, few))
 
 -- each pass has seen the entries that are its own
-pub all_placed : {g : Ghosts LockedView Entry} (row : List (Pass LockedView Entry g)) (k : ℕ)
-    (v : Known) → slice_get (map view_of row) k ≡ Some v → HasSeenOwn v
+pub all_seen_own : {g : Ghosts LockedView (Entry × ℕ)} (row : List (Pass LockedView (Entry × ℕ) g))
+    (k : ℕ) (v : TimedKnown) → slice_get (map view_of row) k ≡ Some v → HasSeenOwn v
+all_seen_own [] k v at = absurd (cc at)
+all_seen_own (pass ∷ row) zero v at =
+    subst (λ (w : TimedKnown). HasSeenOwn w) (some_same (view_of pass) v at) pass.placed
+all_seen_own (pass ∷ row) (suc k) v at = all_seen_own row k v at
+
+-- and so without times
+pub all_placed : {g : Ghosts LockedView (Entry × ℕ)} (row : List (Pass LockedView (Entry × ℕ) g))
+    (k : ℕ) (v : Known) → slice_get (known_of (map view_of row)) k ≡ Some v → HasSeenOwn v
 all_placed [] k v at = absurd (cc at)
 all_placed (pass ∷ row) zero v at =
-    subst (λ (w : Known). HasSeenOwn w) (some_same (view_of pass) v at) pass.placed
+    subst (λ (w : Known). HasSeenOwn w) (some_same (plain_view_of pass) v at)
+    (placed_so (view_of pass) pass.placed)
 all_placed (pass ∷ row) (suc k) v at = all_placed row k v at
 
 counted_still_so : (named : PlaceLabel) (v w : Known) (counts : BTreeMap ℕ ℕ) →

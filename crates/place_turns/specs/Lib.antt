@@ -3,6 +3,8 @@ pub mod Trails
 pub mod Moving
 pub mod Messages
 pub mod Passes
+pub mod Timely
+pub mod Departures
 pub mod Counts
 pub mod OnTheWay
 pub mod Listings

@@ -3,7 +3,7 @@ use Rattle.std.specs.Prelude.{◌≡◌, ℕ, List, length}
 use Rattle.atomic_table.specs.Seated.{TableId}
 use Rattle.locked_place.specs.Turns.{ClosesIn}
 use Rattle.locked_place.specs.Views.{label_of}
-use Rattle.place_rows.specs.Rows.{Known, AreKnown, label_at}
+use Rattle.place_rows.specs.Rows.{Known, TimedKnown, AreKnown, label_at}
 use Rattle.place_turns.specs.declared.places.Places.{Places}
 use Rattle.place_turns.specs.Places.{outlets_of, locks_of}
 use Rattle.place_turns.specs.Trails.{Trail}
@@ -13,6 +13,9 @@ pub record PassesView : Type 0 where
   -- the locks, in the places' order
   pub locks : List TableId
   pub trail : Trail
+  -- what they know of each place with times, and their clock: the latest time that they know
+  pub timed : List TimedKnown
+  pub clock : ℕ
   -- how many more packets may be lost without memory
   pub room : ℕ
 

@@ -2,15 +2,16 @@
 
 ghost use Rattle.std.specs.Prelude.{◌≡◌, ◌<◌, ◌++◌, ◌∷◌, [], IfOk, OnOk, IfErr, OnErr};
 ghost use Rattle.hook_chain.specs.Route.{next};
+ghost use Rattle.packet_moves.specs.OnTheWay.{HandsBack};
 ghost use Rattle.place_turns.specs.Passes.{AreOf};
 ghost use Rattle.place_turns.specs.Places.{places_of, setting_of};
 ghost use Rattle.place_turns.specs.Trails.{MayLook};
 ghost use Rattle.place_turns.specs.Moving.{IsFed};
-ghost use Rattle.packet_moves.specs.OnTheWay.{HandsBack};
+ghost use Rattle.place_turns.specs.Timely.{Holder, AreTimelyOpen};
 
 use crate::arrivals::{attempt, carry};
 use crate::passes::Passes;
-use crate::places::Places;
+use crate::places::Turns;
 use hook_chain::route;
 use locked_place::Gate;
 use packet_entry::{Card, NoMemory, Packet, Stock};
@@ -21,24 +22,26 @@ use std::sync::Wait;
 
 /// Feeds a packet: it goes through the tables from the first on, to its rest or its end.
 pub fn feed<R: Wait, G: Gate>(
-    places: &Places,
-    rt: &R,
+    turns: &Turns<'_, R, G>,
     alloc: Global,
-    gate: &G,
     passes: &mut Passes,
     fed: &mut Stock<Card>,
     packet: Packet,
 ) -> Result<Fed, Refused>
     requires new { packet.visit ≡ 0 }
-    requires of { AreOf places.now passes.old.locks passes.old.trail.known }
-    ensures of { AreOf places.now passes.new.locks passes.new.trail.known }
-    ensures moved { IfOk result (IsFed (places_of places.now) (setting_of places.now)
+    requires of { AreOf turns.now.places.now passes.old.locks passes.old.trail.known }
+    ensures of { AreOf turns.now.places.now passes.new.locks passes.new.trail.known }
+    ensures moved { IfOk result (IsFed (places_of turns.now.places.now)
+        (setting_of turns.now.places.now)
         passes.old.trail packet passes.new.trail) }
     ensures fed { OnOk result (fed.new.items ≡ fed.old.items ++ packet ∷ []) }
     ensures refused { IfErr result (λ r. HandsBack packet
-        (next (setting_of places.now).tables (setting_of places.now).key packet 1) r.packet) }
+        (next (setting_of turns.now.places.now).tables (setting_of turns.now.places.now).key
+        packet 1) r.packet) }
     ensures looked { OnErr result (MayLook passes.old.trail passes.new.trail) }
     ensures none_fed { OnErr result (fed.new.items ≡ fed.old.items) }
+    ensures timely { (h : Holder) → AreTimelyOpen passes.old.clock passes.old.timed h →
+        AreTimelyOpen passes.new.clock passes.new.timed h }
 {
     let Ok(card) = packet.card(alloc) else {
         return Err(Refused { packet });
@@ -46,11 +49,16 @@ pub fn feed<R: Wait, G: Gate>(
     if make_room(passes, fed).is_err() {
         return Err(Refused { packet });
     }
-    let route = route(&places.setting.tables, places.setting.key, &packet, 1);
-    match attempt(places, rt, alloc, gate, passes, packet, route) {
+    let route = route(
+        &turns.places.setting.tables,
+        turns.places.setting.key,
+        &packet,
+        1,
+    );
+    match attempt(turns, alloc, passes, packet, route) {
         Ok(came) => {
             fed.push(card);
-            Ok(carry(places, rt, alloc, gate, passes, came))
+            Ok(carry(turns, alloc, passes, came))
         }
         Err(NoRoom { packet }) => Err(Refused { packet }),
     }
@@ -60,6 +68,8 @@ pub fn feed<R: Wait, G: Gate>(
 fn make_room(passes: &mut Passes, fed: &mut Stock<Card>) -> Result<(), NoMemory>
     ensures locks { passes.new.locks ≡ passes.old.locks }
     ensures trail { passes.new.trail ≡ passes.old.trail }
+    ensures timed { passes.new.timed ≡ passes.old.timed }
+    ensures clock { passes.new.clock ≡ passes.old.clock }
     ensures items { fed.new.items ≡ fed.old.items }
     ensures fed { OnOk result (0 < fed.new.room) }
     ensures lost { OnOk result (0 < passes.new.room) }

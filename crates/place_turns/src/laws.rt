@@ -1,17 +1,20 @@
 //! Laws of the definitions, each the contract of a function that does nothing.
 
-ghost use Rattle.std.specs.Prelude.{◌≡◌, ℕ, List, [], ◌∷◌, ◌++◌, Option};
+ghost use Rattle.std.specs.Prelude.{◌≡◌, ℕ, List, [], ◌∷◌, ◌++◌, Option, Some, slice_get};
+ghost use Rattle.mailbox.specs.declared.view.Post.{Post};
 ghost use Rattle.packet_entry.specs.declared.packet.Card.{Card};
 ghost use Rattle.netlink_codec.specs.Messages.{NetlinkMessage};
 ghost use Rattle.histories.specs.declared.log.Did.{Did};
+ghost use Rattle.histories.specs.declared.log.Did.TheVariants.{Closed};
 ghost use Rattle.packet_moves.specs.declared.fed.Fed.{Fed};
 ghost use Rattle.packet_moves.specs.declared.setting.Setting.{Setting};
 ghost use Rattle.locked_place.specs.Turns.{GoesDownIn};
-ghost use Rattle.place_rows.specs.Rows.{Known, TurnsOne};
+ghost use Rattle.place_rows.specs.Rows.{Known, TimedKnown, TurnsOne};
 ghost use Rattle.place_rows.specs.Shares.{IsBalanced};
 ghost use Rattle.place_turns.specs.Trails.{Trail, MayLook, parts_of};
 ghost use Rattle.place_turns.specs.Moving.{IsFed};
 ghost use Rattle.place_turns.specs.Messages.{Sends};
+ghost use Rattle.place_turns.specs.Timely.{AreTimely, AreTimelyOpen, port_with};
 
 use histories::each_front_of_a_legal_history_is_legal;
 use packet_moves::{histories_stay_sound, what_goes_on_is_in_time};
@@ -50,4 +53,15 @@ pub fn passes_keep_their_parts()
     ensures down { (device place count : ℕ) (olds news : List Known) →
         TurnsOne place olds news (λ v w. GoesDownIn device v w count) →
         parts_of news ≡ parts_of olds }
+{}
+
+/// Passes that have seen nothing are timely at time 0, whoever has them. A port's passes stay
+/// timely as its log says that it closed.
+pub fn passes_begin_and_end_timely()
+    ensures begins { (row : List TimedKnown) (port : Option ℕ) →
+        ((k : ℕ) (v : TimedKnown) → slice_get row k ≡ Some v → (v.seen ≡ []) × (v.own ≡ [])) →
+        AreTimelyOpen 0 row (record { port = port; dids = []; heard = [] }) }
+    ensures closed { (clock : ℕ) (row : List TimedKnown) (port : ℕ) (dids : List Did)
+        (heard : List Post) → AreTimely clock row (port_with port dids heard) →
+        AreTimely clock row (port_with port (dids ++ Closed ∷ []) heard) }
 {}

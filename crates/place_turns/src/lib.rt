@@ -16,8 +16,8 @@ mod places;
 mod sharing;
 
 pub use feeding::feed;
-pub use laws::{passes_keep_their_parts, passes_stay_balanced};
+pub use laws::{passes_begin_and_end_timely, passes_keep_their_parts, passes_stay_balanced};
 pub use log::Log;
 pub use messages::{message, message_unread};
 pub use passes::{Counts, Passes};
-pub use places::Places;
+pub use places::{Places, Turns};

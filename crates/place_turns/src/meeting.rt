@@ -10,10 +10,11 @@ ghost use Rattle.place_rows.specs.Shares.{IsBalanced};
 ghost use Rattle.place_rows.specs.Meeting.{ToldUpTo};
 ghost use Rattle.place_turns.specs.Passes.{AreOf};
 ghost use Rattle.place_turns.specs.Places.{places_of};
+ghost use Rattle.place_turns.specs.Timely.{Holder, AreTimely, AreTimelyOpen};
 
 use crate::passes::Passes;
 use crate::places::Places;
-use place_rows::{tell_row, telling_changes_nothing_of_ones_own};
+use place_rows::{rows_know_the_same_without_times, tell_row, telling_changes_nothing_of_ones_own};
 
 impl Passes {
     /// Lets others see all that these passes have seen.
@@ -36,8 +37,20 @@ impl Passes {
             (s : Setting) (entered : List Card) (lost : List Lost) →
             IsBalanced s entered others.old.trail.known lost →
             IsBalanced s entered others.new.trail.known lost }
+        ensures timely { (h : Holder) → AreTimely self.old.clock self.old.timed h →
+            AreTimely self.new.clock self.new.timed h }
+        ensures timely_open { (h : Holder) → AreTimelyOpen self.old.clock self.old.timed h →
+            AreTimelyOpen self.new.clock self.new.timed h }
+        ensures others_timely { (h g : Holder) → AreTimely self.old.clock self.old.timed h →
+            AreTimely others.old.clock others.old.timed g →
+            AreTimely others.new.clock others.new.timed g }
+        ensures others_open { (h g : Holder) → AreTimely self.old.clock self.old.timed h →
+            AreTimelyOpen others.old.clock others.old.timed g →
+            AreTimelyOpen others.new.clock others.new.timed g }
     {
         telling_changes_nothing_of_ones_own();
+        rows_know_the_same_without_times();
         tell_row(&places.locks, &mut self.row, &mut others.row);
+        others.clock = others.clock.max(self.clock);
     }
 }

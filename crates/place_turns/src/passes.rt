@@ -1,34 +1,40 @@
 //! The passes of one holder: one of each place's lock, and what its calls lost and sent.
 
-ghost use Rattle.std.specs.Prelude.{◌≡◌, ◌≢◌, ◌≤◌, ◌<◌, ◌+◌, ◌^◌, ℕ, [], length};
-ghost use Rattle.std.specs.Prelude.{Some, IsSome, IfOk, OnOk, IfErr, OnErr};
+ghost use Rattle.std.specs.Prelude.{◌≡◌, ◌≢◌, ◌≤◌, ◌<◌, ◌+◌, ◌^◌, ◌++◌, ◌∷◌, ℕ, List, [], length};
+ghost use Rattle.std.specs.Prelude.{Option, Some, IsSome, IfOk, OnOk, IfErr, OnErr};
 ghost use Rattle.std.specs.BTreeMap.{get};
 ghost use Rattle.std.specs.Ordering.{nat_cmp};
 ghost use Rattle.nfqa_msgs.specs.RequestReading.{PayloadFits};
 ghost use Rattle.turn_lock.specs.Passes.{view_of};
 ghost use Rattle.histories.specs.Happenings.{queue_of};
 ghost use Rattle.histories.specs.Places.{place_for};
+ghost use Rattle.mailbox.specs.declared.view.Post.{Post};
+ghost use Rattle.histories.specs.declared.log.AskWords.{AskWords};
+ghost use Rattle.histories.specs.declared.log.Did.{Did};
+ghost use Rattle.histories.specs.declared.log.Did.TheVariants.{Received, Sent};
 ghost use Rattle.packet_moves.specs.HandedOn.{AreInTime};
-ghost use Rattle.locked_place.specs.Passes.{IsPassOf};
-ghost use Rattle.locked_place.specs.Turns.{ArrivesIn, AsksIn, LooksOn};
+ghost use Rattle.locked_place.specs.Passes.{IsPassOf, plain_view_of};
+ghost use Rattle.locked_place.specs.Turns.{ArrivesIn, AsksIn, LooksOn, TimedArrival, TimedLook};
 ghost use Rattle.locked_place.specs.Views.{PlaceLabel, label_of, AreOutletsOf};
 ghost use Rattle.place_rows.specs.Rows.{TurnsOne};
 ghost use Rattle.place_rows.specs.Shares.{sent_in};
 ghost use Rattle.place_turns.specs.Counts.{IsCounted, count_of};
 ghost use Rattle.place_turns.specs.Places.{places_of};
+ghost use Rattle.place_turns.specs.Departures.{HasSeenCome, HasSeenBack, HaveSeenAll, SeeOn};
+ghost use Rattle.place_turns.specs.Timely.{Holder, AreTimelyOpen, port_with};
 
-use crate::places::Places;
+use crate::places::Turns;
 use histories::{Lost, queue_of};
-use locked_place::{Gate, LockedPlace, Outlets, Placed};
+use locked_place::{Entrance, Gate, LockedPlace, Placed, Question};
 use nfqa_msgs::Request;
 use packet_entry::{NoMemory, Packet, Stock};
-use place_rows::own_entries_grow_by_each_turn;
+use place_rows::{own_entries_grow_by_each_turn, rows_know_the_same_without_times};
 use queue_core::{Handed, NoRoom, replies_tell_how_many_left};
 use std::alloc::Global;
 use std::collections::BTreeMap;
 use std::marker::Model;
 use std::sync::Wait;
-use turn_lock::{Pass, TurnLock};
+use turn_lock::Pass;
 
 /// How many notices were put into each port's mailbox, by port.
 pub type Counts = BTreeMap<u32, u64>;
@@ -43,6 +49,8 @@ pub struct Passes {
     pub sent: Vec<Counts>,
     /// The packets that were lost, and the room for more of them.
     pub lost: Stock<Lost>,
+    /// The latest time that they know.
+    pub clock: u64,
 }
 
 impl Model for Passes {
@@ -50,7 +58,7 @@ impl Model for Passes {
     ghost use Rattle.std.specs.Coded.{codes};
     ghost use Rattle.turn_lock.specs.Parts.{tree_code};
     ghost use Rattle.turn_lock.specs.Passes.{view_of};
-    ghost use Rattle.place_rows.specs.Rows.{lock_of};
+    ghost use Rattle.place_rows.specs.Rows.{lock_of, known_of};
     ghost use Rattle.place_turns.specs.Counts.{AreCounted};
     ghost use Rattle.place_turns.specs.Passes.{PassesView};
 
@@ -60,11 +68,13 @@ impl Model for Passes {
 
     ghost view = { λ p. record {
       locks = map lock_of p.row.items;
-      trail = record { known = map view_of p.row.items; lost = p.lost.items };
+      trail = record { known = known_of (map view_of p.row.items); lost = p.lost.items };
+      timed = map view_of p.row.items;
+      clock = p.clock;
       room = p.lost.room;
     } };
 
-    ghost invariant = { λ p. AreCounted (map view_of p.row.items) p.sent.items };
+    ghost invariant = { λ p. AreCounted (known_of (map view_of p.row.items)) p.sent.items };
 }
 
 impl Passes {
@@ -74,40 +84,51 @@ impl Passes {
     /// back, and nothing has happened.
     pub(crate) fn arrive<R: Wait, G: Gate>(
         &mut self,
-        places: &Places,
-        rt: &R,
+        turns: &Turns<'_, R, G>,
         alloc: Global,
-        gate: &G,
         queue: u16,
         bypass: bool,
         packet: Packet,
     ) -> Result<Placed, NoRoom>
         requires visited { 1 ≤ packet.visit }
-        requires of { AreOf places.now self.old.locks self.old.trail.known }
-        ensures of { AreOf places.now self.new.locks self.new.trail.known }
-        ensures turn { IfOk result (λ placed. TurnsOne (place_for queue (places_of places.now))
+        requires of { AreOf turns.now.places.now self.old.locks self.old.trail.known }
+        ensures of { AreOf turns.now.places.now self.new.locks self.new.trail.known }
+        ensures turn { IfOk result (λ placed. TurnsOne
+            (place_for queue (places_of turns.now.places.now))
             self.old.trail.known self.new.trail.known
             (λ v w. ArrivesIn (record { queue = queue; card = packet; bypass = bypass })
             v w placed)) }
         ensures returned { IfErr result (λ back. back.packet ≡ packet) }
-        ensures err { OnErr result (TurnsOne (place_for queue (places_of places.now))
+        ensures err { OnErr result (TurnsOne (place_for queue (places_of turns.now.places.now))
             self.old.trail.known self.new.trail.known LooksOn) }
+        ensures timely { (h : Holder) → HasSeenCome self.old.timed packet.number packet.visit →
+            AreTimelyOpen self.old.clock self.old.timed h →
+            AreTimelyOpen self.new.clock self.new.timed h }
+        ensures seen { IfOk result (HasSeenBack self.new.timed) }
+        ensures on { SeeOn self.old.timed self.new.timed }
         ensures lost { (self.new.trail.lost ≡ self.old.trail.lost)
             × (self.new.room ≡ self.old.room) }
     {
-        let place = places.place_of(queue);
+        rows_know_the_same_without_times();
+        let place = turns.places.place_of(queue);
+        let at = Entrance {
+            rt: turns.rt,
+            gate: turns.gate,
+            lock: &turns.places.locks[place],
+            outlets: &turns.places.outlets,
+            place: place as u8,
+        };
         arrive_at(
-            rt,
+            &at,
             alloc,
-            gate,
-            &places.locks[place],
             &mut self.row[place],
+            &mut self.clock,
             &mut self.sent[place],
-            &places.outlets,
-            place as u8,
-            queue,
-            bypass,
-            packet,
+            Coming {
+                queue,
+                bypass,
+                packet,
+            },
         )
     }
 
@@ -116,47 +137,75 @@ impl Passes {
     /// happened.
     pub(crate) fn ask<R: Wait, G: Gate>(
         &mut self,
-        places: &Places,
-        rt: &R,
+        turns: &Turns<'_, R, G>,
         alloc: Global,
-        gate: &G,
         port: u32,
         call: u32,
         request: Request,
         handed: &mut Handed,
     ) -> Result<u16, NoMemory>
         requires payload { PayloadFits request }
-        requires port { IsSome (get nat_cmp places.now.outlets.mailboxes port) }
+        requires port { IsSome (get nat_cmp turns.now.places.now.outlets.mailboxes port) }
         requires none { handed.old.items ≡ [] }
-        requires of { AreOf places.now self.old.locks self.old.trail.known }
-        ensures of { AreOf places.now self.new.locks self.new.trail.known }
+        requires of { AreOf turns.now.places.now self.old.locks self.old.trail.known }
+        ensures of { AreOf turns.now.places.now self.new.locks self.new.trail.known }
         ensures turn { IfOk result (λ errno. TurnsOne
-            (place_for (queue_of request) (places_of places.now))
+            (place_for (queue_of request) (places_of turns.now.places.now))
             self.old.trail.known self.new.trail.known
             (λ v w. AsksIn port call request v w errno handed.new.items)) }
         ensures room { OnOk result (length handed.new.items ≤ self.new.room) }
         ensures in_time { OnOk result (AreInTime handed.new.items) }
         ensures lost { self.new.trail.lost ≡ self.old.trail.lost }
         ensures none { OnErr result (handed.new.items ≡ []) }
-        ensures err { OnErr result (TurnsOne (place_for (queue_of request) (places_of places.now))
+        ensures err { OnErr result (TurnsOne
+            (place_for (queue_of request) (places_of turns.now.places.now))
             self.old.trail.known self.new.trail.known LooksOn) }
+        ensures timely { OnOk result ((dids : List Did) (heard : List Post) (words : AskWords)
+            (answer : Option ℕ) →
+            AreTimelyOpen self.old.clock self.old.timed (port_with port dids heard) →
+            AreTimelyOpen self.new.clock self.new.timed
+            (port_with port (dids ++ Sent call words answer ∷ []) heard)) }
+        ensures seen { OnOk result (HaveSeenAll self.new.timed handed.new.items) }
+        ensures still { OnErr result ((h : Holder) →
+            AreTimelyOpen self.old.clock self.old.timed h →
+            AreTimelyOpen self.new.clock self.new.timed h) }
     {
         own_entries_grow_by_each_turn();
-        let place = places.place_of(queue_of(&request));
+        rows_know_the_same_without_times();
+        let place = turns.places.place_of(queue_of(&request));
+        let at = Entrance {
+            rt: turns.rt,
+            gate: turns.gate,
+            lock: &turns.places.locks[place],
+            outlets: &turns.places.outlets,
+            place: place as u8,
+        };
         locked_place::ask(
-            rt,
+            &at,
             alloc,
-            gate,
-            &places.locks[place],
             &mut self.row[place],
-            &places.outlets,
-            place as u8,
+            &mut self.clock,
             &mut self.lost,
-            port,
-            call,
-            request,
+            Question {
+                port,
+                call,
+                request,
+            },
             handed,
         )
+    }
+
+    /// A letter with this time was received: the clock is then at least as late.
+    pub fn hear(&mut self, time: u64)
+        ensures same { self.new ≡ record self.old { clock = self.new.clock } }
+        ensures timely { (port : ℕ) (dids : List Did) (heard : List Post) (p : Post) →
+            p.time ≡ time →
+            AreTimelyOpen self.old.clock self.old.timed (port_with port dids heard) →
+            AreTimelyOpen self.new.clock self.new.timed (port_with port
+            (dids ++ Received p.letter.queue p.letter.number p.letter.visit ∷ [])
+            (heard ++ p ∷ [])) }
+    {
+        self.clock = self.clock.max(time);
     }
 
     /// How many notices the turns of these passes put into a port's mailbox.
@@ -171,41 +220,49 @@ impl Passes {
     }
 }
 
-/// A packet arrives, in a turn of this pass at the place with this number; where its notice went
-/// into a mailbox, that is counted. When memory runs out the packet comes back, and nothing has
-/// happened.
-fn arrive_at<R: Wait, G: Gate>(
-    rt: &R,
-    alloc: Global,
-    gate: &G,
-    lock: &TurnLock<LockedPlace>,
-    pass: &mut Pass<LockedPlace>,
-    sent: &mut Counts,
-    outlets: &Outlets,
-    place: u8,
+/// A packet that comes to a queue.
+struct Coming {
     queue: u16,
     bypass: bool,
     packet: Packet,
+}
+
+/// A packet arrives, in a turn of a pass at its queue's place: where a notice is put into a port's
+/// mailbox, it is counted. When memory runs out it comes back, and nothing has happened.
+fn arrive_at<R: Wait, G: Gate>(
+    at: &Entrance<'_, R, G>,
+    alloc: Global,
+    pass: &mut Pass<LockedPlace>,
+    clock: &mut u64,
+    sent: &mut Counts,
+    coming: Coming,
 ) -> Result<Placed, NoRoom>
-    requires visited { 1 ≤ packet.visit }
-    requires pass { (named : PlaceLabel) × IsPassOf label_of named lock.now pass.old
-        × (place_for queue named.places ≡ named.number) × AreOutletsOf outlets.now named }
-    requires counted { IsCounted (view_of pass.old) sent.old }
-    ensures counted { IsCounted (view_of pass.new) sent.new }
-    ensures pass { (named : PlaceLabel) → IsPassOf label_of named lock.now pass.old →
-        IsPassOf label_of named lock.now pass.new }
+    requires visited { 1 ≤ coming.packet.visit }
+    requires pass { (named : PlaceLabel) × IsPassOf label_of named at.now.lock.now pass.old
+        × (place_for coming.queue named.places ≡ named.number)
+        × AreOutletsOf at.now.outlets.now named }
+    requires counted { IsCounted (plain_view_of pass.old) sent.old }
+    ensures counted { IsCounted (plain_view_of pass.new) sent.new }
+    ensures pass { (named : PlaceLabel) → IsPassOf label_of named at.now.lock.now pass.old →
+        IsPassOf label_of named at.now.lock.now pass.new }
     ensures part { (view_of pass.new).part ≡ (view_of pass.old).part }
-    ensures turn { IfOk result
-        (ArrivesIn (record { queue = queue; card = packet; bypass = bypass })
-        (view_of pass.old) (view_of pass.new)) }
-    ensures returned { IfErr result (λ back. back.packet ≡ packet) }
-    ensures err { OnErr result (LooksOn (view_of pass.old) (view_of pass.new)) }
+    ensures turn { IfOk result (TimedArrival clock.old clock.new (record {
+      queue = coming.queue;
+      card = coming.packet;
+      bypass = coming.bypass;
+    }) (view_of pass.old) (view_of pass.new)) }
+    ensures returned { IfErr result (λ back. back.packet ≡ coming.packet) }
+    ensures err { OnErr result
+        (TimedLook clock.old clock.new (view_of pass.old) (view_of pass.new)) }
 {
     own_entries_grow_by_each_turn();
     replies_tell_how_many_left();
-    match locked_place::arrive(
-        rt, alloc, gate, lock, pass, outlets, place, queue, bypass, packet,
-    )? {
+    let Coming {
+        queue,
+        bypass,
+        packet,
+    } = coming;
+    match locked_place::arrive(at, alloc, pass, clock, queue, bypass, packet)? {
         Placed::Waiting { port } => {
             count(sent, port);
             Ok(Placed::Waiting { port })

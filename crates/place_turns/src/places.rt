@@ -40,3 +40,11 @@ impl Places {
         usize::from(queue) % self.locks.len()
     }
 }
+
+/// Places, as they are come to for turns that a gate is told of.
+#[derive(Drop)]
+pub struct Turns<'a, R, G> {
+    pub places: &'a Places,
+    pub rt: &'a R,
+    pub gate: &'a G,
+}

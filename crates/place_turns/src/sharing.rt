@@ -10,12 +10,15 @@ ghost use Rattle.place_rows.specs.Joining.{RowJoined};
 ghost use Rattle.place_rows.specs.Rows.{TurnsOne};
 ghost use Rattle.place_turns.specs.Counts.{count_of, AreZeroed, HaveZeros, CanAdd, AreSums};
 ghost use Rattle.place_turns.specs.Counts.{CanAddAt, CanAddAll, AreAllSums};
+ghost use Rattle.place_turns.specs.Timely.{Holder, AreTimelyOpen, feeder};
 
 use crate::passes::{Counts, Passes};
 use crate::places::Places;
 use histories::Lost;
 use packet_entry::{NoMemory, Stock};
-use place_rows::{join_row, joined_rows_have_what_both_had, split_row};
+use place_rows::{
+    join_row, joined_rows_have_what_both_had, rows_know_the_same_without_times, split_row,
+};
 use std::alloc::Global;
 use std::collections::BTreeMap;
 use std::mem::replace;
@@ -124,8 +127,13 @@ impl Passes {
         ensures none_lost { IfOk result (λ made. made.trail.lost ≡ []) }
         ensures same { (self.new.locks ≡ self.old.locks)
             × (self.new.trail.lost ≡ self.old.trail.lost) × (self.new.room ≡ self.old.room) }
+        ensures timely { (h : Holder) → AreTimelyOpen self.old.clock self.old.timed h →
+            AreTimelyOpen self.new.clock self.new.timed h }
+        ensures made_timely { AreTimelyOpen self.old.clock self.old.timed feeder →
+            IfOk result (λ made. AreTimelyOpen made.clock made.timed feeder) }
         ensures err { OnErr result (self.new ≡ self.old) }
     {
+        rows_know_the_same_without_times();
         let sent = all_zeros(alloc, &self.sent)?;
         let mut row = Vec::with_capacity(alloc, self.row.len())?;
         split_row(&places.locks, &mut self.row, &mut row);
@@ -133,6 +141,7 @@ impl Passes {
             row,
             sent,
             lost: Stock::new(alloc),
+            clock: self.clock,
         })
     }
 
@@ -146,11 +155,21 @@ impl Passes {
         ensures locks { self.new.locks ≡ self.old.locks }
         ensures lost { (self.new.trail.lost ≡ from.trail.lost)
             × (result.items ≡ self.old.trail.lost) }
+        ensures timely { AreTimelyOpen self.old.clock self.old.timed feeder →
+            AreTimelyOpen from.clock from.timed feeder →
+            AreTimelyOpen self.new.clock self.new.timed feeder }
     {
         joined_rows_have_what_both_had();
         merged_places_are_those_of_both();
-        let Passes { row, sent, lost } = from;
+        rows_know_the_same_without_times();
+        let Passes {
+            row,
+            sent,
+            lost,
+            clock,
+        } = from;
         join_row(&places.locks, &mut self.row, row);
+        self.clock = self.clock.max(clock);
         add_all_counts(&mut self.sent, sent);
         replace(&mut self.lost, lost)
     }

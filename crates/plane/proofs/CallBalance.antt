@@ -1,8 +1,10 @@
 -- What each call of a plane leaves: its pass is balanced, and a port's log goes with its letters.
 use Rattle.std.proofs.Common.{◌≡◌, ℕ, List, [], ◌∷◌, ◌++◌, sym, ap, ◌∙◌}
 use Rattle.std.proofs.Common.{subst, append-nil, Option, Some, None}
-use Rattle.std.specs.Prelude.{Result, Ok, Err, IfOk, OnOk, OnErr, filter}
+use Rattle.std.specs.Prelude.{Result, Ok, Err, IfOk, OnOk, OnErr, filter, map}
+use Rattle.std.proofs.lemmas.List.{map-append}
 use Rattle.std.proofs.lemmas.List.Elements.{filter-append}
+use Rattle.mailbox.specs.declared.view.Post.{Post}
 use Rattle.packet_entry.specs.declared.packet.Card.{Card}
 use Rattle.packet_entry.specs.declared.no_memory.NoMemory.{NoMemory}
 use Rattle.netlink_codec.specs.Messages.{NetlinkMessage}
@@ -16,6 +18,7 @@ use Rattle.place_turns.specs.Trails.{Trail, MayLook}
 use Rattle.place_turns.specs.Moving.{IsFed}
 use Rattle.place_turns.specs.Messages.{Sends, SendsUnread}
 use Rattle.histories.specs.Logs.{is_received}
+use Rattle.plane.specs.Passes.{did_take}
 
 -- what the law says of feeding, of messages and of looks
 abbrev pub FedKeeps : Type 0
@@ -100,3 +103,12 @@ pub closed_logged : (dids received : List Did) → filter is_received dids ≡ r
     filter is_received (dids ++ Closed ∷ []) ≡ received
 closed_logged dids received is =
     filter-append is_received dids (Closed ∷ []) ∙ append-nil (filter is_received dids) ∙ is
+
+-- a letter that is logged was received
+pub received_logged : (dids : List Did) (heard : List Post) (p : Post) →
+    filter is_received dids ≡ map did_take heard →
+    filter is_received (dids ++ did_take p ∷ []) ≡ map did_take (heard ++ p ∷ [])
+received_logged dids heard p is =
+    filter-append is_received dids (did_take p ∷ [])
+    ∙ ap (λ (l : List Did). l ++ did_take p ∷ []) is
+    ∙ sym (map-append did_take heard (p ∷ []))

@@ -1,5 +1,5 @@
 -- Feeders' passes that are split off one, and joined again.
-use Rattle.std.proofs.Common.{◌≡◌, ◌+◌, ℕ, List, [], ◌∷◌, ◌++◌, refl, sym, ap, ◌∙◌, subst}
+use Rattle.std.proofs.Common.{◌≡◌, ◌+◌, ℕ, List, [], ◌∷◌, ◌++◌, sym, ap, ◌∙◌, subst}
 use Rattle.std.specs.Prelude.{map, slice_get, Some, true, false}
 use Rattle.atomic_table.specs.Seated.{TableId}
 use Rattle.packet_entry.specs.declared.packet.Card.{Card}
@@ -13,7 +13,7 @@ use Rattle.place_rows.specs.Joining.{RowJoined, together_at}
 use Rattle.place_rows.specs.Rows.{Known, AreKnown}
 use Rattle.place_rows.specs.Shares.{sent_in, IsBalanced, IsBalancedBut}
 use Rattle.place_turns.specs.Trails.{Trail}
-use Rattle.plane.specs.Feeders.{HaveThePartsOf, IsSplitOff, IsJoined}
+use Rattle.plane.specs.Feeders.{IsSplitOff, IsJoined}
 use Rattle.plane.specs.Passes.{FeederView}
 
 -- what the laws of rows say of splitting

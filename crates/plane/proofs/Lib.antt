@@ -9,3 +9,10 @@ mod Texts
 mod PlaneStart
 mod PassMeetings
 mod RowParts
+mod TimedSteps
+mod KnownEvents
+mod OrderAtClose
+mod TimelyPorts
+mod PortLogs
+mod TimelyStart
+mod ClosedOrder

@@ -3,9 +3,10 @@ use Rattle.std.proofs.Common.{◌≡◌, ◌≢◌, ◌<◌, ◌≤◌, ◌+◌,
 use Rattle.std.proofs.Common.{refl, sym, ap, ◌∙◌, subst, arith, inl, inr, take, get_or}
 use Rattle.std.proofs.Common.{append_assoc, append-nil, Bool, true, false, drop}
 use Rattle.std.specs.Prelude.{map, flat_map, slice_set, if◌then◌else◌, ◌&&◌, ◌==◌}
-use Rattle.std.specs.Prelude.{Result, Ok, Err, OnOk, is_ok, slice_get, Some}
+use Rattle.std.specs.Prelude.{Result, Ok, Err, OnOk, is_ok, slice_get, Some, option_map}
 use Rattle.std.proofs.lemmas.Bool.{cases_Bool, eqb-true, eqb-false}
 use Rattle.std.proofs.lemmas.List.{length-map, map-append, drop_all, drop_more, take_more}
+use Rattle.std.proofs.lemmas.Option.{slice_get-map}
 use Rattle.histories.specs.declared.entry.Entry.{Entry}
 use Rattle.histories.specs.declared.histories.Lost.{Lost}
 use Rattle.histories.specs.declared.log.Did.{Did}
@@ -19,7 +20,7 @@ use Rattle.turn_lock.specs.Parts.{Whole}
 use Rattle.turn_lock.specs.Passes.{view_of}
 use Rattle.place_rows.specs.declared.ending.PortReceiver.{PortReceiver}
 use Rattle.place_rows.specs.Lists.{Every}
-use Rattle.place_rows.specs.Rows.{Known}
+use Rattle.place_rows.specs.Rows.{Known, TimedKnown, known_of}
 use Rattle.place_rows.specs.Joining.{AllJoined, AreWhole, RowJoined}
 use Rattle.place_rows.specs.Ended.{AreAllEntries}
 use Rattle.place_rows.specs.Ending.{all_fed, all_lost, rows_of, AreBalanced}
@@ -28,18 +29,23 @@ use Rattle.plane.specs.declared.finish.Remains.{Remains}
 use Rattle.plane.specs.declared.plane.Plane.{Plane}
 use Rattle.plane.specs.Passes.{FeederView, PortView, IsPortOf, IsFeederOf}
 use Rattle.plane.specs.Planes.{locks_of, order_of, outlets_of, places_of, setting_of}
+use Rattle.locked_place.specs.Times.{plain_view}
 use Rattle.locked_place.specs.Views.{LockedView, PlaceLabel, label_of}
 use Rattle.place_rows.specs.Rows as rows
 use Rattle.plane.specs.Closings.{feeder_holds, port_holds, receiver_of, all_holders, IsClosed}
 use Rattle.plane.specs.Closings.{dids_among, log_among}
 use Rattle.plane.specs.Opening.{all_rows, known_in}
 use Rattle.plane.specs.Remaining.{log_left, lost_in, dids_in, log_in, IsRowOf}
-use Rattle.plane.specs.Remaining.{IsAdded, AreAdded}
+use Rattle.plane.specs.Remaining.{IsAdded, AreAdded, JoinTimely, TimelyPass}
 use Rattle.plane.proofs.RowSplits.{as_many}
+use Rattle.plane.proofs.TimelyPorts.{none_timely, one_timely}
 
 -- what is known of rows that are joined
 pub record Laws : Type 0 where
   pub one : (rows : List (List Known)) (into before from after : List Known) →
+      AllJoined rows into before → RowJoined 0 before from after →
+      AllJoined (rows ++ from ∷ []) into after
+  pub one_timed : (rows : List (List TimedKnown)) (into before from after : List TimedKnown) →
       AllJoined rows into before → RowJoined 0 before from after →
       AllJoined (rows ++ from ∷ []) into after
 
@@ -51,21 +57,25 @@ flat_both f (x ∷ xs) ys =
     ∙ sym (append_assoc (f x) (flat_map f xs) (flat_map f ys))
 
 -- the first of some ports were joined, and what is left of them was added
-pub record JoinedSo (intos afters : List Known) (kept : Bool) (old now : Remains)
+pub record JoinedSo (intos afters : List TimedKnown) (kept : Bool) (old now : Remains)
     (ports rest : List PortView) : Type 0 where
   pub done : List PortView
   pub split : ports ≡ done ++ rest
-  pub joined : (rows : List (List Known)) (first : List Known) → AllJoined rows first intos →
-      AllJoined (rows ++ map known_in done) first afters
+  pub joined : (rows : List (List Known)) (first : List Known) →
+      AllJoined rows first (known_of intos) →
+      AllJoined (rows ++ map known_in done) first (known_of afters)
+  pub timely : JoinTimely done intos afters
   pub added : kept ≡ true → AreAdded done old now
 
-pub none_so : (intos : List Known) (old : Remains) (ports : List PortView) →
+pub none_so : (intos : List TimedKnown) (old : Remains) (ports : List PortView) →
     JoinedSo intos intos true old old ports ports
 none_so intos old ports = record {
   done = [];
   split = refl;
   joined = λ rows first is.
-      subst (λ (l : List (List Known)). AllJoined l first intos) (sym (append-nil rows)) is;
+      subst (λ (l : List (List Known)). AllJoined l first (known_of intos))
+      (sym (append-nil rows)) is;
+  timely = none_timely intos;
   added = λ kept. record {
     receivers = sym (append-nil old.receivers.items);
     logs = sym (append-nil old.logs.items);
@@ -73,53 +83,59 @@ none_so intos old ports = record {
   };
 }
 
-pub one_so : Laws → (intos afters next : List Known) (kept still : Bool) (old now then_ : Remains)
-    (ports left rest : List PortView) (p : PortView) →
-    JoinedSo intos afters kept old now ports left → left ≡ p ∷ rest →
-    RowJoined 0 afters p.trail.known next →
-    (still ≡ true → (kept ≡ true) × IsAdded p.port p.receiver p.dids p.trail.lost now then_) →
+pub one_so : Laws → (intos afters next : List TimedKnown) (kept still : Bool)
+    (old now then_ : Remains) (ports left rest : List PortView) (t : TimelyPass) →
+    JoinedSo intos afters kept old now ports left → left ≡ t.port ∷ rest →
+    RowJoined 0 (known_of afters) t.port.trail.known (known_of next) →
+    RowJoined 0 afters t.row next →
+    (still ≡ true → (kept ≡ true)
+    × IsAdded t.port.port t.port.receiver t.port.dids t.port.trail.lost now then_) →
     JoinedSo intos next still old then_ ports rest
-one_so laws intos afters next kept still old now then_ ports left rest p s first row goes = record {
-  done = s.done ++ p ∷ [];
-  split = s.split ∙ ap (λ (l : List PortView). s.done ++ l) first
-      ∙ sym (append_assoc s.done (p ∷ []) rest);
-  joined = λ rows first is.
-      subst (λ (l : List (List Known)). AllJoined l first next)
-      (append_assoc rows (map known_in s.done) (p.trail.known ∷ [])
-      ∙ ap (λ (l : List (List Known)). rows ++ l) (sym (map-append known_in s.done (p ∷ []))))
-      (laws.one (rows ++ map known_in s.done) first afters p.trail.known next
-      (s.joined rows first is) row);
-  added = λ is_still.
-      let both = goes is_still in
-      let was = s.added both.0 in
-      record {
-        receivers = both.1.receivers
-            ∙ ap (λ (l : List PortReceiver). l ++ receiver_of p ∷ []) was.receivers
-            ∙ append_assoc old.receivers.items (map receiver_of s.done) (receiver_of p ∷ [])
-            ∙ ap (λ (l : List PortReceiver). old.receivers.items ++ l)
-            (sym (map-append receiver_of s.done (p ∷ [])));
-        logs = both.1.logs
-            ∙ ap (λ (l : List PortLog). l ++ log_left p ∷ []) was.logs
-            ∙ append_assoc old.logs.items (map log_left s.done) (log_left p ∷ [])
-            ∙ ap (λ (l : List PortLog). old.logs.items ++ l)
-            (sym (map-append log_left s.done (p ∷ [])));
-        lost_too = both.1.lost_too
-            ∙ ap (λ (l : List Lost). l ++ p.trail.lost) was.lost_too
-            ∙ append_assoc old.lost.items (flat_map lost_in s.done) p.trail.lost
-            ∙ ap (λ (l : List Lost). old.lost.items ++ l)
-            (ap (λ (l : List Lost). flat_map lost_in s.done ++ l) (sym (append-nil p.trail.lost))
-            ∙ sym (flat_both lost_in s.done (p ∷ [])));
-      };
-}
+one_so laws intos afters next kept still old now then_ ports left rest t s first row timed goes =
+    let p = t.port in record {
+      done = s.done ++ p ∷ [];
+      split = s.split ∙ ap (λ (l : List PortView). s.done ++ l) first
+          ∙ sym (append_assoc s.done (p ∷ []) rest);
+      joined = λ rows first is.
+          subst (λ (l : List (List Known)). AllJoined l first (known_of next))
+          (append_assoc rows (map known_in s.done) (p.trail.known ∷ [])
+          ∙ ap (λ (l : List (List Known)). rows ++ l) (sym (map-append known_in s.done (p ∷ []))))
+          (laws.one (rows ++ map known_in s.done) first (known_of afters) p.trail.known
+          (known_of next) (s.joined rows first is) row);
+      timely = one_timely laws.one_timed s.done intos afters next t s.timely timed;
+      added = λ is_still.
+          let both = goes is_still in
+          let was = s.added both.0 in
+          record {
+            receivers = both.1.receivers
+                ∙ ap (λ (l : List PortReceiver). l ++ receiver_of p ∷ []) was.receivers
+                ∙ append_assoc old.receivers.items (map receiver_of s.done) (receiver_of p ∷ [])
+                ∙ ap (λ (l : List PortReceiver). old.receivers.items ++ l)
+                (sym (map-append receiver_of s.done (p ∷ [])));
+            logs = both.1.logs
+                ∙ ap (λ (l : List PortLog). l ++ log_left p ∷ []) was.logs
+                ∙ append_assoc old.logs.items (map log_left s.done) (log_left p ∷ [])
+                ∙ ap (λ (l : List PortLog). old.logs.items ++ l)
+                (sym (map-append log_left s.done (p ∷ [])));
+            lost_too = both.1.lost_too
+                ∙ ap (λ (l : List Lost). l ++ p.trail.lost) was.lost_too
+                ∙ append_assoc old.lost.items (flat_map lost_in s.done) p.trail.lost
+                ∙ ap (λ (l : List Lost). old.lost.items ++ l)
+                (ap (λ (l : List Lost). flat_map lost_in s.done ++ l) (sym (append-nil p.trail.lost))
+                ∙ sym (flat_both lost_in s.done (p ∷ [])));
+          };
+    }
 
 -- all of them were
-pub record JoinedAll (intos afters : List Known) (kept : Bool) (old now : Remains)
+pub record JoinedAll (intos afters : List TimedKnown) (kept : Bool) (old now : Remains)
     (ports : List PortView) : Type 0 where
-  pub joined : (rows : List (List Known)) (first : List Known) → AllJoined rows first intos →
-      AllJoined (rows ++ map known_in ports) first afters
+  pub joined : (rows : List (List Known)) (first : List Known) →
+      AllJoined rows first (known_of intos) →
+      AllJoined (rows ++ map known_in ports) first (known_of afters)
+  pub timely : JoinTimely ports intos afters
   pub added : kept ≡ true → AreAdded ports old now
 
-pub all_so : (intos afters : List Known) (kept : Bool) (old now : Remains)
+pub all_so : (intos afters : List TimedKnown) (kept : Bool) (old now : Remains)
     (ports rest : List PortView) → rest ≡ [] → JoinedSo intos afters kept old now ports rest →
     JoinedAll intos afters kept old now ports
 all_so intos afters kept old now ports rest none s =
@@ -127,8 +143,9 @@ all_so intos afters kept old now ports rest none s =
     sym (s.split ∙ ap (λ (l : List PortView). s.done ++ l) none ∙ append-nil s.done) in
     record {
       joined = λ rows first is.
-          subst (λ (l : List PortView). AllJoined (rows ++ map known_in l) first afters) all
-          (s.joined rows first is);
+          subst (λ (l : List PortView). AllJoined (rows ++ map known_in l) first (known_of afters))
+          all (s.joined rows first is);
+      timely = subst (λ (l : List PortView). JoinTimely l intos afters) all s.timely;
       added = λ is_kept. subst (λ (l : List PortView). AreAdded l old now) all (s.added is_kept);
     }
 
@@ -137,7 +154,7 @@ behind : {X : Type 0} (P : X → Type 0) (xs ys : List X) → Every P (xs ++ ys)
 behind P [] ys all = all
 behind P (x ∷ xs) ys all = behind P xs ys all.1
 
-pub at_hand : (P : PortView → Type 0) (intos afters : List Known) (kept : Bool)
+pub at_hand : (P : PortView → Type 0) (intos afters : List TimedKnown) (kept : Bool)
     (old now : Remains) (ports left rest : List PortView) (p : PortView) → Every P ports →
     JoinedSo intos afters kept old now ports left → left ≡ p ∷ rest → P p
 at_hand P intos afters kept old now ports left rest p all s first =
@@ -202,6 +219,7 @@ mailboxes_all plane (p ∷ ps) all = (
   record {
     mailbox = all.0.mailbox;
     none_joined = all.0.alone.0;
+    none_mailed = all.0.unmailed;
     none_back = all.0.alone.1;
   },
   mailboxes_all plane ps all.1,
@@ -362,6 +380,16 @@ logs_same ps (port ∷ order) =
     (dids_same ps port)
     ∙ ap (λ (l : List PortLog). log_among ps port ∷ l) (logs_same ps order)
 
+-- the logs that were left, in the order of the ports
+pub closed_logs : (ps : List PortView) (order : List ℕ) (logs : List PortLog)
+    (old now : Remains) → old.logs.items ≡ [] → AreAdded ps old now →
+    logs ≡ map (log_in now.logs.items) order → logs ≡ map (log_among ps) order
+closed_logs ps order logs old now none added logged =
+    logged
+    ∙ ap (λ (l : List PortLog). map (log_in l) order)
+    (added.logs ∙ ap (λ (l : List PortLog). l ++ map log_left ps) none)
+    ∙ logs_same ps order
+
 -- ---- all of it
 
 pub holders_joined : (ports closed : List PortView) (first last : List Known) →
@@ -387,48 +415,51 @@ closed_so plane feeder ps old now es logs lost none none_logged was added entrie
       lost = gone ∙ added.lost_too
           ∙ ap (λ (l : List Lost). l ++ flat_map lost_in ps) was
           ∙ ap (λ (l : List Lost). feeder.trail.lost ++ l) (lost_are ps);
-      logs = logged
-          ∙ ap (λ (l : List PortLog). map (log_in l) (order_of plane))
-          (added.logs ∙ ap (λ (l : List PortLog). l ++ map log_left ps) none_logged)
-          ∙ logs_same ps (order_of plane);
+      logs = closed_logs ps (order_of plane) logs old now none_logged added logged;
     }
 
 -- the row that all are joined into: it has the whole of each lock
-pub record AllIn {g : Ghosts LockedView Entry} (plane : Plane) (ports closed : List PortView)
-    (first : List Known) (row : List (Pass LockedView Entry g)) : Type 0 where
+pub record AllIn {g : Ghosts LockedView (Entry × ℕ)} (plane : Plane) (ports closed : List PortView)
+    (first : List Known) (row : List (Pass LockedView (Entry × ℕ) g)) : Type 0 where
   pub passes : rows.ArePasses label_of (rows.label_at (outlets_of plane)) plane.shared.locks.items row
-  pub joined : AllJoined (map known_in ports ++ map known_in closed) first (map view_of row)
-  pub whole : (k : ℕ) (v : Known) → slice_get (map view_of row) k ≡ Some v → v.part ≡ Whole
+  pub joined : AllJoined (map known_in ports ++ map known_in closed) first
+      (known_of (map view_of row))
+  pub whole : (k : ℕ) (v : TimedKnown) → slice_get (map view_of row) k ≡ Some v → v.part ≡ Whole
 
-pub all_in : {g : Ghosts LockedView Entry} (plane : Plane) (feeder : FeederView)
-    (ports closed : List PortView) (start now last : List (Pass LockedView Entry g)) →
+pub all_in : {g : Ghosts LockedView (Entry × ℕ)} (plane : Plane) (feeder : FeederView)
+    (ports closed : List PortView) (start now last : List (Pass LockedView (Entry × ℕ) g)) →
+    ((named : ℕ → PlaceLabel) (row : List TimedKnown) →
+    rows.AreKnown label_of named (known_of row) → rows.AreKnown label_of named row) →
     ((into : List Known) → AllJoined [] into into) →
     ((places : ℕ) (into after : List Known) (others : List (List Known)) →
     AllJoined others into after → length after ≡ places → AreWhole places (into ∷ others) →
     (k : ℕ) (v : Known) → slice_get after k ≡ Some v → v.part ≡ Whole) →
     IsFeederOf plane feeder → map rows.lock_of start ≡ feeder.locks →
-    map view_of start ≡ feeder.trail.known →
+    known_of (map view_of start) ≡ feeder.trail.known →
     ((named : ℕ → PlaceLabel) → rows.ArePasses label_of named plane.shared.locks.items start →
     rows.ArePasses label_of named plane.shared.locks.items now) →
     ((named : ℕ → PlaceLabel) → rows.ArePasses label_of named plane.shared.locks.items now →
     rows.ArePasses label_of named plane.shared.locks.items last) →
     ((others : List (List Known)) (first : List Known) →
-    AllJoined others first (map view_of start) →
-    AllJoined (others ++ map known_in ports) first (map view_of now)) →
-    ((others : List (List Known)) (first : List Known) → AllJoined others first (map view_of now) →
-    AllJoined (others ++ map known_in closed) first (map view_of last)) →
+    AllJoined others first (known_of (map view_of start)) →
+    AllJoined (others ++ map known_in ports) first (known_of (map view_of now))) →
+    ((others : List (List Known)) (first : List Known) →
+    AllJoined others first (known_of (map view_of now)) →
+    AllJoined (others ++ map known_in closed) first (known_of (map view_of last))) →
     AreWhole (places_of plane) (all_rows feeder ports closed) →
     AllIn plane ports closed feeder.trail.known last
-all_in plane feeder ports closed start now last none whole feeds locks known keeps also one two
-    all = record {
+all_in plane feeder ports closed start now last timed none whole feeds locks known keeps also one
+    two all = record {
       passes = passes;
       joined = joined;
-      whole = whole (places_of plane) feeder.trail.known (map view_of last)
+      whole = λ k v there.
+          whole (places_of plane) feeder.trail.known (known_of (map view_of last))
           (map known_in ports ++ map known_in closed) joined
-          (length-map last view_of
+          (length-map (map view_of last) plain_view ∙ length-map last view_of
           ∙ as_many label_of (rows.label_at (outlets_of plane)) plane.shared.locks.items last passes
           ∙ plane.shared.sized)
-          all;
+          all k (plain_view v)
+          (slice_get-map plain_view (map view_of last) k ∙ ap (option_map plain_view) there);
     }
   where
     passes : rows.ArePasses label_of (rows.label_at (outlets_of plane)) plane.shared.locks.items last
@@ -436,12 +467,13 @@ all_in plane feeder ports closed start now last none whole feeds locks known kee
         also (rows.label_at (outlets_of plane))
         (keeps (rows.label_at (outlets_of plane)) (record {
           locks_are = locks ∙ feeds.of.locks_are;
-          known = subst (λ (l : List Known). rows.AreKnown label_of
-              (rows.label_at (outlets_of plane)) l) (sym known) feeds.of.known_so;
+          known = timed (rows.label_at (outlets_of plane)) (map view_of start)
+              (subst (λ (l : List Known). rows.AreKnown label_of
+              (rows.label_at (outlets_of plane)) l) (sym known) feeds.of.known_so);
         }))
 
     joined : AllJoined (map known_in ports ++ map known_in closed) feeder.trail.known
-        (map view_of last)
+        (known_of (map view_of last))
     joined =
         two (map known_in ports) feeder.trail.known
         (one [] feeder.trail.known

@@ -96,6 +96,7 @@ port_opened begins plane mail p is unused nothing opened = record {
     ap (λ (r : ReceiverView). r.joined) nothing.receiver,
     ap (λ (r : ReceiverView). r.full) nothing.receiver,
   );
+  unmailed = ap (λ (r : ReceiverView). r.mails) nothing.receiver;
 }
 
 ports_opened : Begins → (plane : Plane) (mail : ℕ) (ps : List PortView) →

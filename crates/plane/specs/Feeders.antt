@@ -7,7 +7,6 @@ use Rattle.turn_lock.specs.Views.{kept_view, split_view}
 use Rattle.place_rows.specs.Joining.{RowJoined, together_at}
 use Rattle.place_rows.specs.Rows.{Known}
 use Rattle.place_rows.specs.Shares.{sent_in}
-use Rattle.place_turns.specs.Trails.{Trail}
 use Rattle.plane.specs.Meetings.{with_known}
 use Rattle.plane.specs.Numbers.{most_fed}
 use Rattle.plane.specs.Passes.{FeederView}

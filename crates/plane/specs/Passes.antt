@@ -70,6 +70,7 @@ pub record IsPortOf (plane : Plane) (p : PortView) : Type 0 where
   pub mailbox : get nat_cmp (outlets_of plane).mailboxes p.port ≡ Some p.receiver.mailbox
   -- no sender was joined into its receiver yet
   pub alone : (p.receiver.joined ≡ []) × (p.receiver.full ≡ 0)
+  pub unmailed : p.receiver.mails ≡ []
 
 -- ---- calls
 
@@ -77,8 +78,8 @@ pub record IsPortOf (plane : Plane) (p : PortView) : Type 0 where
 abbrev pub Receives : PortView → PortView → Option Letter → Type 0
 Receives old new None = new ≡ record old { receiver = receiver_empty old.receiver }
 Receives old new (Some l) =
-    (from : ℕ) × (new ≡ record old {
-      receiver = receiver_with old.receiver from l;
+    (from time : ℕ) × (new ≡ record old {
+      receiver = receiver_with old.receiver from (record { letter = l; time = time });
       dids = old.dids ++ did_receive l ∷ [];
     })
 

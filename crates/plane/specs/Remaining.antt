@@ -8,7 +8,9 @@ use Rattle.histories.specs.declared.log.Did.{Did}
 use Rattle.histories.specs.declared.log.PortLog.{PortLog}
 use Rattle.locked_place.specs.Views.{PlaceLabel, label_of}
 use Rattle.place_rows.specs.Hearing as row
-use Rattle.place_rows.specs.Rows.{AreKnown}
+use Rattle.place_rows.specs.Joining.{AllJoined}
+use Rattle.place_rows.specs.Rows.{AreKnown, TimedKnown, known_of}
+use Rattle.place_turns.specs.Timely.{AreTimely, Holder, port_with}
 use Rattle.plane.specs.declared.finish.Remains.{Remains}
 use Rattle.plane.specs.Closings.{receiver_of}
 use Rattle.plane.specs.Passes.{PortView}
@@ -50,3 +52,29 @@ pub record AreAdded (ports : List PortView) (old new : Remains) : Type 0 where
   pub receivers : new.receivers.items ≡ old.receivers.items ++ map receiver_of ports
   pub logs : new.logs.items ≡ old.logs.items ++ map log_left ports
   pub lost_too : new.lost.items ≡ old.lost.items ++ flat_map lost_in ports
+
+-- ---- passes with times
+
+abbrev pub holder_of : PortView → Holder
+holder_of p = port_with p.port p.dids p.receiver.received
+
+-- the pass of a port, with what it knows of each place with times, and what it keeps of them
+pub record TimelyPass : Type 0 where
+  pub port : PortView
+  pub row : List TimedKnown
+  pub same : known_of row ≡ port.trail.known
+  pub clock : ℕ
+  pub timely : AreTimely clock row (holder_of port)
+
+abbrev pub port_in : TimelyPass → PortView
+port_in t = t.port
+
+abbrev pub row_in : TimelyPass → List TimedKnown
+row_in t = t.row
+
+-- the passes of these ports, with times, were joined into a row
+pub record JoinTimely (ports : List PortView) (before after : List TimedKnown) : Type 0 where
+  pub passes : List TimelyPass
+  pub are : map port_in passes ≡ ports
+  pub joined : (rows : List (List TimedKnown)) (first : List TimedKnown) →
+      AllJoined rows first before → AllJoined (rows ++ map row_in passes) first after

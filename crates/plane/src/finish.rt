@@ -5,14 +5,16 @@ ghost use Rattle.mailbox.specs.Roles.{AreDistinct};
 ghost use Rattle.turn_lock.specs.Passes.{view_of};
 ghost use Rattle.locked_place.specs.Views.{PlaceLabel, label_of};
 ghost use Rattle.place_rows.specs.Lists.{Every};
-ghost use Rattle.place_rows.specs.Rows.{Known, ArePasses, AreKnown, id_of};
+ghost use Rattle.place_rows.specs.Rows.{Known, ArePasses, AreKnown, id_of, known_of};
 ghost use Rattle.place_rows.specs.Joining.{RowJoined, AllJoined, AreWhole};
+ghost use Rattle.total_order.specs.TotalOrder.{HasTotalOrder};
 ghost use Rattle.plane.specs.Passes.{IsFeederOf, IsPortOf};
 ghost use Rattle.plane.specs.Past.{lost_by};
 ghost use Rattle.plane.specs.Planes.{places_of};
 ghost use Rattle.plane.specs.Closings.{IsClosed};
 ghost use Rattle.plane.specs.Opening.{all_rows, known_in};
 ghost use Rattle.plane.specs.Remaining.{times_in, dids_in, log_in, IsRowOf, IsAdded, AreAdded};
+ghost use Rattle.plane.specs.Remaining.{JoinTimely};
 
 use crate::opened::{ClosedPorts, PortPasses};
 use crate::past::{Link, Past};
@@ -23,10 +25,12 @@ use mailbox::Receiver;
 use packet_entry::{NoMemory, Sequence, Stock};
 use place_rows::{
     Locks, PortReceiver, Row, close_all, end_rows, join_row, rows_are_joined_one_by_one,
+    rows_know_the_same_without_times,
 };
 use place_turns::{Passes, Places};
 use std::alloc::Global;
 use std::mem::replace;
+use total_order::timed_lists_have_one_order;
 
 /// What is left of ports, port by port, and the packets that all passes lost.
 #[derive(Drop)]
@@ -111,11 +115,20 @@ fn join_passes(locks: &Locks, into: &mut Row, passes: Passes) -> Stock<Lost>
     ensures passes { (named : ℕ → PlaceLabel) →
         ArePasses label_of named locks.now.items into.old.items →
         ArePasses label_of named locks.now.items into.new.items }
-    ensures joined { RowJoined 0 (map view_of into.old.items) passes.trail.known
+    ensures joined { RowJoined 0 (known_of (map view_of into.old.items)) passes.trail.known
+        (known_of (map view_of into.new.items)) }
+    ensures timed { RowJoined 0 (map view_of into.old.items) passes.timed
         (map view_of into.new.items) }
+    ensures known { known_of passes.timed ≡ passes.trail.known }
     ensures lost { result.items ≡ passes.trail.lost }
 {
-    let Passes { row, sent: _, lost } = passes;
+    rows_know_the_same_without_times();
+    let Passes {
+        row,
+        sent: _sent,
+        lost,
+        clock: _clock,
+    } = passes;
     join_row(locks, into, row);
     lost
 }
@@ -129,8 +142,9 @@ fn join_ports(locks: &Locks, into: &mut Row, ports: PortPasses, remains: &mut Re
         ArePasses label_of named locks.now.items into.old.items →
         ArePasses label_of named locks.now.items into.new.items }
     ensures joined { (rows : List (List Known)) (first : List Known) →
-        AllJoined rows first (map view_of into.old.items) →
-        AllJoined (rows ++ map known_in ports) first (map view_of into.new.items) }
+        AllJoined rows first (known_of (map view_of into.old.items)) →
+        AllJoined (rows ++ map known_in ports) first (known_of (map view_of into.new.items)) }
+    ensures timely { JoinTimely ports (map view_of into.old.items) (map view_of into.new.items) }
     ensures kept { result ≡ true → AreAdded ports remains.old remains.new }
 {
     rows_are_joined_one_by_one();
@@ -158,8 +172,9 @@ fn join_closed(locks: &Locks, into: &mut Row, ports: ClosedPorts, remains: &mut 
         ArePasses label_of named locks.now.items into.old.items →
         ArePasses label_of named locks.now.items into.new.items }
     ensures joined { (rows : List (List Known)) (first : List Known) →
-        AllJoined rows first (map view_of into.old.items) →
-        AllJoined (rows ++ map known_in ports) first (map view_of into.new.items) }
+        AllJoined rows first (known_of (map view_of into.old.items)) →
+        AllJoined (rows ++ map known_in ports) first (known_of (map view_of into.new.items)) }
+    ensures timely { JoinTimely ports (map view_of into.old.items) (map view_of into.new.items) }
     ensures kept { result ≡ true → AreAdded ports remains.old remains.new }
 {
     rows_are_joined_one_by_one();
@@ -206,7 +221,8 @@ fn in_order(alloc: Global, order: &[u32], mut logs: Vec<PortLog>) -> Result<Logs
 
 impl Plane {
     /// Takes the plane apart, with all its passes, which have together the whole of each place's
-    /// lock: all that happened. When memory runs out the locks are taken apart just the same.
+    /// lock: all that happened, of which there is one order. When memory runs out the locks are
+    /// taken apart just the same.
     pub fn close(
         self,
         alloc: Global,
@@ -219,9 +235,12 @@ impl Plane {
         requires closed { Every (IsPortOf self) closed }
         requires apart { (port : ℕ) → times_in port (ports ++ closed) ≤ 1 }
         requires whole { AreWhole (places_of self) (all_rows feeder ports closed) }
-        ensures { IfOk result (IsClosed self feeder (ports ++ closed)) }
+        ensures closed { IfOk result (IsClosed self feeder (ports ++ closed)) }
+        ensures order { IfOk result HasTotalOrder }
     {
         rows_are_joined_one_by_one();
+        rows_know_the_same_without_times();
+        timed_lists_have_one_order();
         let Plane { order, shared } = self;
         let Places {
             setting: _setting,
@@ -239,6 +258,7 @@ impl Plane {
             mut row,
             sent: _sent,
             lost,
+            clock: _clock,
         } = passes;
         let (lost, third) = lost_by_feeder(alloc, past, lost);
         let mut remains = Remains {

@@ -12,7 +12,7 @@ ghost use Rattle.turn_lock.specs.Views.{kept_view, split_view};
 ghost use Rattle.locked_place.specs.declared.outlets.Outlets.{Outlets};
 ghost use Rattle.locked_place.specs.Views.{PlaceLabel, label_of};
 ghost use Rattle.place_rows.specs.Lists.{Every};
-ghost use Rattle.place_rows.specs.Rows.{ArePasses, label_at, id_of, lock_of};
+ghost use Rattle.place_rows.specs.Rows.{ArePasses, label_at, id_of, lock_of, known_of};
 ghost use Rattle.place_rows.specs.Joining.{AreWhole};
 ghost use Rattle.plane.specs.Closings.{receiver_of};
 ghost use Rattle.place_turns.specs.Counts.{AreCounted};
@@ -31,9 +31,10 @@ use mailbox::Receiver;
 use packet_entry::{NoMemory, Sequence, Stock};
 use packet_moves::Setting;
 use place_rows::{
-    Dealt, Locks, PortReceiver, Row, deal_ports, open_places, rows_stay_balanced, split_row,
+    Dealt, Locks, PortReceiver, Row, deal_ports, open_places, rows_know_the_same_without_times,
+    rows_stay_balanced, split_row,
 };
-use place_turns::{Counts, Log, Passes, Places};
+use place_turns::{Counts, Log, Passes, Places, passes_begin_and_end_timely};
 use std::alloc::Global;
 use std::collections::BTreeMap;
 use turn_lock::{a_part_is_known_by_its_ways, parts_are_put_together_in_any_order};
@@ -144,15 +145,17 @@ fn prepare_all(
 
 /// Passes of this row, which lost nothing.
 fn passes_of(alloc: Global, row: Row, sent: Vec<Counts>) -> Passes
-    requires counted { AreCounted (map view_of row.items) sent.items }
+    requires counted { AreCounted (known_of (map view_of row.items)) sent.items }
     ensures locks { result.locks ≡ map lock_of row.items }
-    ensures known { result.trail.known ≡ map view_of row.items }
+    ensures known { result.trail.known ≡ known_of (map view_of row.items) }
     ensures none_lost { result.trail.lost ≡ [] }
+    ensures begins { (result.clock ≡ 0) × (result.timed ≡ map view_of row.items) }
 {
     Passes {
         row,
         sent,
         lost: Stock::new(alloc),
+        clock: 0,
     }
 }
 
@@ -162,12 +165,14 @@ fn fill(alloc: Global, locks: &Locks, row: &mut Row, unfilled: Unfilled) -> Port
         × ArePasses label_of (label_at outlets) locks.now.items row.old.items
         × (length locks.now.items ≡ outlets.board.places) × AreFor outlets ports
         × IsReady outlets.board.places ports unfilled }
+    requires unused { Every IsUnused (known_of (map view_of row.old.items)) }
     ensures rows { (named : ℕ → PlaceLabel) →
         ArePasses label_of named locks.now.items row.old.items →
         ArePasses label_of named locks.now.items row.new.items
         × IsRowOf (map id_of locks.now.items) named result }
-    ensures kept { map view_of row.new.items ≡ map kept_view (map view_of row.old.items) }
-    ensures split { result.trail.known ≡ map split_view (map view_of row.old.items) }
+    ensures kept { known_of (map view_of row.new.items)
+        ≡ map kept_view (known_of (map view_of row.old.items)) }
+    ensures split { result.trail.known ≡ map split_view (known_of (map view_of row.old.items)) }
     ensures filled { IsFilled unfilled result }
 {
     let Unfilled {
@@ -177,6 +182,8 @@ fn fill(alloc: Global, locks: &Locks, row: &mut Row, unfilled: Unfilled) -> Port
         receiver,
         log,
     } = unfilled;
+    rows_know_the_same_without_times();
+    passes_begin_and_end_timely();
     split_row(locks, row, &mut made);
     PortPass {
         passes: passes_of(alloc, made, sent),
@@ -199,20 +206,22 @@ fn fill_all(
         × ArePasses label_of (label_at outlets) locks.now.items row.old.items
         × (length locks.now.items ≡ outlets.board.places) × AreFor outlets ports
         × Every (IsReady outlets.board.places ports) unfilled.items }
+    requires unused { Every IsUnused (known_of (map view_of row.old.items)) }
     ensures rows { (named : ℕ → PlaceLabel) →
         ArePasses label_of named locks.now.items row.old.items →
         ArePasses label_of named locks.now.items row.new.items
         × Every (IsRowOf (map id_of locks.now.items) named) result }
-    ensures whole { (places : ℕ) → AreWhole places (map view_of row.old.items ∷ []) →
-        AreWhole places (map view_of row.new.items ∷ map known_in result) }
-    ensures unused { Every IsUnused (map view_of row.old.items) →
-        Every IsUnused (map view_of row.new.items)
+    ensures whole { (places : ℕ) →
+        AreWhole places (known_of (map view_of row.old.items) ∷ []) →
+        AreWhole places (known_of (map view_of row.new.items) ∷ map known_in result) }
+    ensures unused { Every IsUnused (known_of (map view_of row.new.items))
         × Every HasUnused result }
     ensures receivers { map receiver_of result ≡ map receiver_in unfilled.items }
     ensures nothing { Every HasDoneNothing result }
 {
     parts_are_put_together_in_any_order();
     a_part_is_known_by_its_ways();
+    rows_know_the_same_without_times();
     for one in unfilled {
         let pass = fill(alloc, locks, row, one);
         passes.push_reserved(pass);
@@ -238,6 +247,8 @@ impl Plane {
             (record { tables = tables; key = key; mail = mail }) o.plane o.feeder o.ports o.gauge) }
     {
         rows_stay_balanced();
+        rows_know_the_same_without_times();
+        passes_begin_and_end_timely();
         let order = Vec::from_slice(alloc, ports)?;
         let Dealt {
             mailboxes,

@@ -1,6 +1,9 @@
 //! A plane.
 
-ghost use Rattle.std.specs.Prelude.{◌≡◌, ◌<◌, length};
+ghost use Rattle.std.specs.Prelude.{◌≡◌, ◌<◌, ℕ, length, nat_eq, true, IsSome};
+ghost use Rattle.std.specs.BTreeMap.{get};
+ghost use Rattle.std.specs.List.{list_any};
+ghost use Rattle.std.specs.Ordering.{nat_cmp};
 ghost use Rattle.mailbox.specs.Roles.{AreDistinct};
 ghost use Rattle.plane.specs.Apart.{AreDistinct-prop};
 
@@ -10,7 +13,9 @@ use locked_place::Gate;
 use packet_entry::{Letter, NoMemory, Packet};
 use packet_moves::{Fed, Refused};
 use place_rows::rows_stay_balanced;
-use place_turns::{Places, passes_keep_their_parts, passes_stay_balanced};
+use place_turns::{
+    Places, Turns, passes_begin_and_end_timely, passes_keep_their_parts, passes_stay_balanced,
+};
 use std::alloc::Global;
 use std::sync::Wait;
 
@@ -24,6 +29,8 @@ pub struct Plane {
     /// The places, which all passes share.
     pub(crate) shared: Places,
     ghost apart: { AreDistinct order.items } by { AreDistinct-prop order.items },
+    ghost listed: { (port : ℕ) → IsSome (get nat_cmp shared.outlets.mailboxes port) →
+        list_any (nat_eq port) order.items ≡ true },
 }
 
 impl Plane {
@@ -67,15 +74,12 @@ impl Plane {
     {
         passes_stay_balanced();
         passes_keep_their_parts();
-        place_turns::feed(
-            &self.shared,
+        let turns = Turns {
+            places: &self.shared,
             rt,
-            alloc,
             gate,
-            &mut pass.passes,
-            &mut pass.fed,
-            packet,
-        )
+        };
+        place_turns::feed(&turns, alloc, &mut pass.passes, &mut pass.fed, packet)
     }
 
     /// A port sends the first message of some bytes: it is carried out, each packet that it lets go
@@ -108,11 +112,14 @@ impl Plane {
     {
         passes_stay_balanced();
         passes_keep_their_parts();
-        place_turns::message(
-            &self.shared,
+        let turns = Turns {
+            places: &self.shared,
             rt,
-            alloc,
             gate,
+        };
+        place_turns::message(
+            &turns,
+            alloc,
             &mut pass.passes,
             &mut pass.log,
             pass.port,
@@ -145,11 +152,14 @@ impl Plane {
     {
         passes_stay_balanced();
         passes_keep_their_parts();
-        place_turns::message_unread(
-            &self.shared,
+        let turns = Turns {
+            places: &self.shared,
             rt,
-            alloc,
             gate,
+        };
+        place_turns::message_unread(
+            &turns,
+            alloc,
             &mut pass.passes,
             &mut pass.log,
             pass.port,
@@ -169,10 +179,11 @@ impl Plane {
         let Some(mailbox) = self.shared.outlets.mailboxes.get(&pass.port) else {
             unreachable!()
         };
-        match mailbox.receive(rt, &mut pass.receiver) {
-            Some(letter) => {
-                pass.log.receive(&letter);
-                Ok(Some(letter))
+        match mailbox.receive_mail(rt, &mut pass.receiver) {
+            Some(mail) => {
+                pass.passes.hear(mail.time);
+                pass.log.receive(&mail.letter);
+                Ok(Some(mail.letter))
             }
             None => Ok(None),
         }
@@ -186,6 +197,7 @@ impl Plane {
         ensures closed { Closes (places_of self.now) pass result }
         ensures parts { parts_of result.trail.known ≡ parts_of pass.trail.known }
     {
+        passes_begin_and_end_timely();
         let PortPass {
             mut passes,
             port,

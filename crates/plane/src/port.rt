@@ -45,7 +45,10 @@ impl Model for FeederPass {
       fed = fed_by p.past ++ p.fed.items;
     } };
 
-    ghost invariant = { λ p. IsFeeder (fed_by p.past) p.fed_before p.fed };
+    ghost use Rattle.place_turns.specs.Timely.{AreTimelyOpen, feeder};
+
+    ghost invariant = { λ p. IsFeeder (fed_by p.past) p.fed_before p.fed
+        × AreTimelyOpen p.passes.clock p.passes.timed feeder };
 }
 
 /// So many packets, at most as many as one pass says that it fed.
@@ -101,7 +104,11 @@ impl Model for PortPass {
       dids = p.log.dids.items;
     } };
 
-    ghost invariant = { λ p. IsPort p.log.dids p.receiver };
+    ghost use Rattle.place_turns.specs.Timely.{AreTimelyOpen, port_with};
+
+    ghost invariant = { λ p. IsPort p.log.dids p.receiver
+        × AreTimelyOpen p.passes.clock p.passes.timed
+        (port_with p.port p.log.dids.items p.receiver.received) };
 }
 
 impl PortPass {
@@ -153,7 +160,11 @@ impl Model for ClosedPort {
       dids = p.log.dids.items;
     } };
 
-    ghost invariant = { λ p. HasLogged p.log.dids.items p.receiver };
+    ghost use Rattle.place_turns.specs.Timely.{AreTimely, port_with};
+
+    ghost invariant = { λ p. HasLogged p.log.dids.items p.receiver
+        × AreTimely p.passes.clock p.passes.timed
+        (port_with p.port p.log.dids.items p.receiver.received) };
 }
 
 impl ClosedPort {

@@ -200,9 +200,9 @@ receives_keep old new (Ok None) is err = record {
   port = ap (λ (p : PortView). p.port) is;
   parts = ap (λ (p : PortView). parts_of p.trail.known) is;
 }
-receives_keep old new (Ok (Some l)) is err = record {
-  port = ap (λ (p : PortView). p.port) is.1;
-  parts = ap (λ (p : PortView). parts_of p.trail.known) is.1;
+receives_keep old new (Ok (Some l)) (from, time, is) err = record {
+  port = ap (λ (p : PortView). p.port) is;
+  parts = ap (λ (p : PortView). parts_of p.trail.known) is;
 }
 receives_keep old new (Err e) is err = record {
   port = ap (λ (p : PortView). p.port) err;

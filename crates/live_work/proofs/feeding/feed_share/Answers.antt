@@ -22,7 +22,7 @@ loop-step-init g c =
     let next = ap (λ (f : FeederState). f.next) first in
     let none = ap (λ (l : List Card). length l) c.requires.none in
     record {
-      stays = feeder_here c.args.plane.now c.args.feeding.now.pass c.requires.pass;
+      stays = feeder_here c.args.stage.now.plane.now c.args.feeding.now.pass c.requires.pass;
       looks = c.requires.looks;
       share = share;
       next = c.new-feeder.ensures.next;
@@ -34,7 +34,7 @@ loop-step-init g c =
           ∙ ap (λ n. left_cards s c.args.capture.now n) next
           ∙ left_first c.each_frame_is_one_shares.ensures.first s c.args.capture.now
           c.requires.number;
-      up = subst (λ n. IsUpTo c.args.script.now (places_of c.args.plane.now) s n
+      up = subst (λ n. IsUpTo c.args.stage.now.script.now (places_of c.args.stage.now.plane.now) s n
           (shares_in c.args.feeding.now.pass) (shares_in c.args.feeding.now.pass)) (sym next)
           (up_to_first (record {
             begins = c.a_feeder_keeps_its_share.ensures.begins;
@@ -51,14 +51,15 @@ loop-step-init g c =
             none = c.lines_of_a_share_add_up.ensures.none;
             more = c.lines_of_a_share_add_up.ensures.more;
             all = c.lines_of_a_share_add_up.ensures.all;
-          }) c.args.script.now (places_of c.args.plane.now) s (shares_in c.args.feeding.now.pass)
+          }) c.args.stage.now.script.now (places_of c.args.stage.now.plane.now) s
+          (shares_in c.args.feeding.now.pass)
           c.requires.number);
     }
 
 pub loop-step-preserved : goal.loop-step-preserved
 loop-step-preserved g c =
-    let plane = c.args.plane.now in
-    let script = c.args.script.now in
+    let plane = c.args.stage.now.plane.now in
+    let script = c.args.stage.now.script.now in
     let capture = c.args.capture.now in
     let s = c.args.share in
     let was = c.loop-step.feeder in
@@ -105,20 +106,21 @@ loop-step-preserved g c =
 
 pub returns-in_err-downs-clause-stays : goal.returns-in_err-downs-clause-stays
 returns-in_err-downs-clause-stays g c =
-    feeder_here c.args.plane.now c.args.feeding.now.pass c.requires.pass
+    feeder_here c.args.stage.now.plane.now c.args.feeding.now.pass c.requires.pass
 
 pub returns-then-not-branch-clause-on : goal.returns-then-not-branch-clause-on
 returns-then-not-branch-clause-on g c =
-    let plane = c.args.plane.now in
+    let plane = c.args.stage.now.plane.now in
     let capture = c.args.capture.now in
     let frames = length capture.frames in
     let s = c.args.share in
-    let none : Steps plane c.args.script.now capture c.loop-step.feeder c.step_by.new.self
+    let none : Steps plane c.args.stage.now.script.now capture c.loop-step.feeder c.step_by.new.self
     c.loop-step.feeding.pass c.step_by.new.pass false =
-    subst (λ b. Steps plane c.args.script.now capture c.loop-step.feeder c.step_by.new.self
+    subst (λ b. Steps plane c.args.stage.now.script.now capture c.loop-step.feeder
+    c.step_by.new.self
     c.loop-step.feeding.pass c.step_by.new.pass b) c.if-not-branch.true
     c.in_ok-step_by.ensures.stepped in
-    subst (λ (p : FeederView). SharePasses c.args.script.now (places_of plane) s frames
+    subst (λ (p : FeederView). SharePasses c.args.stage.now.script.now (places_of plane) s frames
     (shares_in c.args.feeding.now.pass) (shares_in p)) (sym none.1.1)
     (up_to_last (record {
       begins = c.a_feeder_keeps_its_share.ensures.begins;
@@ -135,17 +137,18 @@ returns-then-not-branch-clause-on g c =
       none = c.lines_of_a_share_add_up.ensures.none;
       more = c.lines_of_a_share_add_up.ensures.more;
       all = c.lines_of_a_share_add_up.ensures.all;
-    }) c.args.script.now (places_of plane) frames c.loop-step.feeder.next s
+    }) c.args.stage.now.script.now (places_of plane) frames c.loop-step.feeder.next s
     (shares_in c.args.feeding.now.pass) (shares_in c.loop-step.feeding.pass) c.requires.number
     none.0 c.loop-step.invariant.near c.loop-step.invariant.up)
 
 pub returns-then-not-branch-clause-fed : goal.returns-then-not-branch-clause-fed
 returns-then-not-branch-clause-fed g c =
-    let plane = c.args.plane.now in
+    let plane = c.args.stage.now.plane.now in
     let capture = c.args.capture.now in
-    let none : Steps plane c.args.script.now capture c.loop-step.feeder c.step_by.new.self
+    let none : Steps plane c.args.stage.now.script.now capture c.loop-step.feeder c.step_by.new.self
     c.loop-step.feeding.pass c.step_by.new.pass false =
-    subst (λ b. Steps plane c.args.script.now capture c.loop-step.feeder c.step_by.new.self
+    subst (λ b. Steps plane c.args.stage.now.script.now capture c.loop-step.feeder
+    c.step_by.new.self
     c.loop-step.feeding.pass c.step_by.new.pass b) c.if-not-branch.true
     c.in_ok-step_by.ensures.stepped in
     ap (λ (p : FeederView). p.fed) none.1.1
@@ -154,7 +157,7 @@ returns-then-not-branch-clause-fed g c =
 
 pub returns-clause-on : goal.returns-clause-on
 returns-clause-on g c =
-    let plane = c.args.plane.now in
+    let plane = c.args.stage.now.plane.now in
     let frames = length c.args.capture.now.frames in
     up_to_last (record {
       begins = c.a_feeder_keeps_its_share.ensures.begins;
@@ -171,7 +174,7 @@ returns-clause-on g c =
       none = c.lines_of_a_share_add_up.ensures.none;
       more = c.lines_of_a_share_add_up.ensures.more;
       all = c.lines_of_a_share_add_up.ensures.all;
-    }) c.args.script.now (places_of plane) frames c.loop-step.feeder.next c.args.share
+    }) c.args.stage.now.script.now (places_of plane) frames c.loop-step.feeder.next c.args.share
     (shares_in c.args.feeding.now.pass) (shares_in c.loop-step.feeding.pass) c.requires.number
     (omega (
       arith,

@@ -10,8 +10,8 @@ use Rattle.live_work.proofs.feeding.feed_share.Given as goal
 
 abbrev pub invariant-loop-step : goal.invariant-loop-step
 invariant-loop-step g l = record {
-  stays : StaysFeeder l.plane l.initial.feeding.pass l.feeding.pass;
-  looks : IsFeedingOf l.plane l.feeding;
+  stays : StaysFeeder l.stage.plane.now l.initial.feeding.pass l.feeding.pass;
+  looks : IsFeedingOf l.stage.plane.now l.feeding;
   share : l.feeder.share ≡ l.fn.share;
   next : IsNextOf l.feeder.share l.feeder.next;
   many : l.step + 1 ≤ l.feeder.next;
@@ -19,6 +19,6 @@ invariant-loop-step g l = record {
   few : length l.feeding.pass.fed ≤ l.step;
   fed : l.feeding.pass.fed ++ left_cards l.fn.share l.capture l.feeder.next
       ≡ share_cards l.fn.share l.capture;
-  up : IsUpTo l.script (places_of l.plane) l.fn.share l.feeder.next
+  up : IsUpTo l.stage.script.now (places_of l.stage.plane.now) l.fn.share l.feeder.next
       (shares_in l.initial.feeding.pass) (shares_in l.feeding.pass);
 }

@@ -7,7 +7,8 @@ use Rattle.live_work.proofs.looking.inspect.Given as goal
 
 abbrev pub invariant-loop : goal.invariant-loop
 invariant-loop g l = record {
-  stays : StaysPort l.plane l.initial.pass l.pass;
-  mind : IsMind l.script l.pass l.mind;
-  on : (workers : ℕ) → LooksOn workers l.script (places_of l.plane) l.initial.pass l.pass;
+  stays : StaysPort l.stage.plane.now l.initial.pass l.pass;
+  mind : IsMind l.stage.script.now l.pass l.mind;
+  on : (workers : ℕ) → LooksOn workers l.stage.script.now (places_of l.stage.plane.now)
+      l.initial.pass l.pass;
 }

@@ -12,51 +12,55 @@ use Rattle.live_work.proofs.looking.look.Goals as goal
 
 pub answer-requires : goal.answer-requires
 answer-requires g c = record {
-  place = mind_within c.args.script.now c.args.pass.now c.args.mind.now c.requires.mind;
+  place = mind_within c.args.stage.now.script.now c.args.pass.now c.args.mind.now c.requires.mind;
 }
 
 pub say_all-requires-clause-words : goal.say_all-requires-clause-words
 say_all-requires-clause-words g c κs within =
-    let place = place_in c.args.pass.now.port c.args.script.now.ports in
+    let place = place_in c.args.pass.now.port c.args.stage.now.script.now.ports in
     let Gets : Option Letter → Type 0 = λ l. view.Receives c.args.pass.now c.receive.new.pass l in
-    answer_words c.args.script.now place c.receive.new.pass c.in-Some.letter
+    answer_words c.args.stage.now.script.now place c.receive.new.pass c.in-Some.letter
     c.in_ok-asks-in-Some.asks
-    (c.ports_close_at_the_end.ensures.answer c.args.script.now place c.receive.new.pass.dids
+    (c.ports_close_at_the_end.ensures.answer c.args.stage.now.script.now place
+    c.receive.new.pass.dids
     (told_exactly c.in-Some.letter.bytes))
     (c.in_ok-asks-in-Some.ensures.asks c.args.pass.now c.receive.new.pass c.requires.mind
     (subst Gets c.in-Some.is c.in_ok-letter.ensures.received))
 
 pub returns-in_err-letter-clause-stays : goal.returns-in_err-letter-clause-stays
 returns-in_err-letter-clause-stays g c =
-    same_stays c.args.plane.now c.args.pass.now c.receive.new.pass c.receive.ensures.pass
+    same_stays c.args.stage.now.plane.now c.args.pass.now c.receive.new.pass c.receive.ensures.pass
     c.in_err-letter.ensures.err
 
 pub returns-in_err-asks-in-Some-clause-stays : goal.returns-in_err-asks-in-Some-clause-stays
 returns-in_err-asks-in-Some-clause-stays g c =
     let Gets : Option Letter → Type 0 = λ l. view.Receives c.args.pass.now c.receive.new.pass l in
-    received_stays c.args.plane.now c.args.pass.now c.receive.new.pass (Some c.in-Some.letter)
+    received_stays c.args.stage.now.plane.now c.args.pass.now c.receive.new.pass
+    (Some c.in-Some.letter)
     c.receive.ensures.pass (subst Gets c.in-Some.is c.in_ok-letter.ensures.received)
 
 pub returns-in_err-say_all-in-Some-clause-stays : goal.returns-in_err-say_all-in-Some-clause-stays
 returns-in_err-say_all-in-Some-clause-stays g c =
     let Gets : Option Letter → Type 0 = λ l. view.Receives c.args.pass.now c.receive.new.pass l in
-    port_both c.args.plane.now c.args.pass.now c.receive.new.pass c.say_all.new.pass
-    (received_stays c.args.plane.now c.args.pass.now c.receive.new.pass (Some c.in-Some.letter)
+    port_both c.args.stage.now.plane.now c.args.pass.now c.receive.new.pass c.say_all.new.pass
+    (received_stays c.args.stage.now.plane.now c.args.pass.now c.receive.new.pass
+    (Some c.in-Some.letter)
     c.receive.ensures.pass (subst Gets c.in-Some.is c.in_ok-letter.ensures.received))
     c.say_all.ensures.stays
 
 pub returns-in_ok-say_all-in-Some-clause-stays : goal.returns-in_ok-say_all-in-Some-clause-stays
 returns-in_ok-say_all-in-Some-clause-stays g c =
     let Gets : Option Letter → Type 0 = λ l. view.Receives c.args.pass.now c.receive.new.pass l in
-    port_both c.args.plane.now c.args.pass.now c.receive.new.pass c.say_all.new.pass
-    (received_stays c.args.plane.now c.args.pass.now c.receive.new.pass (Some c.in-Some.letter)
+    port_both c.args.stage.now.plane.now c.args.pass.now c.receive.new.pass c.say_all.new.pass
+    (received_stays c.args.stage.now.plane.now c.args.pass.now c.receive.new.pass
+    (Some c.in-Some.letter)
     c.receive.ensures.pass (subst Gets c.in-Some.is c.in_ok-letter.ensures.received))
     c.say_all.ensures.stays
 
 pub returns-in_ok-say_all-in-Some-clause-mind : goal.returns-in_ok-say_all-in-Some-clause-mind
 returns-in_ok-say_all-in-Some-clause-mind g c =
     let Gets : Option Letter → Type 0 = λ l. view.Receives c.args.pass.now c.receive.new.pass l in
-    mind_stays c.args.script.now c.receive.new.pass c.say_all.new.pass c.answer.new.self
+    mind_stays c.args.stage.now.script.now c.receive.new.pass c.say_all.new.pass c.answer.new.self
     c.say_all.new.mind
     (c.in_ok-asks-in-Some.ensures.counted c.args.pass.now c.receive.new.pass c.requires.mind
     (subst Gets c.in-Some.is c.in_ok-letter.ensures.received))
@@ -67,12 +71,14 @@ pub returns-in_ok-say_all-in-Some-clause-on : goal.returns-in_ok-say_all-in-Some
 returns-in_ok-say_all-in-Some-clause-on g c =
     let Gets : Option Letter → Type 0 = λ l. view.Receives c.args.pass.now c.receive.new.pass l in
     let received = subst Gets c.in-Some.is c.in_ok-letter.ensures.received in
-    looks_on c.what_a_port_does_adds_up.ensures.look c.args.script.now (places_of c.args.plane.now)
+    looks_on c.what_a_port_does_adds_up.ensures.look c.args.stage.now.script.now
+    (places_of c.args.stage.now.plane.now)
     c.in-Some.letter c.in_ok-asks-in-Some.asks c.args.pass.now c.receive.new.pass
     c.say_all.new.pass
     (c.ports_speak_by_their_passes.ensures.receives c.args.pass.now c.receive.new.pass
     c.in-Some.letter received)
-    (received_stays c.args.plane.now c.args.pass.now c.receive.new.pass (Some c.in-Some.letter)
+    (received_stays c.args.stage.now.plane.now c.args.pass.now c.receive.new.pass
+    (Some c.in-Some.letter)
     c.receive.ensures.pass received).port
     (c.in_ok-asks-in-Some.ensures.asks c.args.pass.now c.receive.new.pass c.requires.mind received)
     c.in_ok-say_all-in-Some.ensures.sent
@@ -80,20 +86,21 @@ returns-in_ok-say_all-in-Some-clause-on g c =
 pub returns-in-None-clause-stays : goal.returns-in-None-clause-stays
 returns-in-None-clause-stays g c =
     let Gets : Option Letter → Type 0 = λ l. view.Receives c.args.pass.now c.receive.new.pass l in
-    received_stays c.args.plane.now c.args.pass.now c.receive.new.pass None c.receive.ensures.pass
+    received_stays c.args.stage.now.plane.now c.args.pass.now c.receive.new.pass None
+    c.receive.ensures.pass
     (subst Gets c.in-None.is c.in_ok-letter.ensures.received)
 
 pub returns-in-None-clause-mind : goal.returns-in-None-clause-mind
 returns-in-None-clause-mind g c =
     let Gets : Option Letter → Type 0 = λ l. view.Receives c.args.pass.now c.receive.new.pass l in
-    mind_looks c.args.script.now c.args.pass.now c.receive.new.pass c.args.mind.now
+    mind_looks c.args.stage.now.script.now c.args.pass.now c.receive.new.pass c.args.mind.now
     c.requires.mind (subst Gets c.in-None.is c.in_ok-letter.ensures.received)
 
 pub returns-in-None-clause-on : goal.returns-in-None-clause-on
 returns-in-None-clause-on g c =
     let Gets : Option Letter → Type 0 = λ l. view.Receives c.args.pass.now c.receive.new.pass l in
-    looks_none c.what_a_port_does_adds_up.ensures.no_look c.args.script.now
-    (places_of c.args.plane.now) c.args.pass.now c.receive.new.pass
+    looks_none c.what_a_port_does_adds_up.ensures.no_look c.args.stage.now.script.now
+    (places_of c.args.stage.now.plane.now) c.args.pass.now c.receive.new.pass
     (c.ports_speak_by_their_passes.ensures.finds_none c.args.pass.now c.receive.new.pass
     (subst Gets c.in-None.is c.in_ok-letter.ensures.received))
 

@@ -24,10 +24,10 @@ returns-in_default-2-clause-received g c =
     let Gets : Option Letter → Type 0 =
     λ l. view.Receives c.loop-received.pass c.receive.new.pass l in
     let received = subst Gets c.in-Some.is c.in_ok-letter.ensures.received in
-    let stays = received_stays c.args.plane.now c.loop-received.pass c.receive.new.pass
+    let stays = received_stays c.args.stage.now.plane.now c.loop-received.pass c.receive.new.pass
     (Some c.in-Some.letter) c.receive.ensures.pass received in
-    hears_unread c.a_pool_answers_in_groups.ensures.receives c.args.script.now
-    (places_of c.args.plane.now) c.args.mind.now.machine c.in-Some.letter
+    hears_unread c.a_pool_answers_in_groups.ensures.receives c.args.stage.now.script.now
+    (places_of c.args.stage.now.plane.now) c.args.mind.now.machine c.in-Some.letter
     c.loop-received.notices c.args.pass.now c.loop-received.pass c.receive.new.pass
     (sym c.in_default-2.is ∙ c.in_ok-notice.ensures) stays.port
     (c.ports_speak_by_their_passes.ensures.receives c.loop-received.pass c.receive.new.pass
@@ -46,7 +46,7 @@ returns-in_default-2-clause-heard g c =
 
 pub loop-received-preserved : goal.loop-received-preserved
 loop-received-preserved g c =
-    let script = c.args.script.now in
+    let script = c.args.stage.now.script.now in
     let start = c.args.pass.now in
     let old = c.loop-received.pass in
     let new = c.receive.new.pass in
@@ -55,7 +55,7 @@ loop-received-preserved g c =
     let n = c.in-Some-2.notice in
     let Gets : Option Letter → Type 0 = λ l. view.Receives old new l in
     let received = subst Gets c.in-Some.is c.in_ok-letter.ensures.received in
-    let stays = received_stays c.args.plane.now old new (Some c.in-Some.letter)
+    let stays = received_stays c.args.stage.now.plane.now old new (Some c.in-Some.letter)
     c.receive.ensures.pass received in
     let mind = mind_on script c.loop-received.mind
     (record c.loop-received.mind {
@@ -76,14 +76,15 @@ loop-received-preserved g c =
     (c.ports_close_at_the_end.ensures.answer script (place_in start.port script.ports) new.dids
     (told_exactly c.in-Some.letter.bytes))) in
     let heard = hears_next c.a_pool_answers_in_groups.ensures.receives script
-    (places_of c.args.plane.now) m c.in-Some.letter ns n start old new placed counted told
+    (places_of c.args.stage.now.plane.now) m c.in-Some.letter ns n start old new placed counted told
     stays.port
     (c.ports_speak_by_their_passes.ensures.receives old new c.in-Some.letter received)
     c.loop-received.invariant.received in
     let longer : length c.push.new.self ≡ length ns + 1 =
     ap (λ (l : List Notice). length l) pushed ∙ length-append ns (n ∷ []) in
     record {
-      stays = port_both c.args.plane.now start old new c.loop-received.invariant.stays stays;
+      stays = port_both c.args.stage.now.plane.now start old new c.loop-received.invariant.stays
+          stays;
       mind = mind;
       few = omega (arith, longer, c.loop-received.invariant.few);
       counted = omega (arith, machine, longer, c.loop-received.invariant.counted);
@@ -95,6 +96,7 @@ loop-received-preserved g c =
       );
       words = subst (λ (l : List Notice). All AreWords (answers script m.place m.received l))
           (sym pushed) words;
-      received = subst (λ (l : List Notice). HasReceived script (places_of c.args.plane.now) m l
+      received = subst (λ (l : List Notice). HasReceived script
+          (places_of c.args.stage.now.plane.now) m l
           false start new) (sym pushed) heard;
     }

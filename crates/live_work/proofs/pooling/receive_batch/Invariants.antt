@@ -12,14 +12,15 @@ use Rattle.live_work.proofs.pooling.receive_batch.Given as goal
 
 abbrev pub invariant-loop-received : goal.invariant-loop-received
 invariant-loop-received g l = record {
-  stays : StaysPort l.plane l.initial.pass l.pass;
-  mind : IsMind l.script l.pass l.mind;
+  stays : StaysPort l.stage.plane.now l.initial.pass l.pass;
+  mind : IsMind l.stage.script.now l.pass l.mind;
   few : length l.notices ≤ l._received;
   counted : l.mind.machine.received
       ≡ count_after l.initial.mind.machine.received (length l.notices);
   heard : heard_by l.pass ≡ heard_by l.initial.pass + length l.notices;
-  words : All AreWords (answers l.script l.initial.mind.machine.place
+  words : All AreWords (answers l.stage.script.now l.initial.mind.machine.place
       l.initial.mind.machine.received l.notices);
-  received : HasReceived l.script (places_of l.plane) l.initial.mind.machine l.notices false
+  received : HasReceived l.stage.script.now (places_of l.stage.plane.now) l.initial.mind.machine
+      l.notices false
       l.initial.pass l.pass;
 }

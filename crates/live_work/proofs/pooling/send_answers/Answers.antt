@@ -19,15 +19,15 @@ loop-asks-preserved g c = record {
   words = All-tail AreWords c.in-Some.asks c.take_first.new.self
       (subst (λ (l : List (List Ask)). All AreWords l) c.in-Some.ensures.first
       c.loop-asks.invariant.words);
-  stays = port_both c.args.plane.now c.args.pass.now c.loop-asks.pass c.say_all.new.pass
+  stays = port_both c.args.stage.now.plane.now c.args.pass.now c.loop-asks.pass c.say_all.new.pass
       c.loop-asks.invariant.stays c.say_all.ensures.stays;
   heard = still_heard c.loop-asks.pass c.say_all.new.pass c.say_all.ensures.hears
       ∙ c.loop-asks.invariant.heard;
-  mind = mind_stays c.args.script.now c.loop-asks.pass c.say_all.new.pass c.loop-asks.mind
+  mind = mind_stays c.args.stage.now.script.now c.loop-asks.pass c.say_all.new.pass c.loop-asks.mind
       c.say_all.new.mind c.loop-asks.invariant.mind c.say_all.ensures.hears
       c.say_all.ensures.stays.port c.say_all.ensures.counts.0 c.say_all.ensures.counts.1;
-  sent = sends_first c.a_pool_answers_in_groups.ensures.answers c.args.script.now
-      (places_of c.args.plane.now) c.args.answers c.loop-asks.left c.take_first.new.self
+  sent = sends_first c.a_pool_answers_in_groups.ensures.answers c.args.stage.now.script.now
+      (places_of c.args.stage.now.plane.now) c.args.answers c.loop-asks.left c.take_first.new.self
       c.in-Some.asks c.args.pass.now c.loop-asks.pass c.say_all.new.pass
       c.in-Some.ensures.first c.loop-asks.invariant.stays.port c.in_ok-say_all.ensures.sent
       c.loop-asks.invariant.sent;

@@ -13,10 +13,11 @@ abbrev pub invariant-loop-asks : goal.invariant-loop-asks
 invariant-loop-asks g l = record {
   fit : All (All IsAsk) l.left;
   words : All AreWords l.left;
-  stays : StaysPort l.plane l.initial.pass l.pass;
+  stays : StaysPort l.stage.plane.now l.initial.pass l.pass;
   heard : heard_by l.pass ≡ heard_by l.initial.pass;
-  mind : IsMind l.script l.pass l.mind;
-  sent : LeavesAnswers l.script (places_of l.plane) l.fn.answers l.left l.initial.pass l.pass;
+  mind : IsMind l.stage.script.now l.pass l.mind;
+  sent : LeavesAnswers l.stage.script.now (places_of l.stage.plane.now) l.fn.answers l.left
+      l.initial.pass l.pass;
 }
 
 abbrev pub decreases-loop-asks : goal.decreases-loop-asks

@@ -13,11 +13,12 @@ abbrev pub invariant-loop-ask : goal.invariant-loop-ask
 invariant-loop-ask g l = record {
   fit : All IsAsk l.left;
   words : AreWords l.left;
-  stays : StaysPort l.plane l.initial.pass l.pass;
+  stays : StaysPort l.stage.plane.now l.initial.pass l.pass;
   hears : HearsNothing l.initial.pass l.pass;
   machine : l.mind.machine ≡ l.initial.mind.machine;
   received : l.mind.received ≡ l.initial.mind.received;
-  sent : SaysTo l.script (places_of l.plane) l.initial.pass.port l.fn.asks l.left
+  sent : SaysTo l.stage.script.now (places_of l.stage.plane.now) l.initial.pass.port l.fn.asks
+      l.left
       (port_pass l.initial.pass) (port_pass l.pass);
 }
 

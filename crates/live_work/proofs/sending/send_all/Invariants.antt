@@ -10,8 +10,8 @@ use Rattle.live_work.proofs.sending.send_all.Given as goal
 abbrev pub invariant-loop-look : goal.invariant-loop-look
 invariant-loop-look g l = record {
   shorter : length l.rest ≤ length l.datagram;
-  stays : StaysPort l.plane l.initial.pass l.pass;
+  stays : StaysPort l.stage.plane.now l.initial.pass l.pass;
   hears : HearsNothing l.initial.pass l.pass;
-  sent : HasCutTo l.script (places_of l.plane) l.initial.pass.port l.datagram
+  sent : HasCutTo l.stage.script.now (places_of l.stage.plane.now) l.initial.pass.port l.datagram
       (cut_in (l._look-end - l._look) l.rest) (port_pass l.initial.pass) (port_pass l.pass);
 }

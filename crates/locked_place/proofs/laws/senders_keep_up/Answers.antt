@@ -14,10 +14,10 @@ laws c = record {
 
 pub returns : goal.returns
 returns c = record {
-  turned_away = turned_away (laws c);
+  turned_away = λ es a o back senders told away. turned_away (laws c) es a o back senders away told;
   has_sender = has_sender;
-  offered = offered (laws c);
-  asked = asked (laws c);
+  offered = λ es a room port letter olds news. offered es a room port letter olds news (laws c);
+  asked = λ es port call r senders. asked es port call r senders (laws c);
   closed = closed (laws c);
   down = down (laws c);
 }

@@ -2,8 +2,10 @@ use Rattle.std.proofs.Common.{◌≡◌, sym, subst, arith}
 use Rattle.histories.specs.States.{state_of, waiting_at}
 use Rattle.histories.specs.Happenings.{queue_of}
 use Rattle.place_history.specs.PlaceState.{PlaceState}
+use Rattle.locked_place.specs.Mails.{MailsGoOn}
 use Rattle.locked_place.specs.Views.{AreNotified}
 use Rattle.locked_place.proofs.Results.{ok_anyway, either_way}
+use Rattle.locked_place.proofs.SenderSteps.{mails_stay}
 use Rattle.locked_place.proofs.requests.ask.Goals as goal
 
 pub returns-clause-notified : goal.returns-clause-notified
@@ -34,3 +36,16 @@ returns-clause-in_time c =
     (c.what_goes_on_is_in_time.ensures.request q c.args.port c.args.call c.args.request
     (c.histories_stay_sound.ensures.in_time c.args.place.now.entries c.legal_at.ensures
     (queue_of c.args.request)))
+
+pub returns-in_err-make_room-clause-mailed : goal.returns-in_err-make_room-clause-mailed
+returns-in_err-make_room-clause-mailed c time senders =
+    mails_stay time c.args.place.now.entries senders
+
+pub returns-clause-mailed : goal.returns-clause-mailed
+returns-clause-mailed c time senders =
+    let es = c.args.place.now.entries in
+    either_way c.ask.result _ _ _ c.ask.ensures.state c.ask.ensures.err
+    (λ state. subst (λ (p : PlaceState). MailsGoOn time es senders p.entries senders) (sym state)
+    (c.mails_keep_up.ensures.asked es c.args.port c.args.call c.args.request time senders))
+    (λ same. subst (λ (p : PlaceState). MailsGoOn time es senders p.entries senders) (sym same)
+    (mails_stay time es senders))

@@ -32,14 +32,15 @@ make_ready-requires-clause-none g c κs within = record {
 
 pub end_all-requires-clause-are_open : goal.end_all-requires-clause-are_open
 end_all-requires-clause-are_open g c κs within =
-    all_open c.args.script.now (places_of c.args.plane.now)
-    (size_of c.args.pool c.args.feeders c.args.capture.now) c.work.new.self c.in_ok-work.ensures.met
+    all_open c.args.stage.script.now (places_of c.args.stage.plane.now)
+    (size_of c.args.pool.workers c.args.feeders c.args.capture.now) c.work.new.self
+    c.in_ok-work.ensures.met
 
 pub returns-clause-ended : goal.returns-clause-ended
 returns-clause-ended g c =
-    let script = c.args.script.now in
-    let places = places_of c.args.plane.now in
-    let many = size_of c.args.pool c.args.feeders c.args.capture.now in
+    let script = c.args.stage.script.now in
+    let places = places_of c.args.stage.plane.now in
+    let many = size_of c.args.pool.workers c.args.feeders c.args.capture.now in
     on_ok c.end_all.result
     ((size : Size) → IsAtMeeting script places size 0 c.work.new.self →
     IsAtMeeting script places size (length script.ports) c.end_all.new.self)

@@ -1,13 +1,14 @@
-use Rattle.std.proofs.Common.{◌≡◌, ◌++◌, refl, rules}
+use Rattle.std.proofs.Common.{◌≡◌, ◌≤◌, ◌++◌, ℕ, refl, rules, subst}
 use Rattle.run_parts.specs.Entering.{cards}
 use Rattle.place_rows.specs.Lists.{flat}
 use Rattle.plane.specs.Closings.{IsClosed}
 use Rattle.plane.specs.Planes.{places_of}
+use Rattle.plane.specs.Remaining.{times_in}
 use Rattle.nfq_live.specs.Run.{setting_for, tables_of}
 use Rattle.nfq_live.specs.Sizes.{size_of}
 use Rattle.live_work.proofs.UnchangedPass.{some_place}
 use Rattle.nfq_live.proofs.WholeRun.{closed_by, closed_run, live_run, no_zero, none_opened}
-use Rattle.nfq_live.proofs.WholeRun.{opened_crew}
+use Rattle.nfq_live.proofs.WholeRun.{once_each, opened_crew}
 use Rattle.nfq_live.proofs.WholeRun.{short_for, sound_for}
 use Rattle.nfq_live.proofs.run.run_pools.Goals as goal
 
@@ -39,6 +40,16 @@ go-outcome-requires-clause-none g c κs within =
       closed_are = c.new-2.ensures.items;
     })
 
+pub close-histories-requires-clause-apart : goal.close-histories-requires-clause-apart
+close-histories-requires-clause-apart g c =
+    let crew = c.go-outcome.new.crew in
+    let are_open : crew.ports.items ≡ c.from_vec-ports.result = search rules in
+    let are_shut : crew.closed.items ≡ c.from_vec.result = search rules in
+    subst (λ ports. (port : ℕ) → times_in port (ports ++ c.from_vec.result) ≤ 1) are_open
+    (subst (λ closed. (port : ℕ) → times_in port (crew.ports.items ++ closed) ≤ 1) are_shut
+    (once_each c.args.opened.plane crew.feeding.pass crew.ports.items crew.closed.items
+    c.go-outcome.ensures.crew.all))
+
 pub returns-clause-made : goal.returns-clause-made
 returns-clause-made g c =
     let script = c.args.script.now in
@@ -49,7 +60,7 @@ returns-clause-made g c =
     let are_shut : c.from_vec.result ≡ crew.closed.items = search rules in
     let closed : IsClosed plane crew.feeding.pass (crew.ports.items ++ crew.closed.items) h =
     closed_by plane crew.feeding.pass c.from_vec-ports.result crew.ports.items
-    c.from_vec.result crew.closed.items h are_open are_shut c.in_ok-histories.ensures in
+    c.from_vec.result crew.closed.items h are_open are_shut c.in_ok-histories.ensures.closed in
     let run = closed_run c.a_closed_plane_has_all_that_its_passes_did.ensures plane script
     (setting_for script (tables_of c.args.opened)) crew h c.requires.opened.order_is
     c.requires.opened.setting refl c.go-outcome.ensures.crew closed
@@ -69,7 +80,7 @@ returns-clause-sound g c =
     let are_shut : c.from_vec.result ≡ crew.closed.items = search rules in
     let closed : IsClosed plane crew.feeding.pass (crew.ports.items ++ crew.closed.items) h =
     closed_by plane crew.feeding.pass c.from_vec-ports.result crew.ports.items
-    c.from_vec.result crew.closed.items h are_open are_shut c.in_ok-histories.ensures in
+    c.from_vec.result crew.closed.items h are_open are_shut c.in_ok-histories.ensures.closed in
     sound_for plane (setting_for script (tables_of c.args.opened)) crew.feeding.pass
     (crew.ports.items ++ crew.closed.items) h (cards c.args.capture.now) closed
     c.requires.opened.setting c.in_ok-outcome.ensures.fed
@@ -84,7 +95,7 @@ returns-clause-short g c =
     let are_shut : c.from_vec.result ≡ crew.closed.items = search rules in
     let closed : IsClosed plane crew.feeding.pass (crew.ports.items ++ crew.closed.items) h =
     closed_by plane crew.feeding.pass c.from_vec-ports.result crew.ports.items
-    c.from_vec.result crew.closed.items h are_open are_shut c.in_ok-histories.ensures in
+    c.from_vec.result crew.closed.items h are_open are_shut c.in_ok-histories.ensures.closed in
     let run = closed_run c.a_closed_plane_has_all_that_its_passes_did.ensures plane script
     (setting_for script (tables_of c.args.opened)) crew h c.requires.opened.order_is
     c.requires.opened.setting refl c.go-outcome.ensures.crew closed
@@ -103,5 +114,5 @@ returns-clause-grouped g c =
     let are_shut : c.from_vec.result ≡ crew.closed.items = search rules in
     let closed : IsClosed plane crew.feeding.pass (crew.ports.items ++ crew.closed.items) h =
     closed_by plane crew.feeding.pass c.from_vec-ports.result crew.ports.items
-    c.from_vec.result crew.closed.items h are_open are_shut c.in_ok-histories.ensures in
+    c.from_vec.result crew.closed.items h are_open are_shut c.in_ok-histories.ensures.closed in
     (flat closed.entries.lists, closed.entries.grouped)

@@ -3,13 +3,16 @@ use Rattle.std.specs.Prelude.{Option}
 use Rattle.std.proofs.lemmas.List.{length-map}
 use Rattle.mailbox.specs.Views.{SenderView}
 use Rattle.turn_lock.specs.Passes.{view_of}
+use Rattle.total_order.specs.Orders.{untimed}
 use Rattle.locked_place.specs.Views.{label_of}
+use Rattle.locked_place.specs.Times.{timed}
 use Rattle.place_rows.specs.Rows.{label_at}
 use Rattle.place_rows.proofs.Lists.{prefix_self, less_one}
 use Rattle.place_rows.proofs.RowPasses.{as_many}
 use Rattle.place_rows.proofs.PlaceEnds.{PlacesLeft, none_ended, one_ended, have_senders, times_few}
 use Rattle.place_rows.proofs.PlaceEnds.{last_pass}
-use Rattle.place_rows.proofs.PlaceEnds.{left_then, both_true}
+use Rattle.place_rows.proofs.PlaceEnds.{left_then, both_true, plain_hears}
+use Rattle.place_rows.proofs.TimedLists.{place_ended}
 use Rattle.place_rows.proofs.ending.end_places.Goals as goal
 
 pub loop-lock-init : goal.loop-lock-init
@@ -60,8 +63,10 @@ join_senders-requires-clause-senders c =
     (λ port. ap (λ (f : ℕ → Option SenderView). f port)
     (c.end_place-list.ensures.senders
     (label_at c.args.outlets.now (length c.pop.new.self.items)) h.of))
-    (length c.pop.new.self.items + 1) s.lists c.args.receivers.now.items
-    c.loop-lock.receivers.items c.requires.mailboxes s.receivers
+    (length c.pop.new.self.items + 1) (map untimed s.lists) c.args.receivers.now.items
+    c.loop-lock.receivers.items c.requires.mailboxes
+    (plain_hears c.args.outlets.now.board.places (length c.pop.new.self.items + 1) s.lists
+    c.args.receivers.now.items c.loop-lock.receivers.items s.receivers)
 
 pub join_senders-requires-clause-apart : goal.join_senders-requires-clause-apart
 join_senders-requires-clause-apart c =
@@ -69,8 +74,10 @@ join_senders-requires-clause-apart c =
     c.loop-lock.locks.items c.pop.new.self.items c.in-Some.lock c.loop-lock.kept
     c.loop-lock.entries.items c.args.receivers.now.items c.loop-lock.receivers.items
     c.in-Some.ensures.items c.loop-lock.invariant.left in
-    times_few c.args.outlets.now.board.places (length c.pop.new.self.items + 1) s.lists
-    c.args.receivers.now.items c.loop-lock.receivers.items s.receivers c.requires.apart
+    times_few c.args.outlets.now.board.places (length c.pop.new.self.items + 1)
+    (map untimed s.lists) c.args.receivers.now.items c.loop-lock.receivers.items
+    (plain_hears c.args.outlets.now.board.places (length c.pop.new.self.items + 1) s.lists
+    c.args.receivers.now.items c.loop-lock.receivers.items s.receivers) c.requires.apart
 
 pub loop-lock-preserved : goal.loop-lock-preserved
 loop-lock-preserved c =
@@ -84,6 +91,12 @@ loop-lock-preserved c =
     c.loop-lock.locks.items c.pop.new.self.items c.in-Some.lock c.loop-lock.kept
     c.loop-lock.entries.items c.args.receivers.now.items c.loop-lock.receivers.items
     c.in-Some.ensures.items c.loop-lock.invariant.left in
+    let left = c.end_place-list in
+    let named = label_at c.args.outlets.now (length c.pop.new.self.items) in
+    let ended = place_ended c.args.outlets.now.board.places (length c.pop.new.self.items)
+    left.ensures.in_time.0 (map view_of c.args.row.items) (view_of c.in-Some-pop.pass)
+    left.result.entries left.result.stamps h.at left.ensures.begins left.ensures.own
+    (left.ensures.here named h.of) left.ensures.legal left.ensures.in_time.1 in
     record {
       locks = less_one c.args.locks.items c.loop-lock.locks.items c.pop.new.self.items
           c.in-Some.lock inv.locks c.in-Some.ensures.items;
@@ -93,21 +106,10 @@ loop-lock-preserved c =
       left = one_ended c.args.outlets.now.mailboxes c.args.outlets.now.board.places
           (length c.pop.new.self.items) (map view_of c.args.row.items) c.loop-lock.kept _
           c.loop-lock.entries.items _ c.args.receivers.now.items c.loop-lock.receivers.items
-          c.join_senders.new.receivers.items c.end_place-list.result.entries
-          c.end_place-list.result.senders s
-          (record {
-            all = view_of c.in-Some-pop.pass;
-            at = h.at;
-            begins = c.end_place-list.ensures.begins;
-            own = c.end_place-list.ensures.own;
-            here = c.end_place-list.ensures.here
-                (label_at c.args.outlets.now (length c.pop.new.self.items)) h.of;
-            legal = c.end_place-list.ensures.legal;
-          })
-          c.end_place-list.ensures.notified
-          (λ port. ap (λ (f : ℕ → Option SenderView). f port)
-          (c.end_place-list.ensures.senders
-          (label_at c.args.outlets.now (length c.pop.new.self.items)) h.of))
+          c.join_senders.new.receivers.items left.result.entries
+          (timed left.result.entries left.result.stamps) left.result.senders s ended.same ended.is
+          left.ensures.notified left.ensures.mailed
+          (λ port. ap (λ (f : ℕ → Option SenderView). f port) (left.ensures.senders named h.of))
           c.requires.mailboxes c.join_senders.ensures.joined c.join_senders.ensures.heard
           (λ still.
           let both = both_true c.loop-lock.kept c.gather-room.result still in

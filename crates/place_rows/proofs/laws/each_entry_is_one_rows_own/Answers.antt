@@ -1,4 +1,4 @@
-use Rattle.std.proofs.Common.{ap, ◌∙◌, arith, ℕ}
+use Rattle.std.proofs.Common.{◌∙◌, arith, length}
 use Rattle.place_history.specs.PlaceState.{AreHere}
 use Rattle.place_rows.specs.Ending.{IsListOf}
 use Rattle.place_rows.specs.Joining.{own_at, is_place}
@@ -9,9 +9,10 @@ use Rattle.place_rows.proofs.laws.each_entry_is_one_rows_own.Goals as goal
 
 pub returns : goal.returns
 returns c = record {
-  once = λ places k i rows list is few. own_once places rows k list i is few;
+  once = λ places k i rows list is few. own_once rows k (length list) i is.once few;
   owner = λ places k i rows list is few.
-      owner (own_at (is_place i) k) rows (omega (arith, own_once places rows k list i is few));
+      owner (own_at (is_place i) k) rows
+      (omega (arith, own_once rows k (length list) i is.once few));
   of_place = λ places queue k rows lists list es all grouped is at.
       grouped.same queue
       ∙ flat_at places 0 k queue lists list

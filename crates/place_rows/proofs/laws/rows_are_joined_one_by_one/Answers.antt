@@ -5,5 +5,7 @@ pub returns : goal.returns
 returns c = record {
   none = none_joined;
   one = λ rows into before from after. all_step rows into before from after;
+  none_timed = none_joined;
+  one_timed = λ rows into before from after. all_step rows into before from after;
   whole = λ places into after rows. whole_parts places into after rows;
 }

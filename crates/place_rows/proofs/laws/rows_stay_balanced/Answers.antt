@@ -1,7 +1,6 @@
-use Rattle.std.proofs.Common.{ℕ, List, [], ◌++◌, sym, subst, ap}
-use Rattle.histories.specs.Moves.{Move, move_after, moves_after}
+use Rattle.std.proofs.Common.{ℕ, List, [], sym, subst}
+use Rattle.histories.specs.Moves.{Move, move_after}
 use Rattle.histories.specs.Journeys.{IsSoundBut}
-use Rattle.histories.specs.declared.entry.Entry.{Entry}
 use Rattle.histories.specs.History.{AreLegal}
 use Rattle.turn_lock.specs.Places.{IsPlaced}
 use Rattle.place_rows.proofs.RowBalance.{turned_sound, looked_sound, none_moved}

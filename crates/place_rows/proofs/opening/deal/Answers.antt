@@ -1,9 +1,9 @@
-use Rattle.std.proofs.Common.{◌≡◌, ◌≤◌, rules, ap, sym, ◌∙◌, arith, refl, length, ℕ, subst, ◌+◌}
+use Rattle.std.proofs.Common.{◌≡◌, ◌≤◌, rules, ap, ◌∙◌, arith, subst, ◌+◌}
 use Rattle.std.specs.Prelude.{slice_set}
 use Rattle.mailbox.specs.Views.{SenderView, child_sender, opening_sender}
 use Rattle.place_rows.specs.Opening.{IsGiven, AreDealt}
 use Rattle.place_rows.proofs.Results.{on_ok}
-use Rattle.place_rows.proofs.NewPlaces.{none_dealt, one_dealt, all_dealt, made_other}
+use Rattle.place_rows.proofs.NewPlaces.{one_dealt, all_dealt, made_other}
 use Rattle.place_rows.proofs.opening.deal.Goals as goal
 
 pub split-requires-clause-mailbox : goal.split-requires-clause-mailbox

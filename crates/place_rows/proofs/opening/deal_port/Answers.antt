@@ -1,4 +1,3 @@
-use Rattle.std.proofs.Common.{sym, ap, ◌∙◌}
 use Rattle.place_rows.proofs.NewPlaces.{one_port_more}
 use Rattle.place_rows.proofs.opening.deal_port.Goals as goal
 

@@ -15,14 +15,14 @@ pub loop-own-preserved : goal.loop-own-preserved
 loop-own-preserved c =
     let inv = c.loop-own.invariant in
     let named = label_at c.args.outlets.now in
-    let locks = c.loop-own.locks.items in
-    let row = c.loop-own.row.items in
+    let locks = c.loop-own.opened.locks.items in
+    let row = c.loop-own.opened.row.items in
     let made = c.in-Ok.ensures.made in
     let own = c.in-Some.own in
     let split : into_iter_items c.loop-own.own-iterator ≡ own ∷ into_iter_items c.next.new.self =
     c.in-Some.ensures.steps.0 in
     record {
-      are = subst (λ ls. ArePasses label_of named ls c.open_place.new.row.items) (sym made.2)
+      are = subst (λ ls. ArePasses label_of named ls c.open_place.new.opened.row.items) (sym made.2)
           (subst (λ rs. ArePasses label_of named (locks ++ made.0 ∷ []) rs) (sym made.3)
           (one_lock_more named locks row made.0 made.1 inv.are
           (subst (λ n. IsPassOf label_of (named n) made.0 made.1) (sym inv.number) made.4)));

@@ -13,13 +13,14 @@ use Rattle.place_rows.proofs.opening.open_places.Given as goal
 
 abbrev pub invariant-loop-own : goal.invariant-loop-own
 invariant-loop-own l = record {
-  are : ArePasses label_of (label_at l.outlets) l.locks.items l.row.items;
-  first : AreFirst (map view_of l.row.items);
-  number : length l.locks.items ≡ l.number;
+  are : ArePasses label_of (label_at l.outlets) l.opened.locks.items l.opened.row.items;
+  first : AreFirst (map view_of l.opened.row.items);
+  number : length l.opened.locks.items ≡ l.number;
   rest : (done : List (BTreeMap ℕ SenderView)) × (l.fn.senders.items ≡ done ++ into_iter_items
       l.own-iterator)
       × (length done ≡ l.number);
   writers : (k : ℕ) → l.number ≤ k → k < l.places →
       slice_get l.writers k ≡ Some (Some (opening_writer l.outlets.board k));
-  room : (vec_capacity l.locks ≡ vec_capacity l.row) × (l.places ≤ vec_capacity l.row);
+  room : (vec_capacity l.opened.locks ≡ vec_capacity l.opened.row)
+      × (l.places ≤ vec_capacity l.opened.row);
 }

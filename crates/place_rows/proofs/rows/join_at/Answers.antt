@@ -2,7 +2,7 @@ use Rattle.std.proofs.Common.{ap, ◌∙◌, arith}
 use Rattle.turn_lock.specs.Passes.{view_of}
 use Rattle.turn_lock.specs.Views.{label_of}
 use Rattle.locked_place.specs.Views as place
-use Rattle.place_rows.specs.Rows.{Known}
+use Rattle.place_rows.specs.Rows.{TimedKnown}
 use Rattle.place_rows.specs.Joining.{Joins}
 use Rattle.place_rows.proofs.RowPasses.{pass_there, passes_set, as_many, turns_one, at_lock}
 use Rattle.place_rows.proofs.rows.join_at.Goals as goal
@@ -46,8 +46,8 @@ returns-clause-passes c = λ named row.
     c.index.result.now c.join.new.into row c.requires.there c.index.ensures
     (record {
       of = c.join.ensures.lock.0 ∙ there.of;
-      outside = ap (λ (v : Known). v.turn) c.join.ensures.joined;
-      named_so = ap (λ (v : Known). label_of place.label_of v) c.join.ensures.joined
+      outside = ap (λ (v : TimedKnown). v.turn) c.join.ensures.joined;
+      named_so = ap (λ (v : TimedKnown). label_of place.label_of v) c.join.ensures.joined
           ∙ there.named_so;
     })
 

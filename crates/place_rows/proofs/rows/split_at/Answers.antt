@@ -3,7 +3,7 @@ use Rattle.std.proofs.lemmas.Option.{slice_get_read}
 use Rattle.std.proofs.Common.{refl, length}
 use Rattle.turn_lock.specs.Views.{label_of}
 use Rattle.locked_place.specs.Views as place
-use Rattle.place_rows.specs.Rows.{Known}
+use Rattle.place_rows.specs.Rows.{TimedKnown}
 use Rattle.place_rows.specs.Joining.{Splits}
 use Rattle.turn_lock.specs.Passes.{view_of}
 use Rattle.place_rows.proofs.RowPasses.{pass_there, passes_set, as_many, turns_one}
@@ -41,8 +41,8 @@ returns-clause-passes c = λ named row.
           c.index.result.now c.split.new.pass row c.requires.there c.index.ensures
           (record {
             of = c.in-Ok.ensures.lock.0.0 ∙ there.of;
-            outside = ap (λ (v : Known). v.turn) c.in-Ok.ensures.kept ∙ there.outside;
-            named_so = ap (λ (v : Known). label_of place.label_of v) c.in-Ok.ensures.kept
+            outside = ap (λ (v : TimedKnown). v.turn) c.in-Ok.ensures.kept ∙ there.outside;
+            named_so = ap (λ (v : TimedKnown). label_of place.label_of v) c.in-Ok.ensures.kept
                 ∙ there.named_so;
           }),
       record {
@@ -51,8 +51,8 @@ returns-clause-passes c = λ named row.
             c.args.place c.index.result.now refl c.requires.there c.index.ensures;
         of = record {
           of = c.in-Ok.ensures.lock.1;
-          outside = ap (λ (v : Known). v.turn) c.in-Ok.ensures.made;
-          named_so = ap (λ (v : Known). label_of place.label_of v) c.in-Ok.ensures.made
+          outside = ap (λ (v : TimedKnown). v.turn) c.in-Ok.ensures.made;
+          named_so = ap (λ (v : TimedKnown). label_of place.label_of v) c.in-Ok.ensures.made
               ∙ there.named_so;
         };
       },

@@ -1,4 +1,4 @@
-use Rattle.std.proofs.Common.{rules, map, arith, sym, ap, ◌≡◌, ◌∙◌, length, [], ◌∷◌}
+use Rattle.std.proofs.Common.{rules, map, arith, ap, ◌≡◌, ◌∙◌, length, [], ◌∷◌}
 use Rattle.std.proofs.lemmas.List.{length-map, map-append}
 use Rattle.turn_lock.specs.Passes.{view_of}
 use Rattle.locked_place.specs.Views.{label_of}

@@ -1,4 +1,4 @@
-use Rattle.std.proofs.Common.{map, ℕ, ◌≡◌, ◌≤◌, ◌+◌, length}
+use Rattle.std.proofs.Common.{map, ℕ, ◌≤◌, length}
 use Rattle.std.specs.Vec.{vec_capacity}
 use Rattle.turn_lock.specs.Passes.{view_of}
 use Rattle.locked_place.specs.Views.{PlaceLabel, label_of}

@@ -1,7 +1,8 @@
-use Rattle.std.proofs.Common.{◌≡◌, rules, map, []}
+use Rattle.std.proofs.Common.{◌≡◌, ◌∙◌, ◌∷◌, ap, sym, rules, map, []}
 use Rattle.turn_lock.specs.Passes.{view_of}
 use Rattle.place_rows.specs.Rows.{id_of}
-use Rattle.plane.specs.Remaining.{IsRowOf}
+use Rattle.plane.specs.Passes.{PortView}
+use Rattle.plane.specs.Remaining.{IsRowOf, TimelyPass}
 use Rattle.plane.proofs.PlaneEnd.{Laws, none_so, one_so, all_so, at_hand, added_too}
 use Rattle.plane.proofs.finish.join_ports.Goals as goal
 
@@ -28,6 +29,24 @@ loop-pass-preserved c =
     let laws : Laws =
     record {
       one = c.rows_are_joined_one_by_one.ensures.one;
+      one_timed = c.rows_are_joined_one_by_one.ensures.one_timed;
+    } in
+    let passes = c.pass.inside.passes in
+    let port : PortView =
+    record {
+      locks = passes.locks;
+      trail = passes.trail;
+      port = c.pass.inside.port;
+      receiver = c.pass.inside.receiver;
+      dids = c.pass.inside.log.dids.items;
+    } in
+    let t : TimelyPass =
+    record {
+      port = port;
+      row = passes.timed;
+      same = c.join_passes-lost.ensures.known;
+      clock = passes.clock;
+      timely = c.pass.invariant.1.timely;
     } in
     let inv = c.loop-pass.invariant in
     record {
@@ -35,12 +54,12 @@ loop-pass-preserved c =
       so = one_so laws (map view_of c.args.into.now.items)
           (map view_of c.loop-pass.into.items) (map view_of c.join_passes-lost.new.into.items)
           c.loop-pass.kept _ c.args.remains.now c.loop-pass.remains c.add.new.remains
-          c.args.ports c.loop-pass.pass-iterator c.next.new.self c.in-Some.pass inv.so
-          c.in-Some.ensures.steps
-          (rw (← c.pass.view_is) c.join_passes-lost.ensures.joined)
-          (rw (← c.pass.view_is)
+          c.args.ports c.loop-pass.pass-iterator c.next.new.self t inv.so
+          (c.in-Some.ensures.steps
+          ∙ ap (λ (p : PortView). p ∷ c.next.new.self) (sym c.pass.view_is))
+          c.join_passes-lost.ensures.joined c.join_passes-lost.ensures.timed
           (added_too c.loop-pass.kept _ _ _ _ _ _ _ _ _ c.add.result c.add.ensures
-          c.into_dids.ensures c.join_passes-lost.ensures.lost c.is_ok-room.ensures.value));
+          c.into_dids.ensures c.join_passes-lost.ensures.lost c.is_ok-room.ensures.value);
     }
 
 pub returns-clause-passes : goal.returns-clause-passes
@@ -50,6 +69,11 @@ pub returns-clause-joined : goal.returns-clause-joined
 returns-clause-joined c =
     let none : c.loop-pass.pass-iterator ≡ [] = search rules in
     (all_so _ _ _ _ _ c.args.ports c.loop-pass.pass-iterator none c.loop-pass.invariant.so).joined
+
+pub returns-clause-timely : goal.returns-clause-timely
+returns-clause-timely c =
+    let none : c.loop-pass.pass-iterator ≡ [] = search rules in
+    (all_so _ _ _ _ _ c.args.ports c.loop-pass.pass-iterator none c.loop-pass.invariant.so).timely
 
 pub returns-clause-kept : goal.returns-clause-kept
 returns-clause-kept c =

@@ -1,6 +1,7 @@
 use Rattle.std.proofs.Common.{sym, subst, refl, ap, [], List, ◌++◌}
 use Rattle.histories.specs.declared.histories.Lost.{Lost}
 use Rattle.place_rows.specs.Shares.{IsBalanced}
+use Rattle.place_turns.specs.Timely.{feeder}
 use Rattle.plane.specs.Past.{fed_by, lost_by}
 use Rattle.plane.specs.Planes.{setting_of}
 use Rattle.plane.proofs.PassMeetings.{port_kept, feeder_kept}
@@ -24,6 +25,7 @@ returns-clause-port c =
             _ is.balanced);
         mailbox = is.mailbox;
         alone = is.alone;
+        unmailed = is.unmailed;
       },
       rw (← c.pass.view_is)
           (port_kept c.pass.inside.passes.trail.known _ _ _ refl c.tell.ensures.locks.1
@@ -52,3 +54,7 @@ returns-clause-feeder c =
 
 pub returns-clause-told : goal.returns-clause-told
 returns-clause-told c = rw (← c.pass.view_is, ← c.feeder.view_is) c.tell.ensures.told
+
+pub invariant_of-feeder : goal.invariant_of-feeder
+invariant_of-feeder c =
+    (c.feeder.invariant.0, c.tell.ensures.timely_open feeder c.feeder.invariant.1)

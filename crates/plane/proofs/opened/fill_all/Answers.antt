@@ -3,7 +3,7 @@ use Rattle.std.proofs.lemmas.List.{length-append, nil_from_length}
 use Rattle.std.specs.Vec.Iter.{into_iter_items}
 use Rattle.turn_lock.specs.Passes.{view_of}
 use Rattle.place_rows.specs.Lists.{Every}
-use Rattle.place_rows.specs.Rows.{label_at, id_of}
+use Rattle.place_rows.specs.Rows.{label_at, id_of, known_of}
 use Rattle.plane.specs.Filling.{IsReady}
 use Rattle.plane.specs.Remaining.{IsRowOf}
 use Rattle.plane.proofs.RowSplits.{Laws, none_filled, one_filled, all_filled, every_more}
@@ -24,10 +24,10 @@ loop-one-init c =
       ready = λ places ports all. subst (Every (IsReady places ports)) (sym gives) all;
       room = omega (arith, c.requires.room.1, ap length c.requires.room.0, ap length gives);
       so = subst
-          (λ (l : List Unfilled). FilledSo (map view_of c.args.row.now.items)
-          (map view_of c.args.row.now.items) c.args.unfilled.items l c.args.passes.items)
+          (λ (l : List Unfilled). FilledSo (known_of (map view_of c.args.row.now.items))
+          (known_of (map view_of c.args.row.now.items)) c.args.unfilled.items l c.args.passes.items)
           (sym gives)
-          (none_filled (map view_of c.args.row.now.items) c.args.unfilled.items
+          (none_filled (known_of (map view_of c.args.row.now.items)) c.args.unfilled.items
           c.args.passes.items c.requires.room.0);
     }
 
@@ -45,6 +45,7 @@ fill-pass-requires c =
         (subst (Every (IsReady r.0.board.places r.1)) c.in-Some.ensures.steps.0
             (inv.ready r.0.board.places r.1 r.5)).0,
       );
+      unused = (inv.so.unused c.requires.unused).0;
     }
 
 pub push_reserved-requires : goal.push_reserved-requires
@@ -91,10 +92,13 @@ loop-one-preserved c =
         length-append passes (c.fill-pass.result ∷ []),
         c.push_reserved.ensures.capacity,
       );
-      so = one_filled laws named (map view_of c.args.row.now.items)
-          (map view_of c.loop-one.row.items) (map view_of c.fill-pass.new.row.items)
+      so = one_filled laws named (known_of (map view_of c.args.row.now.items))
+          (known_of (map view_of c.loop-one.row.items))
+          (known_of (map view_of c.fill-pass.new.row.items))
           c.args.unfilled.items (into_iter_items c.loop-one.one-iterator) _ c.in-Some.one passes
-          c.push_reserved.new.self.items c.fill-pass.result inv.so split are.0.known
+          c.push_reserved.new.self.items c.fill-pass.result inv.so split
+          (c.rows_know_the_same_without_times.ensures.known named
+          (map view_of c.loop-one.row.items) are.0.known)
           (rows_normal (map id_of c.args.locks.now.items) named passes are.1)
           c.fill-pass.ensures.kept c.fill-pass.ensures.split c.fill-pass.ensures.filled
           c.push_reserved.ensures.items;
@@ -113,7 +117,8 @@ returns-clause-whole c = λ places whole.
     rw c.from_vec.ensures (c.loop-one.invariant.so.whole places whole)
 
 pub returns-clause-unused : goal.returns-clause-unused
-returns-clause-unused c = λ all. rw c.from_vec.ensures (c.loop-one.invariant.so.unused all)
+returns-clause-unused c =
+    rw c.from_vec.ensures (c.loop-one.invariant.so.unused c.requires.unused)
 
 pub returns-clause-receivers : goal.returns-clause-receivers
 returns-clause-receivers c =

@@ -4,7 +4,7 @@ use Rattle.std.specs.Vec.Iter.{into_iter_items}
 use Rattle.turn_lock.specs.Passes.{view_of}
 use Rattle.locked_place.specs.Views.{PlaceLabel, label_of}
 use Rattle.place_rows.specs.Lists.{Every}
-use Rattle.place_rows.specs.Rows.{ArePasses, id_of}
+use Rattle.place_rows.specs.Rows.{ArePasses, id_of, known_of}
 use Rattle.plane.specs.Filling.{IsReady}
 use Rattle.plane.specs.Remaining.{IsRowOf}
 use Rattle.plane.proofs.RowSplits.{FilledSo}
@@ -19,6 +19,6 @@ invariant-loop-one l = record {
       Every (IsReady places ports) (into_iter_items l.one-iterator);
   room : length l.passes.items + length (into_iter_items l.one-iterator)
       ≤ vec_capacity l.passes;
-  so : FilledSo (map view_of l.initial.row.items) (map view_of l.row.items)
+  so : FilledSo (known_of (map view_of l.initial.row.items)) (known_of (map view_of l.row.items))
       l.fn.unfilled.items (into_iter_items l.one-iterator) l.passes.items;
 }

@@ -11,7 +11,7 @@ returns g c = record {
     stays = c.feed_share-outcome.ensures.stays;
     looks = record { looks = c.feed_share-outcome.ensures.looks.looks };
     on = λ well. went_well c.feed_share-outcome.result _
-        (SharePasses c.args.script.now (places_of c.args.plane.now) c.args.share
+        (SharePasses c.args.stage.now.script.now (places_of c.args.stage.now.plane.now) c.args.share
         (length c.args.capture.now.frames) (shares_in c.args.self.now.pass)
         (shares_in c.feed_share-outcome.new.feeding.pass))
         c.is_err-self.ensures.value well c.feed_share-outcome.ensures.on;

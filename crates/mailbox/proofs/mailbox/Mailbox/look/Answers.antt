@@ -20,6 +20,7 @@ returns-then-load-eq0 c =
           c.load.ensures.0 f.0 ∙ ap receiver_empty c.receiver.view_is,
       record {
         prefix = i.told.prefix;
+        in_time = i.told.in_time;
         senders = i.told.senders;
         whole = i.told.whole;
         beyond = i.told.beyond;

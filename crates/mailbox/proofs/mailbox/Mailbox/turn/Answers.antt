@@ -1,5 +1,5 @@
 use Rattle.std.proofs.Common.{ap, ◌∙◌}
-use Rattle.mailbox.specs.Views.{receiver_with}
+use Rattle.mailbox.specs.Views.{mail_of, receiver_with}
 use Rattle.mailbox.proofs.QueueRule.{pops}
 use Rattle.mailbox.proofs.ReceiverFields.{view_same, view_got}
 use Rattle.std.proofs.Common.{subst}
@@ -20,10 +20,11 @@ returns-in-Some g c =
             c.free.new.chair post c.in-Some.ensures.queue.0
             c.free.ensures.table.0 e.0
             c.free.ensures.freed
-            ∙ ap (λ r. receiver_with r post.from post.letter) c.receiver.view_is,
+            ∙ ap (λ r. receiver_with r post.from (mail_of post)) c.receiver.view_is,
       ),
       record {
         prefix = e.1.prefix;
+        in_time = e.1.in_time;
         senders = e.1.senders;
         whole = e.1.whole;
         beyond = e.1.beyond;

@@ -4,7 +4,7 @@ use Rattle.nfq_live.proofs.crew.Crew.empty.Given as goal
 
 abbrev pub invariant-loop : goal.invariant-loop
 invariant-loop g l = record {
-  crew : IsCrewOf l.plane l.self;
-  minds : HaveMinds l.script l.self;
-  on : AllLookOn l.script (places_of l.plane) l.initial.self l.self;
+  crew : IsCrewOf l.stage.plane.now l.self;
+  minds : HaveMinds l.stage.script.now l.self;
+  on : AllLookOn l.stage.script.now (places_of l.stage.plane.now) l.initial.self l.self;
 }

@@ -12,7 +12,7 @@ use Rattle.nfq_live.proofs.crew.Crew.end_all.Goals as goal
 
 pub loop-place-init : goal.loop-place-init
 loop-place-init g c =
-    let places = places_of c.args.plane.now in
+    let places = places_of c.args.stage.now.plane.now in
     let on = c.in_ok-empty.ensures.on in
     record {
       crew = c.empty.ensures.crew;
@@ -22,9 +22,10 @@ loop-place-init g c =
       received = subst (λ (l : List ℕ). AreReceived l places c.empty.new.self) c.requires.order
           c.in_ok-empty.ensures.received;
       fed = ap (λ (f : Feeding). f.pass.fed) on.alone.feeding;
-      ends = λ size m. ends_look c.args.script.now places size 0
-          (all_due (closing c.args.script.now 0)) c.args.self.now c.empty.new.self on
-          (ends_begin c.a_port_does_what_is_next.ensures.begins c.args.script.now places size 0
+      ends = λ size m. ends_look c.args.stage.now.script.now places size 0
+          (all_due (closing c.args.stage.now.script.now 0)) c.args.self.now c.empty.new.self on
+          (ends_begin c.a_port_does_what_is_next.ensures.begins c.args.stage.now.script.now places
+          size 0
           c.args.self.now m);
       met = λ size m some. absurd (omega (arith, some));
     }
@@ -36,8 +37,8 @@ end_port-requires-clause-place g c κs within =
 
 pub loop-place-preserved : goal.loop-place-preserved
 loop-place-preserved g c =
-    let places = places_of c.args.plane.now in
-    let script = c.args.script.now in
+    let places = places_of c.args.stage.now.plane.now in
+    let script = c.args.stage.now.script.now in
     let one : suc c.loop-place.place ≡ c.loop-place.place + 1 = omega arith in
     record {
       crew = c.end_port.ensures.crew;
@@ -59,9 +60,10 @@ loop-place-preserved g c =
 pub returns-clause-ended : goal.returns-clause-ended
 returns-clause-ended g c = λ size m.
     let all = ap (λ (l : List ℕ). length l) c.ports-place-end.ensures.value in
-    let last : c.loop-place.place ≡ length c.args.script.now.ports =
+    let last : c.loop-place.place ≡ length c.args.stage.now.script.now.ports =
     omega (arith, all, c.loop-place-test.false, c.loop-place.auto.place-end) in
-    subst (λ (k : ℕ). IsAtMeeting c.args.script.now (places_of c.args.plane.now) size k
+    subst (λ (k : ℕ). IsAtMeeting c.args.stage.now.script.now (places_of c.args.stage.now.plane.now)
+    size k
     c.loop-place.self) last
     (c.loop-place.invariant.met size m
     (omega (arith, last, c.ports-place-end.ensures.facts.some_port)))

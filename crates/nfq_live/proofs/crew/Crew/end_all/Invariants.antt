@@ -8,13 +8,17 @@ use Rattle.nfq_live.proofs.crew.Crew.end_all.Given as goal
 
 abbrev pub invariant-loop-place : goal.invariant-loop-place
 invariant-loop-place g l = record {
-  crew : IsCrewOf l.plane l.self;
-  minds : HaveMinds l.script l.self;
-  are_open : AreOpenFrom l.script l.place l.self;
-  received : AreReceived l.script.ports (places_of l.plane) l.self;
+  crew : IsCrewOf l.stage.plane.now l.self;
+  minds : HaveMinds l.stage.script.now l.self;
+  are_open : AreOpenFrom l.stage.script.now l.place l.self;
+  received : AreReceived l.stage.script.now.ports (places_of l.stage.plane.now) l.self;
   fed : l.self.feeding.pass.fed ≡ l.fn.self.feeding.pass.fed;
-  ends : (size : Size) → IsAtMeeting l.script (places_of l.plane) size 0 l.fn.self →
-      EndsTo l.script (places_of l.plane) size l.place (closing l.script l.place) l.self;
-  met : (size : Size) → IsAtMeeting l.script (places_of l.plane) size 0 l.fn.self →
-      0 < l.place → IsAtMeeting l.script (places_of l.plane) size l.place l.self;
+  ends : (size : Size) → IsAtMeeting l.stage.script.now (places_of l.stage.plane.now) size 0
+      l.fn.self →
+      EndsTo l.stage.script.now (places_of l.stage.plane.now) size l.place (closing
+      l.stage.script.now l.place) l.self;
+  met : (size : Size) → IsAtMeeting l.stage.script.now (places_of l.stage.plane.now) size 0
+      l.fn.self →
+      0 < l.place → IsAtMeeting l.stage.script.now (places_of l.stage.plane.now) size l.place
+      l.self;
 }

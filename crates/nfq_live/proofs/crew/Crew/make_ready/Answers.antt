@@ -6,16 +6,18 @@ use Rattle.nfq_live.proofs.PortOpenings.{earlier, feeder_crew}
 use Rattle.nfq_live.proofs.crew.Crew.make_ready.Goals as goal
 
 pub take_down_after-requires-clause-pass : goal.take_down_after-requires-clause-pass
-take_down_after-requires-clause-pass g c = c.open_all.ensures.crew.all.feeds
+take_down_after-requires-clause-pass g c κs within = c.open_all.ensures.crew.all.feeds
 
 pub returns-in_err-take_down_after-clause-crew : goal.returns-in_err-take_down_after-clause-crew
 returns-in_err-take_down_after-clause-crew g c =
-    feeder_crew c.parts_stay_whole.ensures c.args.plane.now c.open_all.new.self _ refl refl
+    feeder_crew c.parts_stay_whole.ensures c.args.stage.now.plane.now c.open_all.new.self _ refl
+    refl
     c.take_down_after.ensures.stays refl c.open_all.ensures.crew
 
 pub returns-clause-crew : goal.returns-clause-crew
 returns-clause-crew g c =
-    feeder_crew c.parts_stay_whole.ensures c.args.plane.now c.open_all.new.self _ refl refl
+    feeder_crew c.parts_stay_whole.ensures c.args.stage.now.plane.now c.open_all.new.self _ refl
+    refl
     c.take_down_after.ensures.stays refl c.open_all.ensures.crew
 
 pub returns-clause-minds : goal.returns-clause-minds
@@ -28,8 +30,8 @@ returns-clause-ready g c = record {
   ports = refl;
   closed = refl;
   fed = c.take_down_after.ensures.none;
-  fell = earlier (places_of c.args.plane.now) 0 (falling_time 0) (falling_time 0)
-      (downs_after c.args.script.now 0) (shares_in c.open_all.new.self.feeding.pass)
+  fell = earlier (places_of c.args.stage.now.plane.now) 0 (falling_time 0) (falling_time 0)
+      (downs_after c.args.stage.now.script.now 0) (shares_in c.open_all.new.self.feeding.pass)
       (shares_in c.take_down_after.new.pass) (omega arith)
       c.in_ok-take_down_after.ensures.down;
 }

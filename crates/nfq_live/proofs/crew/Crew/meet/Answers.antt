@@ -3,9 +3,9 @@ use Rattle.place_rows.specs.Lists.{Every}
 use Rattle.plane.specs.Passes.{IsPortOf, PortView}
 use Rattle.plane.specs.Planes.{order_of, places_of}
 use Rattle.nfq_live.specs.declared.crew.Crew.{Crew}
-use Rattle.live_work.proofs.SentAsks.{ok_anyway}
 use Rattle.nfq_live.proofs.AllPasses.{all_meet, meets_of, minds_kept, numbers_kept}
 use Rattle.nfq_live.proofs.CrewSteps.{received_met}
+use Rattle.nfq_live.proofs.WholeRun.{at_any}
 use Rattle.nfq_live.proofs.crew.Crew.meet.Goals as goal
 
 pub returns-clause-crew : goal.returns-clause-crew
@@ -82,7 +82,7 @@ returns-clause-received c = λ was.
     c.from_vec-closed.result crew.closed.items c.meet-outcome.new.closed
     c.into_vec-2.result.items ports c.into_vec.ensures closed c.into_vec-2.ensures
     c.meet-outcome.ensures.met in
-    ok_anyway c.meet-outcome.result _
+    at_any c.meet-outcome.result _
     (received_met c.meetings_and_closings_send_nothing.ensures.meets
     c.meetings_and_closings_send_nothing.ensures.all (order_of c.args.plane.now)
     (places_of c.args.plane.now) crew later

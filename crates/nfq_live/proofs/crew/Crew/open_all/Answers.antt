@@ -16,7 +16,7 @@ say_opening-requires-clause-place g c κs within =
 
 pub loop-place-preserved : goal.loop-place-preserved
 loop-place-preserved g c =
-    let script = c.args.script.now in
+    let script = c.args.stage.now.script.now in
     let all = ap (λ (l : List ℕ). length l) c.ports-place-end.ensures.value in
     let less : c.loop-place.place < length script.ports =
     omega (arith, all, c.loop-place-test.true) in
@@ -28,9 +28,9 @@ loop-place-preserved g c =
       minds = c.meet.ensures.minds script c.say_opening.ensures.minds;
       opened = opens_next c.ports_open_one_after_the_other.ensures.begins
           c.ports_open_one_after_the_other.ensures.next c.the_feeder_keeps_its_time.ensures.meets
-          script (places_of c.args.plane.now) c.loop-place.place
+          script (places_of c.args.stage.now.plane.now) c.loop-place.place
           (slice_index script.ports c.loop-place.place) c.loop-place.self c.say_opening.new.self
-          c.meet.new.self (some_place c.args.plane.now) facts its.1 (omega (arith, its.0))
+          c.meet.new.self (some_place c.args.stage.now.plane.now) facts its.1 (omega (arith, its.0))
           c.loop-place.invariant.opened c.say_opening.ensures.others
           c.in_ok-say_opening.ensures.said
           (subst (λ (l : List ℕ). AreMet l (passes_of c.say_opening.new.self)
@@ -41,7 +41,8 @@ loop-place-preserved g c =
 pub returns-clause-opened : goal.returns-clause-opened
 returns-clause-opened g c =
     let all = ap (λ (l : List ℕ). length l) c.ports-place-end.ensures.value in
-    let last : c.loop-place.place ≡ length c.args.script.now.ports =
+    let last : c.loop-place.place ≡ length c.args.stage.now.script.now.ports =
     omega (arith, all, c.loop-place-test.false, c.loop-place.auto.place-end) in
-    subst (λ (k : ℕ). HaveOpened c.args.script.now (places_of c.args.plane.now) k
+    subst (λ (k : ℕ). HaveOpened c.args.stage.now.script.now (places_of c.args.stage.now.plane.now)
+    k
     c.loop-place.self) last c.loop-place.invariant.opened

@@ -5,7 +5,7 @@ use Rattle.nfq_live.proofs.crew.Crew.open_all.Given as goal
 
 abbrev pub invariant-loop-place : goal.invariant-loop-place
 invariant-loop-place g l = record {
-  crew : IsCrewOf l.plane l.self;
-  minds : HaveMinds l.script l.self;
-  opened : HaveOpened l.script (places_of l.plane) l.place l.self;
+  crew : IsCrewOf l.stage.plane.now l.self;
+  minds : HaveMinds l.stage.script.now l.self;
+  opened : HaveOpened l.stage.script.now (places_of l.stage.plane.now) l.place l.self;
 }

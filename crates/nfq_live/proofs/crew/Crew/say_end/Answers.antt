@@ -5,7 +5,8 @@ use Rattle.script_lines.specs.declared.ask.Ask.{Ask}
 use Rattle.plane.specs.Planes.{places_of}
 use Rattle.port_scripts.specs.Words.{ClosesLast}
 use Rattle.nfq_live.specs.Endings.{SaysEndTo}
-use Rattle.live_work.proofs.SentAsks.{begins_so, close_last, last_on, next_fits, rest_fits}
+use Rattle.live_work.proofs.SentAsks.{begins_so, next_fits, rest_fits}
+use Rattle.nfq_live.proofs.EndWords.{close_last, last_on}
 use Rattle.nfq_live.proofs.PortEnd.{its_still, still_within}
 use Rattle.nfq_live.proofs.PortEndStage.{end_left, end_said_on, none_of_end}
 use Rattle.nfq_live.proofs.CrewSteps.{alone_both, alone_none}
@@ -17,13 +18,15 @@ loop-ask-init g c =
     record {
       fit = subst (λ (l : List Ask). All IsAsk l) same c.requires.fit;
       last = subst (λ (l : List Ask). ClosesLast l) same c.requires.last;
-      crew = c.requires.crew;
-      minds = c.requires.minds;
+      crew = c.requires.ends.crew;
+      minds = c.requires.ends.minds;
       alone = alone_none c.args.self.now;
-      received = c.requires.received;
-      said = subst (λ (l : List Ask). SaysEndTo c.args.script.now (places_of c.args.plane.now)
+      received = c.requires.ends.received;
+      said = subst (λ (l : List Ask). SaysEndTo c.args.stage.now.script.now (places_of
+          c.args.stage.now.plane.now)
           c.args.place c.args.asks l c.args.self.now c.args.self.now) same
-          (none_of_end c.args.script.now (places_of c.args.plane.now) c.args.place c.args.asks
+          (none_of_end c.args.stage.now.script.now (places_of c.args.stage.now.plane.now)
+          c.args.place c.args.asks
           c.args.self.now);
     }
 
@@ -33,15 +36,23 @@ say_words-requires-clause-fit g c κs within =
     (begins_so c.loop-ask.ask-iterator c.next.new.self c.in-Some.ask c.in-Words.words
     c.in-Some.ensures.steps c.in-Words.is) c.loop-ask.invariant.fit
 
-pub say_words-requires-clause-within : goal.say_words-requires-clause-within
-say_words-requires-clause-within g c κs within =
-    still_within c.args.plane.now c.args.script.now c.args.place c.args.at c.requires.order
-    c.args.self.now c.loop-ask.self c.loop-ask.invariant.alone c.requires.within
-
-pub say_words-requires-clause-its : goal.say_words-requires-clause-its
-say_words-requires-clause-its g c κs within =
-    its_still c.args.plane.now c.args.script.now c.args.place c.args.at c.requires.order
-    c.args.self.now c.loop-ask.self c.requires.within c.loop-ask.invariant.alone c.requires.its
+pub say_words-requires-clause-ends : goal.say_words-requires-clause-ends
+say_words-requires-clause-ends g c κs inside =
+    let plane = c.args.stage.now.plane.now in
+    let script = c.args.stage.now.script.now in
+    let crew = c.args.self.now in
+    let was = c.requires.ends in
+    let alone = c.loop-ask.invariant.alone in
+    record {
+      crew = c.loop-ask.invariant.crew;
+      order = was.order;
+      minds = c.loop-ask.invariant.minds;
+      within = still_within plane script c.args.place c.args.at was.order crew c.loop-ask.self alone
+          was.within;
+      its = its_still plane script c.args.place c.args.at was.order crew c.loop-ask.self was.within
+          alone was.its;
+      received = c.loop-ask.invariant.received;
+    }
 
 pub loop-ask-preserved : goal.loop-ask-preserved
 loop-ask-preserved g c =
@@ -57,7 +68,8 @@ loop-ask-preserved g c =
       alone = alone_both c.args.self.now c.loop-ask.self c.say_words.new.self
           c.loop-ask.invariant.alone c.in_ok-say_words-in-Words.ensures.alone;
       received = c.in_ok-say_words-in-Words.ensures.received;
-      said = end_said_on c.args.script.now (places_of c.args.plane.now) c.args.place c.args.asks
+      said = end_said_on c.args.stage.now.script.now (places_of c.args.stage.now.plane.now)
+          c.args.place c.args.asks
           c.loop-ask.ask-iterator c.next.new.self c.in-Words.words c.args.self.now c.loop-ask.self
           c.say_words.new.self steps c.loop-ask.invariant.said
           c.in_ok-say_words-in-Words.ensures.said;
@@ -65,13 +77,15 @@ loop-ask-preserved g c =
 
 pub returns-in-Close-clause-said : goal.returns-in-Close-clause-said
 returns-in-Close-clause-said g c =
-    end_left c.args.script.now (places_of c.args.plane.now) c.args.place c.args.asks
+    end_left c.args.stage.now.script.now (places_of c.args.stage.now.plane.now) c.args.place
+    c.args.asks
     c.loop-ask.ask-iterator _ c.args.self.now c.loop-ask.self
     (close_last c.loop-ask.ask-iterator c.next.new.self c.in-Some.ask c.in-Some.ensures.steps
     c.in-Close.is c.loop-ask.invariant.last) c.loop-ask.invariant.said
 
 pub returns-clause-said : goal.returns-clause-said
 returns-clause-said g c =
-    end_left c.args.script.now (places_of c.args.plane.now) c.args.place c.args.asks
+    end_left c.args.stage.now.script.now (places_of c.args.stage.now.plane.now) c.args.place
+    c.args.asks
     c.loop-ask.ask-iterator _ c.args.self.now c.loop-ask.self c.in-None.ensures.steps.0
     c.loop-ask.invariant.said

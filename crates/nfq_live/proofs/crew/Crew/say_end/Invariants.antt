@@ -10,10 +10,11 @@ abbrev pub invariant-loop-ask : goal.invariant-loop-ask
 invariant-loop-ask g l = record {
   fit : All IsAsk l.ask-iterator;
   last : ClosesLast l.ask-iterator;
-  crew : IsCrewOf l.plane l.self;
-  minds : HaveMinds l.script l.self;
+  crew : IsCrewOf l.stage.plane.now l.self;
+  minds : HaveMinds l.stage.script.now l.self;
   alone : PortsAlone l.initial.self l.self;
-  received : AreReceived l.script.ports (places_of l.plane) l.self;
-  said : SaysEndTo l.script (places_of l.plane) l.place l.fn.asks l.ask-iterator l.initial.self
+  received : AreReceived l.stage.script.now.ports (places_of l.stage.plane.now) l.self;
+  said : SaysEndTo l.stage.script.now (places_of l.stage.plane.now) l.place l.fn.asks l.ask-iterator
+      l.initial.self
       l.self;
 }

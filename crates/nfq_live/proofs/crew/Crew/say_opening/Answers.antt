@@ -24,7 +24,7 @@ index_mut-pass-requires g c =
     omega (
       arith,
       c.requires.place,
-      as_long c.args.script.now c.args.self.now.ports.items c.requires.opened.in_order,
+      as_long c.args.stage.now.script.now c.args.self.now.ports.items c.requires.opened.in_order,
     ) in
     omega (arith, less)
 
@@ -34,12 +34,13 @@ index_mut-mind-requires g c =
     omega (
       arith,
       c.requires.place,
-      as_long c.args.script.now c.args.self.now.ports.items c.requires.opened.in_order,
+      as_long c.args.stage.now.script.now c.args.self.now.ports.items c.requires.opened.in_order,
     ) in
     omega (
       arith,
       less,
-      zip_long (IsMind c.args.script.now) c.args.self.now.ports.items c.args.self.now.minds.items
+      zip_long (IsMind c.args.stage.now.script.now) c.args.self.now.ports.items
+          c.args.self.now.minds.items
           c.requires.minds,
     )
 
@@ -49,12 +50,13 @@ opening-requires g c =
     omega (
       arith,
       c.requires.place,
-      as_long c.args.script.now c.args.self.now.ports.items c.requires.opened.in_order,
+      as_long c.args.stage.now.script.now c.args.self.now.ports.items c.requires.opened.in_order,
     ) in
     record {
-      has_port = mind_within c.args.script.now c.index_mut-pass.result.now
+      has_port = mind_within c.args.stage.now.script.now c.index_mut-pass.result.now
           c.index_mut-mind.result.now
-          (mind_there c.args.script.now c.args.self.now c.args.place c.index_mut-pass.result.now
+          (mind_there c.args.stage.now.script.now c.args.self.now c.args.place
+          c.index_mut-pass.result.now
           c.index_mut-mind.result.now c.requires.minds less c.index_mut-pass.ensures.value
           c.index_mut-mind.ensures.value);
     }
@@ -62,7 +64,7 @@ opening-requires g c =
 pub say_all-requires-clause-words : goal.say_all-requires-clause-words
 say_all-requires-clause-words g c κs within =
     subst (λ (l : List Ask). AreWords l) (sym c.in_ok-asks.ensures.asks)
-    (c.ports_close_at_the_end.ensures.opening c.args.script.now
+    (c.ports_close_at_the_end.ensures.opening c.args.stage.now.script.now
     c.index_mut-mind.result.now.machine.place)
 
 pub say_all-requires-clause-pass : goal.say_all-requires-clause-pass
@@ -71,95 +73,59 @@ say_all-requires-clause-pass g c κs within =
     omega (
       arith,
       c.requires.place,
-      as_long c.args.script.now c.args.self.now.ports.items c.requires.opened.in_order,
+      as_long c.args.stage.now.script.now c.args.self.now.ports.items c.requires.opened.in_order,
     ) in
-    port_there c.args.plane.now c.args.self.now c.args.place c.index_mut-pass.result.now
+    port_there c.args.stage.now.plane.now c.args.self.now c.args.place c.index_mut-pass.result.now
     c.requires.crew less c.index_mut-pass.ensures.value
 
-pub returns-clause-crew : goal.returns-clause-crew
-returns-clause-crew g c =
+pub returns : goal.returns
+returns g c =
     let less : c.args.place < length c.args.self.now.ports.items =
     omega (
       arith,
       c.requires.place,
-      as_long c.args.script.now c.args.self.now.ports.items c.requires.opened.in_order,
+      as_long c.args.stage.now.script.now c.args.self.now.ports.items c.requires.opened.in_order,
     ) in
-    let goes = goes_on_at c.args.plane.now c.args.self.now.feeding.pass
-    c.args.self.now.closed.items c.parts_stay_whole.ensures c.args.self.now.ports.items
-    c.args.place c.index_mut-pass.result.now c.say_all.new.pass less
-    c.index_mut-pass.ensures.value c.requires.crew.all c.say_all.ensures.stays in
-    record { all = goes.all; looks = c.requires.crew.looks }
-
-pub returns-clause-minds : goal.returns-clause-minds
-returns-clause-minds g c =
-    let less : c.args.place < length c.args.self.now.ports.items =
-    omega (
-      arith,
-      c.requires.place,
-      as_long c.args.script.now c.args.self.now.ports.items c.requires.opened.in_order,
-    ) in
-    let crew = c.args.self.now in
-    zip_put (IsMind c.args.script.now) crew.ports.items crew.minds.items c.args.place
-    c.say_all.new.pass c.say_all.new.mind c.requires.minds
-    (mind_stays c.args.script.now c.index_mut-pass.result.now c.say_all.new.pass
-    c.index_mut-mind.result.now c.say_all.new.mind
-    (mind_there c.args.script.now crew c.args.place c.index_mut-pass.result.now
-    c.index_mut-mind.result.now c.requires.minds less c.index_mut-pass.ensures.value
-    c.index_mut-mind.ensures.value) c.say_all.ensures.hears c.say_all.ensures.stays.port
-    c.say_all.ensures.counts.0 c.say_all.ensures.counts.1)
-
-pub returns-clause-said : goal.returns-clause-said
-returns-clause-said g c =
-    let less : c.args.place < length c.args.self.now.ports.items =
-    omega (
-      arith,
-      c.requires.place,
-      as_long c.args.script.now c.args.self.now.ports.items c.requires.opened.in_order,
-    ) in
-    let goes = goes_on_at c.args.plane.now c.args.self.now.feeding.pass
+    let goes = goes_on_at c.args.stage.now.plane.now c.args.self.now.feeding.pass
     c.args.self.now.closed.items c.parts_stay_whole.ensures c.args.self.now.ports.items
     c.args.place c.index_mut-pass.result.now c.say_all.new.pass less
     c.index_mut-pass.ensures.value c.requires.crew.all c.say_all.ensures.stays in
     let crew = c.args.self.now in
-    let script = c.args.script.now in
-    let places = places_of c.args.plane.now in
+    let script = c.args.stage.now.script.now in
+    let places = places_of c.args.stage.now.plane.now in
     let old = c.index_mut-pass.result.now in
     let new = c.say_all.new.pass in
     let news = slice_set crew.ports.items c.args.place new in
     let port = slice_index script.ports c.args.place in
     let mind = mind_there script crew c.args.place old c.index_mut-mind.result.now
     c.requires.minds less c.index_mut-pass.ensures.value c.index_mut-mind.ensures.value in
-    on_ok c.say_all.result
-    (SaysTo script places old.port c.in_ok-asks.asks [] (port_pass old) (port_pass new))
-    (SaysTo script places port (opening script (place_in port script.ports)) []
-    (passes_in crew.feeding.pass (crew.ports.items ++ crew.closed.items) port)
-    (passes_in crew.feeding.pass (news ++ crew.closed.items) port))
-    (says_opening c.args.plane.now script places port crew.feeding.pass crew.ports.items news
-    crew.closed.items old new c.in_ok-asks.asks goes
-    (opening_port script crew.ports.items c.args.place old c.requires.opened.in_order less
-    c.index_mut-pass.ensures.value)
-    (c.in_ok-asks.ensures.asks ∙ ap (λ (k : ℕ). opening script k) mind.place))
-    c.say_all.ensures.sent
-
-pub returns-clause-others : goal.returns-clause-others
-returns-clause-others g c =
-    let less : c.args.place < length c.args.self.now.ports.items =
-    omega (
-      arith,
-      c.requires.place,
-      as_long c.args.script.now c.args.self.now.ports.items c.requires.opened.in_order,
-    ) in
-    let goes = goes_on_at c.args.plane.now c.args.self.now.feeding.pass
-    c.args.self.now.closed.items c.parts_stay_whole.ensures c.args.self.now.ports.items
-    c.args.place c.index_mut-pass.result.now c.say_all.new.pass less
-    c.index_mut-pass.ensures.value c.requires.crew.all c.say_all.ensures.stays in
-    let crew = c.args.self.now in
     record {
-      alone = record { numbers = goes.numbers; closed = refl; feeding = refl };
-      others = λ p other. goes.others p (λ same. other (same ∙ sym
-          (opening_port c.args.script.now crew.ports.items c.args.place
-          c.index_mut-pass.result.now c.requires.opened.in_order less
-          c.index_mut-pass.ensures.value)));
+      crew = record { all = goes.all; looks = c.requires.crew.looks };
+      minds = zip_put (IsMind script) crew.ports.items crew.minds.items c.args.place
+          new c.say_all.new.mind c.requires.minds
+          (mind_stays script old new
+          c.index_mut-mind.result.now c.say_all.new.mind
+          mind c.say_all.ensures.hears c.say_all.ensures.stays.port
+          c.say_all.ensures.counts.0 c.say_all.ensures.counts.1);
+      said = on_ok c.say_all.result
+          (SaysTo script places old.port c.in_ok-asks.asks [] (port_pass old) (port_pass new))
+          (SaysTo script places port (opening script (place_in port script.ports)) []
+          (passes_in crew.feeding.pass (crew.ports.items ++ crew.closed.items) port)
+          (passes_in crew.feeding.pass (news ++ crew.closed.items) port))
+          (says_opening c.args.stage.now.plane.now script places port crew.feeding.pass
+          crew.ports.items news
+          crew.closed.items old new c.in_ok-asks.asks goes
+          (opening_port script crew.ports.items c.args.place old c.requires.opened.in_order less
+          c.index_mut-pass.ensures.value)
+          (c.in_ok-asks.ensures.asks ∙ ap (λ (k : ℕ). opening script k) mind.place))
+          c.say_all.ensures.sent;
+      others = record {
+        alone = record { numbers = goes.numbers; closed = refl; feeding = refl };
+        others = λ p other. goes.others p (λ same. other (same ∙ sym
+            (opening_port script crew.ports.items c.args.place
+            old c.requires.opened.in_order less
+            c.index_mut-pass.ensures.value)));
+      };
     }
 
 pub returns-in_err-asks-clause-others : goal.returns-in_err-asks-clause-others

@@ -8,10 +8,10 @@ use Rattle.nfq_live.proofs.crew.Crew.send_and_empty.Given as goal
 abbrev pub invariant-loop-look : goal.invariant-loop-look
 invariant-loop-look g l = record {
   shorter : length l.rest ≤ length l.datagram;
-  crew : IsCrewOf l.plane l.self;
-  minds : HaveMinds l.script l.self;
+  crew : IsCrewOf l.stage.plane.now l.self;
+  minds : HaveMinds l.stage.script.now l.self;
   alone : PortsAlone l.initial.self l.self;
-  received : AreReceived l.script.ports (places_of l.plane) l.self;
-  sent : CutsEndTo l.script (places_of l.plane) l.place l.datagram
+  received : AreReceived l.stage.script.now.ports (places_of l.stage.plane.now) l.self;
+  sent : CutsEndTo l.stage.script.now (places_of l.stage.plane.now) l.place l.datagram
       (cut_in (l._look-end - l._look) l.rest) l.initial.self l.self;
 }

@@ -12,46 +12,18 @@ use Rattle.live_work.proofs.UnchangedPass.{port_here}
 use Rattle.live_work.proofs.PortMinds.{mind_stays}
 use Rattle.nfq_live.proofs.PortNumbers.{its_number, zip_keep}
 use Rattle.nfq_live.proofs.CrewSteps.{port_there}
-use Rattle.live_work.proofs.SentMessages.{counted_unread, if_unread, speaks}
+use Rattle.live_work.proofs.SentMessages.{speaks}
+use Rattle.nfq_live.proofs.UnreadMessages.{counted_unread, if_unread}
 use Rattle.nfq_live.proofs.crew.Crew.send_first.Goals as goal
 
 pub message_unread-requires-clause-pass : goal.message_unread-requires-clause-pass
 message_unread-requires-clause-pass g c κs within =
-    port_there c.args.plane.now c.args.self.now c.args.at c.index_mut-pass.result.now
+    port_there c.args.stage.now.plane.now c.args.self.now c.args.at c.index_mut-pass.result.now
     c.requires.crew c.requires.within c.index_mut-pass.ensures.value
 
-pub returns-clause-crew : goal.returns-clause-crew
-returns-clause-crew g c =
-    let goes = goes_on_at c.args.plane.now c.args.self.now.feeding.pass
-    c.args.self.now.closed.items c.parts_stay_whole.ensures c.args.self.now.ports.items c.args.at
-    c.index_mut-pass.result.now c.message_unread.new.pass c.requires.within
-    c.index_mut-pass.ensures.value c.requires.crew.all
-    (record {
-      of = c.message_unread.ensures.pass;
-      port = c.message_unread.ensures.receiver.1;
-      parts = c.message_unread.ensures.parts;
-    }) in
-    record { all = goes.all; looks = c.requires.crew.looks }
-
-pub returns-clause-minds : goal.returns-clause-minds
-returns-clause-minds g c = λ script minds.
-    let crew = c.args.self.now in
-    let old = c.index_mut-pass.result.now in
-    let new = c.message_unread.new.pass in
-    zip_keep (IsMind script) crew.ports.items crew.minds.items c.args.at old new minds
-    (λ mind was. mind_stays script old new mind mind
-    (subst (λ (p : PortView). IsMind script p mind) (sym c.index_mut-pass.ensures.value) was)
-    (record {
-      receiver = c.message_unread.ensures.receiver.0;
-      counted = counted_unread (places_of c.args.plane.now) (setting_of c.args.plane.now) old.port
-          (first_message c.args.datagram.now) old.dids new.dids old.trail new.trail
-          c.message_unread.result c.message_unread.ensures.sent
-          c.message_unread.ensures.none_logged;
-    }) c.message_unread.ensures.receiver.1 refl refl)
-
-pub returns-clause-sent : goal.returns-clause-sent
-returns-clause-sent g c =
-    let goes = goes_on_at c.args.plane.now c.args.self.now.feeding.pass
+pub returns : goal.returns
+returns g c =
+    let goes = goes_on_at c.args.stage.now.plane.now c.args.self.now.feeding.pass
     c.args.self.now.closed.items c.parts_stay_whole.ensures c.args.self.now.ports.items c.args.at
     c.index_mut-pass.result.now c.message_unread.new.pass c.requires.within
     c.index_mut-pass.ensures.value c.requires.crew.all
@@ -61,43 +33,51 @@ returns-clause-sent g c =
       parts = c.message_unread.ensures.parts;
     }) in
     let crew = c.args.self.now in
-    let places = places_of c.args.plane.now in
+    let places = places_of c.args.stage.now.plane.now in
     let front = first_message c.args.datagram.now in
     let old = c.index_mut-pass.result.now in
     let new = c.message_unread.new.pass in
     let news = slice_set crew.ports.items c.args.at new in
-    if_unread places (setting_of c.args.plane.now) old.port front old.dids new.dids old.trail
-    new.trail c.message_unread.result
-    (λ used. (d : PortView) → SpeaksFirst places
-    (slice_index_or crew.ports.items c.args.at d).port front
-    (passes_in crew.feeding.pass (crew.ports.items ++ crew.closed.items)
-    (slice_index_or crew.ports.items c.args.at d).port)
-    (passes_in crew.feeding.pass (news ++ crew.closed.items)
-    (slice_index_or crew.ports.items c.args.at d).port) used)
-    (λ used after sent d.
-    says_first c.args.plane.now places (slice_index_or crew.ports.items c.args.at d).port front
-    crew.feeding.pass crew.ports.items news crew.closed.items old new used goes
-    (its_number crew.ports.items c.args.at d old c.requires.within c.index_mut-pass.ensures.value)
-    (speaks c.ports_speak_by_their_passes.ensures.sends c.args.plane.now front old old new [] after
-    used (port_here c.args.plane.now old
-    (port_there c.args.plane.now crew c.args.at old c.requires.crew c.requires.within
-    c.index_mut-pass.ensures.value)) sent c.message_unread.ensures.receiver.0))
-    c.message_unread.ensures.sent
-
-pub returns-clause-others : goal.returns-clause-others
-returns-clause-others g c = λ d.
-    let goes = goes_on_at c.args.plane.now c.args.self.now.feeding.pass
-    c.args.self.now.closed.items c.parts_stay_whole.ensures c.args.self.now.ports.items c.args.at
-    c.index_mut-pass.result.now c.message_unread.new.pass c.requires.within
-    c.index_mut-pass.ensures.value c.requires.crew.all
-    (record {
-      of = c.message_unread.ensures.pass;
-      port = c.message_unread.ensures.receiver.1;
-      parts = c.message_unread.ensures.parts;
-    }) in
     record {
-      alone = record { numbers = goes.numbers; closed = refl; feeding = refl };
-      others = λ p other. goes.others p (λ same. other (same ∙ sym
-          (its_number c.args.self.now.ports.items c.args.at d c.index_mut-pass.result.now
-          c.requires.within c.index_mut-pass.ensures.value)));
+      crew = record { all = goes.all; looks = c.requires.crew.looks };
+      minds = λ script minds.
+          zip_keep (IsMind script) crew.ports.items crew.minds.items c.args.at old new minds
+          (λ mind was. mind_stays script old new mind mind
+          (subst (λ (p : PortView). IsMind script p mind) (sym c.index_mut-pass.ensures.value) was)
+          (record {
+            receiver = c.message_unread.ensures.receiver.0;
+            counted = counted_unread (places_of c.args.stage.now.plane.now) (setting_of
+                c.args.stage.now.plane.now) old.port
+                (first_message c.args.datagram.now) old.dids new.dids old.trail new.trail
+                c.message_unread.result c.message_unread.ensures.sent
+                c.message_unread.ensures.none_logged;
+          }) c.message_unread.ensures.receiver.1 refl refl);
+      sent = if_unread places (setting_of c.args.stage.now.plane.now) old.port front old.dids
+          new.dids old.trail
+          new.trail c.message_unread.result
+          (λ used. (d : PortView) → SpeaksFirst places
+          (slice_index_or crew.ports.items c.args.at d).port front
+          (passes_in crew.feeding.pass (crew.ports.items ++ crew.closed.items)
+          (slice_index_or crew.ports.items c.args.at d).port)
+          (passes_in crew.feeding.pass (news ++ crew.closed.items)
+          (slice_index_or crew.ports.items c.args.at d).port) used)
+          (λ used after sent d.
+          says_first c.args.stage.now.plane.now places (slice_index_or crew.ports.items c.args.at
+          d).port front
+          crew.feeding.pass crew.ports.items news crew.closed.items old new used goes
+          (its_number crew.ports.items c.args.at d old c.requires.within
+          c.index_mut-pass.ensures.value)
+          (speaks c.ports_speak_by_their_passes.ensures.sends c.args.stage.now.plane.now front old
+          old new [] after
+          used (port_here c.args.stage.now.plane.now old
+          (port_there c.args.stage.now.plane.now crew c.args.at old c.requires.crew
+          c.requires.within
+          c.index_mut-pass.ensures.value)) sent c.message_unread.ensures.receiver.0))
+          c.message_unread.ensures.sent;
+      others = λ d. record {
+        alone = record { numbers = goes.numbers; closed = refl; feeding = refl };
+        others = λ p other. goes.others p (λ same. other (same ∙ sym
+            (its_number crew.ports.items c.args.at d old
+            c.requires.within c.index_mut-pass.ensures.value)));
+      };
     }

@@ -14,14 +14,15 @@ seat_all-requires-clause-both g c =
     ap (λ v. length v.items) c.replace-open_ports.ensures.value in
     let minds : length c.replace-their_minds.result.items ≡ length c.args.self.now.minds.items =
     ap (λ v. length v.items) c.replace-their_minds.ensures.value in
-    minds ∙ zip_long (IsMind c.args.script.now) c.args.self.now.ports.items
+    minds ∙ zip_long (IsMind c.args.run.now.stage.script.now) c.args.self.now.ports.items
     c.args.self.now.minds.items c.requires.minds ∙ sym ports
 
 pub split_and_work-requires-clause-seated : goal.split_and_work-requires-clause-seated
 split_and_work-requires-clause-seated g c κs within =
     let ports = c.args.self.now.ports.items in
     let minds = c.args.self.now.minds.items in
-    seated_from c.args.script.now c.args.plane.now c.seat_all.new.seats.items ports minds
+    seated_from c.args.run.now.stage.script.now c.args.run.now.stage.plane.now
+    c.seat_all.new.seats.items ports minds
     (passes_taken c.seat_all.new.seats.items c.args.room.seats.items
     c.replace-open_ports.result.items ports c.requires.room.no_seats c.seat_all.ensures.passes
     (ap (λ v. v.items) c.replace-open_ports.ensures.value))
@@ -33,7 +34,8 @@ split_and_work-requires-clause-seated g c κs within =
 pub unseat_all-well-requires-clause-room : goal.unseat_all-well-requires-clause-room
 unseat_all-well-requires-clause-room g c =
     let ports = c.args.self.now.ports.items in
-    let seats = as_many_seats c.args.pool c.args.script.now c.args.plane.now
+    let seats = as_many_seats c.args.run.now.pool.workers c.args.run.now.stage.script.now
+    c.args.run.now.stage.plane.now
     c.seat_all.new.seats.items c.split_and_work.new.seats.items ports c.split_and_work.ensures.each
     (passes_taken c.seat_all.new.seats.items c.args.room.seats.items
     c.replace-open_ports.result.items ports c.requires.room.no_seats c.seat_all.ensures.passes
@@ -44,7 +46,8 @@ unseat_all-well-requires-clause-room g c =
 pub unseat_all-well-requires-clause-more_room : goal.unseat_all-well-requires-clause-more_room
 unseat_all-well-requires-clause-more_room g c =
     let ports = c.args.self.now.ports.items in
-    let seats = as_many_seats c.args.pool c.args.script.now c.args.plane.now
+    let seats = as_many_seats c.args.run.now.pool.workers c.args.run.now.stage.script.now
+    c.args.run.now.stage.plane.now
     c.seat_all.new.seats.items c.split_and_work.new.seats.items ports c.split_and_work.ensures.each
     (passes_taken c.seat_all.new.seats.items c.args.room.seats.items
     c.replace-open_ports.result.items ports c.requires.room.no_seats c.seat_all.ensures.passes
@@ -54,8 +57,8 @@ unseat_all-well-requires-clause-more_room g c =
 
 pub returns-clause-crew : goal.returns-clause-crew
 returns-clause-crew g c =
-    let script = c.args.script.now in
-    let plane = c.args.plane.now in
+    let script = c.args.run.now.stage.script.now in
+    let plane = c.args.run.now.stage.plane.now in
     let ports = c.args.self.now.ports.items in
     let before = c.seat_all.new.seats.items in
     let after = c.split_and_work.new.seats.items in
@@ -69,7 +72,7 @@ returns-clause-crew g c =
     crew_stays c.parts_stay_whole.ensures plane c.args.self.now new
     c.split_and_work.ensures.fed.stays
     (record { looks = c.split_and_work.ensures.fed.looks.looks })
-    (stay_at_seats c.args.pool script plane before after ports back
+    (stay_at_seats c.args.run.now.pool.workers script plane before after ports back
     (passes_taken before c.args.room.seats.items c.replace-open_ports.result.items ports
     c.requires.room.no_seats c.seat_all.ensures.passes
     (ap (λ v. v.items) c.replace-open_ports.ensures.value))
@@ -78,7 +81,8 @@ returns-clause-crew g c =
 
 pub returns-clause-minds : goal.returns-clause-minds
 returns-clause-minds g c = λ well.
-    minds_from_seats c.args.pool c.args.script.now c.args.plane.now c.seat_all.new.seats.items
+    minds_from_seats c.args.run.now.pool.workers c.args.run.now.stage.script.now
+    c.args.run.now.stage.plane.now c.seat_all.new.seats.items
     c.split_and_work.new.seats.items c.unseat_all-well.new.ports.items
     c.unseat_all-well.new.minds.items
     (went_back c.unseat_all-well.new.ports.items c.args.room.ports.items _
@@ -96,7 +100,8 @@ returns-clause-worked g c = λ well.
     let parts = both_true c.unseat_all-well.result _ well in
     let fed_well = is_not_true _ parts.1 in
     record {
-      went_on = went_at_seats c.args.pool c.args.script.now c.args.plane.now before after ports back
+      went_on = went_at_seats c.args.run.now.pool.workers c.args.run.now.stage.script.now
+          c.args.run.now.stage.plane.now before after ports back
           (passes_taken before c.args.room.seats.items c.replace-open_ports.result.items ports
           c.requires.room.no_seats c.seat_all.ensures.passes
           (ap (λ v. v.items) c.replace-open_ports.ensures.value))

@@ -8,10 +8,12 @@ pub returns : goal.returns
 returns g c = record {
   stays = c.inspect_with-outcome.ensures.stays;
   mind = λ well. went_well c.inspect_with-outcome.result _
-      (IsMind c.args.script.now c.inspect_with-outcome.new.pass c.inspect_with-outcome.new.mind)
+      (IsMind c.args.run.now.stage.script.now c.inspect_with-outcome.new.pass
+      c.inspect_with-outcome.new.mind)
       c.is_err-self.ensures.value well c.inspect_with-outcome.ensures.mind;
   on = λ well. went_well c.inspect_with-outcome.result _
-      (LooksOn c.args.pool c.args.script.now (places_of c.args.plane.now)
+      (LooksOn c.args.run.now.pool.workers c.args.run.now.stage.script.now (places_of
+      c.args.run.now.stage.plane.now)
       c.args.self.now.pass c.inspect_with-outcome.new.pass) c.is_err-self.ensures.value well
       c.inspect_with-outcome.ensures.on;
 }

@@ -12,6 +12,7 @@ loop-place-init g c = record {
   lost = refl;
   parts = refl;
   kept = λ s entered lost is. is;
+  timely = λ h of is. is.timely;
 }
 
 pub loop-place-preserved : goal.loop-place-preserved
@@ -26,4 +27,6 @@ loop-place-preserved g c = record {
       closed_one c.rows_stay_balanced.ensures.closed s c.args.port entered lost _ _
       c.loop-place.place c.close_port_at.ensures.turn
       (c.loop-place.invariant.kept s entered lost is);
+  timely = λ h of is.
+      c.close_port_at.ensures.timely h of (c.loop-place.invariant.timely h of is);
 }

@@ -15,6 +15,7 @@ loop-place-init g c = record {
   lost = refl;
   parts = refl;
   kept = λ s entered lost is. is;
+  timely = λ h is. is;
 }
 
 pub loop-place-preserved : goal.loop-place-preserved
@@ -28,7 +29,9 @@ loop-place-preserved g c = record {
   parts = one_parts c.loop-place.place _ _ LooksOn look_parts c.put_lines_at.ensures.turn
       ∙ c.loop-place.invariant.parts;
   kept = λ s entered lost is. look_one c.rows_stay_balanced.ensures.looks s entered lost _ _
-      c.loop-place.place c.put_lines_at.ensures.turn (c.loop-place.invariant.kept s entered lost is);
+      c.loop-place.place c.put_lines_at.ensures.turn (c.loop-place.invariant.kept s entered lost
+      is);
+  timely = λ h is. c.put_lines_at.ensures.timely h (c.loop-place.invariant.timely h is);
 }
 
 pub returns-in_err-put_lines_at-clause-looked : goal.returns-in_err-put_lines_at-clause-looked
@@ -47,3 +50,7 @@ pub returns-in_err-put_lines_at-clause-kept : goal.returns-in_err-put_lines_at-c
 returns-in_err-put_lines_at-clause-kept g c = λ s entered lost is.
     look_one c.rows_stay_balanced.ensures.looks s entered lost _ _ c.loop-place.place
     c.put_lines_at.ensures.turn (c.loop-place.invariant.kept s entered lost is)
+
+pub returns-in_err-put_lines_at-clause-timely : goal.returns-in_err-put_lines_at-clause-timely
+returns-in_err-put_lines_at-clause-timely g c = λ h is.
+    c.put_lines_at.ensures.timely h (c.loop-place.invariant.timely h is)

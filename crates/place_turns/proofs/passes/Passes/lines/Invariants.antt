@@ -8,6 +8,7 @@ use Rattle.place_rows.specs.Shares.{IsBalanced}
 use Rattle.place_turns.specs.Listings.{AreLinesUpTo}
 use Rattle.place_turns.specs.Passes.{AreOf}
 use Rattle.place_turns.specs.Places.{places_of}
+use Rattle.place_turns.specs.Timely.{Holder, AreTimelyOpen}
 use Rattle.place_turns.specs.Trails.{parts_of}
 use Rattle.place_turns.proofs.passes.Passes.lines.Given as goal
 
@@ -21,4 +22,6 @@ invariant-loop-place g l = record {
   kept : (s : Setting) (entered : List Card) (lost : List Lost) →
       IsBalanced s entered l.initial.self.trail.known lost →
       IsBalanced s entered l.self.trail.known lost;
+  timely : (h : Holder) → AreTimelyOpen l.initial.self.clock l.initial.self.timed h →
+      AreTimelyOpen l.self.clock l.self.timed h;
 }

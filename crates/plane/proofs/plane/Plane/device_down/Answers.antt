@@ -1,6 +1,7 @@
 use Rattle.std.proofs.Common.{List, ◌++◌, sym, subst, ap, refl}
 use Rattle.histories.specs.declared.histories.Lost.{Lost}
 use Rattle.place_rows.specs.Shares.{IsBalanced}
+use Rattle.place_turns.specs.Timely.{feeder}
 use Rattle.plane.specs.Past.{fed_by, lost_by}
 use Rattle.plane.specs.Planes.{setting_of}
 use Rattle.plane.proofs.DeviceBalance.{down_one}
@@ -39,3 +40,7 @@ returns-clause-parts g c =
     (down_parts c.passes_keep_their_parts.ensures.down c.passes_keep_their_parts.ensures.looked
     c.args.device _ c.pass.inside.passes.trail c.device_down.new.self.trail c.device_down.result
     c.device_down.ensures.lost.0 c.device_down.ensures.turn c.device_down.ensures.err)
+
+pub invariant_of-pass : goal.invariant_of-pass
+invariant_of-pass g c =
+    (c.pass.invariant.0, c.device_down.ensures.timely feeder c.pass.invariant.1)

@@ -1,3 +1,4 @@
+use Rattle.place_turns.specs.Timely.{feeder}
 use Rattle.plane.specs.Past.{fed_by, lost_by, after_lost}
 use Rattle.plane.specs.Planes.{places_of, setting_of}
 use Rattle.plane.proofs.CallBalance.{feed_balanced}
@@ -9,12 +10,15 @@ pub feed-requires-clause-of : goal.feed-requires-clause-of
 feed-requires-clause-of g c κs within = (rw (← c.pass.view_is) at c.requires.pass).of
 
 pub invariant_of-pass : goal.invariant_of-pass
-invariant_of-pass g c = record {
-  counted = c.pass.invariant.counted;
-  few = few_fed (fed_by c.pass.inside.past) c.pass.inside.fed.items c.feed.new.fed.items
-      c.args.packet c.feed.result (rw (← c.pass.view_is) at c.requires.few) c.feed.ensures.fed
-      c.feed.ensures.none_fed;
-}
+invariant_of-pass g c = (
+  record {
+    counted = c.pass.invariant.0.counted;
+    few = few_fed (fed_by c.pass.inside.past) c.pass.inside.fed.items c.feed.new.fed.items
+        c.args.packet c.feed.result (rw (← c.pass.view_is) at c.requires.few)
+        c.feed.ensures.fed c.feed.ensures.none_fed;
+  },
+  c.feed.ensures.timely feeder c.pass.invariant.1,
+)
 
 pub returns-clause-pass : goal.returns-clause-pass
 returns-clause-pass g c =

@@ -17,16 +17,19 @@ pub join-lost-requires-clause-from_of : goal.join-lost-requires-clause-from_of
 join-lost-requires-clause-from_of c = (rw (← c.from.view_is) at c.requires.from).of
 
 pub invariant_of-into : goal.invariant_of-into
-invariant_of-into c = record {
-  counted = c.up_to_most-before.ensures
-      ∙ counted_both (fed_by c.into.inside.past) c.into.inside.fed.items
-      (fed_by c.from.inside.past) c.into.inside.fed_before c.len.result
-      c.from.inside.fed_before c.into.invariant.counted c.len.ensures
-      c.from.invariant.counted
-      ∙ ap count_of (sym c.put_behind.ensures.fed);
-  few = subst (λ (s : ListWithRoom Card). length s.items ≤ most_fed)
-      (sym c.put_behind.ensures.own) c.from.invariant.few;
-}
+invariant_of-into c = (
+  record {
+    counted = c.up_to_most-before.ensures
+        ∙ counted_both (fed_by c.into.inside.past) c.into.inside.fed.items
+        (fed_by c.from.inside.past) c.into.inside.fed_before c.len.result
+        c.from.inside.fed_before c.into.invariant.0.counted c.len.ensures
+        c.from.invariant.0.counted
+        ∙ ap count_of (sym c.put_behind.ensures.fed);
+    few = subst (λ (s : ListWithRoom Card). length s.items ≤ most_fed)
+        (sym c.put_behind.ensures.own) c.from.invariant.0.few;
+  },
+  c.join-lost.ensures.timely c.into.invariant.1 c.from.invariant.1,
+)
 
 pub returns-clause-into : goal.returns-clause-into
 returns-clause-into c =

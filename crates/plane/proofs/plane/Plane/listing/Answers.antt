@@ -1,5 +1,6 @@
 use Rattle.std.proofs.Common.{ℕ, List, arith, ap, refl, ◌∙◌, ◌++◌}
 use Rattle.histories.specs.declared.histories.Lost.{Lost}
+use Rattle.place_turns.specs.Timely.{feeder}
 use Rattle.plane.specs.Past.{fed_by, lost_by}
 use Rattle.plane.specs.Planes.{places_of, setting_of}
 use Rattle.plane.proofs.Texts.{listed_balanced, listed_so}
@@ -81,3 +82,15 @@ pub returns-clause-same : goal.returns-clause-same
 returns-clause-same g c =
     rw (← c.pass.view_is)
     (refl, ap (λ (lost : List Lost). lost_by c.pass.inside.past ++ lost) c.lines.ensures.lost)
+
+pub invariant_of-pass-in_err-text : goal.invariant_of-pass-in_err-text
+invariant_of-pass-in_err-text g c = (c.pass.invariant.0, c.lines.ensures.timely feeder c.pass.invariant.1)
+
+pub invariant_of-pass-in_err-extend_from_slice : goal.invariant_of-pass-in_err-extend_from_slice
+invariant_of-pass-in_err-extend_from_slice g c = (c.pass.invariant.0, c.lines.ensures.timely feeder c.pass.invariant.1)
+
+pub invariant_of-pass-2 : goal.invariant_of-pass-2
+invariant_of-pass-2 g c = (c.pass.invariant.0, c.lines.ensures.timely feeder c.pass.invariant.1)
+
+pub invariant_of-pass : goal.invariant_of-pass
+invariant_of-pass g c = (c.pass.invariant.0, c.lines.ensures.timely feeder c.pass.invariant.1)

@@ -8,14 +8,17 @@ pub message-requires-clause-of : goal.message-requires-clause-of
 message-requires-clause-of g c κs within = (rw (← c.pass.view_is) at c.requires.pass).of
 
 pub invariant_of-pass : goal.invariant_of-pass
-invariant_of-pass g c = record {
-  logged = record {
-    heard = message_logged (places_of c.args.self.now) (setting_of c.args.self.now)
-        c.pass.inside.port (first_message c.args.datagram.now) _ _ _ _ _ _ _ c.message.result
-        c.message.ensures.sent c.message.ensures.same c.pass.invariant.logged.heard;
-  };
-  closable = c.message.ensures.room;
-}
+invariant_of-pass g c = (
+  record {
+    logged = record {
+      heard = message_logged (places_of c.args.self.now) (setting_of c.args.self.now)
+          c.pass.inside.port (first_message c.args.datagram.now) _ _ _ _ _ _ _ c.message.result
+          c.message.ensures.sent c.message.ensures.same c.pass.invariant.0.logged.heard;
+    };
+    closable = c.message.ensures.room;
+  },
+  c.message.ensures.timely c.pass.inside.receiver.received c.pass.invariant.1,
+)
 
 pub returns-clause-pass : goal.returns-clause-pass
 returns-clause-pass g c =
@@ -28,6 +31,7 @@ returns-clause-pass g c =
           _ _ _ _ _ _ c.message.result c.message.ensures.sent c.message.ensures.looked is.balanced;
       mailbox = is.mailbox;
       alone = is.alone;
+      unmailed = is.unmailed;
     }
 
 pub returns-clause-parts : goal.returns-clause-parts

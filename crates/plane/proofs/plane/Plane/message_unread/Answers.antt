@@ -14,14 +14,16 @@ invariant_of-pass g c =
     let port = c.pass.inside.port in
     let front = first_message c.args.datagram.now in
     let it = some_replies places s port front _ _ _ _ c.message_unread.result
-    c.message_unread.ensures.sent in
-    record {
-      logged = record {
-        heard = message_logged places s port front _ _ _ _ _ _ _ c.message_unread.result it.1
-            c.message_unread.ensures.same c.pass.invariant.logged.heard;
-      };
-      closable = c.message_unread.ensures.room;
-    }
+    c.message_unread.ensures.sent in (
+      record {
+        logged = record {
+          heard = message_logged places s port front _ _ _ _ _ _ _ c.message_unread.result it.1
+              c.message_unread.ensures.same c.pass.invariant.0.logged.heard;
+        };
+        closable = c.message_unread.ensures.room;
+      },
+      c.message_unread.ensures.timely c.pass.inside.receiver.received c.pass.invariant.1,
+    )
 
 pub returns-clause-pass : goal.returns-clause-pass
 returns-clause-pass g c =
@@ -39,6 +41,7 @@ returns-clause-pass g c =
           c.message_unread.result it.1 c.message_unread.ensures.looked is.balanced;
       mailbox = is.mailbox;
       alone = is.alone;
+      unmailed = is.unmailed;
     }
 
 pub returns-clause-parts : goal.returns-clause-parts

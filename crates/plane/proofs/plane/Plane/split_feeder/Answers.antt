@@ -3,7 +3,8 @@ use Rattle.packet_entry.specs.declared.packet.Card.{Card}
 use Rattle.histories.specs.declared.histories.Lost.{Lost}
 use Rattle.place_rows.specs.Rows.{label_at}
 use Rattle.place_rows.specs.Shares.{IsBalanced}
-use Rattle.plane.specs.Past.{fed_by, lost_by}
+use Rattle.place_turns.specs.Timely.{feeder}
+use Rattle.plane.specs.Past.{lost_by}
 use Rattle.plane.specs.Planes.{setting_of}
 use Rattle.plane.proofs.FeederPasses.{kept_so, made_so, split_so}
 use Rattle.plane.proofs.plane.Plane.split_feeder.Goals as goal
@@ -45,3 +46,6 @@ returns-clause-split c =
     (ap (λ (l : List Lost). lost_by c.pass.inside.past ++ l) c.split.ensures.same.1) refl
     (c.in_ok-passes.ensures.made_of.locks_are ∙ sym is.of.locks_are)
     c.in_ok-passes.ensures.made c.in_ok-passes.ensures.none_lost c.new.ensures.items)
+
+pub invariant_of-pass-2 : goal.invariant_of-pass-2
+invariant_of-pass-2 c = (c.pass.invariant.0, c.split.ensures.timely feeder c.pass.invariant.1)

@@ -8,4 +8,4 @@ returns c =
     rw (← c.self.view_is)
     (c.up_to_most.ensures
     ∙ counted_on (fed_by c.self.inside.past) c.self.inside.fed.items
-    c.self.inside.fed_before c.len.result c.self.invariant.counted c.len.ensures)
+    c.self.inside.fed_before c.len.result c.self.invariant.0.counted c.len.ensures)

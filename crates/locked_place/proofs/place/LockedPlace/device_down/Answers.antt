@@ -1,0 +1,33 @@
+use Rattle.std.proofs.Common.{refl, sym, ap, length}
+use Rattle.histories.specs.Happenings.{downs}
+use Rattle.locked_place.specs.Views.{senders_of}
+use Rattle.locked_place.proofs.PlaceInvariant.{quiet_goes_on}
+use Rattle.locked_place.proofs.place.LockedPlace.device_down.Goals as goal
+
+pub invariant_of-self-2 : goal.invariant_of-self-2
+invariant_of-self-2 c =
+    let at = c.self.inside in
+    let senders = senders_of at.senders in
+    let es = at.place.entries in
+    let fs = downs c.args.device es in
+    let state = c.in_ok-destroyed.ensures.state in
+    quiet_goes_on at.place senders at.writer at.stamps at.latest c.self.invariant
+    c.device_down.new.self c.publish.new.writer c.stamp_new.new.stamps fs state
+    (c.stamp_new.ensures es fs (sym (ap length c.entries-before.ensures.value))
+    (ap (λ p. p.entries) state))
+    (c.senders_keep_up.ensures.down es c.args.device senders c.self.invariant.notified)
+    c.publish.ensures.writer.1 c.publish.ensures.shown
+    (c.mails_keep_up.ensures.down es c.args.device at.latest senders)
+
+pub returns-clause-stamped : goal.returns-clause-stamped
+returns-clause-stamped c =
+    let es = c.self.inside.place.entries in
+    let entered = ap (λ p. p.entries) c.in_ok-destroyed.ensures.state in
+    rw (← c.self.view_is)
+    (record {
+      more = downs c.args.device es;
+      entered = entered;
+      stamped = c.stamp_new.ensures es (downs c.args.device es)
+          (sym (ap length c.entries-before.ensures.value)) entered;
+      same = refl;
+    })
