@@ -26,26 +26,24 @@ number_of word =
     if (length word == 0) || (nat_lt 1 (length word) && (slice_index word 0 == byte "0"))
     then None else digits_onto 0 word
 
--- how many records: 1 at least
+-- how many, where it is 1 at least and this at most
+abbrev pub number_up_to : ℕ → List ℕ → Option ℕ
+number_up_to most word = do
+  n ← number_of word
+  if nat_le 1 n && nat_le n most then Some n else None
+
+-- how many records
 abbrev pub count_of : List ℕ → Option ℕ
-count_of word = do
-  n ← number_of word
-  if nat_le 1 n && nat_le n most_records then Some n else None
+count_of = number_up_to most_records
 
--- how many places: 1 at least
+-- how many places
 abbrev pub places_of : List ℕ → Option ℕ
-places_of word = do
-  n ← number_of word
-  if nat_le 1 n && nat_le n most_places then Some n else None
+places_of = number_up_to most_places
 
--- how many feeders: 1 at least
+-- how many feeders
 abbrev pub feeders_of : List ℕ → Option ℕ
-feeders_of word = do
-  n ← number_of word
-  if nat_le 1 n && nat_le n most_feeders then Some n else None
+feeders_of = number_up_to most_feeders
 
--- how many workers behind each port: 1 at least
+-- how many workers behind each port
 abbrev pub workers_of : List ℕ → Option ℕ
-workers_of word = do
-  n ← number_of word
-  if nat_le 1 n && nat_le n most_workers then Some n else None
+workers_of = number_up_to most_workers

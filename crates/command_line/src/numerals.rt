@@ -10,28 +10,23 @@ ghost use Rattle.command_line.specs.Numerals as numerals;
 const DECIMAL: u64 = 10;
 
 /// The most records of a generated capture.
-const MAX_RECORDS: u64 = 200_000;
+const MAX_RECORDS: u32 = 200_000;
 
 /// The most places of a run with threads.
-const MAX_PLACES: u64 = 64;
+const MAX_PLACES: u32 = 64;
 
 /// The most feeders of a run with threads.
-const MAX_FEEDERS: u64 = 16;
+const MAX_FEEDERS: u32 = 16;
 
 /// The most workers behind each port of a run with threads.
-const MAX_WORKERS: u64 = 16;
+const MAX_WORKERS: u32 = 16;
 
 /// How many records a word asks for: 1 to 200,000.
 pub fn count_of(word: &str) -> Option<u32>
     ensures value { result ≡ numerals.count_of word.now }
     ensures bounds { IfSome result (λ n. (1 ≤ n) × (n ≤ most_records)) }
 {
-    let count = number_of(word)?;
-    if 1 <= count && count <= MAX_RECORDS {
-        Some(count as u32)
-    } else {
-        None
-    }
+    number_up_to(MAX_RECORDS, word)
 }
 
 /// How many places a word asks for: 1 to 64.
@@ -39,12 +34,8 @@ pub fn places_of(word: &str) -> Option<u8>
     ensures value { result ≡ numerals.places_of word.now }
     ensures bounds { IfSome result (λ n. (1 ≤ n) × (n ≤ most_places)) }
 {
-    let places = number_of(word)?;
-    if 1 <= places && places <= MAX_PLACES {
-        Some(places as u8)
-    } else {
-        None
-    }
+    let places = number_up_to(MAX_PLACES, word)?;
+    Some(places as u8)
 }
 
 /// How many feeders a word asks for: 1 to 16.
@@ -52,12 +43,7 @@ pub fn feeders_of(word: &str) -> Option<u32>
     ensures value { result ≡ numerals.feeders_of word.now }
     ensures bounds { IfSome result (λ n. (1 ≤ n) × (n ≤ most_feeders)) }
 {
-    let feeders = number_of(word)?;
-    if 1 <= feeders && feeders <= MAX_FEEDERS {
-        Some(feeders as u32)
-    } else {
-        None
-    }
+    number_up_to(MAX_FEEDERS, word)
 }
 
 /// How many workers behind each port a word asks for: 1 to 16. One is no pool.
@@ -65,9 +51,17 @@ pub fn workers_of(word: &str) -> Option<u32>
     ensures value { result ≡ numerals.workers_of word.now }
     ensures bounds { IfSome result (λ n. (1 ≤ n) × (n ≤ most_workers)) }
 {
-    let workers = number_of(word)?;
-    if 1 <= workers && workers <= MAX_WORKERS {
-        Some(workers as u32)
+    number_up_to(MAX_WORKERS, word)
+}
+
+/// How many of something a word asks for: 1 to `most`.
+fn number_up_to(most: u32, word: &str) -> Option<u32>
+    ensures value { result ≡ numerals.number_up_to most word.now }
+    ensures bounds { IfSome result (λ n. (1 ≤ n) × (n ≤ most)) }
+{
+    let number = number_of(word)?;
+    if 1 <= number && number <= u64::from(most) {
+        Some(number as u32)
     } else {
         None
     }

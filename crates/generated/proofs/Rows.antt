@@ -3,6 +3,7 @@ use Rattle.std.proofs.Common.{◌≡◌, ℕ, suc, ◌+◌, ◌-◌, ◌<◌, �
 use Rattle.std.proofs.Common.{drop, ap, sym, ◌∙◌, arith, append_assoc, length-append, length-drop}
 use Rattle.std.specs.Prelude.{slice_range}
 use Rattle.std.proofs.lemmas.List.{drop-drop, drop_at, take-append-le, take_all}
+use Rattle.rand_core.specs.Stream.{next_u64}
 use Rattle.rand_core.specs.Steps.{stream_of, steps_u64_high}
 use Rattle.rand_xoshiro.specs.Xoshiro256.{plus_plus}
 use Rattle.pcap_io.specs.declared.capture.Frame.{Frame}
@@ -10,7 +11,7 @@ use Rattle.generated.specs.Captures.{packets_from, records}
 use Rattle.generated.specs.Packets.{packet, packet_length}
 use Rattle.generated.specs.Stream.{word}
 use Rattle.generated.proofs.Lengths.{length-packet}
-use Rattle.generated.proofs.Streams.{IsBehind}
+use Rattle.generated.proofs.Streams.{IsBehind, next_word}
 
 -- ---- one behind the other
 
@@ -53,19 +54,23 @@ pub record IsCutting (number count before : ℕ) (state bytes : List ℕ) (at : 
   pub within : at ≤ length bytes
   pub rest : drop at bytes ≡ packets_from number (before + 1) (count - before)
 
-module _ (number count before w at : ℕ) (bytes : List ℕ) (more : before < count)
-    (same : w ≡ word number (before + 1)) (within : at ≤ length bytes)
-    (rest : drop at bytes ≡ packets_from number (before + 1) (count - before)) where
+-- the next word was drawn
+module _ {number count before w at len capacity : ℕ} {state bytes : List ℕ} {items : List Frame}
+    (is : IsCutting number count before state bytes at items len capacity) (more : before < count)
+    (drawn : w ≡ (next_u64 (stream_of (steps_u64_high plus_plus) state)).0) where
+  pub same : w ≡ word number (before + 1)
+  same = drawn ∙ next_word number before (stream_of (steps_u64_high plus_plus) state) is.behind
+
   abbrev pub after : List ℕ
   after = packets_from number (before + 1 + 1) (count - (before + 1))
 
   front : drop at bytes ≡ packet w ++ after
-  front = rest ∙ next number count before more ∙ ap (λ v. packet v ++ after) (sym same)
+  front = is.rest ∙ next number count before more ∙ ap (λ v. packet v ++ after) (sym same)
 
   pub cut_fits : at + packet_length w ≤ length bytes
   cut_fits = omega (
     arith,
-    within,
+    is.within,
     length-packet w,
     length-drop at bytes,
     ap length front,
@@ -73,15 +78,15 @@ module _ (number count before w at : ℕ) (bytes : List ℕ) (more : before < co
   )
 
   pub cut_is : (end : ℕ) → end ≡ at + packet_length w → slice_range bytes at end ≡ packet w
-  cut_is end is =
-      let long : end - at ≡ length (packet w) = omega (arith, is, length-packet w) in
+  cut_is end ends =
+      let long : end - at ≡ length (packet w) = omega (arith, ends, length-packet w) in
       ap (λ n. take n (drop at bytes)) long
       ∙ ap (λ (bs : List ℕ). take (length (packet w)) bs) front
       ∙ take-append-le (length (packet w)) (packet w) after (omega arith)
       ∙ take_all (length (packet w)) (packet w) (omega arith)
 
   pub left_is : (end : ℕ) → end ≡ at + packet_length w → drop end bytes ≡ after
-  left_is end is =
-      ap (λ n. drop n bytes) is ∙ sym (drop-drop (packet_length w) at bytes)
+  left_is end ends =
+      ap (λ n. drop n bytes) ends ∙ sym (drop-drop (packet_length w) at bytes)
       ∙ ap (λ (bs : List ℕ). drop (packet_length w) bs) front
       ∙ drop_at (packet w) after (packet_length w) (length-packet w)

@@ -12,7 +12,7 @@ use Rattle.text_lines.specs.Words.{is_printable, words_of}
 use Rattle.text_lines.specs.Numerals.{IsNumeral}
 use Rattle.hook_chain.specs.Numbers.{udp}
 use Rattle.queue_core.specs.Numbers.{verdict_accept, verdict_drop}
-use Rattle.script_lines.specs.Grammar.{IsAsk, IsConfig, Says}
+use Rattle.script_lines.specs.Grammar.{IsAsk, IsConfig, IsVerdict, Says}
 use Rattle.script_lines.specs.declared.condition.Condition.TheVariants.{Any, Protocol}
 use Rattle.script_lines.specs.declared.line.Line.{Line}
 use Rattle.script_lines.specs.declared.line.Line.TheVariants as line
@@ -115,41 +115,20 @@ open_says queue few spelled = (
   ),
 )
 
-drops : IsAsk (codes "verdict" ∷ codes "this" ∷ codes "drop" ∷ codes "this" ∷ [])
-    (values.judged verdict_drop)
-drops = (
-  codes "this" ∷ codes "drop" ∷ codes "this" ∷ [],
+-- a verdict on the notice's packet, by its word
+judges : (word : List ℕ) (verdict : ℕ) → IsVerdict word verdict →
+    IsAsk (codes "verdict" ∷ codes "this" ∷ word ∷ codes "this" ∷ []) (values.judged verdict)
+judges word verdict is = (
+  codes "this" ∷ word ∷ codes "this" ∷ [],
   record {
     queue = codes "this";
-    verdict = codes "drop";
+    verdict = word;
     id = codes "this";
     mark = [];
     payload = [];
     priority = [];
     queue_is = refl;
-    verdict_is = inl (inl (refl, refl));
-    id_is = refl;
-    mark_is = refl;
-    payload_is = refl;
-    priority_is = refl;
-    words_are = refl;
-  },
-  refl,
-)
-
-accepts : IsAsk (codes "verdict" ∷ codes "this" ∷ codes "accept" ∷ codes "this" ∷ [])
-    (values.judged verdict_accept)
-accepts = (
-  codes "this" ∷ codes "accept" ∷ codes "this" ∷ [],
-  record {
-    queue = codes "this";
-    verdict = codes "accept";
-    id = codes "this";
-    mark = [];
-    payload = [];
-    priority = [];
-    queue_is = refl;
-    verdict_is = inl (inr (inl (refl, refl)));
+    verdict_is = is;
     id_is = refl;
     mark_is = refl;
     payload_is = refl;
@@ -171,7 +150,7 @@ drop_says = (
       asks = codes "verdict" ∷ codes "this" ∷ codes "drop" ∷ codes "this" ∷ [];
       conditions_are =
           (codes "17", (record { spelled = refl; fits = lit< tt }, lit< tt), refl);
-      asks_are = drops;
+      asks_are = judges (codes "drop") verdict_drop (inl (inl (refl, refl)));
       few_asks = lit≤ tt;
       words_are = refl;
     },
@@ -190,7 +169,7 @@ accept_says = (
       conditions = codes "any" ∷ [];
       asks = codes "verdict" ∷ codes "this" ∷ codes "accept" ∷ codes "this" ∷ [];
       conditions_are = refl;
-      asks_are = accepts;
+      asks_are = judges (codes "accept") verdict_accept (inl (inr (inl (refl, refl))));
       few_asks = lit≤ tt;
       words_are = refl;
     },

@@ -73,7 +73,7 @@ module _ (workers : ℕ) (script : ScriptValue) (places : ℕ) (early late : ℕ
       (seen_at new k) (whole k) (segment k)
   segments k below = record {
     more = more k;
-    is = λ p is. longer k p is;
+    is = longer k;
     was = λ p is. met k p below is;
     now = λ p is. cut_front (whole k) (entries (more k p)) (segment k)
         (sym (then_is k p below is) ∙ then_is k feeder_number below refl);

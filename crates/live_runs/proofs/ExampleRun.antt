@@ -249,7 +249,7 @@ order_so = record {
       (sym (history_so queue)) (record {
         marks = marks_of (3 == queue);
         entries = same (3 == queue);
-        kinds = λ port. kinds_so queue port;
+        kinds = kinds_so queue;
         early = early_so (3 == queue);
         late = late_so (3 == queue);
       }));

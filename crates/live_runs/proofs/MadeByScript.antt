@@ -98,7 +98,7 @@ module _ (logs : LogLaws) (laws : ClosingLaws) (workers feeders : ℕ) (script :
   dids_so : (port : ℕ) → is_port script port ≡ true →
       (passes port).dids ≡ logged port (notes port)
   dids_so port i = sym (ap (λ (t : Standing). t.dids) (are.ports port i).stands)
-      ∙ logs.logged_so workers script (place port) port (start script (place port)) (notes port)
+      ∙ logs.logged workers script (place port) port (start script (place port)) (notes port)
 
   some_same : (xs ys : List Did) → Some xs ≡ Some ys → ys ≡ xs
   some_same xs ys is = ap (held xs) (sym is)
@@ -161,7 +161,7 @@ module _ (logs : LogLaws) (laws : ClosingLaws) (workers feeders : ℕ) (script :
       (met_grows (IsNotBy port) xs (xs ++ all_theirs (c.rest port)) (c.rest port) refl)
       (one.shutting k (within queue)) in
       subst (λ b. IsClosing port b (history queue h.entries))
-      (sym (ap (list_any is_closed) (sym (logs.logged_so workers script (place port) port
+      (sym (ap (list_any is_closed) (sym (logs.logged workers script (place port) port
       (start script (place port)) (notes port)))
       ∙ logs.closed workers script (place port) port (start script (place port)) (notes port) refl
       ∙ ap (λ (t : Standing). not t.is_open) one.stands))

@@ -261,8 +261,8 @@ module _ (logs : LogLaws) (laws : ClosingLaws) (workers : ℕ) (script : ScriptV
         (λ owned k below. asks_are_plain script.ports place 0 (seg k)
         (segment_asks_so owned k below)));
     before = λ p is less. before_so p is less (cases_Bool (p == port));
-    behind = λ p is least. behind_so p is least;
-    asks = λ owned k below. asks_so owned k below;
+    behind = behind_so;
+    asks = asks_so;
   }
     where
       before_so : (p : ℕ) → is_port script p ≡ true → place_in p script.ports < suc place →

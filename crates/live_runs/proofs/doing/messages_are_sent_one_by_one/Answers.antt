@@ -1,25 +1,12 @@
 use Rattle.std.proofs.Common.{refl}
 use Rattle.netlink_codec.specs.Messages.{first_message}
-use Rattle.live_runs.proofs.LowerLaws.{ClosingLaws, LogLaws}
 use Rattle.live_runs.proofs.Cuts.{looked_all, sent_all, sent_on, used_within}
 use Rattle.live_runs.proofs.doing.messages_are_sent_one_by_one.Goals as goal
 
 pub returns : goal.returns
 returns c =
-    let logged = c.logs_go_on.ensures in
-    let logs : LogLaws = record {
-      next = logged.next;
-      stands = logged.stands;
-      logged_so = logged.logged;
-      closed = logged.closed;
-    } in
-    let shut = c.closings_are_kept.ensures in
-    let laws : ClosingLaws = record {
-      others = shut.others;
-      own = shut.own;
-      closed = shut.closed;
-      frees = shut.frees;
-    } in
+    let logs = c.logs_go_on.ensures in
+    let laws = c.closings_are_kept.ensures in
     let conserve = c.each_packet_stays_or_leaves.ensures in
     record {
       begin = λ workers script places stage port was start x call words ds pass is_words a. record {

@@ -4,6 +4,6 @@ use Rattle.live_runs.proofs.locks.a_turn_of_a_lock_is_one_of_its_pass.Goals as g
 
 pub returns : goal.returns
 returns c = record {
-  turn = λ own seen others mine placed. turn_of_lock own seen others mine placed;
+  turn = turn_of_lock;
   met = λ own seen others placed. seen_of_others own seen others [] placed;
 }
