@@ -3,13 +3,14 @@
 
 ghost use Rattle.std.specs.Prelude.{◌≡◌, [], IfOk};
 
+mod orders;
 mod rows;
 
 use feeder_audit::is_fed;
 use histories::Histories;
 use hook_chain::{Tables, read_tables};
 use inspector_script::{Script, read_script};
-use journal_audit::{check_histories, check_journeys};
+use journal_audit::{audit, check_histories, check_journeys};
 use journal_reading::read_journal;
 use log_audit::{Judged, judge_logs};
 use packet_entry::{Bytes, NoMemory};
@@ -19,7 +20,6 @@ use port_audit::{
     are_roomy, push,
 };
 use queue_replay::replay_all;
-use run_audit::audit;
 use std::alloc::Global;
 use std::collections::BTreeMap;
 use std::test::Fail;
@@ -28,14 +28,24 @@ use std::test::Fail;
 fn capture(alloc: Global) -> Result<Capture, NoMemory> {
     let mut frames = Vec::new(alloc);
     for seconds in 1..4 {
-        frames.push(Frame {
-            seconds,
-            fraction: 0,
-            original: 1,
-            bytes: Bytes::copy(alloc, &[0x45])?,
-        })?;
+        frames.push(frame(alloc, seconds, &[0x45])?)?;
     }
-    Ok(Capture {
+    Ok(capture_of(frames))
+}
+
+/// A frame of these bytes, at a full second.
+fn frame(alloc: Global, seconds: u32, bytes: &[u8]) -> Result<Frame, NoMemory> {
+    Ok(Frame {
+        seconds,
+        fraction: 0,
+        original: 20,
+        bytes: Bytes::copy(alloc, bytes)?,
+    })
+}
+
+/// A capture of packets without link headers.
+fn capture_of(frames: Vec<Frame>) -> Capture {
+    Capture {
         big: false,
         nanos: false,
         zone: 0,
@@ -43,7 +53,7 @@ fn capture(alloc: Global) -> Result<Capture, NoMemory> {
         snap: 65_535,
         link: 101,
         frames: Frames::from_vec(frames),
-    })
+    }
 }
 
 fn tables(alloc: Global, text: &[u8]) -> Result<Tables, Fail> {
@@ -71,6 +81,11 @@ fn script(alloc: Global, row: &str) -> Result<Script, Fail> {
 /// The line with this name, or the line itself.
 fn line_of(name: &str) -> &str {
     for &(short, line) in &rows::LINES {
+        if short == name {
+            return line;
+        }
+    }
+    for &(short, line) in &orders::LINES {
         if short == name {
             return line;
         }
@@ -272,29 +287,53 @@ fn parts(alloc: Global, row: &str) -> Result<String, Fail> {
     amiss(alloc, &script, &histories, kinds)
 }
 
-/// Changes of a run's journal and kinds of messages: the line that is printed of what is found, and
-/// the letters of the parts that don't hold.
-fn findings(alloc: Global, row: &str) -> Result<String, Fail> {
-    let (changes, kinds) = cut(row)?;
-    let histories = histories(alloc, rows::PLAYED, changes)?;
-    let (tables, script) = (tables(alloc, rows::ONE_RULE)?, script(alloc, rows::PLAYS)?);
-    let capture = capture(alloc)?;
+/// The script and the journal of the run with this name.
+fn run_of(name: &str) -> (&str, &str) {
+    for &(run, script, lines) in &rows::RUNS {
+        if run == name {
+            return (script, lines);
+        }
+    }
+    ("", "")
+}
+
+/// The line that is printed of what is found, without its end; nothing of a run.
+fn line_found(
+    alloc: Global,
+    tables: &Tables,
+    capture: &Capture,
+    script: &Script,
+    histories: &Histories,
+) -> Result<String, Fail>
+    requires { histories.now.lost ≡ [] }
+{
     if capture.frames.len() > 3 {
         return Err(Fail::new("many frames"));
     }
-    let mut line = match audit(alloc, &tables, &script, &capture, &histories)? {
-        Some(finding) => finding.line(alloc)?,
-        None => String::from_str(alloc, "\n")?,
+    let Some(finding) = audit(alloc, tables, script, capture, histories)? else {
+        return Ok(String::new(alloc));
     };
-    if line.pop() != Some('\n') {
-        return Err(Fail::new("a line without its end"));
+    let mut line = finding.line(alloc)?;
+    match line.pop() {
+        Some('\n') => Ok(line),
+        _ => Err(Fail::new("a line without its end")),
     }
-    if !kinds.is_empty() {
-        let letters = amiss(alloc, &script, &histories, kinds)?;
-        line.push(' ')?;
-        line.push_str(letters.as_str())?;
+}
+
+/// A run, changes of its journal and kinds of messages: the line that is printed of what is found,
+/// and the letters of the parts that don't hold.
+fn findings(alloc: Global, row: &str) -> Result<String, Fail> {
+    let (run, row) = cut(row)?;
+    let (changes, kinds) = cut(row)?;
+    let (text, lines) = run_of(run);
+    let (script, histories) = (script(alloc, text)?, histories(alloc, lines, changes)?);
+    let (tables, capture) = (tables(alloc, rows::ONE_RULE)?, capture(alloc)?);
+    let line = line_found(alloc, &tables, &capture, &script, &histories)?;
+    if kinds.is_empty() {
+        return Ok(line);
     }
-    Ok(line)
+    let letters = amiss(alloc, &script, &histories, kinds)?;
+    Ok(format!(in alloc; "{line} {letters}")?)
 }
 
 /// Which check is asked.
@@ -306,17 +345,19 @@ enum Check {
     Logs,
     Parts,
     Findings,
+    Orders,
 }
 
 #[test]
 fn journals_are_judged(rt: HostRuntime) -> Result<(), Fail> {
-    const TABLES: [(Check, &str); 6] = [
+    const TABLES: [(Check, &str); 7] = [
         (Check::Steps, rows::STEPS),
         (Check::Journeys, rows::JOURNEYS),
         (Check::Feeding, rows::FEEDING),
         (Check::Logs, rows::LOGS),
         (Check::Parts, rows::PARTS),
         (Check::Findings, rows::FINDINGS),
+        (Check::Orders, orders::ROWS),
     ];
     let alloc = rt.alloc();
     for &(check, table) in &TABLES {
@@ -329,6 +370,7 @@ fn journals_are_judged(rt: HostRuntime) -> Result<(), Fail> {
                 Check::Logs => logs(alloc, row)?,
                 Check::Parts => parts(alloc, row)?,
                 Check::Findings => findings(alloc, row)?,
+                Check::Orders => orders::found(alloc, row)?,
             };
             assert_eq!(rt; said.as_str(), wanted, "{row}");
         }

@@ -17,10 +17,10 @@ use Rattle.run_files.specs.Causes.{AreTaken, AreToldBy, IsUnread}
 use Rattle.run_files.specs.Files.{Contents, Counts, IsPrinted}
 use Rattle.run_files.specs.Inputs.{CaptureSays, RulesSay, Said, ScriptSays, TodaysJournalSays}
 use Rattle.run_files.specs.Numbers.{journal_limit}
-use Rattle.run_audit.specs.declared.finding.Finding.{Finding}
+use Rattle.journal_audit.specs.declared.finding.Finding.{Finding}
 use Rattle.run_files.specs.Statuses.{status_of}
-use Rattle.run_audit.specs.Printed.{line_of}
-use Rattle.run_audit.specs.Findings.{IsAnswer, IsFound, IsRunOf}
+use Rattle.journal_audit.specs.Printed.{line_of}
+use Rattle.journal_audit.specs.Findings.{IsAnswer, IsFound, IsRunOf}
 use Rattle.commands.specs.Account.{AreAccounted}
 use Rattle.commands.specs.Headline.{Account, AreKept, audit_of_run, Finds, IsAudited, IsJudged}
 use Rattle.commands.specs.Headline.{IsAmiss, IsAtEnd, IsFoundBy, IsOnlyJudged, IsWritten}
@@ -38,6 +38,7 @@ run_of tables script c h known = record {
   sound = known.sound;
   notes = known.notes;
   made = known.made;
+  order = known.order;
 }
 
 -- what was written is a journal

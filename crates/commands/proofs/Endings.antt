@@ -10,7 +10,7 @@ use Rattle.run_files.specs.declared.stop.Stop.{Stop}
 use Rattle.run_files.specs.declared.stop.Stop.TheVariants as stop
 use Rattle.command_line.specs.Arguments.{Audits, Call, Generates, inputs, Lists, Lives, Migrates}
 use Rattle.command_line.specs.Arguments.{PlayFiles, Plays, ReadFiles, Tries}
-use Rattle.run_audit.specs.declared.finding.Finding.{Finding}
+use Rattle.journal_audit.specs.declared.finding.Finding.{Finding}
 use Rattle.run_files.specs.Causes.{AreRead, AreTaken, IsAnswered, IsRefused, IsTurnedDown}
 use Rattle.run_files.specs.Files.{AreWritten, Contents, Counts, IsPrinted, IsStoppedAfter, Stay}
 use Rattle.run_files.specs.Files.{Text}

@@ -15,8 +15,8 @@ use Rattle.run_files.specs.Files.{Contents, IsPrinted, OthersStay}
 use Rattle.run_files.specs.Printed.{line_of, usage_line}
 use Rattle.run_files.specs.Statuses.{IfStopRefuses, IsOfInputs, IsOfRefusal, status_of}
 use Rattle.run_files.specs.Statuses.{status_of_refusal}
-use Rattle.run_audit.specs.declared.finding.Finding.{Finding}
-use Rattle.run_audit.specs.Printed as finding
+use Rattle.journal_audit.specs.declared.finding.Finding.{Finding}
+use Rattle.journal_audit.specs.Printed as finding
 use Rattle.commands.specs.Ending.{IfAudit, IsAnswer, IsEnded, IsNoCommand, IsOut, IsStatusOf}
 use Rattle.commands.specs.Ending.{MayEndWith, Span, UnlessJournal}
 use Rattle.commands.specs.Headline.{Finds, IsAtEnd, IsAudited, IsFoundBy, IsOnlyFoundBy}

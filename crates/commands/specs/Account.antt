@@ -67,6 +67,8 @@ pub record AreAccounted (workers feeders : ℕ) (tables : RuleTables) (script : 
   -- for it
   pub notes : ℕ → List Note
   pub made : IsMadeBy workers feeders script (length c.frames) h notes (λ port. [])
+  -- all events of all queues have one order, in which nothing comes before what it rests on
+  pub order : HasTotalOrder h
   -- a journal tells them in full, and is theirs alone: each value fits its field, entries stand by
   -- queue, and a port did nothing behind its closing
   pub formed : IsWellFormed h
@@ -77,11 +79,9 @@ pub record AreAccounted (workers feeders : ℕ) (tables : RuleTables) (script : 
   pub released : AreReleased c h
 
 -- The same of the histories of the run on one thread, with one of each: they are those of its
--- schedule, which has no others. And there is one order of all events of all queues, in which each
--- comes after what causes it.
+-- schedule, which has no others.
 pub record IsAccounted (tables : RuleTables) (script : ScriptValue) (c : Capture)
     (h : Histories) : Type 0 where
   pub schedule : IsSolo script tables c h
   pub only : (g : Histories) → IsSolo script tables c g → g ≡ h
-  pub order : HasTotalOrder h
   pub run : AreAccounted 1 1 tables script c h

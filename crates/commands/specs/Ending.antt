@@ -12,8 +12,8 @@ use Rattle.run_files.specs.Files.{Contents, Counts, IsPrinted, IsStopped, Others
 use Rattle.run_files.specs.Files.{ReadFaultRose, WriteFaultRose}
 use Rattle.run_files.specs.Printed.{usage_line}
 use Rattle.run_files.specs.Statuses.{IfRefused, IsOfInputs, IsOfRefusal, StopsFor}
-use Rattle.run_audit.specs.declared.finding.Finding.{Finding}
-use Rattle.run_audit.specs.Printed.{line_of}
+use Rattle.journal_audit.specs.declared.finding.Finding.{Finding}
+use Rattle.journal_audit.specs.Printed.{line_of}
 use Rattle.commands.specs.Headline.{Finds, IsAmiss, IsAtEnd, IsAudited, IsCut, IsDone}
 
 -- What a host tells before a call and after it: whether it tells what its files hold, what they

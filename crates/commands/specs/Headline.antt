@@ -23,9 +23,9 @@ use Rattle.run_files.specs.Causes.{AreRead, AreToldBy}
 use Rattle.run_files.specs.Inputs.{JournalSays, Said}
 use Rattle.run_files.specs.Numbers.{journal_limit}
 use Rattle.run_files.specs.Files.{AreWritten, Contents, Counts, IsPrinted, IsStoppedAfter, Text}
-use Rattle.run_audit.specs.declared.finding.Finding.{Finding}
-use Rattle.run_audit.specs.Findings.{IsFound, IsRunOf}
-use Rattle.run_audit.specs.Printed.{line_of}
+use Rattle.journal_audit.specs.declared.finding.Finding.{Finding}
+use Rattle.journal_audit.specs.Findings.{IsFound, IsRunOf}
+use Rattle.journal_audit.specs.Printed.{line_of}
 use Rattle.run_files.specs.Outputs.{output_text, ledger_text, journal_text, counts_text}
 
 -- ---- play and live

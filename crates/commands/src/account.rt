@@ -12,6 +12,7 @@ ghost use Rattle.histories.specs.Grouping.{IsGrouped};
 ghost use Rattle.histories.specs.History.{AreLegal};
 ghost use Rattle.histories.specs.Journeys.{AreSound};
 ghost use Rattle.histories.specs.Lengths.{AreShort};
+ghost use Rattle.total_order.specs.TotalOrder.{HasTotalOrder};
 ghost use Rattle.run_parts.specs.Entering.{cards};
 ghost use Rattle.run_parts.specs.Log.{Note};
 ghost use Rattle.run_parts.specs.Run.{IsMadeBy};
@@ -68,14 +69,14 @@ pub fn histories_of(
 }
 
 /// Each packet of a run is accounted for, over every script, rules and capture, however many
-/// workers and feeders made it: where its histories are legal and sound, stand by queue, lose
-/// nothing and fit their fields, and every notice was received.
+/// workers and feeders made it: where its histories are legal and sound, have one order of all
+/// events, stand by queue, lose nothing and fit their fields, and every notice was received.
 pub(crate) fn a_run_is_accounted_for()
     ensures { (workers feeders : ℕ) (tables : RuleTables) (script : ScriptValue) (c : ACapture)
         (h : AHistories) (notes : ℕ → List Note) (es : List AnEntry) → IsScript script → Fit h →
         h.lost ≡ [] → IsGrouped es h.entries → AreLegal h.entries →
         AreSound tables script.key (cards c) h.entries h.lost →
-        IsMadeBy workers feeders script (length c.frames) h notes (λ port. []) →
+        IsMadeBy workers feeders script (length c.frames) h notes (λ port. []) → HasTotalOrder h →
         AreAccounted workers feeders tables script c h }
 {
     each_log_is_what_is_told();
@@ -88,7 +89,7 @@ pub(crate) fn told_histories_are_accounted_for()
     ensures { (workers feeders : ℕ) (tables : RuleTables) (script : ScriptValue) (c : ACapture)
         (h : AHistories) (notes : ℕ → List Note) → IsWellFormed h → h.lost ≡ [] →
         AreLegal h.entries → AreSound tables script.key (cards c) h.entries h.lost →
-        IsMadeBy workers feeders script (length c.frames) h notes (λ port. []) →
+        IsMadeBy workers feeders script (length c.frames) h notes (λ port. []) → HasTotalOrder h →
         AreAccounted workers feeders tables script c h }
 {
     each_line_names_the_last_event();

@@ -17,17 +17,18 @@ ghost use Rattle.command_line.specs.Arguments.{program_call, standard_output, Tr
 ghost use Rattle.run_files.specs.Causes.{AreTaken, IsAnswered, IsRefused, IsTurnedDown, IsUnread};
 ghost use Rattle.run_files.specs.Files.{IsPrinted, IsStopped, OthersStay};
 ghost use Rattle.run_files.specs.Files.{ReadFaultRose, WriteFaultRose};
-ghost use Rattle.run_audit.specs.declared.finding.Finding.{Finding};
-ghost use Rattle.run_audit.specs.Printed as finding;
+ghost use Rattle.journal_audit.specs.declared.finding.Finding.{Finding};
+ghost use Rattle.journal_audit.specs.Printed as finding;
 ghost use Rattle.commands.specs.Ending.{IsAnswer, IsOut, MayEndWith, span};
 ghost use Rattle.commands.specs.Headline.{Finds, IsAmiss, IsAtEnd, IsAudited, IsCut, IsGenerated};
 ghost use Rattle.commands.specs.Headline.{IsListed, IsLived, IsMigrated, IsPlayed, IsTried};
 ghost use Rattle.run_files.specs.Printed.{usage_line};
 ghost use Rattle.run_files.specs.Statuses.{IsOfRefusal};
 
-use crate::command::play;
-use crate::live_run::live;
+use crate::command::status_of_words;
+use crate::live_run::live_status;
 use host_io::Host;
+use inspector_pool::OpenJobGate;
 use plane::OpenGate;
 use run_files::print_usage;
 use run_files::status::{NO_MEMORY, USAGE};
@@ -38,7 +39,7 @@ use std::sync::Wait;
 use std::thread::Threads;
 
 /// Does the command that the arguments after the program's name are, and answers its status,
-/// with the clauses of [`live`] where the first one is `live`, and else with those of [`play`].
+/// with the clauses of `live` where the first one is `live`, and else with those of `play`.
 /// Arguments that can't be had, since one is no text, are no command.
 pub fn program<R: Threads + Wait + Sync, H: Host>(
     rt: &R,
@@ -175,9 +176,9 @@ fn status_of_any<R: Threads + Wait + Sync, H: Host>(
     ensures later { IsLater H.tells H.read_faults H.write_faults host.old host.new }
 {
     if is_live(words) {
-        live(rt, alloc, words, host, &OpenGate)
+        live_status(rt, alloc, words, host, &OpenGate, &OpenJobGate)
     } else {
-        play(alloc, words, host)
+        status_of_words(alloc, words, host)
     }
 }
 

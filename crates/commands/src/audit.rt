@@ -12,7 +12,7 @@ ghost use Rattle.command_line.specs.Arguments.{PlayFiles, ToldRun};
 ghost use Rattle.run_files.specs.Causes.{IsUnread};
 ghost use Rattle.run_files.specs.Files.{Contents};
 ghost use Rattle.journals.specs.WellFormed.{IsWellFormed};
-ghost use Rattle.run_audit.specs.Findings.{IsRunOf};
+ghost use Rattle.journal_audit.specs.Findings.{IsRunOf};
 ghost use Rattle.commands.specs.Account.{AreAccounted};
 ghost use Rattle.commands.specs.Ending.{IsEnded, IsStatusOf, Span, span};
 ghost use Rattle.commands.specs.Headline.{AreKept, audit_of_run, IsAudited, IsJudged};
@@ -21,7 +21,7 @@ ghost use Rattle.commands.specs.Headline.{IsLived, IsOnlyJudged, IsPlayed, MayFi
 use crate::account::told_histories_are_accounted_for;
 use command_line::Audit;
 use host_io::Host;
-use run_audit::{Finding, a_finding_is_the_only_one, a_run_has_no_finding, audit};
+use journal_audit::{Finding, a_finding_is_the_only_one, a_run_has_no_finding, audit};
 use run_files::{Stop, read_told_run};
 use std::alloc::Global;
 
@@ -45,9 +45,9 @@ pub fn a_run_passes_its_audit()
 {}
 
 /// What passes its audit is accounted for, whoever wrote it: all that is known of a run with one
-/// feeder and no pool is known of the histories that the journal tells. Each packet that met a
-/// queue was released or destroyed exactly once or waits, its ledger line names where it left, and
-/// the capture of what is released has exactly the released frames.
+/// feeder and no pool is known of the histories that the journal tells. All their events have one
+/// order; each packet that met a queue was released or destroyed exactly once or waits, its ledger
+/// line names where it left, and the capture of what is released has exactly the released frames.
 pub fn what_passes_its_audit_is_accounted_for()
     ensures told { (a : AuditFiles) (old : Contents) (x : IsAudited a old) →
         AreAccounted 1 1 x.tables x.script x.capture x.histories }

@@ -13,8 +13,8 @@ ghost use Rattle.run_files.specs.Causes.{AreTaken, IsAnswered, IsRefused, IsTurn
 ghost use Rattle.run_files.specs.Files.{IsPrinted, IsStopped, OthersStay};
 ghost use Rattle.run_files.specs.Files.{ReadFaultRose, WriteFaultRose};
 ghost use Rattle.commands.specs.Ending.{IsAnswer, IsEnded, MayEndWith, span};
-ghost use Rattle.run_audit.specs.declared.finding.Finding.{Finding as AFinding};
-ghost use Rattle.run_audit.specs.Printed as finding;
+ghost use Rattle.journal_audit.specs.declared.finding.Finding.{Finding as AFinding};
+ghost use Rattle.journal_audit.specs.Printed as finding;
 ghost use Rattle.commands.specs.Headline as headline;
 ghost use Rattle.commands.specs.Headline.{Finds, IsAmiss, IsAtEnd, IsAudited, IsCut, IsFoundBy};
 ghost use Rattle.commands.specs.Headline.{IsGenerated, IsListed, IsMigrated, IsOnlyFoundBy};
@@ -30,8 +30,8 @@ use crate::play_run::play_files;
 use crate::trial::try_out;
 use command_line::{Command, command_of};
 use host_io::Host;
+use journal_audit::Finding;
 use packet_entry::NoMemory;
-use run_audit::Finding;
 use run_files::status::{DONE, NO_RUN, USAGE};
 use run_files::{Refusal, Stop, print, print_usage};
 use std::alloc::Global;
@@ -151,7 +151,7 @@ pub fn play<H: Host>(alloc: Global, words: &[String], host: &mut H) -> u8
 }
 
 /// The status of the command that the words are.
-fn status_of_words<H: Host>(alloc: Global, words: &[String], host: &mut H) -> u8
+pub(crate) fn status_of_words<H: Host>(alloc: Global, words: &[String], host: &mut H) -> u8
     ensures answer { IsAnswer (call_of_words words.now)
         (span H.tells H.content H.read_faults H.write_faults host.old host.new) result }
     ensures later { IsLater H.tells H.read_faults H.write_faults host.old host.new }

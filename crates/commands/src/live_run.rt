@@ -7,7 +7,6 @@ ghost use Rattle.host_io.specs.Host.{IsLater, SameFiles, ChangesOnly};
 ghost use Rattle.packet_entry.specs.Numbers.{longest_packet, most_frames, most_places};
 ghost use Rattle.pcap_io.specs.Text.{IsHeld};
 ghost use Rattle.inspector_script.specs.Scripts.{IsScript};
-ghost use Rattle.histories.specs.History.{AreLegal};
 ghost use Rattle.fate_ledger.specs.Released.{released};
 ghost use Rattle.command_line.specs.Arguments.{Call, IsLiveAllowed, IsSizeAllowed, inputs};
 ghost use Rattle.command_line.specs.Arguments.{live_call_of_words, live_files_of, LiveFiles, Lives};
@@ -126,7 +125,7 @@ pub fn live<R: Threads + Wait + Sync, H: Host, G: Gate>(
     ensures answer { IsAnswer (live_call_of_words words.now)
         (span H.tells H.content H.read_faults H.write_faults host.old host.new) result }
 {
-    live_pools(rt, alloc, words, host, gate, &OpenJobGate)
+    live_status(rt, alloc, words, host, gate, &OpenJobGate)
 }
 
 /// The same, where `jobs` is told of each job of the pools.
@@ -197,7 +196,7 @@ pub fn live_pools<R: Threads + Wait + Sync, H: Host, G: Gate, J: JobGate>(
 }
 
 /// The status of the command `live` that the words are.
-fn live_status<R: Threads + Wait + Sync, H: Host, G: Gate, J: JobGate>(
+pub(crate) fn live_status<R: Threads + Wait + Sync, H: Host, G: Gate, J: JobGate>(
     rt: &R,
     alloc: Global,
     words: &[String],

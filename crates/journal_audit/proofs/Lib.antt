@@ -2,7 +2,10 @@ pub mod Beginnings
 pub mod WatchedHistory
 pub mod EntryWalk
 pub mod PacketNumbers
-pub mod PartOrder
 pub mod PacketProperties
 pub mod Origins
 pub mod Packets
+pub mod FirstWrong
+pub mod PartAnswers
+pub mod PartsOfRun
+pub mod OneFinding

@@ -12,7 +12,7 @@ use Rattle.script_lines.specs.declared.ask.Ask.{Ask}
 use Rattle.script_lines.specs.declared.ask.Ask.TheVariants.{Words, Close}
 use Rattle.run_parts.specs.Datagrams.{messages_in}
 use Rattle.run_parts.specs.Log.{Due, Still, Message, all_due, first_due}
-use Rattle.log_walks.specs.Walking.{IsLoggedAs, begun, settled}
+use Rattle.log_audit.specs.Walking.{IsLoggedAs, begun, settled}
 use Rattle.log_audit.specs.declared.duties.Duties.{Duties}
 use Rattle.log_audit.specs.Dues.{BeginWithWords, HasMessage, dues_of}
 

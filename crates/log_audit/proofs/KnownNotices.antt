@@ -19,7 +19,7 @@ use Rattle.histories.specs.History.{history, is_of}
 use Rattle.histories.specs.Letters.{letters_of_event, letters_of_outcome, letters_under}
 use Rattle.run_parts.specs.Notices.{letters_from}
 use Rattle.port_audit.specs.Makers.{IsAmong, IsTaken}
-use Rattle.log_walks.specs.Telling.{IsKeyed}
+use Rattle.log_audit.specs.Telling.{IsKeyed}
 use Rattle.log_audit.specs.Judged.{AllOnlyOnes}
 use Rattle.log_audit.specs.Stays.{all_letters, is_visit, known_in, letters_at}
 

@@ -1,3 +1,13 @@
+pub mod WalkCounts
+pub mod DueSettlement
+pub mod WalkCompleteness
+pub mod Evenness
+pub mod WholeLog
+pub mod MessageBytes
+pub mod AskLengths
+pub mod Witness
+pub mod ToldEntries
+pub mod MessageCuts
 pub mod HeldDues
 pub mod LoggedMessages
 pub mod WalkSteps

@@ -14,7 +14,7 @@ use Rattle.nfqa_msgs.specs.RequestWriting.{FitsRequest, spelled, spelling}
 use Rattle.histories.specs.declared.log.AskWords.{AskWords}
 use Rattle.histories.specs.declared.log.AskWords.TheVariants.{Plain, Raw}
 use Rattle.packet_moves.specs.Messages.{words_of}
-use Rattle.log_walks.specs.Telling.{IsOwn}
+use Rattle.log_audit.specs.Telling.{IsOwn}
 
 -- ---- words
 

@@ -31,10 +31,10 @@ use Rattle.run_parts.specs.Requests.{answer_in}
 use Rattle.port_audit.specs.Told.{dids_in}
 use Rattle.port_audit.specs.Pleading.{IsToldByWords, errnos_by, message_in, payload_fits}
 use Rattle.port_audit.specs.Pleading.{errno_told, told_by_words}
-use Rattle.log_walks.specs.Telling.{AreKnown, IsKeyed, IsKnown, IsToldBy, IsWell}
-use Rattle.log_walks.specs.Telling.{errno_of}
-use Rattle.log_walks.specs.Telling.{told_errno}
-use Rattle.log_walks.specs.Walking.{IsWalked, Known, ended, kinds_at}
+use Rattle.log_audit.specs.Telling.{AreKnown, IsKeyed, IsKnown, IsToldBy, IsWell}
+use Rattle.log_audit.specs.Telling.{errno_of}
+use Rattle.log_audit.specs.Telling.{told_errno}
+use Rattle.log_audit.specs.Walking.{IsWalked, Known, ended, kinds_at}
 use Rattle.log_audit.specs.Judged.{AllHaveKinds, AllOnlyOnes, AreJudgedByPort, ArePortsWalked}
 use Rattle.log_audit.specs.Judged.{AreTold}
 use Rattle.log_audit.specs.Judged.{IsPortWalked, IsWalkable}

@@ -12,7 +12,7 @@ use Rattle.histories.specs.declared.histories.Histories.{Histories}
 use Rattle.histories.specs.declared.log.Did.{Did}
 use Rattle.inspector_script.specs.Scripts.{IsScript, ScriptValue}
 use Rattle.run_parts.specs.Ports.{ArePlaced, HavePlaces, is_port, log_of, place_in}
-use Rattle.log_walks.specs.Walking.{IsWalked}
+use Rattle.log_audit.specs.Walking.{IsWalked}
 use Rattle.log_audit.specs.Judged.{AllOnlyOnes, AreJudgedAll, ArePortsWalked, IsLogWalkedWith}
 use Rattle.log_audit.specs.Judged.{IsPortWalked, IsWalkable, IsWalkedAll}
 use Rattle.log_audit.specs.PortWalks.{IsWalkedWith}

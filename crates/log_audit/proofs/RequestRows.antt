@@ -11,7 +11,7 @@ use Rattle.inspector_script.specs.Scripts.{ScriptValue}
 use Rattle.run_parts.specs.Log.{Note}
 use Rattle.run_parts.specs.Order.{kinds_told}
 use Rattle.run_parts.specs.Ports.{AreApart}
-use Rattle.log_walks.specs.Walking.{Timed, is_at, kinds_at}
+use Rattle.log_audit.specs.Walking.{Timed, is_at, kinds_at}
 use Rattle.port_audit.specs.declared.dealing.MessageKind.{MessageKind}
 use Rattle.port_audit.specs.declared.dealing.Side.{Side}
 use Rattle.port_audit.specs.declared.kinds.KindAt.{KindAt}

@@ -10,9 +10,9 @@ use Rattle.packet_moves.specs.Calls.{after_this}
 use Rattle.inspector_script.specs.Scripts.{ScriptValue}
 use Rattle.run_parts.specs.Log.{Due, first_due, owed_then, ends_then}
 use Rattle.run_parts.specs.Order.{kind_by}
-use Rattle.log_walks.specs.Walking.{Known, Walk, AllGoOn, IsLoggedAs, ends_at, settled}
-use Rattle.log_walks.specs.Walking.{timed_of}
-use Rattle.log_walks.specs.Walking.{walked_all}
+use Rattle.log_audit.specs.Walking.{Known, Walk, AllGoOn, IsLoggedAs, ends_at, settled}
+use Rattle.log_audit.specs.Walking.{timed_of}
+use Rattle.log_audit.specs.Walking.{walked_all}
 use Rattle.log_audit.specs.PortWalks.{Steps}
 use Rattle.log_audit.specs.PortWalks as port_walks
 

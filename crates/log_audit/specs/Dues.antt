@@ -13,7 +13,7 @@ use Rattle.script_lines.specs.declared.ask.Ask.{Ask}
 use Rattle.script_lines.specs.declared.ask.Ask.TheVariants.{Words}
 use Rattle.run_parts.specs.Datagrams.{messages_in}
 use Rattle.run_parts.specs.Log.{Due, Message, all_due, first_due}
-use Rattle.log_walks.specs.Walking.{IsLoggedAs, settled}
+use Rattle.log_audit.specs.Walking.{IsLoggedAs, settled}
 use Rattle.log_audit.specs.declared.duties.Duties.{Duties}
 
 -- the messages in what is left of the bytes that were taken up last, and the asks behind them

@@ -15,7 +15,7 @@ use Rattle.port_audit.specs.Kinds.{AreKinds, kinds_in}
 use Rattle.port_audit.specs.Makers.{HaveLogs, IsTaken}
 use Rattle.port_audit.specs.Noticing.{IsOnlyOne}
 use Rattle.port_audit.specs.Pleading.{AreToldByWords, HaveErrnos}
-use Rattle.log_walks.specs.Walking.{IsWalked, Known, kinds_at}
+use Rattle.log_audit.specs.Walking.{IsWalked, Known, kinds_at}
 use Rattle.log_audit.specs.PortWalks.{IsWalkedWith, timed_of}
 use Rattle.log_audit.specs.Stays.{ArePackets, known_in}
 use Rattle.log_audit.specs.declared.judging.Judged.{Judged}

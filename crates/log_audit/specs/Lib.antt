@@ -1,3 +1,5 @@
+pub mod Walking
+pub mod Telling
 pub mod Dues
 pub mod Stays
 pub mod PortWalks

@@ -11,8 +11,8 @@ use Rattle.port_audit.specs.Kinds.{kind_of}
 use Rattle.packet_moves.specs.Calls.{after_this}
 use Rattle.nfqa_msgs.specs.declared.request.Decoded.{Decoded}
 use Rattle.run_parts.specs.Order.{Kind, Opens, Answers}
-use Rattle.log_walks.specs.Walking.{Known, Walk, Timed, GoesOn, walked, IsWalked, ended, timed_by}
-use Rattle.log_walks.specs.Walking.{AllGoOn, walked_all}
+use Rattle.log_audit.specs.Walking.{Known, Walk, Timed, GoesOn, walked, IsWalked, ended, timed_by}
+use Rattle.log_audit.specs.Walking.{AllGoOn, walked_all}
 use Rattle.log_audit.specs.Dues.{AreHeld, dues_of}
 use Rattle.log_audit.specs.declared.port_walk.PortWalk.{PortWalk}
 use Rattle.port_audit.specs.declared.kinds.KindAt.{KindAt}

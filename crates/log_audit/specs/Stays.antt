@@ -17,7 +17,7 @@ use Rattle.queue_core.specs.declared.event.Event.TheVariants.{Arrive, Ask, PortC
 use Rattle.histories.specs.declared.entry.Entry.{Entry}
 use Rattle.histories.specs.History.{history}
 use Rattle.histories.specs.Letters.{letters_of_event}
-use Rattle.log_walks.specs.Walking.{Known}
+use Rattle.log_audit.specs.Walking.{Known}
 use Rattle.log_audit.specs.PortWalks.{IsTold}
 use Rattle.log_audit.specs.declared.notices.Stay.{Stay}
 

@@ -9,13 +9,13 @@ ghost use Rattle.script_lines.specs.Limits.{IsAsk, IsWords};
 ghost use Rattle.script_lines.specs.declared.ask.Ask.TheVariants.{Close};
 ghost use Rattle.run_parts.specs.Datagrams.{bytes_of};
 ghost use Rattle.run_parts.specs.Log.{all_due, Still};
-ghost use Rattle.log_walks.specs.Walking.{settled};
+ghost use Rattle.log_audit.specs.Walking.{settled};
 ghost use Rattle.log_audit.specs.Dues as dues;
 
+use crate::laws::datagrams_are_cut_message_by_message;
 use crate::logged::is_logged_as;
 use histories::AskWords;
 use inspector_script::{Ask, Asks};
-use log_walks::datagrams_are_cut_message_by_message;
 use netlink_codec::next_message;
 use nfqa_msgs::{Decoded, decode_request};
 use packet_entry::{Bytes, NoMemory};

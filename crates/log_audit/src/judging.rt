@@ -4,17 +4,17 @@ ghost use Rattle.std.specs.Prelude.{◌≡◌, ◌<◌, ◌^◌, ℕ, Some, None
 ghost use Rattle.std.specs.Prelude.{[], slice_get, All};
 ghost use Rattle.histories.specs.declared.histories.Histories.{Histories};
 ghost use Rattle.run_parts.specs.Ports.{log_of};
-ghost use Rattle.log_walks.specs.Walking.{Known};
+ghost use Rattle.log_audit.specs.Walking.{Known};
 ghost use Rattle.queue_replay.specs.Replays.{AreFound, IsReplayOf};
 ghost use Rattle.log_audit.specs.Judged as judged;
 ghost use Rattle.log_audit.specs.PortWalks as port_walks;
 ghost use Rattle.log_audit.specs.Stays as stays;
 
+use crate::laws::{a_log_is_walked, a_walked_log_is_told};
 use crate::notices::{Notices, are_packets, notices_in};
 use crate::port_walk::walk_log;
 use histories::{Histories, Logs};
 use inspector_script::Script;
-use log_walks::{a_log_is_walked, a_walked_log_is_told};
 use packet_entry::{NoMemory, Sequence};
 use port_audit::{KindAt, MessageKind, Rows, deal_kinds, log_of};
 use queue_replay::{Found, Replayed};

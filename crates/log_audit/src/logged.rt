@@ -5,7 +5,7 @@ ghost use Rattle.netlink_codec.specs.Messages.{first_message, message_of};
 ghost use Rattle.nfqa_msgs.specs.RequestReading as reading;
 ghost use Rattle.packet_moves.specs.Messages.{words_of};
 ghost use Rattle.histories.specs.declared.log.AskWords.TheVariants.{Plain};
-ghost use Rattle.log_walks.specs.Telling as telling;
+ghost use Rattle.log_audit.specs.Telling as telling;
 ghost use Rattle.log_audit.specs.Dues as dues;
 
 use histories::AskWords;

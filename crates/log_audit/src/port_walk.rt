@@ -8,7 +8,7 @@ ghost use Rattle.histories.specs.Happenings.{queue_of};
 ghost use Rattle.histories.specs.declared.log.Did.TheVariants.{Received, Sent, Closed};
 ghost use Rattle.inspector_script.specs.Scripts.{ScriptValue};
 ghost use Rattle.run_parts.specs.Order.{kind_by};
-ghost use Rattle.log_walks.specs.Walking as walking;
+ghost use Rattle.log_audit.specs.Walking as walking;
 ghost use Rattle.port_audit.specs.Kinds.{kind_of};
 ghost use Rattle.log_audit.specs.Dues as dues;
 ghost use Rattle.log_audit.specs.PortWalks as port_walks;

@@ -1,4 +1,3 @@
-pub mod PartsOfRun
 pub mod Entries
 pub mod NumberWalk
 pub mod Rows

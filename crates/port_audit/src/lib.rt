@@ -17,7 +17,7 @@ mod room;
 pub use closing::are_closings;
 pub use dealing::{MessageKind, Rows, Side, push};
 pub use kinds::{KindAt, deal_kinds};
-pub use laws::{a_run_is_all_its_parts, logs_tell_what_ports_did};
+pub use laws::logs_tell_what_ports_did;
 pub use logs::log_of;
 pub use notices::are_notices;
 pub use order::are_ordered;

@@ -2,5 +2,6 @@ pub mod Cards
 pub mod Ids
 pub mod RequestResults
 pub mod StepReplies
+pub mod Departures
 pub mod OnwardPackets
 pub mod Replays

@@ -1,5 +1,6 @@
 pub mod Waiting
 pub mod Going
 pub mod Telling
+pub mod Leaving
 pub mod Replays
 pub mod Underway

@@ -7,10 +7,12 @@ ghost use Rattle.queue_core.specs.Step as queue_step;
 ghost use Rattle.histories.specs.History as history;
 ghost use Rattle.histories.specs.declared.entry.Entry.{Entry};
 ghost use Rattle.queue_replay.specs.Going.{all_going};
+ghost use Rattle.queue_replay.specs.Leaving.{visits_left};
 ghost use Rattle.queue_replay.specs.Replays as replays;
 
 use crate::found::{Found, find};
 use crate::going::{Leavers, going_on};
+use crate::leaving::{Visits, leaving};
 use crate::requests::port_of;
 use crate::standing::Standing;
 use histories::{Entries, Entry, a_legal_history_goes_on, an_entry_is_of_its_queue_alone};
@@ -80,6 +82,21 @@ impl Replayed {
         match self.queues.get(&entry.queue) {
             Some(queue) => going_on(queue, alloc, entry),
             None => going_on(&None, alloc, entry),
+        }
+    }
+
+    /// The packets that leave in the step of the next entry, each by its number and visit, in
+    /// order: those that go on, and those that are destroyed.
+    pub fn leaving(&self, alloc: Global, entry: &Entry) -> Result<Visits, NoMemory>
+        ensures { IfOk result (λ visits. history.IsStep
+            (replays.queue_in (get nat_cmp self.now.queues entry.now.queue)) entry.now →
+            visits.items ≡ visits_left (queue_step.step
+            (replays.queue_in (get nat_cmp self.now.queues entry.now.queue))
+            entry.now.event)) }
+    {
+        match self.queues.get(&entry.queue) {
+            Some(queue) => leaving(queue, alloc, entry),
+            None => leaving(&None, alloc, entry),
         }
     }
 }

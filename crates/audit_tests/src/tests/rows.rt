@@ -3,7 +3,7 @@
 /// Lines with names, of port 7 and queue 0. Packets come to wait (`a1` to `a3`), are copied into no
 /// notice (`c1`, `c2`) or find no queue (`g1`, `g2`); what is said of the first three; devices
 /// (`d1`, `d2`); queue 9; and messages, with what was asked.
-pub(super) const LINES: [(&str, &str); 28] = [
+pub(super) const LINES: [(&str, &str); 33] = [
     ("bind", "M 0 7 1 config 0 cmd 1 = 0 0"),
     ("whole", "M 0 7 2 config 0 params 2 0 = 0 0"),
     ("unbind", "M 0 7 2 config 0 cmd 2 = 0 0"),
@@ -35,6 +35,11 @@ pub(super) const LINES: [(&str, &str); 28] = [
         "S 4 raw 1400000004030100000000000000000000000000 = 22",
     ),
     ("s5", "S 5 batch 0 1 2 = -"),
+    ("w2", "M 0 7 4 verdict 0 1 2 = 0 1"),
+    ("u4", "S 4 verdict 0 1 2 = -"),
+    ("f3", "A 0 3 1 1 n n 0 0 3 0 2048 - 45 userfull:3"),
+    ("e8", "M 0 8 1 config 0 cmd 1 = 0 0"),
+    ("r8", "S 1 config 0 cmd 1 = 0"),
 ];
 
 /// Lines, and where a history isn't legal.
@@ -258,30 +263,118 @@ down 1 after 0/port 7/end config 0 bind|bind/d1/P 7/s1||7e => g";
 /// All packets go to queue 0.
 pub(super) const ONE_RULE: &[u8] = b"*filter\n-A FORWARD -j NFQUEUE --queue-num 0\nCOMMIT\n";
 
-/// The second packet is dropped, every other one accepted.
-pub(super) const PLAYS: &str = "port 7/open config 0 bind/open config 0 params packet 0/\
-on id 2 do verdict this drop this/on any do verdict this accept this";
+/// Runs by name: a script, and the journal that it makes over the three packets. The second packet
+/// is dropped; or a device goes down after the first, and both ports end; or the third finds a full
+/// mailbox.
+pub(super) const RUNS: [(&str, &str, &str); 3] = [
+    (
+        "drop",
+        "port 7/open config 0 bind/open config 0 params packet 0/\
+on id 2 do verdict this drop this/on any do verdict this accept this",
+        "bind/whole/a1/v1/a2/v2/a3/v3/P 7/s1/s2/R 0 1 1/t3/R 0 2 1/t4/R 0 3 1/t5",
+    ),
+    (
+        "ends",
+        "down 2 after 1/port 7/open config 0 bind/open config 0 params packet 0/\
+on any do verdict this accept this/end close/port 8/end config 0 bind",
+        "bind/whole/a1/v1/d2/a2/w2/a3/v3/C 0 7 0/e8/P 7/s1/s2/R 0 1 1/t3/R 0 2 1/u4/R 0 3 1/t5/X/P 8/r8",
+    ),
+    (
+        "full",
+        "mail 2/port 7/open config 0 bind/open config 0 params packet 0/\
+on any do verdict this accept this",
+        "bind/whole/a1/v1/a2/w2/f3/P 7/s1/s2/R 0 1 1/t3/R 0 2 1/u4",
+    ),
+];
 
-/// The journal of its run.
-pub(super) const PLAYED: &str = "bind/whole/a1/v1/a2/v2/a3/v3/\
-P 7/s1/s2/R 0 1 1/t3/R 0 2 1/t4/R 0 3 1/t5";
-
-/// Changes of it, the line that is printed, and with kinds of messages the parts that don't hold. In
-/// their order: the first packet is dropped; the third is, other than is logged; the third notice
-/// isn't received; a port closes that didn't say so; a device goes down that no line names; a port
-/// has a log that isn't the script's; the first packet comes before the port opens; and the third
-/// finds no room.
+/// A run, changes of its journal, the line that is printed, and with kinds of messages the parts
+/// that don't hold. Each row but the first of a run changes as little as the finding wants.
 pub(super) const FINDINGS: &str = "\
-| => \n\
-a2>A 0 2 1 1 n y 0 0 2 0 2048 - 45 taken:4| => audit: queue 0 entry 5
-a3>| => audit: queue 0 entry 7
-a3>,v3>| => audit: record 3
-v1>M 0 7 3 verdict 0 0 1 = 0 1,t3>S 3 verdict 0 0 1 = -|7ooaaa => audit: makers a a
-v3>M 0 7 5 verdict 0 0 3 = 0 1|7ooaaa => audit: makers b b
-v3>,R 0 3 1>,t5>|7ooaa => audit: makers c c
-v3>v3/C 0 7 0|7ooaaa => audit: makers d d
-v3>v3/D 0 1 0|7ooaaa => audit: makers e e
-t5>t5/P 9|7ooaaa => audit: makers f f
-bind>g1/bind,a1>A 0 2 1 1 n y 0 0 2 0 2048 - 45 taken:1,a2>A 0 3 1 1 n y 0 0 3 0 2048 - 45 taken:2,\
+drop|| => \n\
+drop|bind>| => audit: queue 0 entry 1
+drop|bind>bind/bind| => audit: queue 0 entry 2
+drop|whole>| => audit: queue 0 entry 2
+drop|a1>A 0 1 1 1 n y 0 0 1 0 2048 - 45 taken:2| => audit: queue 0 entry 3
+drop|a1>g1| => audit: queue 0 entry 3
+drop|a1>c1| => audit: queue 0 entry 3
+drop|a1>A 0 1 1 1 n n 0 0 1 0 2048 - 45 taken:1| => audit: queue 0 entry 3
+drop|v1>M 0 7 3 verdict 0 1 2 = 0 1| => audit: queue 0 entry 4
+drop|v1>M 0 7 3 verdict 0 1 1 = 2 0| => audit: queue 0 entry 4
+drop|v1>M 0 7 3 verdict 0 1 1 = 0 0| => audit: queue 0 entry 4
+drop|v1>M 0 7 3 verdict 0 2 1 = 0 1| => audit: queue 0 entry 4
+drop|v1>M 0 8 3 verdict 0 1 1 = 0 1| => audit: queue 0 entry 4
+drop|v1>v1/v1| => audit: queue 0 entry 5
+drop|a2>A 0 2 1 1 n y 0 0 2 0 2048 - 45 taken:4| => audit: queue 0 entry 5
+drop|a3>| => audit: queue 0 entry 7
+drop|v3>v3/C 0 7 1| => audit: queue 0 entry 9
+drop|v3>v3/D 0 1 1| => audit: queue 0 entry 9
+drop|v3>v3/M 9 7 6 config 9 cmd 2 = 0 0| => audit: queue 9 entry 1
+drop|v3>v3/C 0 7 1/M 9 7 6 config 9 cmd 2 = 0 0| => audit: queue 0 entry 9
+ends|C 0 7 0>C 0 7 0/C 0 7 0| => audit: queue 0 entry 11
+drop|a1>A 0 1 1 1 n y 5 0 1 0 2048 - 45 taken:1| => audit: record 1
+drop|a1>A 0 1 1 1 y y 0 0 1 0 2048 - 45 taken:1| => audit: record 1
+drop|a1>A 0 1 1 2 n y 0 0 1 0 2048 - 45 taken:1| => audit: record 1
+drop|a1>A 0 1 2 1 n y 0 0 1 0 2048 - 45 taken:1| => audit: record 1
+drop|v1>M 0 7 3 verdict 0 4 1 = 0 1| => audit: record 1
+drop|v3>v3/A 0 1 2 1 n y 0 0 1 0 2048 - 45 taken:4| => audit: record 1
+drop|a2>A 0 2 1 1 n y 0 6 2 0 2048 - 45 taken:2| => audit: record 2
+drop|a2>A 0 2 1 1 n y 0 0 7 0 2048 - 45 taken:2| => audit: record 2
+drop|a2>A 0 2 1 1 n y 0 0 2 0 34525 - 45 taken:2| => audit: record 2
+drop|a2>A 0 2 1 1 n y 0 0 2 0 2048 00 45 taken:2| => audit: record 2
+drop|a3>A 0 3 1 1 n y 0 0 3 0 2048 - 46 taken:3| => audit: record 3
+drop|a3>,v3>| => audit: record 3
+drop|a3>,v3>A 1 3 1 1 n y 0 0 3 0 2048 - 45 noqueue| => audit: record 3
+drop|v3>v3/A 0 3 1 1 n y 0 0 3 0 2048 - 45 taken:4| => audit: record 3
+drop|v3>v3/A 0 4 1 1 n y 0 0 4 0 2048 - 45 taken:4| => audit: record 4
+drop|v1>M 0 7 3 verdict 0 0 1 = 0 1,t3>S 3 verdict 0 0 1 = -|7ooaaa => audit: makers a a
+drop|s1>| => audit: makers a
+drop|s2>S 2 config 0 params 1 0 = 0| => audit: makers a
+drop|R 0 1 1>| => audit: makers a
+drop|R 0 1 1>R 0 1 2| => audit: makers a
+drop|R 0 1 1>R 0 1 1/R 0 1 1| => audit: makers a
+drop|t3>S 4 verdict 0 1 1 = -| => audit: makers a
+drop|t5>| => audit: makers a
+drop|t5>t5/S 6 config 0 cmd 2 = 0| => audit: makers a
+drop|t5>t5/X| => audit: makers a
+drop|P 7>P 8| => audit: makers a
+ends|X>| => audit: makers a
+ends|P 8>,r8>| => audit: makers a
+drop|v3>M 0 7 5 verdict 0 0 3 = 0 1|7ooaaa => audit: makers b b
+drop|v1>M 0 7 3 verdict 0 1 1 mark 5 = 0 1| => audit: makers b
+drop|v1>M 0 7 3 batch 0 1 1 = 0 1| => audit: makers b
+drop|v1>M 0 7 9 verdict 0 1 1 = 0 1| => audit: makers b
+drop|v3>| => audit: makers b
+drop|v3>v3/M 0 7 6 config 0 cmd 3 = 0 0| => audit: makers b
+drop|v3>v3/M 0 8 1 config 0 cmd 4 = 0 0| => audit: makers b
+drop|whole>M 0 7 2 config 0 params 1 0 = 0 0| => audit: makers b
+drop|s1>S 1 config 0 cmd 1 = 16| => audit: makers b
+drop|s1>S 1 config 0 cmd 1 = -| => audit: makers b
+drop|t3>S 3 verdict 0 1 1 = 0| => audit: makers b
+drop|v3>,R 0 3 1>,t5>|7ooaa => audit: makers c c
+drop|v1>,a2>a2/M 0 7 3 verdict 0 0 2 = 0 1,v2>M 0 7 4 verdict 0 1 1 = 0 1,\
+R 0 1 1>R 0 2 1,t3>S 3 verdict 0 0 2 = -,R 0 2 1>R 0 1 1,t4>S 4 verdict 0 1 1 = -|7ooaaa => audit: makers c c
+drop|v3>v3/C 0 7 0|7ooaaa => audit: makers d d
+ends|C 0 7 0>,e8>M 0 8 1 config 0 cmd 1 = 1 0,r8>S 1 config 0 cmd 1 = 1| => audit: makers d
+ends|v3>C 0 7 1,C 0 7 0>M 0 7 5 verdict 0 1 3 = 19 0,t5>S 5 verdict 0 1 3 = 19| => audit: makers d
+drop|v3>v3/D 0 1 0|7ooaaa => audit: makers e e
+drop|a1>A 0 2 1 1 n y 0 0 2 0 2048 - 45 taken:1,a2>A 0 1 1 1 n y 0 0 1 0 2048 - 45 taken:2,\
+R 0 1 1>R 0 2 1,R 0 2 1>R 0 1 1|7ooaaa => audit: makers e e
+ends|d2>| => audit: makers e
+ends|d2>d1| => audit: makers e
+ends|d2>d2/d2| => audit: makers e
+ends|d2>,w2>w2/d2| => audit: makers e
+ends|d2>,whole>whole/d2| => audit: makers e
+drop|t5>t5/P 9|7ooaaa => audit: makers f f
+drop|P 7>P 9/P 7| => audit: makers f
+ends|P 7>P 8/r8/P 7,P 8>,r8>| => audit: makers f
+ends|P 8>P 9/P 8| => audit: makers f
+drop|bind>g1/bind,a1>A 0 2 1 1 n y 0 0 2 0 2048 - 45 taken:1,a2>A 0 3 1 1 n y 0 0 3 0 2048 - 45 taken:2,\
 a3>,v3>,R 0 1 1>R 0 2 1,R 0 2 1>R 0 3 1,R 0 3 1>,t5>|7ooaa => audit: makers g g
-a3>A 0 3 1 1 n n 0 0 3 0 2048 - 45 userfull:3,v3>,R 0 3 1>,t5>|7ooaa => audit: makers h h";
+drop|whole>c1/whole,a1>A 0 2 1 1 n y 0 0 2 0 2048 - 45 taken:1,a2>A 0 3 1 1 n y 0 0 3 0 2048 - 45 taken:2,\
+a3>,v3>,R 0 1 1>R 0 2 1,R 0 2 1>R 0 3 1,R 0 3 1>,t5>|7ooaa => audit: makers g g
+ends|a3>M 0 8 1 config 0 cmd 1 = 1 0/a3,e8>,r8>S 1 config 0 cmd 1 = 1| => audit: makers g
+ends|C 0 7 0>M 0 8 1 config 0 cmd 1 = 1 0/C 0 7 0,e8>,r8>S 1 config 0 cmd 1 = 1| => audit: makers g
+drop|a3>f3,v3>,R 0 3 1>,t5>|7ooaa => audit: makers h h
+full|a2>A 0 2 1 1 n n 0 0 2 0 2048 - 45 userfull:2,w2>,R 0 2 1>,u4>| => audit: makers h
+ends|| => \n\
+full|| => ";

@@ -3,9 +3,10 @@ use Rattle.commands.proofs.WellFormedHistories.{well_formed}
 use Rattle.commands.proofs.account.a_run_is_accounted_for.Goals as goal
 
 pub returns : goal.returns
-returns c = λ workers feeders tables script capture h notes es is fit none grouped legal sound made.
+returns c = λ workers feeders tables script capture h notes es is fit none grouped legal sound made
+    order.
     c.told_histories_are_accounted_for.ensures workers feeders tables script capture h notes
     (well_formed c.replies_tell_how_many_left.ensures workers feeders script
     (length capture.frames) h notes (λ port. []) is fit none es grouped legal made
     (c.each_log_is_what_is_told.ensures workers feeders script (length capture.frames) h notes
-    (λ port. []) is.ports_differ made)) none legal sound made
+    (λ port. []) is.ports_differ made)) none legal sound made order

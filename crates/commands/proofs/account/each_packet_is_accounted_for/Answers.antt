@@ -12,7 +12,7 @@ returns c = λ tables script capture h is solo legal fit sound.
       schedule = solo;
       only = λ g other.
           c.a_schedule_has_one_run.ensures.entries script tables capture g h other solo;
-      order = c.one_order_of_all_events.ensures script tables capture h is solo;
       run = c.a_run_is_accounted_for.ensures 1 1 tables script capture h made.0 _ is fit solo.lost
-          solo.entries legal sound made.1;
+          solo.entries legal sound made.1
+          (c.one_order_of_all_events.ensures script tables capture h is solo);
     }

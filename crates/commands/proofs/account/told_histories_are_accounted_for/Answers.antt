@@ -1,5 +1,5 @@
 use Rattle.std.proofs.Common.{arith, ap, List}
-use Rattle.std.specs.Prelude.{count_by, ◌==◌, length, []}
+use Rattle.std.specs.Prelude.{count_by, ◌==◌}
 use Rattle.histories.specs.declared.histories.Lost.{Lost}
 use Rattle.run_parts.specs.Entering.{cards}
 use Rattle.fate_ledger.specs.Fates.{is_lost}
@@ -8,7 +8,7 @@ use Rattle.commands.proofs.PacketNumbers.{cards_differ, one_line_each}
 use Rattle.commands.proofs.account.told_histories_are_accounted_for.Goals as goal
 
 pub returns : goal.returns
-returns c = λ workers feeders tables script capture h notes formed none legal sound made.
+returns c = λ workers feeders tables script capture h notes formed none legal sound made order.
     let apart = c.no_visit_arrives_twice.ensures tables script.key (cards capture) h.entries h.lost
     (cards_differ capture) sound in
     record {
@@ -17,6 +17,7 @@ returns c = λ workers feeders tables script capture h notes formed none legal s
       sound = sound;
       notes = notes;
       made = made;
+      order = order;
       formed = formed;
       apart = apart;
       once = λ number queues are.

@@ -3,100 +3,35 @@ use Rattle.commands.proofs.Statuses.{any_no_command, any_only_printed, any_quiet
 use Rattle.commands.proofs.Statuses.{any_usage, any_usage_printed, of_any}
 use Rattle.commands.proofs.arguments.program.Goals as goal
 
-pub returns-clause-statuses : goal.returns-clause-statuses
-returns-clause-statuses g c = any_statuses _ _ _ c.status_of_arguments.ensures.answer
-
-pub returns-clause-by_command : goal.returns-clause-by_command
-returns-clause-by_command g c = λ k is.
-    (of_any _ _ _ k is c.status_of_arguments.ensures.answer).statuses
-
-pub returns-clause-usage : goal.returns-clause-usage
-returns-clause-usage g c = any_usage _ _ _ c.status_of_arguments.ensures.answer
-
-pub returns-clause-no_command : goal.returns-clause-no_command
-returns-clause-no_command g c = any_no_command _ _ _ c.status_of_arguments.ensures.answer
-
-pub returns-clause-usage_printed : goal.returns-clause-usage_printed
-returns-clause-usage_printed g c = any_usage_printed _ _ _ c.status_of_arguments.ensures.answer
-
-pub returns-clause-untouched : goal.returns-clause-untouched
-returns-clause-untouched g c = any_only_printed _ _ _ c.status_of_arguments.ensures.answer
-
-pub returns-clause-quiet : goal.returns-clause-quiet
-returns-clause-quiet g c = any_quietly _ _ _ c.status_of_arguments.ensures.answer
-
-pub returns-clause-read_fault : goal.returns-clause-read_fault
-returns-clause-read_fault g c = λ is_2 k is.
-    (of_any _ _ _ k is c.status_of_arguments.ensures.answer).read_fault is_2
-
-pub returns-clause-write_fault : goal.returns-clause-write_fault
-returns-clause-write_fault g c = λ is_3 k is.
-    (of_any _ _ _ k is c.status_of_arguments.ensures.answer).write_fault is_3
-
-pub returns-clause-unread : goal.returns-clause-unread
-returns-clause-unread g c = λ is_2 k is t.
-    (of_any _ _ _ k is c.status_of_arguments.ensures.answer).unread is_2 t
-
-pub returns-clause-stopped : goal.returns-clause-stopped
-returns-clause-stopped g c = λ is_3 k is.
-    (of_any _ _ _ k is c.status_of_arguments.ensures.answer).stopped is_3
-
-pub returns-clause-cut_short : goal.returns-clause-cut_short
-returns-clause-cut_short g c = λ is_3 k is t.
-    (of_any _ _ _ k is c.status_of_arguments.ensures.answer).cut_short is_3 t
-
-pub returns-clause-refused : goal.returns-clause-refused
-returns-clause-refused g c = λ of k is t.
-    (of_any _ _ _ k is c.status_of_arguments.ensures.answer).refused of t
-
-pub returns-clause-exact : goal.returns-clause-exact
-returns-clause-exact g c = λ k i why is is_i t refused.
-    (of_any _ _ _ k is c.status_of_arguments.ensures.answer).exact i why is_i t refused
-
-pub returns-clause-lived : goal.returns-clause-lived
-returns-clause-lived g c = λ is_0 l is t.
-    (of_any _ _ _ (Lives l) is c.status_of_arguments.ensures.answer).done is_0 t
-
-pub returns-clause-played : goal.returns-clause-played
-returns-clause-played g c = λ is_0 f is t.
-    (of_any _ _ _ (Plays f) is c.status_of_arguments.ensures.answer).done is_0 t
-
-pub returns-clause-listed : goal.returns-clause-listed
-returns-clause-listed g c = λ is_0 f is t.
-    (of_any _ _ _ (Lists f) is c.status_of_arguments.ensures.answer).done is_0 t
-
-pub returns-clause-generated : goal.returns-clause-generated
-returns-clause-generated g c = λ is_0 f is t.
-    (of_any _ _ _ (Generates f) is c.status_of_arguments.ensures.answer).done is_0 t
-
-pub returns-clause-tried : goal.returns-clause-tried
-returns-clause-tried g c = λ is_0 f is t.
-    (of_any _ _ _ (Tries f) is c.status_of_arguments.ensures.answer).done is_0 t
-
-pub returns-clause-migrated : goal.returns-clause-migrated
-returns-clause-migrated g c = λ is_0 f is t.
-    (of_any _ _ _ (Migrates f) is c.status_of_arguments.ensures.answer).done is_0 t
-
-pub returns-clause-audited : goal.returns-clause-audited
-returns-clause-audited g c = λ is_0 a is t.
-    (of_any _ _ _ (Audits a) is c.status_of_arguments.ensures.answer).audited is_0 t
-
-pub returns-clause-amiss : goal.returns-clause-amiss
-returns-clause-amiss g c = λ is_11 k is t.
-    (of_any _ _ _ k is c.status_of_arguments.ensures.answer).amiss is_11 t
-
-pub returns-clause-passes : goal.returns-clause-passes
-returns-clause-passes g c = λ a is t audited.
-    (of_any _ _ _ (Audits a) is c.status_of_arguments.ensures.answer).passes t audited
-
-pub returns-clause-finds : goal.returns-clause-finds
-returns-clause-finds g c = λ a f is t finds.
-    (of_any _ _ _ (Audits a) is c.status_of_arguments.ensures.answer).finds t f finds
-
-pub returns-clause-complete : goal.returns-clause-complete
-returns-clause-complete g c = λ k is t taken.
-    (of_any _ _ _ k is c.status_of_arguments.ensures.answer).complete t taken
-
-pub returns-clause-others : goal.returns-clause-others
-returns-clause-others g c = λ ends k is.
-    (of_any _ _ _ k is c.status_of_arguments.ensures.answer).others ends
+pub returns : goal.returns
+returns g c =
+    let answer = c.status_of_arguments.ensures.answer in
+    record {
+      statuses = any_statuses _ _ _ answer;
+      by_command = λ k is. (of_any _ _ _ k is answer).statuses;
+      usage = any_usage _ _ _ answer;
+      no_command = any_no_command _ _ _ answer;
+      usage_printed = any_usage_printed _ _ _ answer;
+      read_fault = λ is_2 k is. (of_any _ _ _ k is answer).read_fault is_2;
+      write_fault = λ is_3 k is. (of_any _ _ _ k is answer).write_fault is_3;
+      unread = λ is_2 k is t. (of_any _ _ _ k is answer).unread is_2 t;
+      stopped = λ is_3 k is. (of_any _ _ _ k is answer).stopped is_3;
+      cut_short = λ is_3 k is t. (of_any _ _ _ k is answer).cut_short is_3 t;
+      refused = λ of k is t. (of_any _ _ _ k is answer).refused of t;
+      exact = λ k i why is is_i t refused. (of_any _ _ _ k is answer).exact i why is_i t refused;
+      lived = λ is_0 l is t. (of_any _ _ _ (Lives l) is answer).done is_0 t;
+      played = λ is_0 f is t. (of_any _ _ _ (Plays f) is answer).done is_0 t;
+      listed = λ is_0 f is t. (of_any _ _ _ (Lists f) is answer).done is_0 t;
+      generated = λ is_0 f is t. (of_any _ _ _ (Generates f) is answer).done is_0 t;
+      tried = λ is_0 f is t. (of_any _ _ _ (Tries f) is answer).done is_0 t;
+      migrated = λ is_0 f is t. (of_any _ _ _ (Migrates f) is answer).done is_0 t;
+      audited = λ is_0 a is t. (of_any _ _ _ (Audits a) is answer).audited is_0 t;
+      amiss = λ is_11 k is t. (of_any _ _ _ k is answer).amiss is_11 t;
+      passes = λ a is t audited. (of_any _ _ _ (Audits a) is answer).passes t audited;
+      finds = λ a f is t finds. (of_any _ _ _ (Audits a) is answer).finds t f finds;
+      complete = λ k is t taken. (of_any _ _ _ k is answer).complete t taken;
+      untouched = any_only_printed _ _ _ answer;
+      quiet = any_quietly _ _ _ answer;
+      others = λ ends k is. (of_any _ _ _ k is answer).others ends;
+      later = c.status_of_arguments.ensures.later;
+    }

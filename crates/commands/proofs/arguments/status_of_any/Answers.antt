@@ -7,10 +7,10 @@ use Rattle.commands.proofs.arguments.status_of_any.Goals as goal
 pub returns-then-is_live-clause-answer : goal.returns-then-is_live-clause-answer
 returns-then-is_live-clause-answer g c =
     of_other (live_call_of_words c.args.words.now) (program_call c.args.words.now) _ _
-    (to_live c.args.words.now (sym c.is_live.ensures ∙ c.if-is_live.true)) c.live.ensures.answer
+    (to_live c.args.words.now (sym c.is_live.ensures ∙ c.if-is_live.true)) c.live_status.ensures.answer
 
 pub returns-else-is_live-clause-answer : goal.returns-else-is_live-clause-answer
 returns-else-is_live-clause-answer g c =
     of_other (call_of_words c.args.words.now) (program_call c.args.words.now) _ _
     (to_another c.args.words.now (sym c.is_live.ensures ∙ c.if-is_live.false))
-    c.play.ensures.answer
+    c.status_of_words.ensures.answer

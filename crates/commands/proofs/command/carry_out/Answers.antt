@@ -1,7 +1,7 @@
 use Rattle.std.proofs.Common.{Err, Option, refl, subst}
 use Rattle.command_line.specs.Arguments.{call_of}
 use Rattle.run_files.specs.declared.stop.Stop.{Stop}
-use Rattle.run_audit.specs.declared.finding.Finding.{Finding}
+use Rattle.journal_audit.specs.declared.finding.Finding.{Finding}
 use Rattle.commands.specs.Ending.{IsEnded, span}
 use Rattle.commands.proofs.Endings.{refused_still}
 use Rattle.commands.proofs.command.carry_out.Goals as goal

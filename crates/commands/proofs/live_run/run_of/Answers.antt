@@ -15,8 +15,9 @@ returns-clause-account g c =
     c.in_ok-histories.ensures.legal
     (subst (λ (t : RuleTables). AreSound t c.args.script.now.key (cards c.args.capture.now)
     c.in_ok-histories.histories.entries c.in_ok-histories.histories.lost)
-    (c.in_ok-opened.ensures.tables ∙ c.with_feeders-fanned.ensures) c.in_ok-histories.ensures.sound)
-    c.in_ok-histories.ensures.made.made
+    (c.in_ok-opened.ensures.tables ∙ c.with_feeders-fanned.ensures)
+    c.in_ok-histories.ensures.sound) c.in_ok-histories.ensures.made.made
+    c.in_ok-histories.ensures.order
 
 pub returns-clause-fit : goal.returns-clause-fit
 returns-clause-fit g c =

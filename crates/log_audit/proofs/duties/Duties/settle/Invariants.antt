@@ -1,5 +1,5 @@
 use Rattle.std.proofs.Common.{◌≡◌, length}
-use Rattle.log_walks.specs.Walking.{settled}
+use Rattle.log_audit.specs.Walking.{settled}
 use Rattle.log_audit.specs.Dues.{AreHeld, dues_of}
 use Rattle.log_audit.proofs.duties.Duties.settle.Given as goal
 

@@ -3,7 +3,7 @@ use Rattle.std.specs.Prelude.{is_some}
 use Rattle.netlink_codec.specs.Messages.{framed_of, message_of}
 use Rattle.packet_moves.specs.Messages.{words_of}
 use Rattle.run_parts.specs.Log.{first_due}
-use Rattle.log_walks.specs.Walking.{IsLoggedAs}
+use Rattle.log_audit.specs.Walking.{IsLoggedAs}
 use Rattle.log_audit.proofs.HeldDues.{asks_say_nothing, has_cut, said}
 use Rattle.log_audit.proofs.duties.Duties.speak.Goals as goal
 

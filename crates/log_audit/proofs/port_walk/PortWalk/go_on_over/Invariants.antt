@@ -1,4 +1,4 @@
-use Rattle.log_walks.specs.Walking.{Known}
+use Rattle.log_audit.specs.Walking.{Known}
 use Rattle.log_audit.specs.PortWalks.{IsHeld, walk_of}
 use Rattle.log_audit.specs.Stays.{AreTold}
 use Rattle.log_audit.proofs.WalkSteps.{IsGoingOver}

@@ -1,5 +1,5 @@
 use Rattle.std.proofs.Common.{◌∙◌, ap, refl}
-use Rattle.log_walks.specs.Walking.{settled}
+use Rattle.log_audit.specs.Walking.{settled}
 use Rattle.log_audit.specs.Dues.{dues_of}
 use Rattle.log_audit.specs.PortWalks.{walk_of}
 use Rattle.log_audit.proofs.WalkSteps.{sent_at_end}

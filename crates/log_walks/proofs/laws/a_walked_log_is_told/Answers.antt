@@ -1,8 +1,0 @@
-use Rattle.log_walks.proofs.ToldEntries.{tell_whole}
-use Rattle.log_walks.proofs.laws.a_walked_log_is_told.Goals as goal
-
-pub returns : goal.returns
-returns c =
-    λ known script place port dids is keyed walks.
-    tell_whole known script place port is keyed c.datagrams_are_short.ensures.words
-    (λ notes. c.one_worker_is_no_pool.ensures.nothing_waits script place port notes) dids walks

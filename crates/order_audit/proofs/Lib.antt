@@ -1,0 +1,11 @@
+pub mod Membership
+pub mod Places
+pub mod Logs
+pub mod Lists
+pub mod Entries
+pub mod Departures
+pub mod Gone
+pub mod Walks
+pub mod LogNumbers
+pub mod Requests
+pub mod Stuck

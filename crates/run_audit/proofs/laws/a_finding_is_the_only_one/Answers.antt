@@ -1,5 +1,0 @@
-use Rattle.run_audit.proofs.OneFinding.{only}
-use Rattle.run_audit.proofs.laws.a_finding_is_the_only_one.Goals as goal
-
-pub returns : goal.returns
-returns c = only c.each_front_of_a_legal_history_is_legal.ensures
