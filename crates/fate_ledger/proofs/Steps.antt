@@ -74,8 +74,8 @@ module _ (queue at : ℕ) where
     joins = λ b card bypass room early had. (refl, refl);
     answered = answered;
     ends = λ b port call named a own. (all_leave _ b.waiting, none_wait b.waiting);
-    binds = λ port call named a mode range maximum flags. (refl, refl);
-    sets_up = λ b port call named a mode range maximum flags own. (refl, refl);
+    binds = λ port call named a settings. (refl, refl);
+    sets_up = λ b port call named a settings own. (refl, refl);
     decides = λ b port call named head edit card own found. (rw found refl, refl);
     shares = λ b port call named head mark priority w ws own is. (
       ap (λ vs. map (λ (v : ℕ × Card). happening (how_at queue at (fate_of head.verdict))

@@ -8,7 +8,7 @@ use Rattle.queue_core.specs.declared.event.Reply.TheVariants.{Answer}
 use Rattle.queue_core.specs.Decision.{IsVerdict}
 use Rattle.queue_core.specs.State.{Bound}
 use Rattle.queue_core.specs.Share.{share}
-use Rattle.queue_core.specs.Step.{Stepped, verdict, batch, without_oldest}
+use Rattle.queue_core.specs.Step.{Stepped, batch, without_oldest}
 use Rattle.queue_core.specs.Step.{leaving, batch_edit, shared_out, Way}
 use Rattle.queue_core.specs.Calls.{hands_out, ways_of, handed_as, batch_handed}
 

@@ -7,3 +7,4 @@ pub mod Shares
 pub mod HandedPackets
 pub mod Tables
 pub mod Outcomes
+pub mod ConfigLines

@@ -142,8 +142,8 @@ conserves = record {
   joins = λ b card bypass room early had. kept_waits b (next_id b) card;
   answered = λ q port call asked errno test. refl;
   ends = λ b port call queue a own test. omega (arith, kept_gone test b);
-  binds = λ port call queue a mode range maximum flags test. refl;
-  sets_up = λ b port call queue a mode range maximum flags own test. refl;
+  binds = λ port call queue a settings test. refl;
+  sets_up = λ b port call queue a settings own test. refl;
   decides = λ b port call queue head edit card own found test.
       omega (arith, found_and_others head.id b.waiting card test found);
   shares = λ b port call queue head mark priority w ws own is test.
@@ -177,8 +177,8 @@ counts_each = record {
   joins = λ b card bypass room early had. refl;
   answered = λ q port call asked errno. refl;
   ends = λ b port call queue a own. as_many_gone b;
-  binds = λ port call queue a mode range maximum flags. refl;
-  sets_up = λ b port call queue a mode range maximum flags own. refl;
+  binds = λ port call queue a settings. refl;
+  sets_up = λ b port call queue a settings own. refl;
   decides = λ b port call queue head edit card own found. refl;
   shares = λ b port call queue head mark priority w ws own is.
       sym (length-map (w ∷ ws) (λ (v : ℕ × Card). leaving head (batch_edit mark priority) v.1));
@@ -230,8 +230,8 @@ destroys = record {
   joins = λ b card bypass room early had. tt;
   answered = λ q port call asked errno. answer_destroys q asked errno;
   ends = λ b port call queue a own. all_are_gone b;
-  binds = λ port call queue a mode range maximum flags. none_leaves;
-  sets_up = λ b port call queue a mode range maximum flags own. none_leaves;
+  binds = λ port call queue a settings. none_leaves;
+  sets_up = λ b port call queue a settings own. none_leaves;
   decides = λ b port call queue head edit card own found. tt;
   shares = λ b port call queue head mark priority w ws own is. tt;
   none_closed = λ port. none_leaves;
@@ -271,8 +271,8 @@ untouched = record {
   joins = λ b card bypass room early had. tt;
   answered = λ q port call asked errno other. record { state = refl; left = refl };
   ends = λ b port call queue a own other. absurd (not_own b port own other);
-  binds = λ port call queue a mode range maximum flags other. absurd other;
-  sets_up = λ b port call queue a mode range maximum flags own other.
+  binds = λ port call queue a settings other. absurd other;
+  sets_up = λ b port call queue a settings own other.
       absurd (not_own b port own other);
   decides = λ b port call queue head edit card own found other.
       absurd (not_own b port own other);
@@ -312,8 +312,8 @@ stays_apart = record {
   joins = λ b card bypass room early had ids apart. apart_taken b card ids.0 ids.1 apart;
   answered = λ q port call asked errno ids apart. apart;
   ends = λ b port call queue a own ids apart. tt;
-  binds = λ port call queue a mode range maximum flags ids apart. tt;
-  sets_up = λ b port call queue a mode range maximum flags own ids apart. apart;
+  binds = λ port call queue a settings ids apart. tt;
+  sets_up = λ b port call queue a settings own ids apart. apart;
   decides = λ b port call queue head edit card own found ids apart.
       apart_without head.id b.waiting apart;
   shares = λ b port call queue head mark priority w ws own is ids apart.

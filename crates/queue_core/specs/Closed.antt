@@ -53,8 +53,8 @@ shapes = record {
   joins = λ b card bypass room early had. tt;
   answered = λ q port call asked errno. tt;
   ends = λ b port call queue a own. gone_shut b.waiting;
-  binds = λ port call queue a mode range maximum flags. tt;
-  sets_up = λ b port call queue a mode range maximum flags own. tt;
+  binds = λ port call queue a settings. tt;
+  sets_up = λ b port call queue a settings own. tt;
   decides = λ b port call queue head edit card own found.
       (way_shut (decision_of head.verdict), tt);
   shares = λ b port call queue head mark priority w ws own is.

@@ -110,8 +110,8 @@ module _ (F : Property) where
     joins = λ b card bypass room early had keeps held. (push_all b.waiting _ held keeps, tt);
     answered = λ q port call asked errno keeps held. (held, tt);
     ends = λ b port call queue a own keeps held. (tt, gone_all b.waiting held);
-    binds = λ port call queue a mode range maximum flags keeps held. (tt, tt);
-    sets_up = λ b port call queue a mode range maximum flags own keeps held. (held, tt);
+    binds = λ port call queue a settings keeps held. (tt, tt);
+    sets_up = λ b port call queue a settings own keeps held. (held, tt);
     decides = λ b port call queue head edit card own found keeps held. (
       rest_all (is_id head.id) b.waiting held,
       (

@@ -29,8 +29,8 @@ module _ (O : ℕ → Type 0) where
     joins = λ b card bypass room early had by owned. owned;
     answered = λ q port call asked errno by owned. owned;
     ends = λ b port call queue a own by owned. tt;
-    binds = λ port call queue a mode range maximum flags by owned. by;
-    sets_up = λ b port call queue a mode range maximum flags own by owned. owned;
+    binds = λ port call queue a settings by owned. by;
+    sets_up = λ b port call queue a settings own by owned. owned;
     decides = λ b port call queue head edit card own found by owned. owned;
     shares = λ b port call queue head mark priority w ws own is by owned. owned;
     none_closed = λ port by owned. tt;

@@ -6,11 +6,10 @@ use Rattle.std.specs.Prelude.{◌≡◌, refl, ℕ, List, [], ◌∷◌, Option,
 use Rattle.std.specs.Prelude.{take, length, cond, ◌||◌, ◌&&◌, ◌==◌, not, is_some, is_none}
 use Rattle.packet_entry.specs.declared.packet.Card.{Card}
 use Rattle.packet_entry.specs.Numbers.{last_visit}
-use Rattle.nfqa_headers.specs.declared.params.Params.{Params}
 use Rattle.nfqa_headers.specs.declared.verdict_header.Head.{Head}
 use Rattle.nfqa_msgs.specs.declared.request.Request.{Request}
 use Rattle.nfqa_msgs.specs.declared.request.Request.TheVariants as request
-use Rattle.nfqa_msgs.specs.Numbers.{copy_none, copy_meta, copy_packet, command_bind}
+use Rattle.nfqa_msgs.specs.Numbers.{copy_none, command_bind}
 use Rattle.nfqa_msgs.specs.Numbers.{command_unbind, command_pf_bind, command_pf_unbind}
 use Rattle.nfqa_msgs.specs.Numbers.{input_device, output_device}
 use Rattle.queue_core.specs.declared.offers.Outcome.{Outcome}
@@ -20,8 +19,9 @@ use Rattle.queue_core.specs.declared.event.Event.TheVariants as event
 use Rattle.queue_core.specs.declared.event.Reply.TheVariants as reply
 use Rattle.queue_core.specs.Ids.{after}
 use Rattle.queue_core.specs.Decision.{Edit, is_verdict}
-use Rattle.queue_core.specs.State.{Bound, bound_to, configured, params_set, maximum_set, flags_set}
-use Rattle.queue_core.specs.State.{fails_open}
+use Rattle.queue_core.specs.declared.settings.Settings.{Settings}
+use Rattle.queue_core.specs.State.{Bound, bound_to, fails_open, settings_of, settings_after}
+use Rattle.queue_core.specs.State.{with_settings}
 use Rattle.queue_core.specs.Share.{share}
 use Rattle.queue_core.specs.Step.{Stepped, Way, Gone, Open, Decided, gone, goes_on, waits, next_id}
 use Rattle.queue_core.specs.Step.{with_last}
@@ -289,11 +289,6 @@ abbrev pub with_counts : Bound → ℕ → ℕ → ℕ → Bound
 with_counts b last dropped user_dropped =
     record b { last = last; dropped = dropped; user_dropped = user_dropped }
 
--- its settings, which a config request may change
-abbrev pub with_settings : Bound → ℕ → ℕ → ℕ → ℕ → Bound
-with_settings b mode range maximum flags =
-    record b { mode = mode; range = range; maximum = maximum; flags = flags }
-
 abbrev pub settled : Bound → Stepped
 settled b = record { state = Some b; reply = reply.Answer 0 0; left = [] }
 
@@ -322,13 +317,10 @@ pub record Shapes (P : Known) : Type 0 where
   pub ends : (b : Bound) (port call queue : ℕ) (a : ConfigAsk) → IsOwn b port →
       P (Some b) (asks_config port call queue a) (ended b)
   -- settings change, of a new queue or of one that there is
-  pub binds : (port call queue : ℕ) (a : ConfigAsk) (mode range maximum flags : ℕ) →
-      P None (asks_config port call queue a)
-      (settled (with_settings (bound_to port) mode range maximum flags))
-  pub sets_up : (b : Bound) (port call queue : ℕ) (a : ConfigAsk)
-      (mode range maximum flags : ℕ) → IsOwn b port →
-      P (Some b) (asks_config port call queue a)
-      (settled (with_settings b mode range maximum flags))
+  pub binds : (port call queue : ℕ) (a : ConfigAsk) (s : Settings) →
+      P None (asks_config port call queue a) (settled (with_settings (bound_to port) s))
+  pub sets_up : (b : Bound) (port call queue : ℕ) (a : ConfigAsk) (s : Settings) →
+      IsOwn b port → P (Some b) (asks_config port call queue a) (settled (with_settings b s))
   -- one leaves, or a share
   pub decides : (b : Bound) (port call queue : ℕ) (head : Head) (edit : Edit) (card : Card) →
       IsOwn b port → card_under b head.id ≡ Some card →
@@ -347,29 +339,9 @@ pub record Shapes (P : Known) : Type 0 where
       P q (event.DeviceDown device) (untouched q)
   pub flushes : (b : Bound) (device : ℕ) → P (Some b) (event.DeviceDown device) (flushed b)
 
--- what is set up differs in its settings alone
-settings_alone : (Q : Bound → Type 0) (b : Bound) (a : ConfigAsk) →
-    ((mode range maximum flags : ℕ) → Q (with_settings b mode range maximum flags)) →
-    Q (configured a.params a.maximum a.flags a.mask b)
-settings_alone Q b a each =
-    by_params a.params
-  where
-    by_flags : (mode range : ℕ) (flags mask : Option ℕ) →
-        Q (flags_set flags mask (maximum_set a.maximum (record b { mode = mode; range = range })))
-    by_flags mode range (Some flags) (Some mask) = each mode range _ _
-    by_flags mode range (Some flags) None = each mode range _ b.flags
-    by_flags mode range None mask = each mode range _ b.flags
-
-    by_params : (params : Option Params) →
-        Q (flags_set a.flags a.mask (maximum_set a.maximum (params_set params b)))
-    by_params None = by_flags b.mode b.range a.flags a.mask
-    by_params (Some p) =
-        let R : Bound → Type 0 = λ c. Q (flags_set a.flags a.mask (maximum_set a.maximum c)) in
-        either R ((p.mode == copy_none) || (p.mode == copy_meta)) _ _
-        (λ is. by_flags _ _ a.flags a.mask)
-        (λ no. either R (p.mode == copy_packet) _ _
-        (λ is. by_flags _ _ a.flags a.mask)
-        (λ no. by_flags b.mode b.range a.flags a.mask))
+-- the settings that a queue has once a config request has set it up
+abbrev pub set_by : ConfigAsk → Bound → Settings
+set_by a b = settings_after a.params a.maximum a.flags a.mask (settings_of b)
 
 module _ (P : Known) (shapes : Shapes P) where
   by_lines : Lines P
@@ -396,12 +368,9 @@ module _ (P : Known) (shapes : Shapes P) where
     answered = shapes.answered;
     ends = shapes.ends;
     binds = λ port call queue a.
-        settings_alone (λ c. P None (asks_config port call queue a) (settled c)) (bound_to port) a
-        (shapes.binds port call queue a);
+        shapes.binds port call queue a (set_by a (bound_to port));
     sets_up = λ b port call queue a own.
-        settings_alone (λ c. P (Some b) (asks_config port call queue a) (settled c)) b a
-        (λ mode range maximum flags.
-        shapes.sets_up b port call queue a mode range maximum flags own);
+        shapes.sets_up b port call queue a (set_by a b) own;
     decides = shapes.decides;
     shares = shapes.shares;
     none_closed = shapes.none_closed;
@@ -441,8 +410,8 @@ module _ (A : KnownOfArrivals) (arrivals : Arrivals A) where
     joins = λ b card bypass room early had. arrivals.joins b card room early had;
     answered = λ q port call asked errno. tt;
     ends = λ b port call queue a own. tt;
-    binds = λ port call queue a mode range maximum flags. tt;
-    sets_up = λ b port call queue a mode range maximum flags own. tt;
+    binds = λ port call queue a s. tt;
+    sets_up = λ b port call queue a s own. tt;
     decides = λ b port call queue head edit card own found. tt;
     shares = λ b port call queue head mark priority w ws own is. tt;
     none_closed = λ port. tt;

@@ -26,7 +26,7 @@ pub(crate) fn fresh_id(last: u32, waiting: &Waiting) -> u32
 }
 
 /// Whether an id is after another, with both counted modulo 2^32. (`nfq_id_after`)
-pub(crate) fn is_after(id: u32, other: u32) -> bool
+pub fn is_after(id: u32, other: u32) -> bool
     ensures { result ≡ after id other }
 {
     let way = id.wrapping_sub(other);

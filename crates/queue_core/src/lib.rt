@@ -14,12 +14,14 @@ mod lines;
 mod linked;
 mod offers;
 mod queue;
+mod settings;
 mod waiting;
 
 pub use decision::{ACCEPT, DROP, QUEUE, QUEUE_BYPASS, REPEAT, STOLEN, STOP, VERDICT_MASK};
 pub use errno::{EBUSY, ENODEV, ENOENT, EPERM};
 pub use event::{Event, Reply};
 pub use handed::Handed;
+pub use ids::is_after;
 pub use laws::{
     an_arrival_leaves_as_its_outcome_says, another_port_changes_nothing,
     each_packet_stays_or_leaves, first_free_id, ids_stay_apart, neighbours_lead_both_ways,
@@ -28,4 +30,5 @@ pub use laws::{
 };
 pub use lines::{ConfigLine, config_line, ruling};
 pub use offers::{Begun, NoRoom, Outcome, Settled};
-pub use queue::{DEFAULT_MAXIMUM, Queue};
+pub use queue::Queue;
+pub use settings::{DEFAULT_MAXIMUM, Settings};

@@ -5,27 +5,21 @@ ghost use Rattle.nfqa_msgs.specs.Numbers.{command_bind};
 ghost use Rattle.nfqa_msgs.specs.declared.request.Request.TheVariants.{Config};
 ghost use Rattle.queue_core.specs.declared.event.Event.TheVariants.{Ask};
 ghost use Rattle.queue_core.specs.declared.event.Reply.TheVariants.{Answer};
-ghost use Rattle.queue_core.specs.Range as range;
 
 mod arrivals;
 mod flushes;
 mod verdicts;
 
+use crate::settings::Settings;
 use crate::waiting::Waiting;
-use nfqa_msgs::{MAX_RANGE, META, NONE, PACKET, Params};
+use nfqa_msgs::Params;
 use std::alloc::Global;
 use std::marker::Model;
-
-/// How many packets may wait in a queue that was never told otherwise. (`NFQNL_QMAX_DEFAULT`)
-pub const DEFAULT_MAXIMUM: u32 = 1024;
 
 /// A queue that is bound to a port. It is no `Drop`: it ends by `finish`, once nothing waits.
 pub struct Queue {
     port: u32,
-    mode: u8,
-    range: u32,
-    maximum: u32,
-    flags: u32,
+    settings: Settings,
     last: u32,
     dropped: u32,
     user_dropped: u32,
@@ -37,39 +31,22 @@ pub struct Queue {
 
 impl Model for Queue {
     ghost use Rattle.std.specs.Prelude.{IfSome};
-    ghost use Rattle.queue_core.specs.Linked.{IsLast, without_offer, offer_in};
+    ghost use Rattle.queue_core.specs.Linked.{IsLast, offer_in, without_offer};
+    ghost use Rattle.queue_core.specs.State.{bound_with};
     ghost use Rattle.queue_core.specs.WithOffer.{WithOffer, IsQueue};
 
     ghost Value = { WithOffer };
 
     ghost view = { λ q. record {
-      state = record {
-        port = q.port;
-        mode = q.mode;
-        range = q.range;
-        maximum = q.maximum;
-        flags = q.flags;
-        last = q.last;
-        dropped = q.dropped;
-        user_dropped = q.user_dropped;
-        waiting = without_offer q.offer q.waiting;
-      };
+      state = bound_with q.port q.settings q.last q.dropped q.user_dropped
+          (without_offer q.offer q.waiting);
       offer = offer_in q.offer q.waiting;
     } };
 
     ghost invariant = { λ q.
         IsQueue (record {
-          state = record {
-            port = q.port;
-            mode = q.mode;
-            range = q.range;
-            maximum = q.maximum;
-            flags = q.flags;
-            last = q.last;
-            dropped = q.dropped;
-            user_dropped = q.user_dropped;
-            waiting = without_offer q.offer q.waiting;
-          };
+          state = bound_with q.port q.settings q.last q.dropped q.user_dropped
+              (without_offer q.offer q.waiting);
           offer = offer_in q.offer q.waiting;
         })
         × IfSome q.offer (IsLast q.waiting) };
@@ -91,10 +68,7 @@ impl Queue {
     {
         Queue {
             port,
-            mode: NONE,
-            range: MAX_RANGE,
-            maximum: DEFAULT_MAXIMUM,
-            flags: 0,
+            settings: Settings::new(),
             last: 0,
             dropped: 0,
             user_dropped: 0,
@@ -122,25 +96,7 @@ impl Queue {
             (Ask self.old.state.port call (Config queue None params maxlen flags mask))
             ≡ record { state = Some self.new.state; reply = Answer 0 0; left = [] } }
     {
-        if let Some(params) = params {
-            match params.mode {
-                NONE | META => {
-                    self.mode = params.mode;
-                    self.range = 0;
-                }
-                PACKET => {
-                    self.mode = PACKET;
-                    self.range = range_of(params.range);
-                }
-                _ => {}
-            }
-        }
-        if let Some(maxlen) = maxlen {
-            self.maximum = maxlen;
-        }
-        if let (Some(flags), Some(mask)) = (flags, mask) {
-            self.flags = (self.flags & !mask) | (flags & mask);
-        }
+        self.settings.configure(params, maxlen, flags, mask);
     }
 
     /// Sets the id that was used last. No message asks for this: it serves tests of what comes
@@ -160,10 +116,7 @@ impl Queue {
     {
         let Queue {
             port: _,
-            mode: _,
-            range: _,
-            maximum: _,
-            flags: _,
+            settings: _,
             last: _,
             dropped: _,
             user_dropped: _,
@@ -184,21 +137,21 @@ impl Queue {
     pub fn mode(&self) -> u8
         ensures { result ≡ self.now.state.mode }
     {
-        self.mode
+        self.settings.mode
     }
 
     /// The copy range, in bytes.
     pub fn range(&self) -> u32
         ensures { result ≡ self.now.state.range }
     {
-        self.range
+        self.settings.range
     }
 
     /// How many packets may wait.
     pub fn maximum(&self) -> u32
         ensures { result ≡ self.now.state.maximum }
     {
-        self.maximum
+        self.settings.maximum
     }
 
     /// The bits of [`QueueFlags`](nfqa_msgs::QueueFlags) that are set: `FAIL_OPEN` has an effect,
@@ -206,7 +159,7 @@ impl Queue {
     pub fn flags(&self) -> u32
         ensures { result ≡ self.now.state.flags }
     {
-        self.flags
+        self.settings.flags
     }
 
     /// The id that was used last; 0 before the first.
@@ -240,16 +193,5 @@ impl Queue {
             None => kept,
             Some(_) => kept - 1,
         }
-    }
-}
-
-/// The range that a request asks for: 0 and what is above the largest mean the largest.
-fn range_of(asked: u32) -> u32
-    ensures { result ≡ range.range_of asked }
-{
-    if asked == 0 || asked > MAX_RANGE {
-        MAX_RANGE
-    } else {
-        asked
     }
 }

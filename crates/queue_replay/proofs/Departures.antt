@@ -77,8 +77,8 @@ shapes = record {
   joins = λ b card bypass room early had. refl;
   answered = λ q port call asked errno. nothing_leaving asked (waiting_of q);
   ends = λ b port call named a own. all_leaving b.waiting;
-  binds = λ port call named a mode range maximum flags. refl;
-  sets_up = λ b port call named a mode range maximum flags own. refl;
+  binds = λ port call named a settings. refl;
+  sets_up = λ b port call named a settings own. refl;
   decides = λ b port call named head edit card own found. ap one_leaving found;
   shares = λ b port call named head mark priority w ws own is.
       ap (λ (us : Waiting). map (λ (v : ℕ × Card). visit_of v.1) us)

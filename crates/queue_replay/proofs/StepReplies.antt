@@ -90,8 +90,8 @@ shapes = record {
   joins = λ b card bypass room early had. refl;
   answered = λ q port call asked errno. nothing_taken asked (waiting_of q);
   ends = λ b port call named a own. none_goes b.waiting;
-  binds = λ port call named a mode range maximum flags. refl;
-  sets_up = λ b port call named a mode range maximum flags own. refl;
+  binds = λ port call named a settings. refl;
+  sets_up = λ b port call named a settings own. refl;
   decides = λ b port call named head edit card own found.
       ap (one_going head.verdict edit.mark edit.payload edit.priority) found
       ∙ going_is (edited card edit.mark edit.payload edit.priority) (decision_of head.verdict)

@@ -14,10 +14,6 @@ use queue_core::Outcome;
 /// How many arrivals a packet can have; at the last one it is destroyed.
 pub(crate) const LAST_VISIT: u32 = 33;
 
-/// The flag of a queue that lets packets go on where it, or its port's mailbox, is full.
-/// (`NFQA_CFG_F_FAIL_OPEN`)
-const FAIL_OPEN: u32 = 1;
-
 /// A packet arrives at a queue number. When memory runs out, the state may be any.
 pub(crate) fn arrive(
     queue: &mut Option<Standing>,
@@ -48,7 +44,7 @@ impl Standing {
         ensures state { OnOk result
             ((queue_step.arrive_bound self.old card.now room).state ≡ Some self.new) }
     {
-        if self.mode == NONE {
+        if self.settings.mode == NONE {
             return Ok(Outcome::CopyNone);
         }
         if self.is_full() && self.fails_open() {
@@ -76,20 +72,20 @@ impl Standing {
     fn is_full(&self) -> bool
         ensures { result ≡ queue_step.is_full self.now }
     {
-        self.maximum <= self.waiting.len()
+        self.settings.is_full(self.waiting.len())
     }
 
     /// Whether a queue that is full, or whose port's mailbox is, lets packets go on.
     fn fails_open(&self) -> bool
         ensures { result ≡ state.fails_open self.now }
     {
-        self.flags & FAIL_OPEN == FAIL_OPEN
+        self.settings.fails_open()
     }
 
     /// Whether an arrival is decided before a notice is offered.
     pub(crate) fn turns_away(&self) -> bool
         ensures { result ≡ queue_step.turns_away self.now }
     {
-        self.mode == NONE || self.is_full()
+        self.settings.mode == NONE || self.is_full()
     }
 }

@@ -35,7 +35,7 @@ pub(crate) fn find(
         (queue.new ≡ (queue_step.step queue.old entry.now.event).state) }
 {
     let (port, range, mode) = match queue {
-        Some(bound) => (Some(bound.port), bound.range() as u16, bound.mode),
+        Some(bound) => (Some(bound.port), bound.range() as u16, bound.mode()),
         None => (None, 0, 0),
     };
     let is_step = is_step(queue, alloc, entry)?;

@@ -4,7 +4,6 @@ ghost use Rattle.std.specs.Prelude.{◌≡◌, ◌↔◌, ℕ, Option, None, Som
 ghost use Rattle.std.specs.Prelude.{option_map};
 ghost use Rattle.nfqa_headers.specs.declared.verdict_header.Head.{Head};
 ghost use Rattle.queue_core.specs.Decision.{Edit};
-ghost use Rattle.queue_core.specs.Ids as ids;
 ghost use Rattle.queue_core.specs.Share.{share};
 ghost use Rattle.queue_core.specs.State as state;
 ghost use Rattle.queue_core.specs.State.{Bound};
@@ -18,11 +17,8 @@ use crate::standing::Standing;
 use crate::waiting_list::WaitingList;
 use nfqa_msgs::{Head, Params, Request};
 use packet_entry::NoMemory;
-use queue_core::{ConfigLine, ENOENT, Reply, config_line, ruling};
+use queue_core::{ConfigLine, ENOENT, Reply, config_line, is_after, ruling};
 use std::alloc::Global;
-
-/// Half of all ids, which are of 32 bits.
-const HALF_OF_IDS: u32 = 0x8000_0000;
 
 /// A port asks something of a queue number. When memory runs out, the state may be any.
 pub(crate) fn ask(
@@ -194,12 +190,4 @@ fn take_share(waiting: &mut WaitingList, maximum: u32) -> u32
         waiting.take_oldest();
     }
     count
-}
-
-/// Whether an id is after another, with both counted modulo 2^32.
-fn is_after(id: u32, other: u32) -> bool
-    ensures { result ≡ ids.after id other }
-{
-    let way = id.wrapping_sub(other);
-    0 < way && way < HALF_OF_IDS
 }

@@ -3,12 +3,11 @@
 ghost use Rattle.std.specs.Prelude.{◌≡◌, ◌≤◌, IfOk};
 ghost use Rattle.nfqa_msgs.specs.Numbers.{longest_range};
 ghost use Rattle.queue_core.specs.State as state;
-ghost use Rattle.queue_core.specs.Range as range;
 
 use crate::waiting_list::WaitingList;
-use nfqa_msgs::{MAX_RANGE, META, NONE, PACKET, Params};
+use nfqa_msgs::Params;
 use packet_entry::NoMemory;
-use queue_core::DEFAULT_MAXIMUM;
+use queue_core::Settings;
 use std::alloc::Global;
 use std::marker::Model;
 
@@ -17,10 +16,7 @@ use std::marker::Model;
 #[derive(Drop)]
 pub struct Standing {
     pub(crate) port: u32,
-    pub(crate) mode: u8,
-    pub(crate) range: u32,
-    pub(crate) maximum: u32,
-    pub(crate) flags: u32,
+    pub(crate) settings: Settings,
     pub(crate) last: u32,
     pub(crate) dropped: u32,
     pub(crate) user_dropped: u32,
@@ -30,24 +26,15 @@ pub struct Standing {
 impl Model for Standing {
     ghost use Rattle.std.specs.Prelude.{◌≤◌};
     ghost use Rattle.nfqa_msgs.specs.Numbers.{longest_range};
-    ghost use Rattle.queue_core.specs.State.{Bound};
+    ghost use Rattle.queue_core.specs.State.{Bound, bound_with};
 
     ghost Value = { Bound };
 
-    ghost view = { λ q. record {
-      port = q.port;
-      mode = q.mode;
-      range = q.range;
-      maximum = q.maximum;
-      flags = q.flags;
-      last = q.last;
-      dropped = q.dropped;
-      user_dropped = q.user_dropped;
-      waiting = q.waiting;
-    } };
+    ghost view = { λ q.
+        bound_with q.port q.settings q.last q.dropped q.user_dropped q.waiting };
 
     // no range is longer than what one attribute holds
-    ghost invariant = { λ q. q.range ≤ longest_range };
+    ghost invariant = { λ q. q.settings.range ≤ longest_range };
 }
 
 impl Standing {
@@ -57,10 +44,7 @@ impl Standing {
     {
         Ok(Standing {
             port,
-            mode: NONE,
-            range: MAX_RANGE,
-            maximum: DEFAULT_MAXIMUM,
-            flags: 0,
+            settings: Settings::new(),
             last: 0,
             dropped: 0,
             user_dropped: 0,
@@ -72,7 +56,7 @@ impl Standing {
     pub fn mode(&self) -> u8
         ensures { result ≡ self.now.mode }
     {
-        self.mode
+        self.settings.mode
     }
 
     /// How many bytes of a packet its notices tell, under the mode `PACKET`.
@@ -80,7 +64,7 @@ impl Standing {
         ensures value { result ≡ self.now.range }
         ensures fits { result ≤ longest_range }
     {
-        self.range
+        self.settings.range
     }
 
     /// Applies what a config request asks for: params, maximum and flags, in this order.
@@ -93,36 +77,6 @@ impl Standing {
     )
         ensures { self.new ≡ state.configured params maximum flags mask self.old }
     {
-        if let Some(params) = params {
-            match params.mode {
-                NONE | META => {
-                    self.mode = params.mode;
-                    self.range = 0;
-                }
-                PACKET => {
-                    self.mode = PACKET;
-                    self.range = range_of(params.range);
-                }
-                _ => {}
-            }
-        }
-        if let Some(maximum) = maximum {
-            self.maximum = maximum;
-        }
-        if let (Some(flags), Some(mask)) = (flags, mask) {
-            self.flags = (self.flags & !mask) | (flags & mask);
-        }
-    }
-}
-
-/// The range that a request asks for: 0 and what is above the largest mean the largest.
-fn range_of(asked: u32) -> u32
-    ensures value { result ≡ range.range_of asked }
-    ensures fits { result ≤ longest_range }
-{
-    if asked == 0 || asked > MAX_RANGE {
-        MAX_RANGE
-    } else {
-        asked
+        self.settings.configure(params, maximum, flags, mask);
     }
 }

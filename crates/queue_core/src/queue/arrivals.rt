@@ -9,8 +9,7 @@ ghost use Rattle.queue_core.specs.Calls.{BeginsArrival, SettlesArrival};
 
 use super::Queue;
 use crate::{Begun, NoRoom, Outcome, Settled, ids};
-use bitflags::Flags;
-use nfqa_msgs::{NONE, QueueFlags, encode_notice};
+use nfqa_msgs::{NONE, encode_notice};
 use packet_entry::{Bytes, Letter, NoMemory, Packet};
 use std::alloc::Global;
 
@@ -26,7 +25,7 @@ impl Queue {
         ensures err { OnErr result (self.new ≡ self.old) }
     {
         // Nothing is copied to the port: destroyed.
-        if self.mode == NONE {
+        if self.settings.mode == NONE {
             let outcome = Outcome::CopyNone;
             return Ok(Begun::Back { outcome, packet });
         }
@@ -81,7 +80,14 @@ impl Queue {
             (FitsTold (told_of queue self.now.state.mode self.now.state.range id packet.now)) }
     {
         let mut bytes = Vec::new(alloc);
-        encode_notice(queue, id, self.mode, self.range, packet, &mut bytes)?;
+        encode_notice(
+            queue,
+            id,
+            self.settings.mode,
+            self.settings.range,
+            packet,
+            &mut bytes,
+        )?;
         Ok(Letter {
             queue,
             number: packet.number(),
@@ -122,13 +128,13 @@ impl Queue {
     fn is_full(&self) -> bool
         ensures { result ≡ queue_step.is_full self.now.state }
     {
-        self.maximum <= self.waiting()
+        self.settings.is_full(self.waiting())
     }
 
     /// Whether a queue that is full, or whose port's mailbox is, lets packets go on.
     fn fails_open(&self) -> bool
         ensures { result ≡ state.fails_open self.now.state }
     {
-        QueueFlags::from_bits_retain(self.flags).contains(QueueFlags::FAIL_OPEN)
+        self.settings.fails_open()
     }
 }
