@@ -4,7 +4,7 @@ frames each part of a large one may have.
 import mmap
 import struct
 
-MOST_FILE, MOST_FRAMES, MOST_FRAME = 67_108_864, 200_000, 262_144
+MAX_FILE, MAX_FRAMES, MAX_FRAME = 67_108_864, 200_000, 262_144
 FILE_HEADER, RECORD_HEADER = 24, 16
 ORDERS = {b"\xd4\xc3\xb2\xa1": ("<", "pcap"), b"\xa1\xb2\xc3\xd4": (">", "pcap"),
           b"\x4d\x3c\xb2\xa1": ("<", "nsecpcap"), b"\xa1\xb2\x3c\x4d": (">", "nsecpcap")}
@@ -72,7 +72,7 @@ def capture_remedies(why, file, shown):
         return ["the file is cut short, as if tcpdump was still writing; this keeps the whole "
                 f"frames: tcpdump -r {name} -w new.pcap"]
     if why.endswith(" bytes"):
-        return [f"no frame has more than {MOST_FRAME} bytes: the file is damaged"]
+        return [f"no frame has more than {MAX_FRAME} bytes: the file is damaged"]
     return []
 
 
@@ -83,7 +83,7 @@ def sizes(file):
         length_of, at, found = struct.Struct(order + "I").unpack_from, FILE_HEADER, []
         while at + RECORD_HEADER <= len(data):
             size = RECORD_HEADER + length_of(data, at + 8)[0]
-            if size > RECORD_HEADER + MOST_FRAME or at + size > len(data):
+            if size > RECORD_HEADER + MAX_FRAME or at + size > len(data):
                 break
             found.append(size)
             at += size
@@ -93,7 +93,7 @@ def sizes(file):
 def part_frames(records):
     """The largest number for which any so many records after each other make a part that isn't too
     large."""
-    most, first, room = MOST_FRAMES, 0, MOST_FILE - FILE_HEADER
+    most, first, room = MAX_FRAMES, 0, MAX_FILE - FILE_HEADER
     for last, size in enumerate(records):
         room -= size
         while room < 0:
@@ -121,7 +121,7 @@ def large_remedies(what, file, shown):
     if what == "journal":
         return ["at most 536870912 bytes"]
     if what == "capture" and start_of(file) == b"\x0a\x0d\x0d\x0a":
-        return [f"at most {MOST_FILE} bytes, and no pcapng: tools/capture --frames A-B "
+        return [f"at most {MAX_FILE} bytes, and no pcapng: tools/capture --frames A-B "
                 f"{quoted(shown)} part.pcap writes the frames A to B"]
-    limit = f"at most {MOST_FILE} bytes" if what == "capture" else f"at most {MOST_FRAMES} frames"
+    limit = f"at most {MAX_FILE} bytes" if what == "capture" else f"at most {MAX_FRAMES} frames"
     return [limit, split_remedy(file, shown)]

@@ -13,15 +13,15 @@ from typing import NamedTuple
 from formats import Refused
 
 BILLION = 10**9
-MOST_BYTES = 1 << 24  # of a block or a record: more is a damaged length, as Wireshark has it
-MOST_CAPTURED = 262144  # bytes of a frame that nfq takes
+MAX_BYTES = 1 << 24  # of a block or a record: more is a damaged length, as Wireshark has it
+MAX_CAPTURED = 262144  # bytes of a frame that nfq takes
 PCAP = {b"\xd4\xc3\xb2\xa1": ("<", 1000), b"\xa1\xb2\xc3\xd4": (">", 1000),
         b"\x4d\x3c\xb2\xa1": ("<", 1), b"\xa1\xb2\x3c\x4d": (">", 1)}  # and nanoseconds a unit
 MAGIC = b"\x0a\x0d\x0d\x0a"  # of pcapng: the kind of its first block
 SECTION, INTERFACE, OLD_PACKET, SIMPLE_PACKET, PACKET = 0x0A0D0D0A, 1, 2, 3, 6
 ORDERS = {b"\x4d\x3c\x2b\x1a": "<", b"\x1a\x2b\x3c\x4d": ">"}
 COMMENT, RESOLUTION, OFFSET = 1, 9, 14  # options of packets and interfaces
-MOST_COMMENT = 65532
+MAX_COMMENT = 65532
 GZIP = b"\x1f\x8b"
 OTHERS = {b"\x28\xb5\x2f\xfd": "unzstd", b"\xfd7zX": "unxz", b"BZh9": "bunzip2"}
 
@@ -135,7 +135,7 @@ def records(source, end, unit):
         number, at = number + 1, source.at - len(head)
         if len(head) == 16:
             seconds, parts, captured, length = header.unpack(head)
-            if captured > MOST_BYTES:
+            if captured > MAX_BYTES:
                 raise Refused(f"{source.name}: record {number} at byte {at} has {captured} bytes")
             data = source.take(captured)
         if len(head) < 16 or len(data) < captured:
@@ -195,7 +195,7 @@ def block(source, head, end):
         if end is None:
             raise Bad("has no byte order of pcapng")
     kind, size = struct.unpack(f"{end}II", head)
-    if size < 12 + len(magic) or size % 4 or size > MOST_BYTES:
+    if size < 12 + len(magic) or size % 4 or size > MAX_BYTES:
         raise Bad(f"has the length {size}")
     body = magic + exactly(source, size - 8 - len(magic))
     again = struct.unpack(f"{end}I", body[-4:])[0]
@@ -260,7 +260,7 @@ def written(name):
 def write_pcap(file, link, is_nano, frames):
     """Writes a capture that nfq takes, and answers how many frames it has."""
     magic, unit = (0xA1B23C4D, 1) if is_nano else (0xA1B2C3D4, 1000)
-    file.write(struct.pack("<IHHiIII", magic, 2, 4, 0, 0, MOST_CAPTURED, link))
+    file.write(struct.pack("<IHHiIII", magic, 2, 4, 0, 0, MAX_CAPTURED, link))
     count = 0
     for count, frame in enumerate(frames, 1):
         seconds, nanos = divmod(frame.time, BILLION)
@@ -293,6 +293,6 @@ def write_pcapng(file, frames):
             put_block(file, INTERFACE, struct.pack("<HHI", frame.link, 0, 0) + nanoseconds)
         head = struct.pack("<IIIII", interfaces[frame.link], frame.time >> 32 & 0xFFFFFFFF,
                            frame.time & 0xFFFFFFFF, len(frame.data), frame.length)
-        text = comment.encode("utf-8", "replace")[:MOST_COMMENT].decode("utf-8", "ignore")
+        text = comment.encode("utf-8", "replace")[:MAX_COMMENT].decode("utf-8", "ignore")
         put_block(file, PACKET, head + padded(frame.data) + option(COMMENT, text.encode())
                   + option(0, b""))

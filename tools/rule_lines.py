@@ -7,7 +7,7 @@ from dataclasses import dataclass
 from rule_words import PROTOCOLS, rule_faults, wide
 from text_lines import lines_of, unprintable, words_of
 
-MOST_TABLES, MOST_RULES = 16, 1000
+MAX_TABLES, MAX_RULES = 16, 1000
 LINES = "lines are *NAME, :NAME ACCEPT [N:N], -A FORWARD .. -j NFQUEUE .. and COMMIT"
 RULE = ("a rule is -A FORWARD [-p PROTO] [-m mark [!] --mark VALUE[/MASK]] -j NFQUEUE OPTIONS, "
         "between a line *NAME and COMMIT")
@@ -93,8 +93,8 @@ def table_faults(words, file):
     if name in file.names:
         faults.append(f"a table of this name came before: put the rules of both into one, since "
                       f"{ONE_FILE}")
-    elif not file.open and len(file.names) >= MOST_TABLES:
-        faults.append(f"at most {MOST_TABLES} tables")
+    elif not file.open and len(file.names) >= MAX_TABLES:
+        faults.append(f"at most {MAX_TABLES} tables")
     return faults
 
 
@@ -148,8 +148,8 @@ def line_faults(lines, number, capture):
         faults += rule_faults(words, chains, capture)
         if not faults and not file.open:
             faults.append("this rule is outside of any table: a line *NAME comes first")
-        elif not faults and file.rules >= MOST_RULES:
-            faults.append(f"this is rule {file.rules + 1} of its table: at most {MOST_RULES}")
+        elif not faults and file.rules >= MAX_RULES:
+            faults.append(f"this is rule {file.rules + 1} of its table: at most {MAX_RULES}")
         return faults
     if first == "COMMIT":
         if len(words) > 1 or not file.open:

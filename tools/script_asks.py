@@ -5,7 +5,7 @@ import re
 
 from text_lines import MOST, number_fault
 
-MOST_PAYLOAD, MOST_RAW = 2048, 4096
+MAX_PAYLOAD, MAX_RAW = 2048, 4096
 VERDICTS = ("drop", "accept", "repeat", "stop")
 MODES = ("none", "meta", "packet")
 COMMANDS = ("bind", "unbind", "pfbind", "pfunbind")
@@ -97,7 +97,7 @@ class Words:
                     number(mode, "MODE", most=255)
                 number(self.next(), "RANGE")
             elif word == "payload":
-                bytes_in(self.next(), 0, MOST_PAYLOAD, "a payload")
+                bytes_in(self.next(), 0, MAX_PAYLOAD, "a payload")
             else:
                 number(self.next(), f"N of {word}")
 
@@ -143,7 +143,7 @@ def ask(words, has_this):
     if kind not in FORMS:
         raise Fault(f"there is no ask `{kind}`: they are config, verdict, batch and raw")
     if kind == "raw":
-        bytes_in(it.next(), 1, MOST_RAW, "raw")
+        bytes_in(it.next(), 1, MAX_RAW, "raw")
         if (word := it.next()) is not None:
             raise Fault(f"`{word}` isn't expected here: raw has its bytes in one word")
         return

@@ -4,8 +4,8 @@ word, and what to do about it.
 from script_asks import FORMS, Fault, ask, lower, number
 from text_lines import MOST, unprintable, words_of
 
-MOST_PORTS, MOST_LINES, MOST_DOWNS, MOST_ASKS = 32, 1000, 1000, 8
-LARGEST_MAIL = 65536
+MAX_PORTS, MAX_LINES, MAX_DOWNS, MAX_ASKS = 32, 1000, 1000, 8
+MAX_MAIL = 65536
 CONDITIONS = "any, id, queue, mark, priority, proto, every and longer"
 PROTOCOLS = {"tcp": 6, "udp": 17, "icmp": 1, "icmpv6": 58, "ipv6-icmp": 58, "sctp": 132}
 # what a condition may be called that there is none of
@@ -83,8 +83,8 @@ def on_line(words):
     asks = split(words[at + 1:], ";")
     for part in asks:
         ask(part, True)
-    if len(asks) > MOST_ASKS:
-        raise Fault(f"{len(asks)} asks: a line has at most {MOST_ASKS}")
+    if len(asks) > MAX_ASKS:
+        raise Fault(f"{len(asks)} asks: a line has at most {MAX_ASKS}")
 
 
 def block_line(words):
@@ -112,7 +112,7 @@ def head_line(words):
     else:
         least = int(name in ("mail", "port"))
         number(words[1] if len(words) > 1 else None, f"N of {name}", least,
-               LARGEST_MAIL if name == "mail" else MOST)
+               MAX_MAIL if name == "mail" else MOST)
     if len(words) > (4 if name == "down" else 2):
         raise Fault(f"`{words[4 if name == 'down' else 2]}` isn't expected here")
 
@@ -135,21 +135,21 @@ def place(words, before):
     if name == "port":
         if words[1] in ports:
             raise Fault(f"port {words[1]} has a block above: a number that no port has yet")
-        if len(ports) >= MOST_PORTS:
-            raise Fault(f"at most {MOST_PORTS} ports")
+        if len(ports) >= MAX_PORTS:
+            raise Fault(f"at most {MAX_PORTS} ports")
     elif name in ("open", "on", "end"):
         if not ports:
             raise Fault("this comes in the block of a port: a line `port N` comes first")
-        if lines >= MOST_LINES:
-            raise Fault(f"this is line {lines + 1} of its block: at most {MOST_LINES}")
+        if lines >= MAX_LINES:
+            raise Fault(f"this is line {lines + 1} of its block: at most {MAX_LINES}")
         if name == "end" and is_closed:
             raise Fault("no `end` line of the block comes after `end close`")
     elif ports:
         raise Fault(f"`{name}` comes before the first port")
     elif name in seen and name != "down":
         raise Fault(f"`{name}` comes at most once")
-    elif downs >= MOST_DOWNS:
-        raise Fault(f"at most {MOST_DOWNS} `down` lines")
+    elif downs >= MAX_DOWNS:
+        raise Fault(f"at most {MAX_DOWNS} `down` lines")
 
 
 def check(words, before):

@@ -15,7 +15,7 @@ use text_lines::{
 
 /// The most bytes of a name. For a table's it is `XT_TABLE_MAXNAMELEN` of the kernel's x_tables.h,
 /// less the zero byte at the end; for a chain's it is this project's own limit.
-const LONGEST_NAME: usize = 31;
+const MAX_NAME: usize = 31;
 
 /// What one line of a rules file says.
 #[derive(Clone, Copy)]
@@ -125,7 +125,7 @@ fn is_letter(byte: u8) -> bool
 fn has_name_length(name: &[u8]) -> bool
     ensures { result ≡ has_name_length name.now }
 {
-    !name.is_empty() && name.len() <= LONGEST_NAME
+    !name.is_empty() && name.len() <= MAX_NAME
 }
 
 /// `[N:N]`, the packets and bytes that a chain's policy has met.

@@ -20,7 +20,7 @@ const IPV6_ICMP: u8 = 58;
 /// The mask of a mark test that names none.
 const ALL_BITS: u32 = u32::MAX;
 /// The most queues that a rule balances over: `queues_total` of xt_NFQUEUE.h has 16 bits.
-const MOST_QUEUES: u32 = 65_535;
+const MAX_QUEUES: u32 = 65_535;
 
 /// The rule that comes after `-A` in a line.
 #[tactic(auto, unfolding(crate::specs::RuleLine::rule_of))]
@@ -203,7 +203,7 @@ fn range(word: &[u8]) -> Option<Pick>
         return None;
     }
     let total = u32::from(last - first) + 1;
-    if total > MOST_QUEUES {
+    if total > MAX_QUEUES {
         return None;
     }
     Some(Pick::Balance { first, total })

@@ -6,7 +6,7 @@ ghost use Rattle.inspector_script.specs.Scripts.{ScriptValue, answer, count_afte
 ghost use Rattle.inspector_pool.specs.Numbers.{least_workers, most_workers, most_notices};
 ghost use Rattle.inspector_pool.specs.Answers.{answers, in_turn};
 
-use crate::pool::{LEAST_WORKERS, MOST_NOTICES, MOST_WORKERS};
+use crate::pool::{MAX_NOTICES, MAX_WORKERS, MIN_WORKERS};
 
 /// There is an answer for each notice, and that to the k-th is the port's to its (counted + k)-th;
 /// a sum above the largest count stands for it. Here k counts from 0, and so stands for one more.
@@ -36,7 +36,7 @@ pub fn pools_go_on_where_others_ended()
 
 /// The public constants are the numbers of the definitions.
 pub fn public_numbers()
-    ensures least { LEAST_WORKERS ≡ least_workers }
-    ensures most { MOST_WORKERS ≡ most_workers }
-    ensures notices { MOST_NOTICES ≡ most_notices }
+    ensures least { MIN_WORKERS ≡ least_workers }
+    ensures most { MAX_WORKERS ≡ most_workers }
+    ensures notices { MAX_NOTICES ≡ most_notices }
 {}

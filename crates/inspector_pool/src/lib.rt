@@ -17,4 +17,4 @@ pub use laws::{
     pools_go_on_where_others_ended, public_numbers,
 };
 pub use lists::{AsksList, Notices, Share, Shares};
-pub use pool::{LEAST_WORKERS, MOST_NOTICES, MOST_WORKERS, PoolAnswers, pool_answers};
+pub use pool::{MAX_NOTICES, MAX_WORKERS, MIN_WORKERS, PoolAnswers, pool_answers};

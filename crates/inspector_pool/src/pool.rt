@@ -24,13 +24,13 @@ use std::thread;
 use std::thread::Threads;
 
 /// The least number of workers.
-pub const LEAST_WORKERS: u32 = 2;
+pub const MIN_WORKERS: u32 = 2;
 
 /// The greatest number of workers.
-pub const MOST_WORKERS: u32 = 16;
+pub const MAX_WORKERS: u32 = 16;
 
 /// The most notices that a pool answers at a time.
-pub const MOST_NOTICES: u32 = 64;
+pub const MAX_NOTICES: u32 = 64;
 
 /// What a pool answered, and which of the jobs each worker did.
 #[derive(Drop)]

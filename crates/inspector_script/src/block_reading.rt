@@ -15,7 +15,7 @@ use std::alloc::Global;
 use text_lines::Stop;
 
 /// The most lines of a block, without its `port` line, of this reader.
-const MOST_LINES: usize = 1_000;
+const MAX_LINES: usize = 1_000;
 
 impl Block {
     /// A block without lines.
@@ -65,7 +65,7 @@ impl Block {
         ensures { result ≡ has_room self.now }
     {
         self.opening.len() + self.lines.len() + self.closing.len() + usize::from(self.closes)
-            < MOST_LINES
+            < MAX_LINES
     }
 }
 

@@ -19,9 +19,9 @@ use std::alloc::Global;
 use text_lines::{LineFault, Stop, next_line};
 
 /// The most `down` lines, of this reader.
-const MOST_DOWNS: usize = 1_000;
+const MAX_DOWNS: usize = 1_000;
 /// The most ports, of this reader.
-const MOST_PORTS: usize = 32;
+const MAX_PORTS: usize = 32;
 /// How many notices a mailbox holds where no `mail` line says it.
 const DEFAULT_MAIL: u32 = 1_024;
 /// After how many frames each time the mailboxes are emptied where no `pace` line says it.
@@ -188,7 +188,7 @@ impl Reader {
             (place_of self.new) }
         ensures sound { OnOk result (IsSound (place_of self.new)) }
     {
-        if self.last.is_some() || self.downs.len() >= MOST_DOWNS {
+        if self.last.is_some() || self.downs.len() >= MAX_DOWNS {
             return Err(Stop::Refused);
         }
         match self.downs.push(down) {
@@ -219,7 +219,7 @@ impl Reader {
     fn may_begin(&self, port: u32) -> bool
         ensures { result ≡ may_begin (place_of self.now) port }
     {
-        self.ports.len() < MOST_PORTS && !is_among(self.ports.as_slice(), port)
+        self.ports.len() < MAX_PORTS && !is_among(self.ports.as_slice(), port)
     }
 
     /// Puts the last block, if there is one, behind those before it.

@@ -9,7 +9,7 @@ use packet_entry::NoMemory;
 use std::alloc::AllocError;
 
 /// A number of 64 bits has at most so many digits.
-const MOST_DIGITS: usize = 20;
+const MAX_DIGITS: usize = 20;
 
 /// Appends a text to bytes. Where there are none yet, its memory is taken over as it is. Out of
 /// memory the bytes are as they were.
@@ -40,7 +40,7 @@ pub fn append_number(word: &str, number: u64, out: &mut Vec<u8>) -> Result<(), A
 {
     append_word(word, out)?;
     number_is_short(number);
-    let mut digits = [0; MOST_DIGITS];
-    let start = write_digits(number, &mut digits, MOST_DIGITS);
+    let mut digits = [0; MAX_DIGITS];
+    let start = write_digits(number, &mut digits, MAX_DIGITS);
     out.extend_from_slice(&digits[start..])
 }

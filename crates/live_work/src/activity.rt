@@ -8,16 +8,16 @@ use std::time::Duration;
 /// So many dozes in a row, each of a millisecond after the first few, an inspector waits for
 /// feeders that haven't begun: some 250 ms. Where no thread can be made they begin when all
 /// inspectors have ended.
-const MOST_DOZES: u32 = 250;
+const MAX_DOZES: u32 = 250;
 
 /// How long a feeder that holds back naps, in microseconds.
 const NAP: u64 = 50;
 
 /// How often it naps at most before a frame, so that slower feeders catch up.
-const MOST_NAPS: u32 = 64;
+const MAX_NAPS: u32 = 64;
 
 /// So many frames a feeder may be ahead of the slowest.
-const MOST_AHEAD: u64 = 64;
+const MAX_AHEAD: u64 = 64;
 
 /// After so many frames each a feeder says how far it is, and may wake inspectors.
 const STRIDE: u64 = 16;
@@ -135,8 +135,8 @@ impl Activity {
             return;
         }
         self.set_pace(number, fed);
-        for _nap in 0..MOST_NAPS {
-            if fed.saturating_add(STRIDE) <= self.slowest().saturating_add(MOST_AHEAD) {
+        for _nap in 0..MAX_NAPS {
+            if fed.saturating_add(STRIDE) <= self.slowest().saturating_add(MAX_AHEAD) {
                 return;
             }
             nap(rt);
@@ -211,7 +211,7 @@ impl Activity {
     /// do. An inspector asks that has dozed so often since it last found something.
     pub(crate) fn is_quiet(&self, dozes: u32) -> bool {
         if self.begun.load(Ordering::SeqCst) < self.feeders {
-            if dozes < MOST_DOZES {
+            if dozes < MAX_DOZES {
                 return false;
             }
             self.begun.store(self.feeders, Ordering::SeqCst);

@@ -39,7 +39,7 @@ pub struct Feeding {
 }
 
 /// How often at most the feeder reads the board before a frame.
-const MOST_GLANCES: u32 = 64;
+const MAX_GLANCES: u32 = 64;
 
 /// So many waiting packets, at all places, let the feeder hold back.
 pub(crate) const CROWD: u64 = 512;
@@ -71,7 +71,7 @@ fn hold_back<R: Wait>(
     let Some(gauge) = gauge else {
         return;
     };
-    for glance in 0..MOST_GLANCES {
+    for glance in 0..MAX_GLANCES {
         let many = waiting(plane, gauge);
         if glance == 0 {
             activity.see_waiting(fed, many);

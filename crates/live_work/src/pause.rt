@@ -10,7 +10,7 @@ const SPINS: u32 = 5;
 /// How long it dozes at first, and how long at most, in microseconds.
 const FIRST_DOZE: u64 = 100;
 
-const LONGEST_DOZE: u64 = 1_000;
+const MAX_DOZE: u64 = 1_000;
 
 /// An inspector that has come to a run, as far as its pauses go.
 #[derive(Drop)]
@@ -93,7 +93,7 @@ impl<'a> Pause<'a> {
     }
 
     fn doze<R: Wait>(&mut self, rt: &R) {
-        let micros = (FIRST_DOZE << self.dozes.min(4)).min(LONGEST_DOZE);
+        let micros = (FIRST_DOZE << self.dozes.min(4)).min(MAX_DOZE);
         self.activity.doze(rt, self.rung, micros);
         self.dozes = self.dozes.saturating_add(1);
         self.activity.rise();

@@ -20,7 +20,7 @@ use crate::pause::Pause;
 use crate::pool::Pool;
 use crate::sending::say_all;
 use feeder_set::Stage;
-use inspector_pool::{AsksList, JobGate, MOST_NOTICES, Notices, PoolAnswers, pool_answers};
+use inspector_pool::{AsksList, JobGate, MAX_NOTICES, Notices, PoolAnswers, pool_answers};
 use inspector_script::Script;
 use live_passes::ports_speak_by_their_passes;
 use live_runs::{a_pool_answers_in_groups, what_a_port_does_adds_up};
@@ -61,7 +61,7 @@ fn receive_batch<R: Wait, G: Gate>(
     a_pool_answers_in_groups();
     ports_close_at_the_end();
     let mut notices = Notices::new(stage.alloc);
-    for _received in 0..MOST_NOTICES {
+    for _received in 0..MAX_NOTICES {
         let Some(letter) = stage.plane.receive(stage.rt, pass)? else {
             break;
         };

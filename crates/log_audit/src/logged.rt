@@ -13,7 +13,7 @@ use netlink_codec::{Message, one_message_in_front};
 use nfqa_msgs::{Decoded, Request, is_spelling, numbers_fit, spelling_decodes_to_its_request};
 
 /// The most bytes that a payload has.
-const LONGEST_PAYLOAD: usize = 65_531;
+const MAX_PAYLOAD: usize = 65_531;
 
 /// Whether a message that is decoded so was logged so.
 pub(crate) fn is_logged_as(
@@ -66,7 +66,7 @@ fn payload_fits(request: &Request) -> bool
     match request {
         Request::Config { .. } => true,
         Request::Verdict { payload, .. } => match payload {
-            Some(bytes) => bytes.len() <= LONGEST_PAYLOAD,
+            Some(bytes) => bytes.len() <= MAX_PAYLOAD,
             None => true,
         },
         Request::Batch { .. } => true,

@@ -17,7 +17,7 @@ use netlink_codec::{attr_header, attr_padding};
 /// The most bytes of parts: those of a notice before the packet's bytes.
 pub const PARTS_ROOM: usize = 96;
 /// At most so many zeros follow an attribute's content, up to the next multiple of 4.
-const MOST_PADDING: usize = 3;
+const MAX_PADDING: usize = 3;
 
 /// Parts of a message's body, one behind the other. They take no memory.
 pub type Parts = ArrayVec<u8, PARTS_ROOM>;
@@ -40,7 +40,7 @@ pub fn zeros_behind(content: &[u8]) -> &[u8]
     requires { length content.now ≤ longest_payload }
     ensures { result.now ≡ zero_padding (attribute_header_length + length content.now) }
 {
-    &[0; MOST_PADDING][..attr_padding(content.len())]
+    &[0; MAX_PADDING][..attr_padding(content.len())]
 }
 
 /// Appends an attribute, for which there is room.

@@ -29,7 +29,7 @@ use std::marker::Model;
 const ACK_FLAG: u16 = 4;
 
 /// The most bytes that a payload has.
-const LONGEST_PAYLOAD: usize = 65_531;
+const MAX_PAYLOAD: usize = 65_531;
 
 /// One request of a port.
 #[derive(Drop)]
@@ -255,7 +255,7 @@ fn payload_fits(request: &Request) -> bool
     match request {
         Request::Config { .. } => true,
         Request::Verdict { payload, .. } => match payload {
-            Some(bytes) => bytes.len() <= LONGEST_PAYLOAD,
+            Some(bytes) => bytes.len() <= MAX_PAYLOAD,
             None => true,
         },
         Request::Batch { .. } => true,

@@ -26,9 +26,9 @@ const THIS: &[u8] = b"this";
 /// the kernel's netfilter.h on.
 const QUEUE_NUMBER_PLACE: u32 = 65_536;
 /// The most bytes of a payload, of this reader.
-const MOST_PAYLOAD_BYTES: usize = 2_048;
+const MAX_PAYLOAD_BYTES: usize = 2_048;
 /// The most bytes of a datagram, of this reader.
-const MOST_RAW_BYTES: usize = 4_096;
+const MAX_RAW_BYTES: usize = 4_096;
 
 /// The ask that a line is, or `None` where no form allows it.
 #[tactic(auto, unfolding(crate::specs::AskLine::ask_of))]
@@ -213,7 +213,7 @@ fn payload_part(alloc: Global, line: &[u8]) -> Result<Option<(Option<Bytes>, &[u
     let Some((word, rest)) = next_word(rest) else {
         return Ok(None);
     };
-    match spelled_bytes(alloc, word, MOST_PAYLOAD_BYTES)? {
+    match spelled_bytes(alloc, word, MAX_PAYLOAD_BYTES)? {
         Some(bytes) => Ok(Some((Some(bytes), rest))),
         None => Ok(None),
     }
@@ -239,7 +239,7 @@ fn raw(alloc: Global, line: &[u8]) -> Result<Option<Template>, NoMemory>
     let Some(word) = only_word(line) else {
         return Ok(None);
     };
-    let Some(bytes) = spelled_bytes(alloc, word, MOST_RAW_BYTES)? else {
+    let Some(bytes) = spelled_bytes(alloc, word, MAX_RAW_BYTES)? else {
         return Ok(None);
     };
     if bytes.len() == 0 {

@@ -15,7 +15,7 @@ use std::alloc::Global;
 use text_lines::{are_printable, decimal, first_said, is_word, next_word, rest_after};
 
 /// The most notices that a mailbox holds, of this reader.
-const LARGEST_MAIL: u32 = 65_536;
+const MAX_MAIL: u32 = 65_536;
 
 /// A line `down DEVICE after N`.
 #[derive(Clone, Copy, Debug, PartialEq, Eq)]
@@ -97,7 +97,7 @@ fn set_up(word: &[u8], rest: &[u8]) -> Option<Line>
 {
     if is_word(word, b"mail") {
         let mail = number(rest)?;
-        if mail >= 1 && mail <= LARGEST_MAIL {
+        if mail >= 1 && mail <= MAX_MAIL {
             Some(Line::Mail { mail })
         } else {
             None

@@ -15,7 +15,7 @@ use std::alloc::Global;
 use text_lines::cut_at_word;
 
 /// The most asks of a line, of this reader.
-const MOST_ASKS: usize = 8;
+const MAX_ASKS: usize = 8;
 
 /// What comes after `on`, or `None` where no form allows it.
 #[tactic(auto, unfolding(crate::specs::Line::on_of))]
@@ -32,7 +32,7 @@ pub(crate) fn read_on(alloc: Global, line: &[u8]) -> Result<Option<OnLine>, NoMe
     let Some(asks) = read_asks(alloc, asks)? else {
         return Ok(None);
     };
-    if asks.len() > MOST_ASKS {
+    if asks.len() > MAX_ASKS {
         return Ok(None);
     }
     Ok(Some(OnLine {

@@ -15,7 +15,7 @@ const KINDS: u32 = 0x4000;
 /// The most bytes of a message in the table, and of an attribute.
 const LONGEST: usize = 100_000;
 
-const LONGEST_CONTENT: usize = 65_531;
+const MAX_CONTENT: usize = 65_531;
 
 /// What a call of this crate answers, printed.
 pub fn answer(alloc: Global, row: &Row<'_>) -> Result<Option<String>, Fail> {
@@ -99,7 +99,7 @@ fn written_message(alloc: Global, row: &Row<'_>) -> Result<String, Fail> {
 
 fn written_attribute(alloc: Global, kind: u32, content: &[u8]) -> Result<String, Fail> {
     let mut out = Vec::new(alloc);
-    if kind < KINDS && content.len() <= LONGEST_CONTENT {
+    if kind < KINDS && content.len() <= MAX_CONTENT {
         put_attr(&mut out, kind as u16, content)?;
     }
     Ok(hex(alloc, &out)?)
