@@ -48,7 +48,7 @@ pub fn audit(
     if let Some(part) = find_amiss(alloc, script, capture, histories, &followed.replayed)? {
         return Ok(Some(Finding::Makers { part }));
     }
-    if has_total_order(alloc, histories)? {
+    if has_total_order(alloc, histories, &followed.replayed)? {
         Ok(None)
     } else {
         Ok(Some(Finding::Order))

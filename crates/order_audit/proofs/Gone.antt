@@ -14,7 +14,6 @@ use Rattle.histories.specs.declared.log.Did.{Did}
 use Rattle.histories.specs.declared.log.Did.TheVariants.{Received, Sent, Closed}
 use Rattle.histories.specs.declared.log.PortLog.{PortLog}
 use Rattle.histories.specs.History.{history, is_of}
-use Rattle.queue_replay.specs.Replays.{IsReplayOf}
 use Rattle.total_order.specs.Orders.{EachIs}
 use Rattle.total_order.specs.Steps.{Step, Has, AreTaken, IsAsked, IsSent, log_of, taken, IsCausedAs}
 use Rattle.total_order.specs.Steps.{InLogOrderAs}
@@ -34,12 +33,13 @@ use Rattle.order_audit.proofs.Places.{Laws}
 
 -- where nothing went, all that is kept holds
 pub begun : (h : Histories) (w : Walk) →
-    ((queue : ℕ) → AreAt h.entries (places_of w.rows queue) (history queue h.entries)) →
-    AreNew h.logs w.cursors → IsReplayOf [] w.replayed →
+    ((queue : ℕ) →
+    AreAt h.entries queue [] (places_of w.rows queue) (history queue h.entries)) →
+    AreNew h.logs w.cursors →
     ((number visit : ℕ) → has w.left number visit ≡ false) →
     ((queue number visit : ℕ) → has_notice w.taken queue number visit ≡ false) →
     ((port call : ℕ) → has w.asked port call ≡ is_asked port call h.entries) → IsWalk h w
-begun h w rows cursors replayed left taken asked = record {
+begun h w rows cursors left taken asked = record {
   steps = [];
   rest = λ queue. history queue h.entries;
   gone = record {
@@ -55,7 +55,6 @@ begun h w rows cursors replayed left taken asked = record {
   rows = rows;
   own = λ queue. each_filter (is_of queue) h.entries;
   cursors = cursors.cursors_are;
-  replayed = replayed;
   left = λ number visit. (
     (λ is. absurd (let wrong : true ≡ false = sym is ∙ left number visit in cc)),
     (λ is. absurd is.left),

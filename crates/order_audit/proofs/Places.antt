@@ -1,6 +1,7 @@
 -- The entries that are left of each queue's history, by their places.
 use Rattle.std.proofs.Common.{◌≡◌, ℕ, zero, suc, ◌+◌, List, [], ◌∷◌, ◌++◌, take, refl, sym, ap}
-use Rattle.std.proofs.Common.{subst, ◌∙◌, Some, None, inl, inr, true, false, arith}
+use Rattle.std.proofs.Common.{subst, ◌∙◌, Some, None, inl, inr, true, false, arith, drop}
+use Rattle.std.proofs.Common.{append_assoc, append-nil}
 use Rattle.std.specs.Prelude.{slice_get, ◌==◌}
 use Rattle.std.specs.BTreeMap.{is_at}
 use Rattle.std.specs.Ordering.{nat_cmp, is_eq}
@@ -11,7 +12,8 @@ use Rattle.std.proofs.lemmas.Bool.{cases_Bool, ne_eqb}
 use Rattle.std.proofs.lemmas.Map.Lookups.{exact_unsigned}
 use Rattle.histories.specs.declared.entry.Entry.{Entry}
 use Rattle.histories.specs.History.{history}
-use Rattle.order_audit.specs.Rows.{RowMap, places_in, places_of, AreAt, first_at, Lengthens}
+use Rattle.order_audit.specs.Rows.{RowMap, places_in, places_of, AreAt, first_in, entry_at}
+use Rattle.order_audit.specs.Rows.{Lengthens}
 
 -- ---- numbers
 
@@ -46,12 +48,25 @@ each_number P k own others q = elim (cases_Bool (is_at (nat_cmp k) q)) [
 -- ---- places
 
 -- a place and its entry more
-are_more : (es : List Entry) (ps : List ℕ) (hs : List Entry) (p : ℕ) (h : Entry) →
-    AreAt es ps hs → slice_get es p ≡ Some h → AreAt es (ps ++ p ∷ []) (hs ++ h ∷ [])
-are_more es [] [] p h are there = (there, tt)
-are_more es [] (g ∷ hs) p h are there = absurd are
-are_more es (o ∷ ps) [] p h are there = absurd are
-are_more es (o ∷ ps) (g ∷ hs) p h are there = (are.0, are_more es ps hs p h are.1 there)
+are_more : (es : List Entry) (queue : ℕ) (before : List Entry) (ps : List ℕ) (hs : List Entry)
+    (p : ℕ) (h : Entry) → AreAt es queue before ps hs → slice_get es p ≡ Some h →
+    history queue (take p es) ≡ before ++ hs → AreAt es queue before (ps ++ p ∷ []) (hs ++ h ∷ [])
+are_more es queue before [] [] p h are there so_far = (there, so_far ∙ append-nil before, tt)
+are_more es queue before [] (g ∷ hs) p h are there so_far = absurd are
+are_more es queue before (o ∷ ps) [] p h are there so_far = absurd are
+are_more es queue before (o ∷ ps) (g ∷ hs) p h are there so_far = (
+  are.0,
+  are.1,
+  are_more es queue (before ++ g ∷ []) ps hs p h are.2 there
+      (so_far ∙ sym (append_assoc before (g ∷ []) hs)),
+)
+
+-- entries are those before a place, the one there, and those after it
+pub cut_at : (es : List Entry) (p : ℕ) (e : Entry) → slice_get es p ≡ Some e →
+    es ≡ take p es ++ e ∷ drop (suc p) es
+cut_at [] p e there = absurd (cc there)
+cut_at (d ∷ es) zero e there = let same : d ≡ e = (cc there) in ap (λ x. x ∷ es) same
+cut_at (d ∷ es) (suc p) e there = ap (λ xs. d ∷ xs) (cut_at es p e there)
 
 take_more : (es : List Entry) (p : ℕ) (e : Entry) → slice_get es p ≡ Some e →
     take (suc p) es ≡ take p es ++ e ∷ []
@@ -68,7 +83,8 @@ pub record Laws : Type 0 where
 
 -- the places of each queue have its history
 abbrev pub AreRows : List Entry → RowMap → List Entry → Type 0
-AreRows es rows front = (queue : ℕ) → AreAt es (places_of rows queue) (history queue front)
+AreRows es rows front =
+    (queue : ℕ) → AreAt es queue [] (places_of rows queue) (history queue front)
 
 -- a place more
 pub one_more : (laws : Laws) (es : List Entry) (old new : RowMap) (p q : ℕ) (e : Entry) →
@@ -78,48 +94,55 @@ one_more laws es old new p q e there next are longer =
     let count : q ≡ suc p = omega arith in
     subst (λ n. AreRows es new (take n es)) (sym count)
     (subst (AreRows es new) (sym (take_more es p e there))
-    (each_number (λ q. AreAt es (places_of new q) (history q (take p es ++ e ∷ []))) e.queue
-    (subst (λ ps. AreAt es ps (history e.queue (take p es ++ e ∷ []))) (sym longer.own)
-    (subst (AreAt es (places_of old e.queue ++ p ∷ [])) (sym (laws.own (take p es) e))
-    (are_more es (places_of old e.queue) (history e.queue (take p es)) p e (are e.queue) there)))
-    (λ q other. subst (λ o. AreAt es (places_in o) (history q (take p es ++ e ∷ [])))
+    (each_number (λ q. AreAt es q [] (places_of new q) (history q (take p es ++ e ∷ []))) e.queue
+    (subst (λ ps. AreAt es e.queue [] ps (history e.queue (take p es ++ e ∷ [])))
+    (sym longer.own)
+    (subst (AreAt es e.queue [] (places_of old e.queue ++ p ∷ []))
+    (sym (laws.own (take p es) e))
+    (are_more es e.queue [] (places_of old e.queue) (history e.queue (take p es)) p e
+    (are e.queue) there refl)))
+    (λ q other. subst (λ o. AreAt es q [] (places_in o) (history q (take p es ++ e ∷ [])))
     (sym (longer.others q other))
-    (subst (AreAt es (places_of old q))
+    (subst (AreAt es q [] (places_of old q))
     (sym (laws.others (take p es) e q (not_of e.queue q other))) (are q)))))
 
 -- ---- the first of what is left
 
--- where nothing is left, nothing is first
-pub first_none : (es : List Entry) (ps : List ℕ) → AreAt es ps [] → first_at es ps ≡ None
-first_none es [] are = refl
-first_none es (p ∷ ps) are = absurd are
+module _ (es : List Entry) (queue : ℕ) (before : List Entry) where
+  -- where nothing is left, nothing is first
+  pub first_none : (ps : List ℕ) → AreAt es queue before ps [] → first_in ps ≡ None
+  first_none [] are = refl
+  first_none (p ∷ ps) are = absurd are
 
--- what is left first is first
-pub first_some : (es : List Entry) (ps : List ℕ) (h : Entry) (hs : List Entry) →
-    AreAt es ps (h ∷ hs) → first_at es ps ≡ Some h
-first_some es [] h hs are = absurd are
-first_some es (p ∷ ps) h hs are = are.0
+  -- what is left first is first
+  pub first_some : (ps : List ℕ) (h : Entry) (hs : List Entry) →
+      AreAt es queue before ps (h ∷ hs) → entry_at es (first_in ps) ≡ Some h
+  first_some [] h hs are = absurd are
+  first_some (p ∷ ps) h hs are = are.0
 
--- an entry and those that are left behind it
-pub record IsFirst (es : List Entry) (ps : List ℕ) (hs : List Entry) (e : Entry) : Type 0 where
-  pub place : ℕ
-  pub places : List ℕ
-  pub others : List Entry
-  pub there : ps ≡ place ∷ places
-  pub front : hs ≡ e ∷ others
-  pub rest : AreAt es places others
+  -- an entry at its place, and those that are left behind it
+  pub record IsFirst (ps : List ℕ) (hs : List Entry) (p : ℕ) (e : Entry) : Type 0 where
+    pub places : List ℕ
+    pub others : List Entry
+    pub there : ps ≡ p ∷ places
+    pub front : hs ≡ e ∷ others
+    pub so_far : history queue (take p es) ≡ before
+    pub rest : AreAt es queue (before ++ e ∷ []) places others
 
--- what is first is left first
-pub some_first : (es : List Entry) (ps : List ℕ) (hs : List Entry) (e : Entry) →
-    AreAt es ps hs → first_at es ps ≡ Some e → IsFirst es ps hs e
-some_first es [] hs e are some = absurd (cc some)
-some_first es (p ∷ ps) [] e are some = absurd are
-some_first es (p ∷ ps) (h ∷ hs) e are some =
-    let same : h ≡ e = (let both : Some h ≡ Some e = sym are.0 ∙ some in cc) in record {
-      place = p;
-      places = ps;
-      others = hs;
-      there = refl;
-      front = ap (λ x. x ∷ hs) same;
-      rest = are.1;
-    }
+  -- what is first is left first
+  pub some_first : (ps : List ℕ) (hs : List Entry) (p : ℕ) (e : Entry) →
+      AreAt es queue before ps hs → first_in ps ≡ Some p → slice_get es p ≡ Some e →
+      IsFirst ps hs p e
+  some_first [] hs p e are first is = absurd (cc first)
+  some_first (o ∷ ps) [] p e are first is = absurd are
+  some_first (o ∷ ps) (h ∷ hs) p e are first is =
+      let place : o ≡ p = (cc first) in
+      let both : Some h ≡ Some e = sym are.0 ∙ ap (slice_get es) place ∙ is in
+      let same : h ≡ e = (cc both) in record {
+        places = ps;
+        others = hs;
+        there = ap (λ n. n ∷ ps) place;
+        front = ap (λ x. x ∷ hs) same;
+        so_far = ap (λ n. history queue (take n es)) (sym place) ∙ are.1;
+        rest = subst (λ x. AreAt es queue (before ++ x ∷ []) ps hs) same are.2;
+      }

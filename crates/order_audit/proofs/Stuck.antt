@@ -26,12 +26,12 @@ use Rattle.total_order.specs.Steps.{Step, HasLeft, HasCome, IsSent, log_of, IsCa
 use Rattle.total_order.specs.Steps.{InLogOrderAs}
 use Rattle.total_order.specs.TotalOrder.{IsCaused, InLogOrder, entries, IsTotalOrder, HasTotalOrder}
 use Rattle.order_audit.specs.Sets.{has, has_notice, is_asked, asks, asks_by}
-use Rattle.order_audit.specs.Rows.{places_of, AreAt}
+use Rattle.order_audit.specs.Rows.{places_of, AreAt, entry_at}
 use Rattle.order_audit.specs.Cursors.{Ascend, IsCursor, at_of, next_of}
 use Rattle.order_audit.specs.declared.cursors.Cursor.{Cursor}
 use Rattle.order_audit.specs.declared.walk.Walk.{Walk}
-use Rattle.order_audit.specs.Walking.{is_sent, can_go, can_some_go, first_of, can_pass, IsBehind}
-use Rattle.order_audit.specs.Walking.{IsWalk, IsStuck, Waits, Rests, IsLast}
+use Rattle.order_audit.specs.Walking.{is_sent, can_go, can_some_go, first_of, first_place, IsBehind}
+use Rattle.order_audit.specs.Walking.{can_pass, IsWalk, IsStuck, Waits, Rests, IsLast}
 use Rattle.order_audit.proofs.Places.{first_some, first_none}
 use Rattle.order_audit.proofs.Entries.{GoOn, Persists, caused_on, taken_on}
 use Rattle.order_audit.proofs.Departures.{pair_parts}
@@ -337,9 +337,10 @@ module _ (persists : Persists) (h : Histories) (w : Walk) (k : IsWalk h w) (stuc
         could_go x.entry.event refl same
         (caused_on persists h.logs x (entries front) (entries k.steps) on caused_x)
         (subst (λ o. can_some_go h.logs w o ≡ false)
-        (first_some h.entries (places_of w.rows x.entry.queue) x.entry others
-        (subst (λ xs. AreAt h.entries (places_of w.rows x.entry.queue) xs) first
-        (k.rows x.entry.queue))) waits)
+        (first_some h.entries x.entry.queue (history x.entry.queue (entries k.steps))
+        (places_of w.rows x.entry.queue) x.entry others
+        (subst (λ xs. AreAt h.entries x.entry.queue (history x.entry.queue (entries k.steps))
+        (places_of w.rows x.entry.queue) xs) first (k.rows x.entry.queue))) waits)
       where
         waits : Waits h w x.entry
         waits = (each_back (Waits h w) (history x.entry.queue (entries k.steps)) (x.entry ∷ others)
@@ -440,7 +441,7 @@ module _ (persists : Persists) (h : Histories) (w : Walk) (k : IsWalk h w) (stuc
 
 module _ (h : Histories) (w : Walk) (k : IsWalk h w) where
   -- where no queue has a first entry, no entry is left
-  whole_rest : EachIs (IsLast h.entries w) h.entries → (q : ℕ) → k.rest q ≡ []
+  whole_rest : EachIs (IsLast w) h.entries → (q : ℕ) → k.rest q ≡ []
   whole_rest last q = by (k.rest q) refl
     where
       by : (rs : List Entry) → k.rest q ≡ rs → rs ≡ []
@@ -448,16 +449,17 @@ module _ (h : Histories) (w : Walk) (k : IsWalk h w) where
       by (r ∷ rs) e =
           let at : r.queue ≡ q = eqb-true r.queue q
           (subst (EachIs (λ x. is_of q x ≡ true)) e (k.own q)).0 in
-          let none : first_of h.entries w r.queue ≡ None =
-          (each_back (IsLast h.entries w) (history q (entries k.steps)) (r ∷ rs)
-          (subst (EachIs (IsLast h.entries w))
+          let none : first_place w r.queue ≡ None =
+          (each_back (IsLast w) (history q (entries k.steps)) (r ∷ rs)
+          (subst (EachIs (IsLast w))
           (k.gone.same q ∙ ap (λ xs. history q (entries k.steps) ++ xs) e)
-          (each_part (IsLast h.entries w) (is_of q) h.entries last))).0 in
+          (each_part (IsLast w) (is_of q) h.entries last))).0 in
           let some : first_of h.entries w q ≡ Some r =
-          first_some h.entries (places_of w.rows q) r rs
-          (subst (λ xs. AreAt h.entries (places_of w.rows q) xs) e (k.rows q)) in
+          first_some h.entries q (history q (entries k.steps)) (places_of w.rows q) r rs
+          (subst (λ xs. AreAt h.entries q (history q (entries k.steps)) (places_of w.rows q) xs) e
+          (k.rows q)) in
           absurd (let wrong : Some r ≡ None = sym some
-          ∙ ap (λ p. first_of h.entries w p) (sym at) ∙ none in cc)
+          ∙ ap (λ p. first_of h.entries w p) (sym at) ∙ ap (entry_at h.entries) none in cc)
 
   -- where no entry is left, what went is an order
   ordered : ((q : ℕ) → k.rest q ≡ []) → HasTotalOrder h
@@ -472,15 +474,16 @@ module _ (h : Histories) (w : Walk) (k : IsWalk h w) where
   )
 
   -- where no entry is left, no queue has a first entry
-  all_last : ((q : ℕ) → k.rest q ≡ []) → EachIs (IsLast h.entries w) h.entries
-  all_last none = each_all (IsLast h.entries w) h.entries
-      (λ e. first_none h.entries (places_of w.rows e.queue)
-      (subst (λ xs. AreAt h.entries (places_of w.rows e.queue) xs) (none e.queue)
-      (k.rows e.queue)))
+  all_last : ((q : ℕ) → k.rest q ≡ []) → EachIs (IsLast w) h.entries
+  all_last none = each_all (IsLast w) h.entries
+      (λ e. first_none h.entries e.queue (history e.queue (entries k.steps))
+      (places_of w.rows e.queue)
+      (subst (λ xs. AreAt h.entries e.queue (history e.queue (entries k.steps))
+      (places_of w.rows e.queue) xs) (none e.queue) (k.rows e.queue)))
 
 -- where nothing can go any more, all has gone exactly if there is an order
 pub decided : (persists : Persists) (h : Histories) (w : Walk) (b : Bool) → IsWalk h w →
-    IsStuck h w → IsTrue b ↔ EachIs (IsLast h.entries w) h.entries → IsTrue b ↔ HasTotalOrder h
+    IsStuck h w → IsTrue b ↔ EachIs (IsLast w) h.entries → IsTrue b ↔ HasTotalOrder h
 decided persists h w b k stuck is = (
   (λ t. ordered h w k (whole_rest h w k (is.0 t))),
   (λ order. is.1 (all_last h w k (all_gone persists h w k stuck order.0 order.1))),

@@ -1,13 +1,12 @@
 -- Histories that are gone over: an entry goes, and a log is gone over by one more.
 use Rattle.std.proofs.Common.{◌≡◌, ℕ, zero, suc, ◌-◌, List, [], ◌∷◌, ◌++◌, refl, sym, ap, subst}
 use Rattle.std.proofs.Common.{◌∙◌, inl, inr, Bool, true, false, Option, Some, None, arith, Result}
-use Rattle.std.proofs.Common.{Ok, Err, OnOk}
+use Rattle.std.proofs.Common.{Ok, Err, OnOk, take, drop}
 use Rattle.std.specs.Prelude.{◌==◌, ◌↔◌, ◌⊎◌, ◌||◌, nat_lt, slice_get, is_none, if◌then◌else◌}
 use Rattle.std.specs.Ordering.{nat_cmp}
 use Rattle.std.specs.BTreeMap.{get}
 use Rattle.std.proofs.lemmas.Bool.{or_cases, or_left, or_right, eqb-true, eq-eqb, not-true}
 use Rattle.std.proofs.lemmas.Bool.{ltb-true}
-use Rattle.queue_core.specs.State.{Bound}
 use Rattle.queue_core.specs.Step.{step}
 use Rattle.queue_core.specs.Laws.{leaving_in}
 use Rattle.queue_core.specs.declared.event.Event.{Event}
@@ -17,9 +16,8 @@ use Rattle.histories.specs.declared.histories.Histories.{Histories}
 use Rattle.histories.specs.declared.log.Did.{Did}
 use Rattle.histories.specs.declared.log.Did.TheVariants.{Received, Sent, Closed}
 use Rattle.histories.specs.declared.log.PortLog.{PortLog}
-use Rattle.histories.specs.History.{history, is_of, replay, replay_from, IsStep, IsLegalFrom}
-use Rattle.histories.specs.History.{AreLegal}
-use Rattle.queue_replay.specs.Replays.{queue_in, IsReplayOf}
+use Rattle.histories.specs.History.{history, is_of, replay, IsStep, AreLegal}
+use Rattle.queue_replay.specs.Underway.{step_at}
 use Rattle.queue_replay.specs.Leaving.{visits_left}
 use Rattle.total_order.specs.Orders.{EachIs}
 use Rattle.total_order.specs.Steps.{Step, Has, HasLeft, HasCome, IsSent, log_of, taken, IsCausedAs}
@@ -30,9 +28,9 @@ use Rattle.order_audit.specs.Cursors.{CursorMap, AreCursors, IsCursor, at_of, at
 use Rattle.order_audit.specs.Cursors.{next_in, Moves, moved}
 use Rattle.order_audit.specs.declared.cursors.Cursor.{Cursor}
 use Rattle.order_audit.specs.declared.walk.Walk.{Walk}
-use Rattle.order_audit.specs.Walking.{is_sent, can_go, first_of, can_pass, MovesBy, Goes, Passes}
-use Rattle.order_audit.specs.Walking.{AreGone, IsWalk, IsBehindAs}
-use Rattle.order_audit.proofs.Places.{each_number, not_of, IsFirst, some_first, Laws}
+use Rattle.order_audit.specs.Walking.{is_sent, can_go, first_place, can_pass, MovesBy, Goes}
+use Rattle.order_audit.specs.Walking.{Passes, AreGone, IsWalk, IsBehindAs}
+use Rattle.order_audit.proofs.Places.{each_number, not_of, IsFirst, some_first, cut_at, Laws}
 use Rattle.order_audit.proofs.Entries.{Persists, entries_more}
 use Rattle.order_audit.proofs.Departures.{left_more, taken_one_more, among_has}
 use Rattle.order_audit.proofs.Gone.{IsNoAsk, next_is, sent_is, past, taken_front, IsHeard}
@@ -70,14 +68,6 @@ module _ (logs : List PortLog) (old new : CursorMap) (port : ℕ) (moves : Moves
       by None none = absurd (none refl)
       by (Some c) none = omega arith
 
--- ---- steps of legal histories
-
--- each entry of a legal history is a step
-step_in : (q : Option Bound) (es fs : List Entry) (e : Entry) → IsLegalFrom q (es ++ e ∷ fs) →
-    IsStep (replay_from q es) e
-step_in q [] fs e legal = legal.0
-step_in q (d ∷ es) fs e legal = step_in (step q d.event).state es fs e legal.1
-
 -- ---- a packet that comes again
 
 -- a packet that can come again left before
@@ -95,14 +85,21 @@ come_before w number (suc (suc v)) es left can =
 
 -- ---- an entry goes
 
-module _ (persists : Persists) (laws : Laws) (h : Histories) (old new : Walk) (e : Entry)
-    (legal : AreLegal h.entries) (w : IsWalk h old)
-    (first : first_of h.entries old e.queue ≡ Some e)
-    (can : can_go h.logs old e.event ≡ true) (goes : Goes old new e) where
+-- these packets leave in the entry at a place
+abbrev IsLeaving : List Entry → ℕ → Entry → List (ℕ × ℕ) → Type 0
+IsLeaving es place e visits =
+    visits ≡ visits_left (step (replay (history e.queue (take place es))) e.event)
+
+module _ (persists : Persists) (laws : Laws) (h : Histories) (old new : Walk) (place : ℕ)
+    (e : Entry) (visits : List (ℕ × ℕ)) (w : IsWalk h old)
+    (first : first_place old e.queue ≡ Some place) (there : slice_get h.entries place ≡ Some e)
+    (can : can_go h.logs old e.event ≡ true) (leave : IsLeaving h.entries place e visits)
+    (goes : Goes old new e visits) where
   -- the entry is the first that is left of its queue
-  is_first : IsFirst h.entries (places_of old.rows e.queue) (w.rest e.queue) e
-  is_first = some_first h.entries (places_of old.rows e.queue) (w.rest e.queue) e
-      (w.rows e.queue) first
+  is_first : IsFirst h.entries e.queue (history e.queue (entries w.steps))
+      (places_of old.rows e.queue) (w.rest e.queue) place e
+  is_first = some_first h.entries e.queue (history e.queue (entries w.steps))
+      (places_of old.rows e.queue) (w.rest e.queue) place e (w.rows e.queue) first there
 
   -- what is left then
   abbrev more : ℕ → List Entry
@@ -193,17 +190,6 @@ module _ (persists : Persists) (laws : Laws) (h : Histories) (old new : Walk) (e
   cursors_by (PortClosed port) moves = subst (AreCursors h.logs) (sym moves) w.cursors
   cursors_by (DeviceDown device) moves = subst (AreCursors h.logs) (sym moves) w.cursors
 
-  -- the entry is a step of its queue
-  state_is : queue_in (get nat_cmp old.replayed.queues e.queue)
-      ≡ replay (history e.queue (entries w.steps))
-  state_is = w.replayed.queues e.queue
-
-  is_step : IsStep (queue_in (get nat_cmp old.replayed.queues e.queue)) e
-  is_step = subst (λ (q : Option Bound). IsStep q e) (sym state_is)
-      (step_in None (history e.queue (entries w.steps)) (more e.queue) e
-      (subst (IsLegalFrom None) (w.gone.same e.queue
-      ∙ ap (λ xs. history e.queue (entries w.steps) ++ xs) front) (legal e.queue)))
-
   -- what an equation of a set says of what is in it
   put_in : {Old Now New : Type 0} (a b c : Bool) → a ≡ b || c → (b ≡ true) ↔ Now →
       (c ≡ true) ↔ Old → New ↔ (Now ⊎ Old) → (a ≡ true) ↔ New
@@ -230,9 +216,9 @@ module _ (persists : Persists) (laws : Laws) (h : Histories) (old new : Walk) (e
         (is_among number visit
         (visits_left (step (replay (history e.queue (entries w.steps))) e.event)))
         (has old.left number visit)
-        (goes.left is_step number visit
-        ∙ ap (λ (q : Option Bound). is_among number visit (visits_left (step q e.event))
-        || has old.left number visit) state_is)
+        (goes.left number visit
+        ∙ ap (λ (vs : List (ℕ × ℕ)). is_among number visit vs || has old.left number visit)
+        (leave ∙ ap (λ es. visits_left (step (replay es) e.event)) is_first.so_far))
         (among_has number visit
         (leaving_in (step (replay (history e.queue (entries w.steps))) e.event)))
         (w.left number visit) (left_more laws (entries w.steps) e number visit))
@@ -247,16 +233,25 @@ module _ (persists : Persists) (laws : Laws) (h : Histories) (old new : Walk) (e
         ((λ t. t), (λ t. t)) (w.taken queue number visit)
         (taken_one_more laws (entries w.steps) e number visit queue))
 
-  -- the places then
-  rows_on : (q : ℕ) → AreAt h.entries (places_of new.rows q) (more q)
-  rows_on = each_number (λ q. AreAt h.entries (places_of new.rows q) (more q)) e.queue
-      (subst (λ xs. AreAt h.entries (places_of new.rows e.queue) xs) (sym more_own)
-      (subst (λ ps. AreAt h.entries ps is_first.others)
-      (sym (goes.rows.own is_first.place is_first.places is_first.there)) is_first.rest))
-      (λ q other. subst (λ xs. AreAt h.entries (places_of new.rows q) xs)
-      (sym (more_other q (not_of e.queue q other)))
-      (subst (λ o. AreAt h.entries (places_in o) (w.rest q)) (sym (goes.rows.others q other))
-      (w.rows q)))
+    -- the places then
+    rows_on : (q : ℕ) → AreAt h.entries q (history q (entries (w.steps ++ step_of at ∷ [])))
+        (places_of new.rows q) (more q)
+    rows_on = subst (λ es. (q : ℕ) →
+        AreAt h.entries q (history q es) (places_of new.rows q) (more q)) (sym now_gone)
+        (each_number (λ q. AreAt h.entries q (history q (entries w.steps ++ e ∷ []))
+        (places_of new.rows q) (more q)) e.queue
+        (subst (λ xs. AreAt h.entries e.queue (history e.queue (entries w.steps ++ e ∷ []))
+        (places_of new.rows e.queue) xs) (sym more_own)
+        (subst (λ ps. AreAt h.entries e.queue (history e.queue (entries w.steps ++ e ∷ [])) ps
+        is_first.others) (sym (goes.rows.own place is_first.places is_first.there))
+        (subst (λ bs. AreAt h.entries e.queue bs is_first.places is_first.others)
+        (sym (laws.own (entries w.steps) e)) is_first.rest)))
+        (λ q other. subst (λ xs. AreAt h.entries q (history q (entries w.steps ++ e ∷ []))
+        (places_of new.rows q) xs) (sym (more_other q (not_of e.queue q other)))
+        (subst (λ o. AreAt h.entries q (history q (entries w.steps ++ e ∷ [])) (places_in o)
+        (w.rest q)) (sym (goes.rows.others q other))
+        (subst (λ bs. AreAt h.entries q bs (places_of old.rows q) (w.rest q))
+        (sym (laws.others (entries w.steps) e q (not_of e.queue q other))) (w.rows q)))))
 
   -- all are still of their queues
   own_on : (q : ℕ) → EachIs (λ x. is_of q x ≡ true) (more q)
@@ -272,32 +267,39 @@ module _ (persists : Persists) (laws : Laws) (h : Histories) (old new : Walk) (e
         steps = w.steps ++ step_of gone.0 ∷ [];
         rest = more;
         gone = gone.1;
-        rows = rows_on;
+        rows = rows_on gone.0;
         own = own_on;
         cursors = cursors_by e.event goes.cursors;
-        replayed = subst (λ es. IsReplayOf es new.replayed) (sym (now_gone gone.0))
-            (goes.replayed (entries w.steps) w.replayed);
         left = left_on gone.0;
         taken = taken_too gone.0;
         asked = λ port call. ap (λ s. has s port call) goes.asked ∙ w.asked port call;
       }
 
+-- a legal history's entry at a place is a step
+pub step_there : (es : List Entry) (place : ℕ) (e : Entry) → AreLegal es →
+    slice_get es place ≡ Some e → IsStep (replay (history e.queue (take place es))) e
+step_there es place e legal there =
+    step_at (take place es) (drop (suc place) es) e (subst AreLegal (cut_at es place e there) legal)
+
 -- the first of a queue is an entry of it
-pub of_queue : (h : Histories) (old : Walk) (queue : ℕ) (e : Entry) → IsWalk h old →
-    first_of h.entries old queue ≡ Some e → e.queue ≡ queue
-of_queue h old queue e w first =
-    let f = some_first h.entries (places_of old.rows queue) (w.rest queue) e (w.rows queue) first
-    in eqb-true e.queue queue
+of_queue : (h : Histories) (old : Walk) (queue place : ℕ) (e : Entry) → IsWalk h old →
+    first_place old queue ≡ Some place → slice_get h.entries place ≡ Some e → e.queue ≡ queue
+of_queue h old queue place e w first there =
+    let f = some_first h.entries queue (history queue (entries w.steps)) (places_of old.rows queue)
+    (w.rest queue) place e (w.rows queue) first there in
+    eqb-true e.queue queue
     (subst (λ xs. EachIs (λ x. is_of queue x ≡ true) xs) f.front (w.own queue)).0
 
 -- an entry of a queue goes, if it is the first that is left and can go
-pub queue_gone : (persists : Persists) (laws : Laws) (h : Histories) (old new : Walk) (queue : ℕ)
-    (e : Entry) → AreLegal h.entries → IsWalk h old → first_of h.entries old queue ≡ Some e →
-    can_go h.logs old e.event ≡ true → Goes old new e → IsWalk h new
-queue_gone persists laws h old new queue e legal w first can goes =
-    entry_gone persists laws h old new e legal w
-    (subst (λ q. first_of h.entries old q ≡ Some e) (sym (of_queue h old queue e w first)) first)
-    can goes
+pub queue_gone : (persists : Persists) (laws : Laws) (h : Histories) (old new : Walk)
+    (queue place : ℕ) (e : Entry) (visits : List (ℕ × ℕ)) → IsWalk h old →
+    first_place old queue ≡ Some place → slice_get h.entries place ≡ Some e →
+    can_go h.logs old e.event ≡ true → IsLeaving h.entries place e visits →
+    Goes old new e visits → IsWalk h new
+queue_gone persists laws h old new queue place e visits w first there can leave goes =
+    entry_gone persists laws h old new place e visits w
+    (subst (λ q. first_place old q ≡ Some place)
+    (sym (of_queue h old queue place e w first there)) first) there can leave goes
 
 -- ---- a log is gone over
 
@@ -337,11 +339,10 @@ log_passed h old new port w can passes = record {
       (subst (IsSent call) (sym next) sent))
       (cursor_goes h.logs old.cursors new.cursors port passes.cursors w.cursors some)
       (cursor_stays h.logs old.cursors new.cursors port passes.cursors w.cursors);
-  rows = λ q. subst (λ m. AreAt h.entries (places_of m q) (w.rest q)) (sym passes.rows)
-      (w.rows q);
+  rows = λ q. subst (λ m. AreAt h.entries q (history q (entries w.steps)) (places_of m q)
+      (w.rest q)) (sym passes.rows) (w.rows q);
   own = w.own;
   cursors = cursors_moved h.logs old.cursors new.cursors port passes.cursors w.cursors;
-  replayed = subst (λ r. IsReplayOf (entries w.steps) r) (sym passes.replayed) w.replayed;
   left = λ n v. subst (λ s. (has s n v ≡ true) ↔ HasLeft n v (entries w.steps))
       (sym passes.left) (w.left n v);
   taken = λ q n v. subst (λ s. (has_notice s q n v ≡ true)

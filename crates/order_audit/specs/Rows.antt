@@ -1,8 +1,10 @@
 -- For proofs alone: the entries that are left of each queue's history, by their places among all.
 use Rattle.std.specs.Prelude.{◌≡◌, ℕ, List, [], ◌∷◌, ◌++◌, Option, Some, None, false, slice_get}
+use Rattle.std.specs.Prelude.{take}
 use Rattle.std.specs.BTreeMap.{BTreeMap, get, is_at}
 use Rattle.std.specs.Ordering.{nat_cmp}
 use Rattle.histories.specs.declared.entry.Entry.{Entry}
+use Rattle.histories.specs.History.{history}
 
 abbrev pub RowMap : Type 0
 RowMap = BTreeMap ℕ (List ℕ)
@@ -15,17 +17,23 @@ places_in (Some places) = places
 abbrev pub places_of : RowMap → ℕ → List ℕ
 places_of rows queue = places_in (get nat_cmp rows queue)
 
--- at these places are these entries
-abbrev pub AreAt : List Entry → List ℕ → List Entry → Type 0
-AreAt es [] [] = Unit {0}
-AreAt es [] (h ∷ hs) = ⊥
-AreAt es (p ∷ ps) [] = ⊥
-AreAt es (p ∷ ps) (h ∷ hs) = (slice_get es p ≡ Some h) × AreAt es ps hs
+-- at these places are these entries, which come after this much of a queue's history
+abbrev pub AreAt : List Entry → ℕ → List Entry → List ℕ → List Entry → Type 0
+AreAt es queue before [] [] = Unit {0}
+AreAt es queue before [] (h ∷ hs) = ⊥
+AreAt es queue before (p ∷ ps) [] = ⊥
+AreAt es queue before (p ∷ ps) (h ∷ hs) =
+    (slice_get es p ≡ Some h) × (history queue (take p es) ≡ before)
+    × AreAt es queue (before ++ h ∷ []) ps hs
 
--- the first of these entries
-abbrev pub first_at : List Entry → List ℕ → Option Entry
-first_at es [] = None
-first_at es (p ∷ ps) = slice_get es p
+-- the first of these places, and the entry there
+abbrev pub first_in : List ℕ → Option ℕ
+first_in [] = None
+first_in (p ∷ ps) = Some p
+
+abbrev pub entry_at : List Entry → Option ℕ → Option Entry
+entry_at es None = None
+entry_at es (Some place) = slice_get es place
 
 -- a place more of a queue
 pub record Lengthens (old new : RowMap) (queue place : ℕ) : Type 0 where

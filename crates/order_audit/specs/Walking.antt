@@ -1,10 +1,7 @@
 -- For proofs alone: histories that are gone over, entry by entry and log by log.
 use Rattle.std.specs.Prelude.{◌≡◌, ◌↔◌, ◌≤◌, ◌<◌, ℕ, ◌-◌, Bool, true, false, not, ◌||◌, nat_lt}
-use Rattle.std.specs.Prelude.{◌==◌, List, [], ◌∷◌, ◌++◌, length, take, Option, Some, None, is_none}
+use Rattle.std.specs.Prelude.{◌==◌, List, [], ◌++◌, length, take, Option, Some, None, is_none}
 use Rattle.std.specs.Prelude.{slice_get, ◌⊎◌}
-use Rattle.std.specs.BTreeMap.{get}
-use Rattle.std.specs.Ordering.{nat_cmp}
-use Rattle.queue_core.specs.Step.{step}
 use Rattle.queue_core.specs.declared.event.Event.{Event}
 use Rattle.queue_core.specs.declared.event.Event.TheVariants.{Arrive, Ask, PortClosed, DeviceDown}
 use Rattle.histories.specs.declared.entry.Entry.{Entry}
@@ -12,14 +9,12 @@ use Rattle.histories.specs.declared.histories.Histories.{Histories}
 use Rattle.histories.specs.declared.log.Did.{Did}
 use Rattle.histories.specs.declared.log.Did.TheVariants.{Received, Sent, Closed}
 use Rattle.histories.specs.declared.log.PortLog.{PortLog}
-use Rattle.histories.specs.History.{history, is_of, IsStep}
-use Rattle.queue_replay.specs.Replays.{queue_in, IsReplayOf}
-use Rattle.queue_replay.specs.Leaving.{visits_left}
+use Rattle.histories.specs.History.{history, is_of}
 use Rattle.total_order.specs.Orders.{EachIs, Pairs, AreCaused}
 use Rattle.total_order.specs.Steps.{Step, Has, HasLeft, AreTaken, IsSent, log_of, taken}
 use Rattle.total_order.specs.TotalOrder.{IsCaused, InLogOrder, entries}
 use Rattle.order_audit.specs.Sets.{has, is_among, has_notice, notifies, is_asked}
-use Rattle.order_audit.specs.Rows.{places_of, AreAt, first_at, Shortens}
+use Rattle.order_audit.specs.Rows.{places_of, AreAt, first_in, entry_at, Shortens}
 use Rattle.order_audit.specs.Cursors.{CursorMap, at_of, next_of, AreCursors, Moves}
 use Rattle.order_audit.specs.declared.walk.Walk.{Walk}
 
@@ -45,9 +40,12 @@ abbrev pub can_some_go : List PortLog → Walk → Option Entry → Bool
 can_some_go logs w None = false
 can_some_go logs w (Some e) = can_go logs w e.event
 
--- the first entry that is left of a queue's history
+-- the first entry that is left of a queue's history, and its place
+abbrev pub first_place : Walk → ℕ → Option ℕ
+first_place w queue = first_in (places_of w.rows queue)
+
 abbrev pub first_of : List Entry → Walk → ℕ → Option Entry
-first_of es w queue = first_at es (places_of w.rows queue)
+first_of es w queue = entry_at es (first_place w queue)
 
 -- a log can be gone over by one more: a notice where its packet was taken, and a message that asks
 -- nothing of a queue
@@ -65,17 +63,12 @@ MovesBy (Ask port call request) old new = Moves old new port
 MovesBy (PortClosed port) old new = new ≡ old
 MovesBy (DeviceDown device) old new = new ≡ old
 
--- an entry goes
-pub record Goes (old new : Walk) (e : Entry) : Type 0 where
+-- an entry goes, in which these packets left
+pub record Goes (old new : Walk) (e : Entry) (visits : List (ℕ × ℕ)) : Type 0 where
   pub rows : Shortens old.rows new.rows e.queue
   pub cursors : MovesBy e.event old.cursors new.cursors
-  pub replayed : (before : List Entry) → IsReplayOf before old.replayed →
-      IsReplayOf (before ++ e ∷ []) new.replayed
-  pub left : IsStep (queue_in (get nat_cmp old.replayed.queues e.queue)) e →
-      (number visit : ℕ) → has new.left number visit
-      ≡ is_among number visit
-      (visits_left (step (queue_in (get nat_cmp old.replayed.queues e.queue)) e.event))
-      || has old.left number visit
+  pub left : (number visit : ℕ) → has new.left number visit
+      ≡ is_among number visit visits || has old.left number visit
   pub taken : (queue number visit : ℕ) → has_notice new.taken queue number visit
       ≡ notifies queue number visit e || has_notice old.taken queue number visit
   pub asked : new.asked ≡ old.asked
@@ -84,7 +77,6 @@ pub record Goes (old new : Walk) (e : Entry) : Type 0 where
 pub record Passes (old new : Walk) (port : ℕ) : Type 0 where
   pub cursors : Moves old.cursors new.cursors port
   pub rows : new.rows ≡ old.rows
-  pub replayed : new.replayed ≡ old.replayed
   pub left : new.left ≡ old.left
   pub taken : new.taken ≡ old.taken
   pub asked : new.asked ≡ old.asked
@@ -124,10 +116,10 @@ pub record IsWalk (h : Histories) (w : Walk) : Type 0 where
   pub steps : List Step
   pub rest : ℕ → List Entry
   pub gone : AreGone h.logs h.entries steps rest (at_of w.cursors)
-  pub rows : (queue : ℕ) → AreAt h.entries (places_of w.rows queue) (rest queue)
+  pub rows : (queue : ℕ) → AreAt h.entries queue (history queue (entries steps))
+      (places_of w.rows queue) (rest queue)
   pub own : (queue : ℕ) → EachIs (λ e. is_of queue e ≡ true) (rest queue)
   pub cursors : AreCursors h.logs w.cursors
-  pub replayed : IsReplayOf (entries steps) w.replayed
   pub left : (number visit : ℕ) →
       (has w.left number visit ≡ true) ↔ HasLeft number visit (entries steps)
   pub taken : (queue number visit : ℕ) → (has_notice w.taken queue number visit ≡ true)
@@ -135,12 +127,6 @@ pub record IsWalk (h : Histories) (w : Walk) : Type 0 where
   pub asked : (port call : ℕ) → has w.asked port call ≡ is_asked port call h.entries
 
 -- ---- the end
-
--- the first entry that is left, if it can go
-abbrev pub IsReady : Histories → Walk → ℕ → Option Entry → Type 0
-IsReady h w queue None = can_some_go h.logs w (first_of h.entries w queue) ≡ false
-IsReady h w queue (Some e) =
-    (first_of h.entries w queue ≡ Some e) × (can_go h.logs w e.event ≡ true)
 
 -- nothing of the entry's queue can go
 abbrev pub Waits : Histories → Walk → Entry → Type 0
@@ -155,5 +141,5 @@ pub record IsStuck (h : Histories) (w : Walk) : Type 0 where
   pub ports : EachIs (Rests h w) h.logs
 
 -- no entry is left of the entry's queue
-abbrev pub IsLast : List Entry → Walk → Entry → Type 0
-IsLast es w e = first_of es w e.queue ≡ None
+abbrev pub IsLast : Walk → Entry → Type 0
+IsLast w e = first_place w e.queue ≡ None

@@ -3,7 +3,6 @@
 
 use histories::{Did, Entry, Event, Histories};
 use packet_entry::NoMemory;
-use queue_replay::Visits;
 use std::alloc::Global;
 use std::collections::BTreeMap;
 
@@ -63,9 +62,9 @@ impl Hints {
     }
 
     /// An entry went, and these packets left.
-    pub(crate) fn gone(&mut self, entry: &Entry, visits: Visits) -> Result<(), NoMemory> {
+    pub(crate) fn gone(&mut self, entry: &Entry, visits: &[(u32, u32)]) -> Result<(), NoMemory> {
         for visit in visits {
-            if let Some(queue) = self.arrivals.remove(&visit) {
+            if let Some(queue) = self.arrivals.remove(visit) {
                 self.tasks.push(Task::Queue(queue))?;
             }
         }

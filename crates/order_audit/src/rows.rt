@@ -1,10 +1,10 @@
 //! The entries that are left of each queue's history, by their places among all entries.
 
-ghost use Rattle.std.specs.Prelude.{◌≡◌, ℕ, OnOk, IfOk, option_copied};
+ghost use Rattle.std.specs.Prelude.{◌≡◌, ℕ, [], OnOk, IfOk};
 ghost use Rattle.histories.specs.History.{history};
 ghost use Rattle.order_audit.specs.Rows as row;
 
-use histories::{Entries, Entry, an_entry_is_of_its_queue_alone};
+use histories::{Entries, an_entry_is_of_its_queue_alone};
 use packet_entry::{NoMemory, Sequence};
 use std::alloc::Global;
 use std::collections::BTreeMap;
@@ -15,7 +15,7 @@ pub(crate) type Rows = BTreeMap<u16, Sequence<usize>>;
 /// All entries.
 pub(crate) fn rows_of(alloc: Global, entries: &Entries) -> Result<Rows, NoMemory>
     ensures { IfOk result (λ all. (queue : ℕ) →
-        row.AreAt entries.now (row.places_of all queue) (history queue entries.now)) }
+        row.AreAt entries.now queue [] (row.places_of all queue) (history queue entries.now)) }
 {
     an_entry_is_of_its_queue_alone();
     let mut rows = BTreeMap::new(alloc);
@@ -44,14 +44,13 @@ fn lengthen(alloc: Global, queue: u16, place: usize, rows: &mut Rows) -> Result<
     Ok(())
 }
 
-/// The first entry that is left of a queue's history.
-pub(crate) fn first<'a>(rows: &Rows, entries: &'a Entries, queue: u16) -> Option<&'a Entry>
-    ensures { option_copied result
-        ≡ row.first_at entries.now (row.places_of rows.now queue) }
+/// The place of the first entry that is left of a queue's history.
+pub(crate) fn first(rows: &Rows, queue: u16) -> Option<usize>
+    ensures { result ≡ row.first_in (row.places_of rows.now queue) }
 {
     match rows.get(&queue) {
         Some(row) => match row.get(0) {
-            Some(place) => entries.get(*place),
+            Some(place) => Some(*place),
             None => None,
         },
         None => None,

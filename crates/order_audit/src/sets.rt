@@ -6,7 +6,6 @@ ghost use Rattle.order_audit.specs.Sets as sets;
 use histories::{Entries, Entry, Event, Reply};
 use packet_entry::{Card, NoMemory};
 use queue_core::Outcome;
-use queue_replay::Visits;
 use std::alloc::Global;
 use std::collections::BTreeSet;
 
@@ -26,9 +25,9 @@ pub(crate) fn put(first: u32, second: u32, pairs: &mut Pairs) -> Result<(), NoMe
 }
 
 /// Puts in these visits.
-pub(crate) fn put_all(visits: &Visits, pairs: &mut Pairs) -> Result<(), NoMemory>
+pub(crate) fn put_all(visits: &[(u32, u32)], pairs: &mut Pairs) -> Result<(), NoMemory>
     ensures { OnOk result ((a b : ℕ) → sets.has pairs.new a b
-        ≡ sets.is_among a b visits.now.items || sets.has pairs.old a b) }
+        ≡ sets.is_among a b visits.now || sets.has pairs.old a b) }
 {
     for (number, visit) in visits {
         put(*number, *visit, pairs)?;

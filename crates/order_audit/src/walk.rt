@@ -9,7 +9,6 @@ use crate::rows::{Rows, first, rows_of, shorten};
 use crate::sets::{Notices, Pairs, asked_in, note, put_all};
 use histories::{Did, Entry, Event, Histories, Logs};
 use packet_entry::NoMemory;
-use queue_replay::{Replayed, Visits};
 use std::alloc::Global;
 
 /// How far histories are gone over.
@@ -19,8 +18,6 @@ pub(crate) struct Walk {
     pub(crate) rows: Rows,
     /// How far each port's log is gone over.
     pub(crate) cursors: Cursors,
-    /// What went, replayed.
-    pub(crate) replayed: Replayed,
     /// The packets that left a queue.
     pub(crate) left: Pairs,
     /// The notices of packets that queues took.
@@ -36,26 +33,28 @@ pub(crate) fn begin(alloc: Global, histories: &Histories) -> Result<Walk, NoMemo
     Ok(Walk {
         rows: rows_of(alloc, &histories.entries)?,
         cursors: cursors_of(alloc, &histories.logs)?,
-        replayed: Replayed::new(alloc),
         left: Pairs::new(alloc),
         taken: Notices::new(alloc),
         asked: asked_in(alloc, &histories.entries)?,
     })
 }
 
-/// The first entry of a queue's history that is left, if it can go.
-pub(crate) fn ready<'a>(walk: &Walk, histories: &'a Histories, queue: u16) -> Option<&'a Entry>
-    ensures { walking.IsReady histories.now walk.now queue (option_copied result) }
+/// Whether the first entry that is left of a queue's history can go.
+pub(crate) fn can_some_go(walk: &Walk, histories: &Histories, queue: u16) -> bool
+    ensures { result ≡ walking.can_some_go histories.now.logs walk.now
+        (walking.first_of histories.now.entries walk.now queue) }
 {
-    match first(&walk.rows, &histories.entries, queue) {
-        Some(entry) if can_go(walk, &histories.logs, &entry.event) => Some(entry),
-        Some(_) => None,
-        None => None,
+    match first(&walk.rows, queue) {
+        Some(place) => match histories.entries.get(place) {
+            Some(entry) => can_go(walk, &histories.logs, &entry.event),
+            None => false,
+        },
+        None => false,
     }
 }
 
 /// Whether an event can go.
-fn can_go(walk: &Walk, logs: &Logs, event: &Event) -> bool
+pub(crate) fn can_go(walk: &Walk, logs: &Logs, event: &Event) -> bool
     ensures { result ≡ walking.can_go logs.now walk.now event.now }
 {
     match event {
@@ -100,18 +99,16 @@ pub(crate) fn can_pass(walk: &Walk, logs: &Logs, port: u32) -> bool
 }
 
 impl Walk {
-    /// An entry goes, which is the first that is left of its queue's history. Answers what leaves
-    /// in its step.
-    pub(crate) fn go(&mut self, alloc: Global, entry: &Entry) -> Result<Visits, NoMemory>
-        ensures { OnOk result (walking.Goes self.old self.new entry.now) }
+    /// An entry goes, which is the first that is left of its queue's history. These packets leave in
+    /// its step.
+    pub(crate) fn go(&mut self, entry: &Entry, visits: &[(u32, u32)]) -> Result<(), NoMemory>
+        ensures { OnOk result (walking.Goes self.old self.new entry.now visits.now) }
     {
-        let visits = self.replayed.leaving(alloc, entry)?;
-        self.replayed.replay(alloc, entry)?;
-        put_all(&visits, &mut self.left)?;
+        put_all(visits, &mut self.left)?;
         note(entry, &mut self.taken)?;
         move_on(&entry.event, &mut self.cursors)?;
         shorten(entry.queue, &mut self.rows);
-        Ok(visits)
+        Ok(())
     }
 
     /// A port's log is gone over by one more.

@@ -50,17 +50,29 @@ nothing_leaving (request.Verdict named (Some head) mark payload priority) ws = r
 nothing_leaving (request.Batch named head mark priority) ws = refl
 
 -- nothing is first of nothing
-pub no_first : (taken : ℕ) → first_leaving taken [] ≡ []
+no_first : (taken : ℕ) → first_leaving taken [] ≡ []
 no_first zero = refl
 no_first (suc taken) = refl
 
 -- where nothing waits
-pub no_leaving : (asked : Request) (taken : ℕ) → leaving_after_ask asked taken [] ≡ []
+no_leaving : (asked : Request) (taken : ℕ) → leaving_after_ask asked taken [] ≡ []
 no_leaving (request.Config named command params maximum flags mask) taken = no_first taken
 no_leaving (request.Verdict named None mark payload priority) taken = refl
 no_leaving (request.Verdict named (Some head) mark payload priority) taken =
     either (λ (xs : List (ℕ × ℕ)). xs ≡ []) (taken == 0) [] [] (λ is. refl) (λ no. refl)
 no_leaving (request.Batch named head mark priority) taken = no_first taken
+
+-- ---- where nothing is added
+
+pub none_added : (vs : List (ℕ × ℕ)) → vs ≡ vs ++ []
+none_added vs = sym (append-nil vs)
+
+pub none_first : (vs : List (ℕ × ℕ)) (taken : ℕ) → vs ≡ vs ++ first_leaving taken []
+none_first vs taken = none_added vs ∙ sym (ap (λ xs. vs ++ xs) (no_first taken))
+
+pub none_asked : (vs : List (ℕ × ℕ)) (asked : Request) (taken : ℕ) →
+    vs ≡ vs ++ leaving_after_ask asked taken []
+none_asked vs asked taken = none_added vs ∙ sym (ap (λ xs. vs ++ xs) (no_leaving asked taken))
 
 -- ---- steps
 

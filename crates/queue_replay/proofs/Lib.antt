@@ -4,4 +4,5 @@ pub mod RequestResults
 pub mod StepReplies
 pub mod Departures
 pub mod OnwardPackets
+pub mod Parts
 pub mod Replays

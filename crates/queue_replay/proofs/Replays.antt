@@ -14,8 +14,11 @@ use Rattle.queue_core.specs.Step.{step}
 use Rattle.histories.specs.declared.entry.Entry.{Entry}
 use Rattle.histories.specs.History.{history, replay}
 use Rattle.queue_replay.specs.declared.found.Found.{Found}
+use Rattle.queue_replay.specs.declared.replayed.Replayed.{Replayed}
+use Rattle.queue_replay.specs.Departed.{Adds}
 use Rattle.queue_replay.specs.Replays.{QueueMap, queue_in, Replays, AreReplayed, IsFound, AreFound}
 use Rattle.queue_replay.specs.Replays.{IsReplayOf}
+use Rattle.queue_replay.proofs.Parts.{departed_on}
 
 -- ---- numbers of queues
 
@@ -76,13 +79,15 @@ found_on before (d ∷ es) (g ∷ fs) e f are is = (
 
 -- an entry more is replayed
 pub replay_goes_on : (laws : Laws) (before : List Entry) (e : Entry) (f : Found)
-    (queues new : QueueMap) (found more : List Found) →
-    IsReplayOf before (record { found = found; queues = queues }) → Replays queues new e →
-    IsFound (queue_in (get nat_cmp queues e.queue)) e f → more ≡ found ++ f ∷ [] →
-    IsReplayOf (before ++ e ∷ []) (record { found = more; queues = new })
-replay_goes_on laws before e f queues new found more is replays here pushed = record {
+    (old new : Replayed) → IsReplayOf before old → Replays old.queues new.queues e →
+    Adds old.departed new.departed (queue_in (get nat_cmp old.queues e.queue)) e →
+    IsFound (queue_in (get nat_cmp old.queues e.queue)) e f → new.found ≡ old.found ++ f ∷ [] →
+    IsReplayOf (before ++ e ∷ []) new
+replay_goes_on laws before e f old new is replays adds here pushed = record {
   found = subst (AreFound [] (before ++ e ∷ [])) (sym pushed)
-      (found_on [] before found e f is.found
+      (found_on [] before old.found e f is.found
       (subst (λ (q : Option Bound). IsFound q e f) (is.queues e.queue) here));
-  queues = replayed_on laws before queues new e is.queues replays;
+  departed = departed_on before e old.departed new.departed
+      (queue_in (get nat_cmp old.queues e.queue)) (is.queues e.queue) is.departed adds;
+  queues = replayed_on laws before old.queues new.queues e is.queues replays;
 }

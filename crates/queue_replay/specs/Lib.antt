@@ -2,5 +2,6 @@ pub mod Waiting
 pub mod Going
 pub mod Telling
 pub mod Leaving
+pub mod Departed
 pub mod Replays
 pub mod Underway

@@ -8,6 +8,7 @@ use Rattle.queue_core.specs.State.{Bound}
 use Rattle.queue_core.specs.Step.{step}
 use Rattle.histories.specs.declared.entry.Entry.{Entry}
 use Rattle.histories.specs.History.{history, replay, IsStep}
+use Rattle.queue_replay.specs.Departed.{AreDeparted}
 use Rattle.queue_replay.specs.declared.found.Found.{Found}
 use Rattle.queue_replay.specs.declared.replayed.Replayed.{Replayed}
 
@@ -58,4 +59,5 @@ AreFound before (e ∷ es) (f ∷ fs) =
 -- all entries are replayed
 pub record IsReplayOf (es : List Entry) (r : Replayed) : Type 0 where
   pub found : AreFound [] es r.found
+  pub departed : AreDeparted es r.departed
   pub queues : AreReplayed es r.queues

@@ -1,18 +1,20 @@
 //! Histories of all queues, replayed entry by entry.
 
-ghost use Rattle.std.specs.Prelude.{◌≡◌, ◌↔◌, ◌++◌, ◌∷◌, [], List, IsTrue, OnOk, IfOk};
+ghost use Rattle.std.specs.Prelude.{◌≡◌, ◌↔◌, ◌++◌, ◌∷◌, [], List, Some, IsTrue, OnOk, IfOk};
+ghost use Rattle.std.specs.Prelude.{take, slice_get};
 ghost use Rattle.std.specs.BTreeMap.{get};
 ghost use Rattle.std.specs.Ordering.{nat_cmp};
 ghost use Rattle.queue_core.specs.Step as queue_step;
 ghost use Rattle.histories.specs.History as history;
 ghost use Rattle.histories.specs.declared.entry.Entry.{Entry};
+ghost use Rattle.queue_replay.specs.Departed.{Adds};
 ghost use Rattle.queue_replay.specs.Going.{all_going};
 ghost use Rattle.queue_replay.specs.Leaving.{visits_left};
 ghost use Rattle.queue_replay.specs.Replays as replays;
 
+use crate::departed::Departed;
 use crate::found::{Found, find};
 use crate::going::{Leavers, going_on};
-use crate::leaving::{Visits, leaving};
 use crate::requests::port_of;
 use crate::standing::Standing;
 use histories::{Entries, Entry, a_legal_history_goes_on, an_entry_is_of_its_queue_alone};
@@ -28,6 +30,8 @@ pub type Queues = BTreeMap<u16, Option<Standing>>;
 pub struct Replayed {
     /// What was found at each of them, in their order.
     pub found: Sequence<Found>,
+    /// The packets that left in each of them, in their order.
+    pub(crate) departed: Departed,
     /// The queues after the last of them.
     pub queues: Queues,
 }
@@ -51,6 +55,7 @@ impl Replayed {
     {
         Replayed {
             found: Sequence::new(alloc),
+            departed: Departed::new(alloc),
             queues: BTreeMap::new(alloc),
         }
     }
@@ -66,7 +71,7 @@ impl Replayed {
     {
         an_entry_is_of_its_queue_alone();
         a_legal_history_goes_on();
-        let here = replay(alloc, entry, &mut self.queues)?;
+        let here = replay(alloc, entry, &mut self.queues, &mut self.departed)?;
         keep(here, &mut self.found)?;
         Ok(here.is_step)
     }
@@ -85,24 +90,28 @@ impl Replayed {
         }
     }
 
-    /// The packets that leave in the step of the next entry, each by its number and visit, in
-    /// order: those that go on, and those that are destroyed.
-    pub fn leaving(&self, alloc: Global, entry: &Entry) -> Result<Visits, NoMemory>
-        ensures { IfOk result (λ visits. history.IsStep
-            (replays.queue_in (get nat_cmp self.now.queues entry.now.queue)) entry.now →
-            visits.items ≡ visits_left (queue_step.step
-            (replays.queue_in (get nat_cmp self.now.queues entry.now.queue))
-            entry.now.event)) }
+    /// The packets that left in the entry at a place, each by its number and visit, in order: those
+    /// that went on, and those that were destroyed. Nothing where there is no such entry.
+    pub fn left_at(&self, place: usize) -> &[(u32, u32)]
+        ensures { (es : List Entry) (e : Entry) → replays.IsReplayOf es self.now →
+            slice_get es place ≡ Some e →
+            history.IsStep (history.replay (history.history e.queue (take place es))) e →
+            result.now ≡ visits_left (queue_step.step
+            (history.replay (history.history e.queue (take place es))) e.event) }
     {
-        match self.queues.get(&entry.queue) {
-            Some(queue) => leaving(queue, alloc, entry),
-            None => leaving(&None, alloc, entry),
-        }
+        self.departed.at(place)
     }
 }
 
-/// Replays the next entry at its queue. Answers what was found there.
-fn replay(alloc: Global, entry: &Entry, queues: &mut Queues) -> Result<Found, NoMemory>
+/// Replays the next entry at its queue, and adds what leaves. Answers what was found there.
+fn replay(
+    alloc: Global,
+    entry: &Entry,
+    queues: &mut Queues,
+    departed: &mut Departed,
+) -> Result<Found, NoMemory>
+    ensures departed { OnOk result (Adds departed.old departed.new
+        (replays.queue_in (get nat_cmp queues.old entry.now.queue)) entry.now) }
     ensures queues { OnOk result (replays.Replays queues.old queues.new entry.now) }
     ensures found { IfOk result (replays.IsFound
         (replays.queue_in (get nat_cmp queues.old entry.now.queue)) entry.now) }
@@ -113,6 +122,7 @@ fn replay(alloc: Global, entry: &Entry, queues: &mut Queues) -> Result<Found, No
     let Some(queue) = queues.get_mut(&entry.queue) else {
         unreachable!()
     };
+    departed.add(queue, entry)?;
     find(queue, alloc, entry)
 }
 

@@ -5,10 +5,10 @@ use Rattle.order_audit.proofs.walk.begin.Goals as goal
 
 pub returns : goal.returns
 returns c =
-    let left : (number visit : ℕ) → has c.new-2.result number visit ≡ false =
+    let left : (number visit : ℕ) → has c.new.result number visit ≡ false =
     (λ number visit. search rules) in
     let taken : (queue number visit : ℕ) →
-    has_notice c.new-3.result queue number visit ≡ false =
+    has_notice c.new-2.result queue number visit ≡ false =
     (λ queue number visit. search rules) in
-    begun c.args.histories.now _ c.in_ok-rows_of.ensures c.in_ok-cursors_of.ensures c.new.ensures
-    left taken c.in_ok-asked_in.ensures
+    begun c.args.histories.now _ c.in_ok-rows_of.ensures c.in_ok-cursors_of.ensures left taken
+    c.in_ok-asked_in.ensures

@@ -8,6 +8,10 @@ returns-clause-replayed c =
       others = c.an_entry_is_of_its_queue_alone.ensures.others;
       state = c.a_legal_history_goes_on.ensures.state;
     } in
-    λ before is. replay_goes_on laws before c.args.entry.now c.in_ok-here.here
-    c.args.self.now.queues c.replay.new.queues c.args.self.now.found c.keep.new.found is
-    c.in_ok-here.ensures.queues c.in_ok-here.ensures.found c.in_ok-keep.ensures
+    λ before is. replay_goes_on laws before c.args.entry.now c.in_ok-here.here c.args.self.now
+    (record {
+      found = c.keep.new.found;
+      departed = c.replay.new.departed;
+      queues = c.replay.new.queues;
+    }) is c.in_ok-here.ensures.queues c.in_ok-here.ensures.departed c.in_ok-here.ensures.found
+    c.in_ok-keep.ensures

@@ -1,7 +1,7 @@
 use Rattle.std.proofs.Common.{◌≡◌, ◌-◌, [], rules}
 use Rattle.queue_replay.proofs.Departures.{leaving_next, leaving_ends, leaving_done}
 use Rattle.queue_replay.proofs.OnwardPackets.{one_less}
-use Rattle.queue_replay.proofs.waiting_list.WaitingList.first_leaving.Goals as goal
+use Rattle.queue_replay.proofs.waiting_list.WaitingList.add_oldest.Goals as goal
 
 pub returns-then-more-eq0 : goal.returns-then-more-eq0
 returns-then-more-eq0 c =
