@@ -3,6 +3,7 @@ pub mod PlaceInvariant
 pub mod EntryPoints
 pub mod SenderSteps
 pub mod ArrivalNotices
+pub mod FinishedArrivals
 pub mod QuietEntries
 pub mod RequestEffects
 pub mod BoardContent

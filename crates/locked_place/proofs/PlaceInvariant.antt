@@ -1,5 +1,5 @@
 -- What a place keeps, from turn to turn.
-use Rattle.std.proofs.Common.{◌≡◌, ◌≤◌, ℕ, List, ◌++◌, Option, sym, ap, subst, ◌∙◌}
+use Rattle.std.proofs.Common.{◌≡◌, ◌≤◌, ℕ, List, ◌++◌, Option, length, sym, ap, subst, ◌∙◌}
 use Rattle.std.specs.Prelude.{map}
 use Rattle.mailbox.specs.Views.{SenderView}
 use Rattle.glance.specs.Views.{WriterView}
@@ -9,7 +9,7 @@ use Rattle.place_history.specs.PlaceState.{PlaceState}
 use Rattle.locked_place.specs.Mails.{MailsGoOn}
 use Rattle.locked_place.specs.Shown.{IsShown}
 use Rattle.locked_place.specs.Times.{timed, AreTimed, AreMailed}
-use Rattle.locked_place.specs.Views.{IsLockedPlace, IsSettled, AreNotified}
+use Rattle.locked_place.specs.Views.{IsLockedPlace, IsSettled, AreNotified, LockedView, StampsAll}
 use Rattle.locked_place.proofs.EntryTimes.{in_time_on, in_time_up, timed_on, untimed_timed}
 
 -- a turn begins
@@ -23,6 +23,19 @@ begun place senders writer times latest time kept l = record {
   shown = kept.shown;
   in_time = in_time_up place.entries times latest time kept.in_time l;
   mailed = kept.mailed;
+}
+
+-- what a call appended to so many entries was stamped
+pub stamps_all : (old new : LockedView) (before : ℕ) (more : List Entry) →
+    ((es ms : List Entry) → length es ≡ before → new.entries ≡ es ++ ms →
+    new.times ≡ old.times ++ map (λ e. old.latest) ms) →
+    before ≡ length old.entries → new.entries ≡ old.entries ++ more → new.latest ≡ old.latest →
+    StampsAll old new
+stamps_all old new before more stamps many entered same = record {
+  more = more;
+  entered = entered;
+  stamped = stamps old.entries more (sym many) entered;
+  same = same;
 }
 
 module _ (before : PlaceState) (olds : ℕ → Option SenderView) (writer : WriterView)

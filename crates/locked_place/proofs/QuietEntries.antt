@@ -7,6 +7,7 @@ use Rattle.std.proofs.lemmas.Bool.{cases_Bool}
 use Rattle.std.proofs.lemmas.List.{append_cancel_left}
 use Rattle.queue_core.specs.State.{Bound}
 use Rattle.queue_core.specs.Step.{step}
+use Rattle.queue_core.specs.declared.event.Event.{Event}
 use Rattle.queue_core.specs.declared.event.Event.TheVariants.{PortClosed, DeviceDown}
 use Rattle.queue_core.specs.declared.event.Reply.{Reply}
 use Rattle.mailbox.specs.Views.{SenderView}
@@ -15,7 +16,7 @@ use Rattle.histories.specs.declared.entry.Entry.{Entry}
 use Rattle.histories.specs.States.{state_of, entry_in, every_number}
 use Rattle.histories.specs.Happenings.{closing_of, closings, down_of, downs}
 use Rattle.locked_place.specs.Points.{point_after}
-use Rattle.histories.specs.Letters.{letters_under, lacks_under}
+use Rattle.histories.specs.Letters.{letters_of_event, letters_under, lacks_room, lacks_under}
 use Rattle.locked_place.specs.Mails.{MailsGoOn}
 use Rattle.locked_place.specs.Times.{all_at, AreMailed}
 use Rattle.locked_place.specs.Views.{AreNotified, port_of}
@@ -70,31 +71,34 @@ quiet_go_on time es fs senders are xs more same on told =
     (append_cancel_left es fs more on) (quiet_mails time xs fs senders are told)
 
 -- ---- they are so
-closed_letters : (port : ℕ) (q : Option Bound) (queue closed : ℕ) (reply : Reply) →
-    letters_under port q (record { queue = queue; event = PortClosed closed; reply = reply }) ≡ []
-closed_letters port None queue closed reply = refl
-closed_letters port (Some b) queue closed reply =
-    elim (cases_Bool (port == b.port)) [ inl h ↦ rw h refl | inr h ↦ rw h refl ]
 
-closed_lacks : (port : ℕ) (q : Option Bound) (queue closed : ℕ) (reply : Reply) →
-    lacks_under port q (record { queue = queue; event = PortClosed closed; reply = reply })
-    ≡ false
-closed_lacks port None queue closed reply = refl
-closed_lacks port (Some b) queue closed reply =
-    elim (cases_Bool (port == b.port)) [ inl h ↦ rw h refl | inr h ↦ rw h refl ]
+-- an event that is no arrival, after which its queue has its port or is absent
+module _ (event : Event)
+    (none : (queue : ℕ) (b : Bound) (reply : Reply) → letters_of_event queue b event reply ≡ [])
+    (some : lacks_room event ≡ false)
+    (stays : (P : ℕ → Type 0) (q : Option Bound) → IfSome (port_of q) P →
+    IfSome (port_of (step q event).state) P) where
+  quiet : (queue : ℕ) (reply : Reply) →
+      IsQuiet (record { queue = queue; event = event; reply = reply })
+  quiet queue reply = record { letters = letters; lacks = lacks; ports = stays }
+    where
+      letters : (port : ℕ) (q : Option Bound) →
+          letters_under port q (record { queue = queue; event = event; reply = reply }) ≡ []
+      letters port None = refl
+      letters port (Some b) =
+          elim (cases_Bool (port == b.port)) [
+            | inl h ↦ rw h (none queue b reply)
+            | inr h ↦ rw h refl
+          ]
 
-down_letters : (port : ℕ) (q : Option Bound) (queue device : ℕ) (reply : Reply) →
-    letters_under port q (record { queue = queue; event = DeviceDown device; reply = reply }) ≡ []
-down_letters port None queue device reply = refl
-down_letters port (Some b) queue device reply =
-    elim (cases_Bool (port == b.port)) [ inl h ↦ rw h refl | inr h ↦ rw h refl ]
-
-down_lacks : (port : ℕ) (q : Option Bound) (queue device : ℕ) (reply : Reply) →
-    lacks_under port q (record { queue = queue; event = DeviceDown device; reply = reply })
-    ≡ false
-down_lacks port None queue device reply = refl
-down_lacks port (Some b) queue device reply =
-    elim (cases_Bool (port == b.port)) [ inl h ↦ rw h refl | inr h ↦ rw h refl ]
+      lacks : (port : ℕ) (q : Option Bound) →
+          lacks_under port q (record { queue = queue; event = event; reply = reply }) ≡ false
+      lacks port None = refl
+      lacks port (Some b) =
+          elim (cases_Bool (port == b.port)) [
+            | inl h ↦ rw (h, some) refl
+            | inr h ↦ rw h refl
+          ]
 
 closing_quiet : (port queue : ℕ) (q : Option Bound) → AreQuiet (closing_of port queue q)
 closing_quiet port queue None = tt
@@ -103,11 +107,8 @@ closing_quiet port queue (Some b) = by_port (b.port == port)
     by_port : (own : Bool) →
         AreQuiet (if own then entry_in queue (Some b) (PortClosed port) ∷ [] else [])
     by_port true = (
-      record {
-        letters = λ p q. closed_letters p q queue port _;
-        lacks = λ p q. closed_lacks p q queue port _;
-        ports = λ P q. port_after P q (PortClosed port) tt;
-      },
+      quiet (PortClosed port) (λ queue b reply. refl) refl
+          (λ P q. port_after P q (PortClosed port) tt) queue _,
       tt,
     )
     by_port false = tt
@@ -115,42 +116,42 @@ closing_quiet port queue (Some b) = by_port (b.port == port)
 down_quiet : (device queue : ℕ) (q : Option Bound) → AreQuiet (down_of device queue q)
 down_quiet device queue None = tt
 down_quiet device queue (Some b) = (
-  record {
-    letters = λ p q. down_letters p q queue device _;
-    lacks = λ p q. down_lacks p q queue device _;
-    ports = λ P q. port_after P q (DeviceDown device) tt;
-  },
+  quiet (DeviceDown device) (λ queue b reply. refl) refl
+      (λ P q. port_after P q (DeviceDown device) tt) queue _,
   tt,
 )
 
-all_closings : (port : ℕ) (es : List Entry) (ns : List ℕ) →
-    AreQuiet (flat_map (λ q. closing_of port q (state_of es q)) ns)
-all_closings port es [] = tt
-all_closings port es (n ∷ ns) =
-    both_quiet _ _ (closing_quiet port n (state_of es n)) (all_closings port es ns)
+all_quiet : (f : ℕ → List Entry) → ((n : ℕ) → AreQuiet (f n)) → (ns : List ℕ) →
+    AreQuiet (flat_map f ns)
+all_quiet f each [] = tt
+all_quiet f each (n ∷ ns) = both_quiet _ _ (each n) (all_quiet f each ns)
 
-all_downs : (device : ℕ) (es : List Entry) (ns : List ℕ) →
-    AreQuiet (flat_map (λ q. down_of device q (state_of es q)) ns)
-all_downs device es [] = tt
-all_downs device es (n ∷ ns) =
-    both_quiet _ _ (down_quiet device n (state_of es n)) (all_downs device es ns)
+closings_quiet : (port : ℕ) (es : List Entry) → AreQuiet (closings port es)
+closings_quiet port es =
+    all_quiet (λ q. closing_of port q (state_of es q))
+    (λ q. closing_quiet port q (state_of es q)) every_number
+
+downs_quiet : (device : ℕ) (es : List Entry) → AreQuiet (downs device es)
+downs_quiet device es =
+    all_quiet (λ q. down_of device q (state_of es q))
+    (λ q. down_quiet device q (state_of es q)) every_number
 
 pub closed : Laws → (es : List Entry) (port : ℕ) (senders : ℕ → Option SenderView) →
     AreNotified es senders → AreNotified (es ++ closings port es) senders
 closed laws es port senders told =
-    quiet_on laws es (closings port es) senders (all_closings port es every_number) told
+    quiet_on laws es (closings port es) senders (closings_quiet port es) told
 
 pub down : Laws → (es : List Entry) (device : ℕ) (senders : ℕ → Option SenderView) →
     AreNotified es senders → AreNotified (es ++ downs device es) senders
 down laws es device senders told =
-    quiet_on laws es (downs device es) senders (all_downs device es every_number) told
+    quiet_on laws es (downs device es) senders (downs_quiet device es) told
 
 pub mails_closed : (es : List Entry) (port time : ℕ) (senders : ℕ → Option SenderView) →
     MailsGoOn time es senders (es ++ closings port es) senders
 mails_closed es port time senders =
-    quiet_go_on time es (closings port es) senders (all_closings port es every_number)
+    quiet_go_on time es (closings port es) senders (closings_quiet port es)
 
 pub mails_down : (es : List Entry) (device time : ℕ) (senders : ℕ → Option SenderView) →
     MailsGoOn time es senders (es ++ downs device es) senders
 mails_down es device time senders =
-    quiet_go_on time es (downs device es) senders (all_downs device es every_number)
+    quiet_go_on time es (downs device es) senders (downs_quiet device es)

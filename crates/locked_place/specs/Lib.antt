@@ -7,3 +7,4 @@ pub mod Views
 pub mod Mails
 pub mod Passes
 pub mod Turns
+pub mod Arrivals

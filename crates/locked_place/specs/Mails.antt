@@ -3,8 +3,6 @@ use Rattle.std.specs.Prelude.{◌≡◌, ℕ, List, ◌++◌, Option}
 use Rattle.mailbox.specs.Views.{SenderView}
 use Rattle.total_order.specs.Orders.{untimed}
 use Rattle.histories.specs.declared.entry.Entry.{Entry}
-use Rattle.histories.specs.Journeys.{Arrival}
-use Rattle.locked_place.specs.declared.arrivals.Coming.{Coming}
 use Rattle.locked_place.specs.Times.{all_at, AreMailed}
 
 -- Each sender has sent what the list says, with its times, and does so afterwards, where what was
@@ -14,7 +12,3 @@ abbrev pub MailsGoOn : ℕ → List Entry → (ℕ → Option SenderView) → Li
 MailsGoOn time before olds after news =
     (xs : List (Entry × ℕ)) (more : List Entry) → untimed xs ≡ before → after ≡ before ++ more →
     AreMailed xs olds → AreMailed (xs ++ all_at time more) news
-
--- the arrival, without its time
-abbrev pub arrival_of : Coming → Arrival
-arrival_of c = record { queue = c.queue; card = c.packet; bypass = c.bypass }

@@ -1,23 +1,23 @@
 //! Arrivals: a packet waits where its notice is in the mailbox of its queue's port.
 
-ghost use Rattle.std.specs.Prelude.{◌≡◌, ◌≢◌, ◌≤◌, ℕ, Some, IfSome, IsSome, IfOk, IfErr, OnErr};
-ghost use Rattle.std.specs.Prelude.{true, false};
+ghost use Rattle.std.specs.Prelude.{◌≡◌, ◌≢◌, ℕ, List, Option, Some, IfSome, IsSome};
+ghost use Rattle.std.specs.Prelude.{Bool, true, false};
 ghost use Rattle.std.specs.BTreeMap.{get};
 ghost use Rattle.std.specs.Ordering.{nat_cmp};
-ghost use mathlib.Core.List.{IsPrefix};
 ghost use Rattle.mailbox.specs.Views.{SenderView, sender_with, sender_back};
-ghost use Rattle.place_history.specs.PlaceState.{IsAt};
-ghost use Rattle.locked_place.specs.Views.{AreMailboxesOf, AreNotified, IsSettled, made_senders};
-ghost use Rattle.locked_place.specs.Views.{senders_of};
-ghost use Rattle.locked_place.specs.Mails.{MailsGoOn, arrival_of};
-ghost use Rattle.locked_place.specs.Turns.{Arrives, HasSender};
+ghost use Rattle.histories.specs.declared.entry.Entry.{Entry};
+ghost use Rattle.histories.specs.Journeys.{Arrival};
+ghost use Rattle.place_history.specs.Calls.{SettlesAs};
+ghost use Rattle.place_history.specs.PlaceState.{PlaceState};
+ghost use Rattle.locked_place.specs.Arrivals.{HasBegun, HasArrived};
+ghost use Rattle.locked_place.specs.Views.{AreMailboxesOf, made_senders, senders_of, port_at};
+ghost use Rattle.locked_place.specs.Turns.{PlacesAs, HasSender};
 
 use crate::laws::{mails_keep_up, senders_keep_up};
 use mailbox::{Mail, Mailbox, Sender};
 use packet_entry::Packet;
 use place_history::Place;
-use queue_core::{Begun, NoRoom, Outcome, Settled};
-use std::alloc::Global;
+use queue_core::{Begun, Outcome, Settled};
 use std::collections::BTreeMap;
 use std::sync::Wait;
 
@@ -29,61 +29,47 @@ pub enum Placed {
     Back { outcome: Outcome, packet: Packet },
 }
 
-/// A packet that arrives, and when.
-pub(crate) struct Coming {
-    pub queue: u16,
-    pub bypass: bool,
-    pub packet: Packet,
-    pub time: u64,
-}
-
-/// A packet arrives: it waits, and its notice is in the mailbox of its queue's port; or it comes
-/// back. When memory runs out nothing has happened.
-pub(crate) fn arrive<R: Wait>(
+/// Finishes an arrival that was begun at a place. A notice that is offered is sent to its port's
+/// mailbox, and the packet waits if there was room. Takes no memory.
+pub(crate) fn finish<R: Wait>(
     rt: &R,
-    alloc: Global,
     mailboxes: &BTreeMap<u32, Mailbox>,
     place: &mut Place,
     senders: &mut BTreeMap<u32, Sender>,
-    coming: Coming,
-) -> Result<Placed, NoRoom>
+    begun: Begun,
+    time: u64,
+) -> Placed
     requires mailboxes { AreMailboxesOf mailboxes.now (made_senders (senders_of senders.old)) }
-    requires here { IsAt place.old coming.queue }
-    requires visited { 1 ≤ coming.packet.visit }
-    requires settled { IsSettled place.old }
-    requires notified { AreNotified place.old.entries (senders_of senders.old) }
-    ensures settled { IsSettled place.new }
-    ensures notified { AreNotified place.new.entries (senders_of senders.new) }
-    ensures arrives { IfOk result
-        (Arrives (arrival_of coming) place.old.entries place.new.entries) }
-    ensures sender { IfOk result (HasSender (senders_of senders.old)) }
-    ensures begins { IsPrefix place.old.entries place.new.entries }
-    ensures number { (place.new.number ≡ place.old.number)
-        × (place.new.places ≡ place.old.places) }
+    requires begun { (a : Arrival) × (before : PlaceState)
+        × HasBegun a begun before (senders_of senders.old) place.old }
+    ensures arrived { (a : Arrival) (before : PlaceState) →
+        HasBegun a begun before (senders_of senders.old) place.old →
+        HasArrived a time before (senders_of senders.old) place.new (senders_of senders.new)
+        result }
     ensures made { made_senders (senders_of senders.new)
         ≡ made_senders (senders_of senders.old) }
-    ensures mailed { MailsGoOn coming.time place.old.entries (senders_of senders.old)
-        place.new.entries (senders_of senders.new) }
-    ensures returned { IfErr result (λ back. back.packet ≡ coming.packet) }
-    ensures err { OnErr result (place.new ≡ place.old) }
 {
     senders_keep_up();
     mails_keep_up();
-    let Coming {
-        queue,
-        bypass,
-        packet,
-        time,
-    } = coming;
-    match place.begin(alloc, queue, bypass, packet)? {
-        Begun::Back { outcome, packet } => Ok(Placed::Back { outcome, packet }),
+    match begun {
+        Begun::Back { outcome, packet } => Placed::Back { outcome, packet },
         Begun::Offered { port, letter } => {
             let room = send(rt, mailboxes, senders, port, Mail { letter, time });
-            match place.settle(room) {
-                Settled::Waiting { id: _ } => Ok(Placed::Waiting { port }),
-                Settled::Back { outcome, packet } => Ok(Placed::Back { outcome, packet }),
-            }
+            as_settled(port, place.settle(room))
         }
+    }
+}
+
+/// Where a packet is once its arrival, whose notice was for this port, is settled.
+fn as_settled(port: u32, settled: Settled) -> Placed
+    ensures places { (a : Arrival) (room : Bool) (es : List Entry) →
+        port_at es a.queue ≡ Some port → SettlesAs settled a room es → PlacesAs result a room es }
+    ensures sender { (senders : ℕ → Option SenderView) → IsSome (senders port) →
+        HasSender senders result }
+{
+    match settled {
+        Settled::Waiting { id: _ } => Placed::Waiting { port },
+        Settled::Back { outcome, packet } => Placed::Back { outcome, packet },
     }
 }
 

@@ -14,13 +14,13 @@ ghost use Rattle.place_history.specs.Numbers.{most_places};
 ghost use Rattle.place_history.specs.Lines.{AreLined};
 ghost use Rattle.place_history.specs.PlaceState.{AreHere};
 
-use crate::arrivals::{Coming, Placed};
+use crate::arrivals::{Placed, finish};
 use crate::laws::mails_keep_up;
 use crate::outlets::Outlets;
 use crate::showing::{legal_at, publish, short_at};
 use crate::stamps::Stamps;
 use crate::turns::Question;
-use crate::{arrivals, requests, senders_keep_up};
+use crate::{requests, senders_keep_up};
 use glance::Writer;
 use histories::{Entries, Entry, Lost};
 use mailbox::Sender;
@@ -172,26 +172,23 @@ impl LockedPlace {
         ensures err { OnErr result (self.new.entries ≡ self.old.entries) }
     {
         let Outlets { mailboxes, board } = outlets;
+        legal_at(&self.place);
+        short_at(&self.place);
         let before = self.place.entries().len();
-        let coming = Coming {
-            queue,
-            bypass,
-            packet,
-            time: self.latest,
-        };
-        let placed = arrivals::arrive(
+        let begun = self.place.begin(alloc, queue, bypass, packet)?;
+        let placed = finish(
             rt,
-            alloc,
             mailboxes,
             &mut self.place,
             &mut self.senders,
-            coming,
+            begun,
+            self.latest,
         );
         stamp_new(&self.place, before, &mut self.stamps, self.latest);
         publish(&self.place, &mut self.writer, board);
         legal_at(&self.place);
         short_at(&self.place);
-        placed
+        Ok(placed)
     }
 
     /// A port that has a sender asks something of a queue, by the message with the number `call`

@@ -1,7 +1,7 @@
 use Rattle.std.proofs.Common.{refl, sym, ap, length}
 use Rattle.locked_place.specs.Views.{locked_of, senders_of}
 use Rattle.locked_place.proofs.Labels.{same_label}
-use Rattle.locked_place.proofs.PlaceInvariant.{goes_on}
+use Rattle.locked_place.proofs.PlaceInvariant.{goes_on, stamps_all}
 use Rattle.locked_place.proofs.place.LockedPlace.ask.Goals as goal
 
 pub returns-clause-label : goal.returns-clause-label
@@ -32,12 +32,6 @@ invariant_of-self c =
 
 pub returns-clause-stamped : goal.returns-clause-stamped
 returns-clause-stamped c =
-    let begins = c.ask-asked.ensures.begins in
     rw (← c.self.view_is)
-    (record {
-      more = begins.0;
-      entered = sym begins.1;
-      stamped = c.stamp_new.ensures c.self.inside.place.entries begins.0
-          (sym (ap length c.entries-before.ensures.value)) (sym begins.1);
-      same = refl;
-    })
+    (stamps_all _ _ _ _ c.stamp_new.ensures (ap length c.entries-before.ensures.value)
+    (sym c.ask-asked.ensures.begins.1) refl)

@@ -1,7 +1,7 @@
 use Rattle.std.proofs.Common.{refl, sym, ap, length}
 use Rattle.histories.specs.Happenings.{closings}
 use Rattle.locked_place.specs.Views.{senders_of}
-use Rattle.locked_place.proofs.PlaceInvariant.{quiet_goes_on}
+use Rattle.locked_place.proofs.PlaceInvariant.{quiet_goes_on, stamps_all}
 use Rattle.locked_place.proofs.place.LockedPlace.close_port.Goals as goal
 
 pub invariant_of-self : goal.invariant_of-self
@@ -21,13 +21,6 @@ invariant_of-self c =
 
 pub returns-clause-stamped : goal.returns-clause-stamped
 returns-clause-stamped c =
-    let es = c.self.inside.place.entries in
-    let entered = ap (λ p. p.entries) c.close_port-destroyed.ensures.state in
     rw (← c.self.view_is)
-    (record {
-      more = closings c.args.port es;
-      entered = entered;
-      stamped = c.stamp_new.ensures es (closings c.args.port es)
-          (sym (ap length c.entries-before.ensures.value)) entered;
-      same = refl;
-    })
+    (stamps_all _ _ _ _ c.stamp_new.ensures (ap length c.entries-before.ensures.value)
+    (ap (λ p. p.entries) c.close_port-destroyed.ensures.state) refl)

@@ -1,7 +1,7 @@
 use Rattle.std.proofs.Common.{refl, sym, ap, length}
 use Rattle.histories.specs.Happenings.{downs}
 use Rattle.locked_place.specs.Views.{senders_of}
-use Rattle.locked_place.proofs.PlaceInvariant.{quiet_goes_on}
+use Rattle.locked_place.proofs.PlaceInvariant.{quiet_goes_on, stamps_all}
 use Rattle.locked_place.proofs.place.LockedPlace.device_down.Goals as goal
 
 pub invariant_of-self-2 : goal.invariant_of-self-2
@@ -21,13 +21,6 @@ invariant_of-self-2 c =
 
 pub returns-clause-stamped : goal.returns-clause-stamped
 returns-clause-stamped c =
-    let es = c.self.inside.place.entries in
-    let entered = ap (λ p. p.entries) c.in_ok-destroyed.ensures.state in
     rw (← c.self.view_is)
-    (record {
-      more = downs c.args.device es;
-      entered = entered;
-      stamped = c.stamp_new.ensures es (downs c.args.device es)
-          (sym (ap length c.entries-before.ensures.value)) entered;
-      same = refl;
-    })
+    (stamps_all _ _ _ _ c.stamp_new.ensures (ap length c.entries-before.ensures.value)
+    (ap (λ p. p.entries) c.in_ok-destroyed.ensures.state) refl)
