@@ -12,16 +12,9 @@ use Rattle.std.proofs.lemmas.List.Sums.{sum_by-cons}
 use Rattle.std.proofs.lemmas.Bool.{cases_Bool, eqb-true, eqb-false, eq-eqb}
 use Rattle.std.proofs.lemmas.Bool.Decides.{nat_tests}
 use Rattle.packet_entry.specs.declared.letter.Letter.{Letter}
-use Rattle.packet_entry.specs.declared.packet.Card.{Card}
 use Rattle.queue_core.specs.State.{Bound}
 use Rattle.queue_core.specs.declared.event.Event.{Event}
-use Rattle.queue_core.specs.declared.event.Event.TheVariants.{Arrive, Ask, PortClosed, DeviceDown}
 use Rattle.queue_core.specs.declared.event.Reply.{Reply}
-use Rattle.queue_core.specs.declared.event.Reply.TheVariants.{Arrived, Answer, Flushed}
-use Rattle.queue_core.specs.declared.offers.Outcome.{Outcome}
-use Rattle.queue_core.specs.declared.offers.Outcome.TheVariants.{Taken, Overflow, OverflowOpen}
-use Rattle.queue_core.specs.declared.offers.Outcome.TheVariants.{UserFull, UserFullOpen, NoQueue}
-use Rattle.queue_core.specs.declared.offers.Outcome.TheVariants.{Bypassed, CopyNone, Loop}
 use Rattle.mailbox.specs.declared.view.Post.{Post}
 use Rattle.mailbox.specs.Roles.{In}
 use Rattle.mailbox.specs.Views.{ReceiverView, letters_of, letters_in, numbers, HasAllSenders}
@@ -32,8 +25,8 @@ use Rattle.histories.specs.History.{history, is_of, replay}
 use Rattle.histories.specs.States.{state_of}
 use Rattle.place_history.specs.PlaceState.{AreHere}
 use Rattle.locked_place.specs.Points.{Point, points, points_after, point_after}
-use Rattle.histories.specs.Letters.{letters_under, letters_of_event, letters_of_reply}
-use Rattle.histories.specs.Letters.{letters_of_outcome, is_from}
+use Rattle.histories.specs.Letters.{letters_under, letters_of_event}
+use Rattle.histories.specs.Letters.{is_from}
 use Rattle.histories.specs.Places.{place_for}
 use Rattle.locked_place.specs.Notices.{letters_to, letters_at, lacking, lacks_at}
 use Rattle.place_rows.specs.declared.ending.PortReceiver.{PortReceiver}
@@ -43,6 +36,7 @@ use Rattle.place_rows.specs.Shares.{notices_at, sent_in_all}
 use Rattle.place_rows.specs.Ending.{IsListOf}
 use Rattle.place_rows.specs.Hearing.{Hears, HearsAs, Among, IsHeard, IsHeardAll, HasHeard}
 use Rattle.place_rows.specs.Hearing.{HasHeardOf, letters_heard_of}
+use Rattle.place_rows.proofs.EntryLetters.{event_taken}
 use Rattle.place_rows.proofs.Lists.{every_both, every_in_front, all_from_mapped}
 use Rattle.place_rows.proofs.ItemSums.{points_longer, points_long}
 use Rattle.place_rows.proofs.PlaceLists.{at_from, every_of, flat_at}
@@ -153,30 +147,9 @@ of_queue places queue (p ∷ ps) all =
 
 -- ---- letters of a list
 
-outcome_from : (P : Letter → Type 0) (queue : ℕ) (q : Bound) (card : Card) (o : Outcome) →
-    ((l : Letter) → l.queue ≡ queue → P l) → Every P (letters_of_outcome queue q card o)
-outcome_from P queue q card (Taken id) f = (f _ refl, tt)
-outcome_from P queue q card Overflow f = tt
-outcome_from P queue q card OverflowOpen f = tt
-outcome_from P queue q card (UserFull id) f = tt
-outcome_from P queue q card (UserFullOpen id) f = tt
-outcome_from P queue q card NoQueue f = tt
-outcome_from P queue q card Bypassed f = tt
-outcome_from P queue q card CopyNone f = tt
-outcome_from P queue q card Loop f = tt
-
-reply_from : (P : Letter → Type 0) (queue : ℕ) (q : Bound) (card : Card) (r : Reply) →
-    ((l : Letter) → l.queue ≡ queue → P l) → Every P (letters_of_reply queue q card r)
-reply_from P queue q card (Arrived outcome) f = outcome_from P queue q card outcome f
-reply_from P queue q card (Answer errno taken) f = tt
-reply_from P queue q card (Flushed taken) f = tt
-
 event_from : (P : Letter → Type 0) (queue : ℕ) (q : Bound) (e : Event) (r : Reply) →
     ((l : Letter) → l.queue ≡ queue → P l) → Every P (letters_of_event queue q e r)
-event_from P queue q (Arrive card bypass room) r f = reply_from P queue q card r f
-event_from P queue q (Ask port call request) r f = tt
-event_from P queue q (PortClosed port) r f = tt
-event_from P queue q (DeviceDown device) r f = tt
+event_from P queue q e r f = event_taken P queue q e r (λ l own has. f l own)
 
 -- the letters of an entry are of its queue
 under_from : (P : Letter → Type 0) (port : ℕ) (o : Option Bound) (e : Entry) →

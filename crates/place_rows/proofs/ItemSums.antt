@@ -9,8 +9,8 @@ use Rattle.std.proofs.lemmas.Bool.{cases_Bool}
 use Rattle.turn_lock.specs.Places.{Ascends, places_after, insert, merged}
 use Rattle.turn_lock.specs.Views.{HasSeenOwn}
 use Rattle.histories.specs.declared.entry.Entry.{Entry}
-use Rattle.histories.specs.Moves.{Move, moves_after, move_after}
-use Rattle.locked_place.specs.Points.{Point, points_after, point_after}
+use Rattle.histories.specs.Moves.{moves_after, move_after}
+use Rattle.locked_place.specs.Points.{points_after, point_after}
 use Rattle.locked_place.specs.Turns.{IsTurn}
 use Rattle.place_rows.specs.Rows.{Known}
 use Rattle.place_rows.specs.Shares.{at_places}
@@ -96,33 +96,43 @@ module _ {A : Type 0} (f : A → ℕ) (xs : List A) where
 
 -- ---- lists that are told entry by entry
 
+module _ {X : Type 0} (one : List Entry → Entry → X) (all : List Entry → List Entry → List X)
+    (none : (before : List Entry) → all before [] ≡ [])
+    (first : (before : List Entry) (e : Entry) (es : List Entry) →
+    all before (e ∷ es) ≡ one before e ∷ all (before ++ e ∷ []) es) where
+  all_longer : (before es fs : List Entry) →
+      all before (es ++ fs) ≡ all before es ++ all (before ++ es) fs
+  all_longer before [] fs =
+      ap (λ (b : List Entry). all b fs) (sym (append-nil before))
+      ∙ ap (λ (xs : List X). xs ++ all (before ++ []) fs) (sym (none before))
+  all_longer before (e ∷ es) fs =
+      first before e (es ++ fs)
+      ∙ ap (λ (xs : List X). one before e ∷ xs)
+      (all_longer (before ++ e ∷ []) es fs
+      ∙ ap (λ (b : List Entry). all (before ++ e ∷ []) es ++ all b fs)
+      (append_assoc before (e ∷ []) es))
+      ∙ ap (λ (xs : List X). xs ++ all (before ++ e ∷ es) fs) (sym (first before e es))
+
+  all_long : (before es : List Entry) → length (all before es) ≡ length es
+  all_long before [] = ap length (none before)
+  all_long before (e ∷ es) =
+      omega (arith, ap length (first before e es), all_long (before ++ e ∷ []) es)
+
 -- moves of longer lists
 pub moves_longer : (before es fs : List Entry) →
     moves_after before (es ++ fs) ≡ moves_after before es ++ moves_after (before ++ es) fs
-moves_longer before [] fs = ap (λ (b : List Entry). moves_after b fs) (sym (append-nil before))
-moves_longer before (e ∷ es) fs =
-    ap (λ (ms : List Move). move_after before e ∷ ms)
-    (moves_longer (before ++ e ∷ []) es fs
-    ∙ ap (λ (b : List Entry). moves_after (before ++ e ∷ []) es ++ moves_after b fs)
-    (append_assoc before (e ∷ []) es))
+moves_longer = all_longer move_after moves_after (λ before. refl) (λ before e es. refl)
 
 pub moves_long : (before es : List Entry) → length (moves_after before es) ≡ length es
-moves_long before [] = refl
-moves_long before (e ∷ es) = omega (arith, moves_long (before ++ e ∷ []) es)
+moves_long = all_long move_after moves_after (λ before. refl) (λ before e es. refl)
 
 -- points of longer lists
 pub points_longer : (before es fs : List Entry) →
     points_after before (es ++ fs) ≡ points_after before es ++ points_after (before ++ es) fs
-points_longer before [] fs = ap (λ (b : List Entry). points_after b fs) (sym (append-nil before))
-points_longer before (e ∷ es) fs =
-    ap (λ (ms : List Point). point_after before e ∷ ms)
-    (points_longer (before ++ e ∷ []) es fs
-    ∙ ap (λ (b : List Entry). points_after (before ++ e ∷ []) es ++ points_after b fs)
-    (append_assoc before (e ∷ []) es))
+points_longer = all_longer point_after points_after (λ before. refl) (λ before e es. refl)
 
 pub points_long : (before es : List Entry) → length (points_after before es) ≡ length es
-points_long before [] = refl
-points_long before (e ∷ es) = omega (arith, points_long (before ++ e ∷ []) es)
+points_long = all_long point_after points_after (λ before. refl) (λ before e es. refl)
 
 module _ {X : Type 0} (tell : List Entry → List Entry → List X)
     (longer : (before es fs : List Entry) →

@@ -22,3 +22,4 @@ pub mod OwnEntries
 pub mod NewPlaces
 pub mod FirstPasses
 pub mod RowSplits
+pub mod EntryLetters

@@ -357,6 +357,41 @@ gather_none places first rows long normal = record {
 
 module _ (laws : Laws) (places n : ℕ) (first before after : List Known)
     (rows olds news : List (List Known)) where
+  -- one of the rows and the first told each other
+  told_so : HaveShared places (first ∷ rows) (before ∷ olds) → (row row_then : List Known) →
+      slice_get olds n ≡ Some row → news ≡ slice_set olds n row_then → length after ≡ places →
+      length row_then ≡ places → AreNormal after → AreNormal row_then →
+      SharesAlone before after → SharesAlone row row_then →
+      ((k : ℕ) → union (part_in (slice_get before k)) (part_in (slice_get row k))
+      ≡ union (part_in (slice_get after k)) (part_in (slice_get row_then k))) →
+      HaveShared places (first ∷ rows) (after ∷ news)
+  told_so was row row_then had has long row_long normal row_normal shares row_shares same = record {
+    long = (
+      long,
+      subst (Every (λ (known : List Known). length known ≡ places)) (sym has)
+          (every_set (λ (known : List Known). length known ≡ places) olds n row_then was.long.1
+          row_long),
+    );
+    normal = (
+      normal,
+      subst (Every AreNormal) (sym has)
+          (every_set AreNormal olds n row_then was.normal.1 row_normal),
+    );
+    shares = (
+      shares_trans first before after was.shares.0 shares,
+      subst (AllZip SharesAlone rows) (sym has)
+          (zip_set SharesAlone rows olds n row row_then was.shares.1 had
+          (λ r so. shares_trans r row row_then so row_shares)),
+    );
+    parts = λ k.
+        let p = part_in (slice_get before k) in
+        let p' = part_in (slice_get after k) in
+        ap (λ (l : List (List Known)). together_at k p' l) has
+        ∙ together_same laws k p p' olds n row row_then (part_normal k before was.normal.0)
+        (part_normal k after normal) was.normal.1 row_normal had (same k)
+        ∙ was.parts k;
+  }
+
   -- the row tells the first
   first_told : HaveShared places (first ∷ rows) (before ∷ olds) →
       TellsFirst places n before after olds news → HaveShared places (first ∷ rows) (after ∷ news)
@@ -365,44 +400,19 @@ module _ (laws : Laws) (places n : ℕ) (first before after : List Known)
       was.long.1 t.had in
       let row_normal = from_normal places t.row before t.row_then after row_long t.told in
       let first_normal = into_normal places t.row before t.row_then after row_long t.told in
-      record {
-        long = (
-          t.told.others_many ∙ was.long.0,
-          subst (Every (λ (known : List Known). length known ≡ places)) (sym t.has)
-              (every_set (λ (known : List Known). length known ≡ places) olds n t.row_then
-              was.long.1
-              (t.told.as_many ∙ row_long)),
-        );
-        normal = (
-          first_normal,
-          subst (Every AreNormal) (sym t.has)
-              (every_set AreNormal olds n t.row_then was.normal.1 row_normal),
-        );
-        shares = (
-          shares_trans first before after was.shares.0
-              (into_shares places t.row before t.row_then after row_long t.told),
-          subst (AllZip SharesAlone rows) (sym t.has)
-              (zip_set SharesAlone rows olds n t.row t.row_then was.shares.1 t.had
-              (λ r so. shares_trans r t.row t.row_then so
-              (from_shares places t.row before t.row_then after row_long t.told))),
-        );
-        parts = λ k.
-            let p = part_in (slice_get before k) in
-            let q = part_in (slice_get t.row k) in
-            let p' = part_in (slice_get after k) in
-            let q' = part_in (slice_get t.row_then k) in
-            let p_is = part_normal k before was.normal.0 in
-            let q_is = part_normal k t.row (every_get AreNormal olds n t.row was.normal.1 t.had) in
-            ap (λ (l : List (List Known)). together_at k p' l) t.has
-            ∙ together_same laws k p p' olds n t.row t.row_then p_is (part_normal k after
-            first_normal)
-            was.normal.1 row_normal t.had
-            (laws.sides p q p_is q_is
-            ∙ sym (parts_kept places t.row before t.row_then after row_long t.told k)
-            ∙ laws.sides q' p' (part_normal k t.row_then row_normal) (part_normal k after
-            first_normal))
-            ∙ was.parts k;
-      }
+      told_so was t.row t.row_then t.had t.has (t.told.others_many ∙ was.long.0)
+      (t.told.as_many ∙ row_long) first_normal row_normal
+      (into_shares places t.row before t.row_then after row_long t.told)
+      (from_shares places t.row before t.row_then after row_long t.told)
+      (λ k.
+      let p = part_in (slice_get before k) in
+      let q = part_in (slice_get t.row k) in
+      let p' = part_in (slice_get after k) in
+      let q' = part_in (slice_get t.row_then k) in
+      laws.sides p q (part_normal k before was.normal.0)
+      (part_normal k t.row (every_get AreNormal olds n t.row was.normal.1 t.had))
+      ∙ sym (parts_kept places t.row before t.row_then after row_long t.told k)
+      ∙ laws.sides q' p' (part_normal k t.row_then row_normal) (part_normal k after first_normal))
 
   -- the first tells the row
   row_told : HaveShared places (first ∷ rows) (before ∷ olds) →
@@ -410,38 +420,13 @@ module _ (laws : Laws) (places n : ℕ) (first before after : List Known)
   row_told was t =
       let row_long = every_get (λ (known : List Known). length known ≡ places) olds n t.row
       was.long.1 t.had in
-      let first_normal = from_normal places before t.row after t.row_then was.long.0 t.told in
-      let row_normal = into_normal places before t.row after t.row_then was.long.0 t.told in
-      record {
-        long = (
-          t.told.as_many ∙ was.long.0,
-          subst (Every (λ (known : List Known). length known ≡ places)) (sym t.has)
-              (every_set (λ (known : List Known). length known ≡ places) olds n t.row_then
-              was.long.1
-              (t.told.others_many ∙ row_long)),
-        );
-        normal = (
-          first_normal,
-          subst (Every AreNormal) (sym t.has)
-              (every_set AreNormal olds n t.row_then was.normal.1 row_normal),
-        );
-        shares = (
-          shares_trans first before after was.shares.0
-              (from_shares places before t.row after t.row_then was.long.0 t.told),
-          subst (AllZip SharesAlone rows) (sym t.has)
-              (zip_set SharesAlone rows olds n t.row t.row_then was.shares.1 t.had
-              (λ r so. shares_trans r t.row t.row_then so
-              (into_shares places before t.row after t.row_then was.long.0 t.told))),
-        );
-        parts = λ k.
-            let p = part_in (slice_get before k) in
-            let p' = part_in (slice_get after k) in
-            ap (λ (l : List (List Known)). together_at k p' l) t.has
-            ∙ together_same laws k p p' olds n t.row t.row_then (part_normal k before was.normal.0)
-            (part_normal k after first_normal) was.normal.1 row_normal t.had
-            (sym (parts_kept places before t.row after t.row_then was.long.0 t.told k))
-            ∙ was.parts k;
-      }
+      told_so was t.row t.row_then t.had t.has (t.told.as_many ∙ was.long.0)
+      (t.told.others_many ∙ row_long)
+      (from_normal places before t.row after t.row_then was.long.0 t.told)
+      (into_normal places before t.row after t.row_then was.long.0 t.told)
+      (from_shares places before t.row after t.row_then was.long.0 t.told)
+      (into_shares places before t.row after t.row_then was.long.0 t.told)
+      (λ k. sym (parts_kept places before t.row after t.row_then was.long.0 t.told k))
 
   abbrev SameSeen : List Known → List Known → Type 0
   SameSeen known known_then = (k : ℕ) → seen_at k known_then ≡ seen_at k known

@@ -35,6 +35,10 @@ module _ {S E : Type 0} {g : Ghosts S E} {L : Type 0} (label : S → L) (named :
   as_many passes all =
       sym (length-map passes lock_of) ∙ ap length all.locks_are ∙ length-map locks id_of
 
+  pub row_there : (passes : List (Pass S E g)) → ArePasses label named locks passes → (k : ℕ) →
+      k < length locks → k < length passes
+  row_there passes all k there = omega (arith, as_many passes all, there)
+
   pub pass_there : (passes : List (Pass S E g)) (k : ℕ) (lock : TurnLock S E) (pass : Pass S E g) →
       ArePasses label named locks passes → k < length locks → lock ≡ get_or locks k lock →
       pass ≡ get_or passes k pass → IsPassOf label (named k) lock pass

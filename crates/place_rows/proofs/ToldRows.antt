@@ -9,12 +9,14 @@ use Rattle.std.proofs.lemmas.Bool.{cases_Bool, eqb-true, eqb-false}
 use Rattle.turn_lock.specs.declared.storied.Storied.{Ghosts}
 use Rattle.turn_lock.specs.declared.view.View.{View}
 use Rattle.turn_lock.specs.declared.pass.Pass.{Pass}
+use Rattle.turn_lock.specs.declared.lock.TurnLock.{TurnLock}
 use Rattle.turn_lock.specs.Passes.{view_of}
 use Rattle.turn_lock.specs.Views.{kept_view, split_view}
-use Rattle.place_rows.specs.Rows.{TurnsOne}
+use Rattle.place_rows.specs.Rows.{ArePasses, TurnsOne}
 use Rattle.place_rows.specs.Joining.{Splits}
 use Rattle.place_rows.specs.Meeting.{Told, ToldUpTo, TellsOne}
 use Rattle.place_rows.proofs.Lists.{one_item, get_same, get_other, get_seam, set_seam}
+use Rattle.place_rows.proofs.RowPasses.{as_many}
 
 pub tells_one : {S E : Type 0} {g : Ghosts S E} (froms tos : List (Pass S E g)) (k : ℕ)
     (from to from' to' : Pass S E g) → k < length froms → k < length tos →
@@ -187,3 +189,12 @@ module _ {E S : Type 0} where
             length-append s.done s.rest,
             ap (λ (l : List (View E S)). length l) some,
           ))
+
+-- so a row of passes, place by place up to the last
+pub row_split : {S E : Type 0} {g : Ghosts S E} {L : Type 0} (label : S → L) (named : ℕ → L)
+    (locks : List (TurnLock S E)) (row : List (Pass S E g)) → ArePasses label named locks row →
+    (n : ℕ) (news made : List (View E S)) → n ≡ length locks →
+    SplitUpTo n (map view_of row) news made → AllSplit (map view_of row) news made
+row_split label named locks row are n news made all split =
+    all_split n (map view_of row) news made split
+    (omega (arith, all, length-map row view_of, as_many label named locks row are))

@@ -140,7 +140,7 @@ pub fn deal_ports(alloc: Global, places: u8, mail: u32, ports: &[u32]) -> Result
 }
 
 /// The locks of the places that are open, and the row that has the whole of each.
-struct Opened {
+struct OpenPlaces {
     locks: Locks,
     row: Row,
 }
@@ -153,7 +153,7 @@ fn open_place(
     places: u8,
     senders: Senders,
     writer: Writer,
-    opened: &mut Opened,
+    opened: &mut OpenPlaces,
 ) -> Result<(), NoMemory>
     requires number { (number < places) × (places ≤ most_places) }
     requires places { outlets.now.board.places ≡ places }
@@ -205,17 +205,17 @@ pub fn open_places(
 {
     let row = Vec::with_capacity(alloc, usize::from(places))?;
     let locks = Vec::with_capacity(alloc, usize::from(places))?;
-    let mut opened = Opened { locks, row };
+    let mut opened = OpenPlaces { locks, row };
     let mut number = 0u8;
     for own in senders {
         let writer = writers.take(number);
         let Ok(()) = open_place(alloc, outlets, number, places, own, writer, &mut opened) else {
-            let Opened { locks, row } = opened;
+            let OpenPlaces { locks, row } = opened;
             close_all(locks, row);
             return Err(NoMemory);
         };
         number += 1;
     }
-    let Opened { locks, row } = opened;
+    let OpenPlaces { locks, row } = opened;
     Ok((locks, row))
 }

@@ -31,33 +31,24 @@ loop-lock-init c =
 
 pub end_place-list-requires-clause-pass : goal.end_place-list-requires-clause-pass
 end_place-list-requires-clause-pass c =
-    let h = last_pass (label_at c.args.outlets.now) c.args.row.items c.loop-lock.row.items
-    c.pop-in-Some.new.self.items c.args.locks.items c.loop-lock.locks.items
-    c.pop.new.self.items c.in-Some.lock c.in-Some-pop.pass c.requires.row
+    let h = last_pass (label_at c.args.outlets.now) _ _ _ _ _ _ _ _ c.requires.row
     c.loop-lock.invariant.locks c.loop-lock.invariant.row c.in-Some.ensures.items
     c.in-Some-pop.ensures.items c.loop-lock.invariant.as_many in
     (label_at c.args.outlets.now (length c.pop.new.self.items), h.of)
 
 pub end_place-list-requires-clause-whole : goal.end_place-list-requires-clause-whole
 end_place-list-requires-clause-whole c =
-    let h = last_pass (label_at c.args.outlets.now) c.args.row.items c.loop-lock.row.items
-    c.pop-in-Some.new.self.items c.args.locks.items c.loop-lock.locks.items
-    c.pop.new.self.items c.in-Some.lock c.in-Some-pop.pass c.requires.row
+    let h = last_pass (label_at c.args.outlets.now) _ _ _ _ _ _ _ _ c.requires.row
     c.loop-lock.invariant.locks c.loop-lock.invariant.row c.in-Some.ensures.items
     c.in-Some-pop.ensures.items c.loop-lock.invariant.as_many in
     c.requires.whole (length c.pop.new.self.items) (view_of c.in-Some-pop.pass) h.at
 
 pub join_senders-requires-clause-senders : goal.join_senders-requires-clause-senders
 join_senders-requires-clause-senders c =
-    let h = last_pass (label_at c.args.outlets.now) c.args.row.items c.loop-lock.row.items
-    c.pop-in-Some.new.self.items c.args.locks.items c.loop-lock.locks.items
-    c.pop.new.self.items c.in-Some.lock c.in-Some-pop.pass c.requires.row
+    let h = last_pass (label_at c.args.outlets.now) _ _ _ _ _ _ _ _ c.requires.row
     c.loop-lock.invariant.locks c.loop-lock.invariant.row c.in-Some.ensures.items
     c.in-Some-pop.ensures.items c.loop-lock.invariant.as_many in
-    let s = left_then c.args.outlets.now.board.places (map view_of c.args.row.items)
-    c.loop-lock.locks.items c.pop.new.self.items c.in-Some.lock c.loop-lock.kept
-    c.loop-lock.entries.items c.args.receivers.now.items c.loop-lock.receivers.items
-    c.in-Some.ensures.items c.loop-lock.invariant.left in
+    let s = left_then _ _ _ _ _ _ _ _ _ c.in-Some.ensures.items c.loop-lock.invariant.left in
     have_senders c.args.outlets.now.mailboxes c.args.outlets.now.board.places
     (length c.pop.new.self.items) c.end_place-list.result.senders
     (λ port. ap (λ (f : ℕ → Option SenderView). f port)
@@ -70,10 +61,7 @@ join_senders-requires-clause-senders c =
 
 pub join_senders-requires-clause-apart : goal.join_senders-requires-clause-apart
 join_senders-requires-clause-apart c =
-    let s = left_then c.args.outlets.now.board.places (map view_of c.args.row.items)
-    c.loop-lock.locks.items c.pop.new.self.items c.in-Some.lock c.loop-lock.kept
-    c.loop-lock.entries.items c.args.receivers.now.items c.loop-lock.receivers.items
-    c.in-Some.ensures.items c.loop-lock.invariant.left in
+    let s = left_then _ _ _ _ _ _ _ _ _ c.in-Some.ensures.items c.loop-lock.invariant.left in
     times_few c.args.outlets.now.board.places (length c.pop.new.self.items + 1)
     (map untimed s.lists) c.args.receivers.now.items c.loop-lock.receivers.items
     (plain_hears c.args.outlets.now.board.places (length c.pop.new.self.items + 1) s.lists
@@ -82,15 +70,10 @@ join_senders-requires-clause-apart c =
 pub loop-lock-preserved : goal.loop-lock-preserved
 loop-lock-preserved c =
     let inv = c.loop-lock.invariant in
-    let h = last_pass (label_at c.args.outlets.now) c.args.row.items c.loop-lock.row.items
-    c.pop-in-Some.new.self.items c.args.locks.items c.loop-lock.locks.items
-    c.pop.new.self.items c.in-Some.lock c.in-Some-pop.pass c.requires.row
+    let h = last_pass (label_at c.args.outlets.now) _ _ _ _ _ _ _ _ c.requires.row
     c.loop-lock.invariant.locks c.loop-lock.invariant.row c.in-Some.ensures.items
     c.in-Some-pop.ensures.items c.loop-lock.invariant.as_many in
-    let s = left_then c.args.outlets.now.board.places (map view_of c.args.row.items)
-    c.loop-lock.locks.items c.pop.new.self.items c.in-Some.lock c.loop-lock.kept
-    c.loop-lock.entries.items c.args.receivers.now.items c.loop-lock.receivers.items
-    c.in-Some.ensures.items c.loop-lock.invariant.left in
+    let s = left_then _ _ _ _ _ _ _ _ _ c.in-Some.ensures.items c.loop-lock.invariant.left in
     let left = c.end_place-list in
     let named = label_at c.args.outlets.now (length c.pop.new.self.items) in
     let ended = place_ended c.args.outlets.now.board.places (length c.pop.new.self.items)

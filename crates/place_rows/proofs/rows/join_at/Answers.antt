@@ -4,16 +4,15 @@ use Rattle.turn_lock.specs.Views.{label_of}
 use Rattle.locked_place.specs.Views as place
 use Rattle.place_rows.specs.Rows.{TimedKnown}
 use Rattle.place_rows.specs.Joining.{Joins}
-use Rattle.place_rows.proofs.RowPasses.{pass_there, passes_set, as_many, turns_one, at_lock}
+use Rattle.place_rows.proofs.RowPasses.{pass_there, passes_set, as_many, row_there, turns_one}
+use Rattle.place_rows.proofs.RowPasses.{at_lock}
 use Rattle.place_rows.proofs.rows.join_at.Goals as goal
 
 pub index_mut-requires : goal.index_mut-requires
 index_mut-requires c =
-    let r = c.requires.passes in
     omega (
       arith,
-      as_many place.label_of r.0 c.args.locks.now.items c.args.into.now.items r.1,
-      c.requires.there,
+      row_there place.label_of _ _ c.args.into.now.items c.requires.passes.1 c.args.place c.requires.there,
     )
 
 pub join-requires-clause-lock : goal.join-requires-clause-lock

@@ -6,16 +6,14 @@ use Rattle.locked_place.specs.Views as place
 use Rattle.place_rows.specs.Rows.{TimedKnown}
 use Rattle.place_rows.specs.Joining.{Splits}
 use Rattle.turn_lock.specs.Passes.{view_of}
-use Rattle.place_rows.proofs.RowPasses.{pass_there, passes_set, as_many, turns_one}
+use Rattle.place_rows.proofs.RowPasses.{pass_there, passes_set, as_many, row_there, turns_one}
 use Rattle.place_rows.proofs.rows.split_at.Goals as goal
 
 pub index_mut-requires : goal.index_mut-requires
 index_mut-requires c =
-    let r = c.requires.passes in
     omega (
       arith,
-      as_many place.label_of r.0 c.args.locks.now.items c.args.row.now.items r.1,
-      c.requires.there,
+      row_there place.label_of _ _ c.args.row.now.items c.requires.passes.1 c.args.place c.requires.there,
     )
 
 pub split-requires-clause-lock : goal.split-requires-clause-lock

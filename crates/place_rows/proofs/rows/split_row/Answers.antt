@@ -1,9 +1,9 @@
 use Rattle.std.proofs.Common.{rules, map, arith, ap, ◌≡◌, ◌∙◌, length, [], ◌∷◌}
-use Rattle.std.proofs.lemmas.List.{length-map, map-append}
+use Rattle.std.proofs.lemmas.List.{map-append}
 use Rattle.turn_lock.specs.Passes.{view_of}
 use Rattle.locked_place.specs.Views.{label_of}
-use Rattle.place_rows.proofs.RowPasses.{no_passes, one_pass_more, all_passes, as_many}
-use Rattle.place_rows.proofs.ToldRows.{none_split, one_split, all_split}
+use Rattle.place_rows.proofs.RowPasses.{no_passes, one_pass_more, all_passes}
+use Rattle.place_rows.proofs.ToldRows.{none_split, one_split, row_split}
 use Rattle.place_rows.proofs.rows.split_row.Goals as goal
 
 pub loop-place-init : goal.loop-place-init
@@ -51,22 +51,12 @@ pub returns-clause-kept : goal.returns-clause-kept
 returns-clause-kept c =
     let r = c.requires.passes in
     let all : c.loop-place.place ≡ length c.args.locks.now.items = search rules in
-    (all_split c.loop-place.place _ _ _ c.loop-place.invariant.split
-    (omega (
-      arith,
-      all,
-      length-map c.args.row.now.items view_of,
-      as_many label_of r.0 c.args.locks.now.items c.args.row.now.items r.1,
-    ))).kept
+    (row_split label_of r.0 c.args.locks.now.items c.args.row.now.items r.1 _ _ _ all
+    c.loop-place.invariant.split).kept
 
 pub returns-clause-made : goal.returns-clause-made
 returns-clause-made c =
     let r = c.requires.passes in
     let all : c.loop-place.place ≡ length c.args.locks.now.items = search rules in
-    (all_split c.loop-place.place _ _ _ c.loop-place.invariant.split
-    (omega (
-      arith,
-      all,
-      length-map c.args.row.now.items view_of,
-      as_many label_of r.0 c.args.locks.now.items c.args.row.now.items r.1,
-    ))).split
+    (row_split label_of r.0 c.args.locks.now.items c.args.row.now.items r.1 _ _ _ all
+    c.loop-place.invariant.split).split

@@ -1,6 +1,6 @@
 use Rattle.std.proofs.Common.{arith}
 use Rattle.locked_place.specs.Views.{label_of}
-use Rattle.place_rows.proofs.RowPasses.{pass_there, passes_set, as_many}
+use Rattle.place_rows.proofs.RowPasses.{pass_there, passes_set, as_many, row_there, row_there}
 use Rattle.place_rows.proofs.ToldRows.{tells_one}
 use Rattle.place_rows.proofs.rows.tell_at.Goals as goal
 
@@ -21,20 +21,16 @@ tell-requires c =
 
 pub index_mut-requires : goal.index_mut-requires
 index_mut-requires c =
-    let r = c.requires.passes in
     omega (
       arith,
-      as_many label_of r.0 c.args.locks.now.items c.args.from.now.items r.1,
-      c.requires.there,
+      row_there label_of _ _ c.args.from.now.items c.requires.passes.1 c.args.place c.requires.there,
     )
 
 pub index_mut-requires-2 : goal.index_mut-requires-2
 index_mut-requires-2 c =
-    let r = c.requires.passes in
     omega (
       arith,
-      as_many label_of r.0 c.args.locks.now.items c.args.into.now.items r.2,
-      c.requires.there,
+      row_there label_of _ _ c.args.into.now.items c.requires.passes.2 c.args.place c.requires.there,
     )
 
 pub returns-clause-from : goal.returns-clause-from
