@@ -111,21 +111,16 @@ module _ {X : Type 0} where
   pub no_longer : (xs ys : List X) → IsPrefix xs ys → length xs ≤ length ys
   no_longer xs ys p = omega (arith, sym (ap length p.1) ∙ length-append xs p.0)
 
+  -- the last item of a beginning, and the beginning without it
   pub last_of : (whole xs rest : List X) (x : X) → IsPrefix xs whole → xs ≡ rest ++ x ∷ [] →
-      slice_get whole (length rest) ≡ Some x
+      (slice_get whole (length rest) ≡ Some x) × IsPrefix rest whole
   last_of whole xs rest x begins is =
-      ap (λ (l : List X). slice_get l (length rest))
-      (sym begins.1 ∙ ap (λ (l : List X). l ++ begins.0) is
-      ∙ append_assoc rest (x ∷ []) begins.0)
-      ∙ get_seam rest x begins.0
-
-  pub less_one : (whole xs rest : List X) (x : X) → IsPrefix xs whole → xs ≡ rest ++ x ∷ [] →
-      IsPrefix rest whole
-  less_one whole xs rest x begins is = (
-    x ∷ begins.0,
-    sym (append_assoc rest (x ∷ []) begins.0) ∙ ap (λ (l : List X). l ++ begins.0) (sym is)
-        ∙ begins.1,
-  )
+      let parts : rest ++ x ∷ begins.0 ≡ whole =
+      sym (append_assoc rest (x ∷ []) begins.0) ∙ ap (λ (l : List X). l ++ begins.0) (sym is)
+      ∙ begins.1 in (
+        ap (λ (l : List X). slice_get l (length rest)) (sym parts) ∙ get_seam rest x begins.0,
+        (x ∷ begins.0, parts),
+      )
 
 -- ---- zeros of each place
 

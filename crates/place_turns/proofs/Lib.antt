@@ -23,3 +23,5 @@ mod LongerViews
 mod PlaceCalls
 mod ToldTimes
 mod LogEnds
+mod PassCalls
+mod JoinedRows

@@ -159,7 +159,7 @@ pub none_own : (clock : ℕ) (row : List TimedKnown) (port : Option ℕ) → Are
 none_own clock row port late none = record {
   timely = record {
     late = late;
-    told = tt;
+    told = (tt, refl);
     position = λ k i. 0;
     own = λ k i x own. absurd (subst (In i) (none k own.pass own.there) own.own);
     kept = λ k i j l x y own other apart not_later.

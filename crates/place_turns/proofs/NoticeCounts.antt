@@ -38,12 +38,13 @@ use Rattle.histories.specs.Letters.{letters_of_outcome}
 use Rattle.locked_place.specs.Points.{Point, points, points_after, point_after}
 use Rattle.hook_chain.specs.declared.chain.Decision.{Decision}
 use Rattle.locked_place.specs.Turns.{IsTurn, ArrivesIn, AsksIn, ClosesIn, GoesDownIn, LooksOn}
-use Rattle.locked_place.specs.Turns.{PlacesAs, IsPosted}
-use Rattle.locked_place.specs.Views.{label_of, port_of}
+use Rattle.locked_place.specs.Turns.{PlacesAs, IsPosted, HasSender}
+use Rattle.locked_place.specs.Views.{PlaceLabel, label_of, port_of}
 use Rattle.locked_place.specs.Times.{plain_view}
 use Rattle.place_rows.specs.Rows.{Known, TimedKnown, IsTurnAt}
 use Rattle.place_rows.specs.Shares.{at_places, notices_at, sent_at, sent_in}
-use Rattle.place_turns.specs.Counts.{count_of, most_entries, IsCounted, AreCounted}
+use Rattle.place_turns.specs.Counts.{count_of, most_entries, IsCounted, AreCounted, CanCount}
+use Rattle.place_turns.specs.Counts.{HasCounted}
 use Rattle.place_turns.proofs.PassTurns.{get_same, get_other, some_same}
 
 -- ---- what a turn's entries send
@@ -132,23 +133,20 @@ down_silent device queue None = tt
 down_silent device queue (Some b) =
     (quiet queue (DeviceDown device) _ (λ queue b reply. refl), tt)
 
-all_closings : (port : ℕ) (es : List Entry) (ns : List ℕ) →
-    AreSilent (flat_map (λ q. closing_of port q (state_of es q)) ns)
-all_closings port es [] = tt
-all_closings port es (n ∷ ns) =
-    both_silent _ _ (closing_silent port n (state_of es n)) (all_closings port es ns)
-
-all_downs : (device : ℕ) (es : List Entry) (ns : List ℕ) →
-    AreSilent (flat_map (λ q. down_of device q (state_of es q)) ns)
-all_downs device es [] = tt
-all_downs device es (n ∷ ns) =
-    both_silent _ _ (down_silent device n (state_of es n)) (all_downs device es ns)
+all_silent : (f : ℕ → List Entry) → ((n : ℕ) → AreSilent (f n)) → (ns : List ℕ) →
+    AreSilent (flat_map f ns)
+all_silent f each [] = tt
+all_silent f each (n ∷ ns) = both_silent _ _ (each n) (all_silent f each ns)
 
 pub closings_silent : (port : ℕ) (es : List Entry) → AreSilent (closings port es)
-closings_silent port es = all_closings port es every_number
+closings_silent port es =
+    all_silent (λ q. closing_of port q (state_of es q))
+    (λ q. closing_silent port q (state_of es q)) every_number
 
 pub downs_silent : (device : ℕ) (es : List Entry) → AreSilent (downs device es)
-downs_silent device es = all_downs device es every_number
+downs_silent device es =
+    all_silent (λ q. down_of device q (state_of es q))
+    (λ q. down_silent device q (state_of es q)) every_number
 
 -- ---- arrivals
 
@@ -263,18 +261,6 @@ look_own v w look =
     ∙ append-nil v.own
 
 -- a turn that sends nothing leaves the counts as they are
-pub counted_still : Grows → (v w : Known) (found fs : List Entry) (counts : BTreeMap ℕ ℕ) →
-    HasSeenOwn v → IsTurn v found (found ++ fs) w → AreLegal (found ++ fs) → AreSilent fs →
-    Ascends 0 most_entries w.own → IsCounted v counts → IsCounted w counts
-counted_still grows v w found fs counts placed turn legal silent few is = record {
-  many = λ port. sent_after grows port v w found fs placed turn legal
-      ∙ ap (λ n. sent_at port v + n) (silent_sends port found fs silent)
-      ∙ (let none : sent_at port v + 0 ≡ sent_at port v = omega arith in none) ∙ is.many port;
-  there = λ named label. is.there named (sym (same_label v w found (found ++ fs) turn) ∙ label);
-  only = λ named label. is.only named (sym (same_label v w found (found ++ fs) turn) ∙ label);
-  few = few;
-}
-
 nothing_more : Grows → (v w : Known) (found fs : List Entry) (counts : BTreeMap ℕ ℕ) →
     HasSeenOwn v → IsTurn v found (found ++ fs) w → AreLegal (found ++ fs) →
     ((port : ℕ) → sends port found fs ≡ 0) → Ascends 0 most_entries w.own → IsCounted v counts →
@@ -288,6 +274,13 @@ nothing_more grows v w found fs counts placed turn legal none few is = record {
   only = λ named label. is.only named (sym (same_label v w found (found ++ fs) turn) ∙ label);
   few = few;
 }
+
+pub counted_still : Grows → (v w : Known) (found fs : List Entry) (counts : BTreeMap ℕ ℕ) →
+    HasSeenOwn v → IsTurn v found (found ++ fs) w → AreLegal (found ++ fs) → AreSilent fs →
+    Ascends 0 most_entries w.own → IsCounted v counts → IsCounted w counts
+counted_still grows v w found fs counts placed turn legal silent few is =
+    nothing_more grows v w found fs counts placed turn legal
+    (λ port. silent_sends port found fs silent) few is
 
 pub counted_look : Grows → (v w : Known) (counts : BTreeMap ℕ ℕ) → HasSeenOwn v →
     LooksOn v w → IsCounted v counts → IsCounted w counts
@@ -309,7 +302,7 @@ arrives_legal : (a : Arrival) (v w : Known) (done : Placed) (in_ : ArrivesIn a v
     AreLegal (in_.found ++ entry_of in_.found a.queue (arrive a in_.arrives.room) ∷ [])
 arrives_legal a v w done in_ = subst AreLegal in_.arrives.entered in_.legal
 
-pub counted_back : Grows → RepliesTell → (a : Arrival) (v w : Known) (o : Outcome) (back : Card)
+counted_back : Grows → RepliesTell → (a : Arrival) (v w : Known) (o : Outcome) (back : Card)
     (counts : BTreeMap ℕ ℕ) → HasSeenOwn v → ArrivesIn a v w (spot.Back o back) →
     Ascends 0 most_entries w.own → IsCounted v counts → IsCounted w counts
 counted_back grows tell a v w o back counts placed in_ few is =
@@ -319,7 +312,7 @@ counted_back grows tell a v w o back counts placed in_ few is =
     (λ port. back_sends tell port a in_.arrives.room in_.found o back in_.arrives.places) few is
 
 -- one more was counted
-pub counted_posted : Grows → (a : Arrival) (v w : Known) (to : ℕ) (olds news : BTreeMap ℕ ℕ) →
+counted_posted : Grows → (a : Arrival) (v w : Known) (to : ℕ) (olds news : BTreeMap ℕ ℕ) →
     HasSeenOwn v → ArrivesIn a v w (spot.Waiting to) → Ascends 0 most_entries w.own →
     IsCounted v olds → IsSome (get nat_cmp olds to) →
     get nat_cmp news to ≡ Some (count_of (get nat_cmp olds to) + 1) →
@@ -417,7 +410,7 @@ sent_few port v placed =
     omega (arith, places_few port (points v.seen) v.own, ascend_few 0 (length v.seen) v.own placed)
 
 -- where a notice was put into a port's mailbox, its count had room for one more
-pub count_fits : Grows → (a : Arrival) (v w : Known) (to : ℕ) (counts : BTreeMap ℕ ℕ) →
+count_fits : Grows → (a : Arrival) (v w : Known) (to : ℕ) (counts : BTreeMap ℕ ℕ) →
     HasSeenOwn v → HasSeenOwn w → ArrivesIn a v w (spot.Waiting to) → IsCounted v counts →
     length w.seen < 2 ^ 64 → count_of (get nat_cmp counts to) + 1 < 2 ^ 64
 count_fits grows a v w to counts placed placed_then in_ is short =
@@ -431,6 +424,28 @@ count_fits grows a v w to counts placed placed_then in_ is short =
   where
     own : (n : ℕ) → one_to n n ≡ 1
     own n = rw (eq-eqb n n refl) refl
+
+-- there is a count for the notice of a packet that waits, with room for one more
+pub can_count : Grows → (a : Arrival) (v w : Known) (done : Placed) (counts : BTreeMap ℕ ℕ) →
+    HasSeenOwn v → HasSeenOwn w → ArrivesIn a v w done → IsCounted v counts →
+    length w.seen < 2 ^ 64 → (named : PlaceLabel) → lock.label_of label_of v ≡ Some named →
+    HasSender named.senders done → CanCount counts done
+can_count grows a v w (spot.Waiting to) counts one two in_ is short named label sender = (
+  is.there named label to sender,
+  count_fits grows a v w to counts one two in_ is short,
+)
+can_count grows a v w (spot.Back o back) counts one two in_ is short named label sender =
+    tt
+
+-- once it is counted, the counts stand for the pass
+pub counted_arrived : Grows → RepliesTell → (a : Arrival) (v w : Known) (done : Placed)
+    (olds news : BTreeMap ℕ ℕ) → HasSeenOwn v → ArrivesIn a v w done →
+    Ascends 0 most_entries w.own → IsCounted v olds → CanCount olds done →
+    HasCounted olds news done → IsCounted w news
+counted_arrived grows tell a v w (spot.Waiting to) olds news placed in_ few is can did =
+    counted_posted grows a v w to olds news placed in_ few is can.0 did.0 did.1
+counted_arrived grows tell a v w (spot.Back o back) olds news placed in_ few is can did =
+    subst (IsCounted w) (sym did) (counted_back grows tell a v w o back olds placed in_ few is)
 
 -- ---- counts of all places
 

@@ -3,8 +3,9 @@ use Rattle.std.proofs.Common.{◌≡◌, ◌≢◌, ◌<◌, ◌+◌, ℕ, zero,
 use Rattle.std.proofs.Common.{sym, ap, ◌∙◌, subst, arith, inl, inr}
 use Rattle.std.specs.Prelude.{map, slice_get, slice_set, Some, option_map, get_or}
 use Rattle.std.specs.Prelude.{nat_eq}
-use Rattle.std.proofs.lemmas.List.{map-set, length-map}
+use Rattle.std.proofs.lemmas.List.{map-set, length-map, length-set, get_or-set_same}
 use Rattle.std.proofs.lemmas.Option.{slice_get_read, slice_get-map, slice_get_within}
+use Rattle.std.proofs.lemmas.Option.{slice_get-get_or}
 use Rattle.std.proofs.lemmas.Bool.{cases_Bool, eqb-true, eqb-false}
 use Rattle.atomic_table.specs.Seated.{TableId}
 use Rattle.turn_lock.specs.declared.storied.Storied.{Ghosts}
@@ -24,9 +25,9 @@ use Rattle.place_rows.specs.Rows.{lock_of, id_of}
 module _ {X : Type 0} where
   pub get_same : (xs : List X) (i : ℕ) (w : X) → i < length xs →
       slice_get (slice_set xs i w) i ≡ Some w
-  get_same [] i w h = absurd (omega arith)
-  get_same (x ∷ xs) zero w h = refl
-  get_same (x ∷ xs) (suc i) w h = get_same xs i w (omega arith)
+  get_same xs i w h =
+      slice_get-get_or (slice_set xs i w) i w (omega (arith, h, length-set xs i w))
+      ∙ ap Some (get_or-set_same xs i w w h)
 
   pub get_other : (xs : List X) (i j : ℕ) (w : X) → j ≢ i →
       slice_get (slice_set xs i w) j ≡ slice_get xs j

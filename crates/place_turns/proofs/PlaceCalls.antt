@@ -77,20 +77,28 @@ left_seen : (v w : TimedKnown) (found after : List Entry) →
 left_seen v w found after turn = ap (λ (x : Known). x.seen) turn.left
 
 module _ (clock time place : ℕ) (row news : List TimedKnown) where
+  -- a turn, as one in which these entries were appended
+  abbrev appends : (T : TimedKnown → TimedKnown → Type 0) (fs : List Entry)
+      (one : TurnsOne place row news T) → TimedTurn clock time one.before one.after fs →
+      TurnsOne place row news (λ v w. TimedTurn clock time v w fs)
+  appends T fs one turn =
+      record {
+        before = one.before;
+        after = one.after;
+        had = one.had;
+        has = one.has;
+        turns = turn;
+      }
+
   -- ---- a look
 
   module _ (one : TurnsOne place row news (TimedLook clock time)) where
     abbrev look_one : TurnsOne place row news (λ v w. TimedTurn clock time v w [])
     look_one =
         let t = one.turns in
-        record {
-          before = one.before;
-          after = one.after;
-          had = one.had;
-          has = one.has;
-          turns = timed_turn clock time one.before one.after t.plain.found t.plain.found []
-              t.plain.turn t.in_time (sym (append-nil t.plain.found));
-        }
+        appends (TimedLook clock time) [] one
+        (timed_turn clock time one.before one.after t.plain.found t.plain.found [] t.plain.turn
+        t.in_time (sym (append-nil t.plain.found)))
 
     pub look_sees : SeeOn row news
     look_sees = sees_on clock time place row news [] look_one
@@ -111,14 +119,9 @@ module _ (clock time place : ℕ) (row news : List TimedKnown) where
         (λ v w. TimedTurn clock time v w (arrival_entry ∷ []))
     arrival_one =
         let t = one.turns in
-        record {
-          before = one.before;
-          after = one.after;
-          had = one.had;
-          has = one.has;
-          turns = timed_turn clock time one.before one.after t.plain.found t.plain.then_
-              (arrival_entry ∷ []) t.plain.turn t.in_time t.plain.arrives.entered;
-        }
+        appends (λ v w. TimedArrival clock time a v w done) (arrival_entry ∷ []) one
+        (timed_turn clock time one.before one.after t.plain.found t.plain.then_
+        (arrival_entry ∷ []) t.plain.turn t.in_time t.plain.arrives.entered)
 
     pub arrival_sees : SeeOn row news
     arrival_sees = sees_on clock time place row news (arrival_entry ∷ []) arrival_one
@@ -158,14 +161,10 @@ module _ (clock time place : ℕ) (row news : List TimedKnown) where
         (λ v w. TimedTurn clock time v w (request_entry ∷ []))
     request_one =
         let t = one.turns in
-        record {
-          before = one.before;
-          after = one.after;
-          had = one.had;
-          has = one.has;
-          turns = timed_turn clock time one.before one.after t.plain.found t.plain.then_
-              (request_entry ∷ []) t.plain.turn t.in_time t.plain.asks.entered;
-        }
+        appends (λ v w. TimedRequest clock time port call request v w errno handed)
+        (request_entry ∷ []) one
+        (timed_turn clock time one.before one.after t.plain.found t.plain.then_
+        (request_entry ∷ []) t.plain.turn t.in_time t.plain.asks.entered)
 
     pub request_timely : ((k : ℕ) (v : TimedKnown) → slice_get row k ≡ Some v → HasSeenOwn v) →
         (dids : List Did) (heard : List Post) (words : AskWords) (answer : Option ℕ) →
@@ -195,15 +194,10 @@ module _ (clock time place : ℕ) (row news : List TimedKnown) where
   closing_timely port count one placed h of is =
       let t = one.turns in
       closed_so clock time place row news placed (closings port t.plain.found)
-      (record {
-        before = one.before;
-        after = one.after;
-        had = one.had;
-        has = one.has;
-        turns = timed_turn clock time one.before one.after t.plain.found
-            (t.plain.found ++ closings port t.plain.found) (closings port t.plain.found)
-            t.plain.turn t.in_time refl;
-      }) h port (closings_events port t.plain.found) of is
+      (appends (λ v w. TimedClosing clock time port v w count) (closings port t.plain.found) one
+      (timed_turn clock time one.before one.after t.plain.found
+      (t.plain.found ++ closings port t.plain.found) (closings port t.plain.found) t.plain.turn
+      t.in_time refl)) h port (closings_events port t.plain.found) of is
 
   pub down_timely : (device count : ℕ) →
       TurnsOne place row news (λ v w. TimedDown clock time device v w count) →
@@ -212,12 +206,7 @@ module _ (clock time place : ℕ) (row news : List TimedKnown) where
   down_timely device count one placed h is =
       let t = one.turns in
       down_open clock time place row news placed (downs device t.plain.found)
-      (record {
-        before = one.before;
-        after = one.after;
-        had = one.had;
-        has = one.has;
-        turns = timed_turn clock time one.before one.after t.plain.found
-            (t.plain.found ++ downs device t.plain.found) (downs device t.plain.found)
-            t.plain.turn t.in_time refl;
-      }) h device (downs_events device t.plain.found) is
+      (appends (λ v w. TimedDown clock time device v w count) (downs device t.plain.found) one
+      (timed_turn clock time one.before one.after t.plain.found
+      (t.plain.found ++ downs device t.plain.found) (downs device t.plain.found) t.plain.turn
+      t.in_time refl)) h device (downs_events device t.plain.found) is

@@ -15,6 +15,7 @@ use Rattle.place_rows.specs.Rows.{Known, AreKnown}
 use Rattle.place_rows.specs.Shares.{sent_at}
 use Rattle.place_turns.specs.Counts.{most_entries, IsCounted, AreCounted, AreZeroed}
 use Rattle.place_turns.specs.Counts.{HaveZeros, CanAdd, CanAddAll, AreSums, AreAllSums}
+use Rattle.place_turns.proofs.JoinedRows.{joined_of}
 use Rattle.place_turns.proofs.NoticeCounts.{counts_there, places_few, ascend_few}
 use Rattle.place_turns.proofs.PassTurns.{some_same}
 use Rattle.place_turns.proofs.ToldCounts.{item_at}
@@ -134,34 +135,12 @@ module _ (laws : Laws) (named : PlaceLabel) (v w after : Known) (olds more : BTr
     few = own_few;
   }
 
--- of two rows that are joined, what one pass was made of
-record JoinedOf (intos froms : List Known) (k : ℕ) (u : Known) : Type 0 where
-  into : Known
-  from : Known
-  into_at : slice_get intos k ≡ Some into
-  from_at : slice_get froms k ≡ Some from
-  joins : Joins from into u
-
 module _ (laws : Laws) (named : ℕ → PlaceLabel) (intos froms afters : List Known)
     (olds more : List (BTreeMap ℕ ℕ))
     (one : (k : ℕ) (v : Known) → slice_get intos k ≡ Some v → HasSeenOwn v)
     (two : (k : ℕ) (v : Known) → slice_get froms k ≡ Some v → HasSeenOwn v)
     (are : AreCounted intos olds) (also : AreCounted froms more)
     (row : RowJoined 0 intos froms afters) where
-  joined_of : (k : ℕ) (u : Known) → slice_get afters k ≡ Some u → JoinedOf intos froms k u
-  joined_of k u at =
-      let few = slice_get_within afters k u at in
-      let v = item_at intos k (omega (arith, few, row.as_many)) in
-      let w = item_at froms k (omega (arith, few, row.as_many, row.both)) in
-      let done = row.done k v.0 w.0 (omega arith) v.1 w.1 in
-      record {
-        into = v.0;
-        from = w.0;
-        into_at = v.1;
-        from_at = w.1;
-        joins = subst (Joins w.0 v.0) (some_same done.after u (sym done.at ∙ at)) done.turns;
-      }
-
   pub can_add_all : AreKnown label_of named intos → AreKnown label_of named froms →
       CanAddAll olds more
   can_add_all known too = record {
@@ -169,7 +148,7 @@ module _ (laws : Laws) (named : ℕ → PlaceLabel) (intos froms afters : List K
     each = λ k c d at has.
         let few = slice_get_within olds k c at in
         let u = item_at afters k (omega (arith, few, are.as_many, row.as_many)) in
-        let j = joined_of k u.0 u.1 in
+        let j = joined_of intos froms afters row k u.0 u.1 in
         can_add laws (named k) j.into j.from u.0 c d (one k j.into j.into_at)
         (two k j.from j.from_at) j.joins
         (counts_there intos olds k j.into c are j.into_at at)
@@ -189,7 +168,7 @@ module _ (laws : Laws) (named : ℕ → PlaceLabel) (intos froms afters : List K
       inner k u at None is = tt
       inner k u at (Some s) is =
           let few = slice_get_within afters k u at in
-          let j = joined_of k u at in
+          let j = joined_of intos froms afters row k u at in
           let c = item_at olds k (omega (arith, few, row.as_many, are.as_many)) in
           let d = item_at more k
           (omega (arith, few, row.as_many, row.both, also.as_many)) in

@@ -13,8 +13,12 @@ use Rattle.histories.specs.declared.entry.Entry.{Entry}
 use Rattle.locked_place.specs.Views.{LockedView, PlaceLabel, label_of}
 use Rattle.place_rows.specs.Meeting.{KeepsOwn}
 use Rattle.locked_place.specs.Passes.{plain_view_of}
-use Rattle.place_rows.specs.Rows.{Known, TimedKnown, AreKnown, IsKnown, known_of}
+use Rattle.place_rows.specs.Rows.{Known, TimedKnown, AreKnown, ArePasses, IsKnown, known_of}
+use Rattle.place_rows.specs.Rows.{label_at, lock_of}
+use Rattle.place_turns.specs.declared.places.Places.{Places}
 use Rattle.place_turns.specs.Counts.{most_entries, IsCounted, AreCounted}
+use Rattle.place_turns.specs.Passes.{AreOf}
+use Rattle.place_turns.proofs.AtPlace.{PlainKnown, WithTimes, still_of}
 use Rattle.place_turns.proofs.NoticeCounts.{placed_so}
 use Rattle.place_turns.proofs.PassTurns.{some_same}
 
@@ -53,7 +57,7 @@ counted_still_so named v w counts is known then_ keeps = record {
   few = subst (Ascends 0 most_entries) (sym keeps.own) is.few;
 }
 
-pub counted_told : (named : ℕ → PlaceLabel) (olds news : List Known)
+counted_told : (named : ℕ → PlaceLabel) (olds news : List Known)
     (counts : List (BTreeMap ℕ ℕ)) → AreCounted olds counts → AreKnown label_of named olds →
     AreKnown label_of named news → length news ≡ length olds →
     ((k : ℕ) (v w : Known) → slice_get olds k ≡ Some v → slice_get news k ≡ Some w →
@@ -71,3 +75,19 @@ counted_told named olds news counts are known then_ many keeps = record {
     inner k v w was at None is = tt
     inner k v w was at (Some c) is =
         counted_still_so (named k) v w c is (known k v was) (then_ k w at) (keeps k v w was at)
+
+-- so a row that told, or was told, is counted as before
+pub counted_after : {g : Ghosts LockedView (Entry × ℕ)} → PlainKnown → WithTimes →
+    (places : Places) (row then_ : List (Pass LockedView (Entry × ℕ) g))
+    (counts : List (BTreeMap ℕ ℕ)) → AreOf places (map lock_of row) (known_of (map view_of row)) →
+    ((named : ℕ → PlaceLabel) → ArePasses label_of named places.locks.items row →
+    ArePasses label_of named places.locks.items then_) →
+    AreCounted (known_of (map view_of row)) counts →
+    length (known_of (map view_of then_)) ≡ length (known_of (map view_of row)) →
+    ((k : ℕ) (v w : Known) → slice_get (known_of (map view_of row)) k ≡ Some v →
+    slice_get (known_of (map view_of then_)) k ≡ Some w → KeepsOwn v w) →
+    AreCounted (known_of (map view_of then_)) counts
+counted_after plain timed places row then_ counts is keeps are many own =
+    counted_told (label_at places.outlets) (known_of (map view_of row))
+    (known_of (map view_of then_)) counts are is.known_so
+    (still_of timed places row is then_ keeps plain).known_so many own

@@ -13,12 +13,13 @@ use Rattle.turn_lock.specs.Views.{HasSeenOwn}
 use Rattle.histories.specs.declared.entry.Entry.{Entry}
 use Rattle.total_order.specs.Orders.{EachIs}
 use Rattle.total_order.specs.Steps.{InLogOrderAs}
-use Rattle.place_rows.specs.Joining.{RowJoined, Joins}
+use Rattle.place_rows.specs.Joining.{RowJoined}
 use Rattle.place_rows.specs.Meeting.{ToldUpTo}
 use Rattle.place_rows.specs.Rows.{TimedKnown}
 use Rattle.place_turns.specs.Departures.{SeeOn}
 use Rattle.place_turns.specs.Timely.{IsOwn, RestsOn, AreTimelyOpen, IsNoClosing, feeder}
 use Rattle.place_turns.proofs.OwnEntries.{each_map, before_in, own_seen, seen_before_on}
+use Rattle.place_turns.proofs.JoinedRows.{joined_of}
 use Rattle.place_turns.proofs.PassTurns.{some_same}
 use Rattle.place_turns.proofs.LongerViews.{Was, SeesMore, AreUpTo, sees_more}
 use Rattle.place_turns.proofs.ToldCounts.{item_at}
@@ -171,27 +172,6 @@ module _ (places : BothPlaces) (intos froms afters : List TimedKnown)
     (joined : RowJoined 0 intos froms afters)
     (placed : (k : ℕ) (v : TimedKnown) → slice_get intos k ≡ Some v → HasSeenOwn v)
     (also_placed : (k : ℕ) (v : TimedKnown) → slice_get froms k ≡ Some v → HasSeenOwn v) where
-  record JoinedOf (k : ℕ) (u : TimedKnown) : Type 0 where
-    into : TimedKnown
-    from : TimedKnown
-    into_at : slice_get intos k ≡ Some into
-    from_at : slice_get froms k ≡ Some from
-    joins : Joins from into u
-
-  joined_of : (k : ℕ) (u : TimedKnown) → slice_get afters k ≡ Some u → JoinedOf k u
-  joined_of k u at =
-      let few = slice_get_within afters k u at in
-      let v = item_at intos k (omega (arith, few, joined.as_many)) in
-      let w = item_at froms k (omega (arith, few, joined.as_many, joined.both)) in
-      let done = joined.done k v.0 w.0 (omega arith) v.1 w.1 in
-      record {
-        into = v.0;
-        from = w.0;
-        into_at = v.1;
-        from_at = w.1;
-        joins = subst (Joins w.0 v.0) (some_same done.after u (sym done.at ∙ at)) done.turns;
-      }
-
   intos_on : SeeOn intos afters
   intos_on k v at =
       let w = item_at froms k (omega (arith, slice_get_within intos k v at, joined.both)) in
@@ -208,7 +188,7 @@ module _ (places : BothPlaces) (intos froms afters : List TimedKnown)
   of_either : (k i : ℕ) (x : Entry × ℕ) → IsOwn afters k i x →
       IsOwn intos k i x ⊎ IsOwn froms k i x
   of_either k i x own =
-      let j = joined_of k own.pass own.there in
+      let j = joined_of intos froms afters joined k own.pass own.there in
       let among = subst (In i) (ap (λ (v : TimedKnown). v.own) j.joins.is) own.own in
       elim ((places i j.into.own j.from.own).0 among) [
         | inl one ↦ inl (record {
@@ -247,12 +227,12 @@ module _ (places : BothPlaces) (intos froms afters : List TimedKnown)
     pub joined_open : AreTimelyOpen time afters feeder
     joined_open = record {
       timely = record {
-        late = λ k u at. (let j = joined_of k u at in
+        late = λ k u at. (let j = joined_of intos froms afters joined k u at in
             subst (λ (v : TimedKnown). EachIs (λ x. x.1 ≤ time) v.seen) (sym j.joins.is)
             (each_longer (λ x. x.1 ≤ time) j.into.seen j.from.seen
             (up_to clock time j.into.seen later (is.timely.late k j.into j.into_at))
             (up_to other time j.from.seen also (too.timely.late k j.from j.from_at))));
-        told = tt;
+        told = (tt, refl);
         position = λ k i. 0;
         own = rests_so;
         kept = λ k i j l x y own other_own apart not_later.

@@ -1,11 +1,12 @@
 -- How many notices a pass put into each port's mailbox, as its counts say it place by place.
-use Rattle.std.specs.Prelude.{◌≡◌, ◌<◌, ◌≤◌, ◌+◌, ◌^◌, ℕ, List, length, slice_get, Option, Some}
-use Rattle.std.specs.Prelude.{None}
-use Rattle.std.specs.Prelude.{IfSome, IsSome, is_some}
+use Rattle.std.specs.Prelude.{◌≡◌, ◌≢◌, ◌<◌, ◌≤◌, ◌+◌, ◌^◌, ℕ, List, length, slice_get}
+use Rattle.std.specs.Prelude.{Option, Some, None, IfSome, IsSome, is_some}
 use Rattle.std.specs.BTreeMap.{BTreeMap, get}
 use Rattle.std.specs.Ordering.{nat_cmp}
 use Rattle.turn_lock.specs.Places.{Ascends}
 use Rattle.turn_lock.specs.Views as lock
+use Rattle.locked_place.specs.declared.arrivals.Placed.{Placed}
+use Rattle.locked_place.specs.declared.arrivals.Placed.TheVariants.{Waiting, Back}
 use Rattle.locked_place.specs.Views.{PlaceLabel, label_of}
 use Rattle.place_rows.specs.Rows.{Known}
 use Rattle.place_rows.specs.Shares.{sent_at}
@@ -35,6 +36,21 @@ pub record AreCounted (known : List Known) (counts : List (BTreeMap ℕ ℕ)) : 
   pub as_many : length counts ≡ length known
   pub each : (k : ℕ) (v : Known) → slice_get known k ≡ Some v →
       IfSome (slice_get counts k) (IsCounted v)
+
+-- ---- one notice more
+
+-- 64 bits count the notice of a packet that waits, and there is a count for its port
+abbrev pub CanCount : BTreeMap ℕ ℕ → Placed → Type 0
+CanCount counts (Waiting port) =
+    IsSome (get nat_cmp counts port) × (count_of (get nat_cmp counts port) + 1 < 2 ^ 64)
+CanCount counts (Back outcome back) = Unit {0}
+
+-- it was counted, and no other
+abbrev pub HasCounted : BTreeMap ℕ ℕ → BTreeMap ℕ ℕ → Placed → Type 0
+HasCounted olds news (Waiting port) =
+    (get nat_cmp news port ≡ Some (count_of (get nat_cmp olds port) + 1))
+    × ((p : ℕ) → p ≢ port → get nat_cmp news p ≡ get nat_cmp olds p)
+HasCounted olds news (Back outcome back) = news ≡ olds
 
 -- ---- counts of passes that are split off others, and joined
 

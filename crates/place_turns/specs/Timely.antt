@@ -1,5 +1,5 @@
--- What passes keep of times, call by call: nothing that they have seen is later than their clock, and
--- each entry of their own is later than what it rests on.
+-- What passes keep of times, call by call: nothing that they have seen is later than their clock,
+-- and each entry of their own is later than what it rests on.
 use Rattle.std.specs.Prelude.{◌≡◌, ◌<◌, ◌≤◌, ℕ, suc, List, [], ◌∷◌, length, take, slice_get}
 use Rattle.std.specs.Prelude.{Option, Some, None}
 use mathlib.Core.List.{IsPrefix}
@@ -50,8 +50,8 @@ pub record HasSeenBefore (row : List TimedKnown) (time : ℕ) (Q : List Entry �
     pub early : EachIs (λ x. x.1 < time) front
     pub so : Q (untimed front)
 
--- each notice received among these is one of these letters, in their order, and the letter's time is
--- earlier than this
+-- each notice received among these is one of these letters, in their order, and the letter's time
+-- is earlier than this
 abbrev pub AreEarly : ℕ → List Did → List Post → Type 0
 AreEarly time [] ps = Unit {0}
 AreEarly time (Received queue number visit ∷ ds) [] = ⊥
@@ -61,16 +61,16 @@ AreEarly time (Received queue number visit ∷ ds) (p ∷ ps) =
 AreEarly time (Sent call ask answer ∷ ds) ps = AreEarly time ds ps
 AreEarly time (Closed ∷ ds) ps = AreEarly time ds ps
 
+-- how many notices were received
+abbrev pub receipts : List Did → ℕ
+receipts [] = 0
+receipts (Received queue number visit ∷ ds) = suc (receipts ds)
+receipts (Sent call ask answer ∷ ds) = receipts ds
+receipts (Closed ∷ ds) = receipts ds
+
 -- and there are no other letters
 abbrev pub AreAllEarly : ℕ → List Did → List Post → Type 0
-AreAllEarly time [] [] = Unit {0}
-AreAllEarly time [] (p ∷ ps) = ⊥
-AreAllEarly time (Received queue number visit ∷ ds) [] = ⊥
-AreAllEarly time (Received queue number visit ∷ ds) (p ∷ ps) =
-    (p.letter.queue ≡ queue) × (p.letter.number ≡ number) × (p.letter.visit ≡ visit)
-    × (p.time < time) × AreAllEarly time ds ps
-AreAllEarly time (Sent call ask answer ∷ ds) ps = AreAllEarly time ds ps
-AreAllEarly time (Closed ∷ ds) ps = AreAllEarly time ds ps
+AreAllEarly time ds ps = AreEarly time ds ps × (length ps ≡ receipts ds)
 
 -- ---- entries of their own
 

@@ -5,7 +5,6 @@ ghost use Rattle.std.specs.Prelude.{Option, Some, IsSome, IfOk, OnOk, IfErr, OnE
 ghost use Rattle.std.specs.BTreeMap.{get};
 ghost use Rattle.std.specs.Ordering.{nat_cmp};
 ghost use Rattle.nfqa_msgs.specs.RequestReading.{PayloadFits};
-ghost use Rattle.turn_lock.specs.Passes.{view_of};
 ghost use Rattle.histories.specs.Happenings.{queue_of};
 ghost use Rattle.histories.specs.Places.{place_for};
 ghost use Rattle.mailbox.specs.declared.view.Post.{Post};
@@ -13,12 +12,10 @@ ghost use Rattle.histories.specs.declared.log.AskWords.{AskWords};
 ghost use Rattle.histories.specs.declared.log.Did.{Did};
 ghost use Rattle.histories.specs.declared.log.Did.TheVariants.{Received, Sent};
 ghost use Rattle.packet_moves.specs.HandedOn.{AreInTime};
-ghost use Rattle.locked_place.specs.Passes.{IsPassOf, plain_view_of};
-ghost use Rattle.locked_place.specs.Turns.{ArrivesIn, AsksIn, LooksOn, TimedArrival, TimedLook};
-ghost use Rattle.locked_place.specs.Views.{PlaceLabel, label_of, AreOutletsOf};
+ghost use Rattle.locked_place.specs.Turns.{ArrivesIn, AsksIn, LooksOn};
 ghost use Rattle.place_rows.specs.Rows.{TurnsOne};
 ghost use Rattle.place_rows.specs.Shares.{sent_in};
-ghost use Rattle.place_turns.specs.Counts.{IsCounted, count_of};
+ghost use Rattle.place_turns.specs.Counts.{CanCount, HasCounted, count_of};
 ghost use Rattle.place_turns.specs.Places.{places_of};
 ghost use Rattle.place_turns.specs.Departures.{HasSeenCome, HasSeenBack, HaveSeenAll, SeeOn};
 ghost use Rattle.place_turns.specs.Timely.{Holder, AreTimelyOpen, port_with};
@@ -109,6 +106,8 @@ impl Passes {
         ensures lost { (self.new.trail.lost ≡ self.old.trail.lost)
             × (self.new.room ≡ self.old.room) }
     {
+        own_entries_grow_by_each_turn();
+        replies_tell_how_many_left();
         rows_know_the_same_without_times();
         let place = turns.places.place_of(queue);
         let at = Entrance {
@@ -118,18 +117,17 @@ impl Passes {
             outlets: &turns.places.outlets,
             place: place as u8,
         };
-        arrive_at(
+        let arrived = locked_place::arrive(
             &at,
             alloc,
             &mut self.row[place],
             &mut self.clock,
-            &mut self.sent[place],
-            Coming {
-                queue,
-                bypass,
-                packet,
-            },
-        )
+            queue,
+            bypass,
+            packet,
+        );
+        count_notice(&mut self.sent[place], &arrived);
+        arrived
     }
 
     /// A port asks something of a queue, in a turn at the queue's place. What the queue lets go on
@@ -220,54 +218,14 @@ impl Passes {
     }
 }
 
-/// A packet that comes to a queue.
-struct Coming {
-    queue: u16,
-    bypass: bool,
-    packet: Packet,
-}
-
-/// A packet arrives, in a turn of a pass at its queue's place: where a notice is put into a port's
-/// mailbox, it is counted. When memory runs out it comes back, and nothing has happened.
-fn arrive_at<R: Wait, G: Gate>(
-    at: &Entrance<'_, R, G>,
-    alloc: Global,
-    pass: &mut Pass<LockedPlace>,
-    clock: &mut u64,
-    sent: &mut Counts,
-    coming: Coming,
-) -> Result<Placed, NoRoom>
-    requires visited { 1 ≤ coming.packet.visit }
-    requires pass { (named : PlaceLabel) × IsPassOf label_of named at.now.lock.now pass.old
-        × (place_for coming.queue named.places ≡ named.number)
-        × AreOutletsOf at.now.outlets.now named }
-    requires counted { IsCounted (plain_view_of pass.old) sent.old }
-    ensures counted { IsCounted (plain_view_of pass.new) sent.new }
-    ensures pass { (named : PlaceLabel) → IsPassOf label_of named at.now.lock.now pass.old →
-        IsPassOf label_of named at.now.lock.now pass.new }
-    ensures part { (view_of pass.new).part ≡ (view_of pass.old).part }
-    ensures turn { IfOk result (TimedArrival clock.old clock.new (record {
-      queue = coming.queue;
-      card = coming.packet;
-      bypass = coming.bypass;
-    }) (view_of pass.old) (view_of pass.new)) }
-    ensures returned { IfErr result (λ back. back.packet ≡ coming.packet) }
-    ensures err { OnErr result
-        (TimedLook clock.old clock.new (view_of pass.old) (view_of pass.new)) }
+/// Counts the notice of a packet that arrived, if one was put into a port's mailbox.
+fn count_notice(sent: &mut Counts, arrived: &Result<Placed, NoRoom>)
+    requires fits { IfOk arrived.now (CanCount sent.old) }
+    ensures counted { IfOk arrived.now (HasCounted sent.old sent.new) }
+    ensures err { OnErr arrived.now (sent.new ≡ sent.old) }
 {
-    own_entries_grow_by_each_turn();
-    replies_tell_how_many_left();
-    let Coming {
-        queue,
-        bypass,
-        packet,
-    } = coming;
-    match locked_place::arrive(at, alloc, pass, clock, queue, bypass, packet)? {
-        Placed::Waiting { port } => {
-            count(sent, port);
-            Ok(Placed::Waiting { port })
-        }
-        Placed::Back { outcome, packet } => Ok(Placed::Back { outcome, packet }),
+    if let Ok(Placed::Waiting { port }) = arrived {
+        count(sent, *port);
     }
 }
 

@@ -12,7 +12,8 @@ pub index_mut-requires : goal.index_mut-requires
 index_mut-requires c =
     omega (
       arith,
-      row_there place.label_of _ _ c.args.into.now.items c.requires.passes.1 c.args.place c.requires.there,
+      row_there place.label_of _ _ c.args.into.now.items c.requires.passes.1 c.args.place
+          c.requires.there,
     )
 
 pub join-requires-clause-lock : goal.join-requires-clause-lock

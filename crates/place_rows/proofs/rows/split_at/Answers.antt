@@ -13,7 +13,8 @@ pub index_mut-requires : goal.index_mut-requires
 index_mut-requires c =
     omega (
       arith,
-      row_there place.label_of _ _ c.args.row.now.items c.requires.passes.1 c.args.place c.requires.there,
+      row_there place.label_of _ _ c.args.row.now.items c.requires.passes.1 c.args.place
+          c.requires.there,
     )
 
 pub split-requires-clause-lock : goal.split-requires-clause-lock

@@ -23,14 +23,16 @@ pub index_mut-requires : goal.index_mut-requires
 index_mut-requires c =
     omega (
       arith,
-      row_there label_of _ _ c.args.from.now.items c.requires.passes.1 c.args.place c.requires.there,
+      row_there label_of _ _ c.args.from.now.items c.requires.passes.1 c.args.place
+          c.requires.there,
     )
 
 pub index_mut-requires-2 : goal.index_mut-requires-2
 index_mut-requires-2 c =
     omega (
       arith,
-      row_there label_of _ _ c.args.into.now.items c.requires.passes.2 c.args.place c.requires.there,
+      row_there label_of _ _ c.args.into.now.items c.requires.passes.2 c.args.place
+          c.requires.there,
     )
 
 pub returns-clause-from : goal.returns-clause-from

@@ -3,7 +3,7 @@ use Rattle.std.specs.Prelude.{slice_get}
 use Rattle.std.proofs.lemmas.List.{length-append}
 use Rattle.place_rows.specs.Rows.{TurnsOne}
 use Rattle.place_turns.specs.Counts.{AreSums, AreAllSums}
-use Rattle.place_turns.proofs.CountSums.{begins_itself, no_longer, last_of, less_one}
+use Rattle.place_turns.proofs.CountSums.{begins_itself, no_longer, last_of}
 use Rattle.place_turns.proofs.CountSums.{none_summed, can_there, one_summed}
 use Rattle.place_turns.proofs.sharing.add_all_counts.Goals as goal
 
@@ -36,25 +36,25 @@ add_counts_at-requires-clause-can c =
     ∙ length-append c.pop.new.self.items (c.in-Some.counts ∷ []) ∙ ap (λ n. n + 1) (sym is))
     c.loop-counts.invariant.sums)
     (ap (slice_get c.args.from.items) is
-    ∙ last_of c.args.from.items c.loop-counts.from.items c.pop.new.self.items
-    c.in-Some.counts c.loop-counts.invariant.from c.in-Some.ensures.items)
+    ∙ (last_of c.args.from.items c.loop-counts.from.items c.pop.new.self.items
+    c.in-Some.counts c.loop-counts.invariant.from c.in-Some.ensures.items).0)
 
 pub loop-counts-preserved : goal.loop-counts-preserved
 loop-counts-preserved c =
     let inv = c.loop-counts.invariant in
     let is : c.len-place.result ≡ length c.pop.new.self.items = omega (arith, c.len-place.ensures)
     in
+    let last = last_of c.args.from.items c.loop-counts.from.items c.pop.new.self.items
+    c.in-Some.counts inv.from c.in-Some.ensures.items in
     record {
-      from = less_one c.args.from.items c.loop-counts.from.items c.pop.new.self.items
-          c.in-Some.counts inv.from c.in-Some.ensures.items;
+      from = last.1;
       sums = one_summed (length c.pop.new.self.items) c.args.into.now.items c.args.from.items
           c.loop-counts.into.items c.add_counts_at.new.into.items c.in-Some.counts
           (subst (λ n. AreAllSums n c.args.into.now.items c.args.from.items
           c.loop-counts.into.items)
           (ap length c.in-Some.ensures.items
           ∙ length-append c.pop.new.self.items (c.in-Some.counts ∷ [])) inv.sums)
-          (last_of c.args.from.items c.loop-counts.from.items c.pop.new.self.items
-          c.in-Some.counts inv.from c.in-Some.ensures.items)
+          last.0
           (subst (λ n. TurnsOne n c.loop-counts.into.items c.add_counts_at.new.into.items
           (λ old new. AreSums old c.in-Some.counts new)) is c.add_counts_at.ensures);
     }

@@ -1,69 +1,49 @@
-use Rattle.std.proofs.Common.{◌∙◌, sym, subst, arith, map, []}
+use Rattle.std.proofs.Common.{subst, arith, map, []}
 use Rattle.turn_lock.specs.Passes.{view_of}
 use Rattle.place_rows.specs.Meeting.{ToldUpTo}
-use Rattle.place_rows.specs.Rows.{known_of, label_at}
-use Rattle.place_turns.proofs.AtPlace.{passes_of, are_of}
-use Rattle.place_turns.proofs.ToldCounts.{all_placed, all_seen_own, counted_told}
+use Rattle.place_rows.specs.Rows.{known_of}
+use Rattle.place_turns.proofs.AtPlace.{both_passes, same_locks, still_of}
+use Rattle.place_turns.proofs.ToldCounts.{all_placed, all_seen_own, counted_after}
 use Rattle.place_turns.proofs.ToldTimes.{teller_more, teller_late, hearer_more, hearer_late}
 use Rattle.place_turns.proofs.LongerViews.{still_timely, still_timely_open}
 use Rattle.place_turns.proofs.passes.Passes.tell.Goals as goal
 
 pub tell_row-requires : goal.tell_row-requires
-tell_row-requires c =
-    let timed = c.rows_know_the_same_without_times.ensures.timed in
-    record {
-      passes = (
-        label_at c.args.places.now.outlets,
-        passes_of timed c.args.places.now c.self.inside.row.items
-            (rw (← c.self.view_is) at c.requires.of),
-        passes_of timed c.args.places.now c.others.inside.row.items
-            (rw (← c.others.view_is) at c.requires.others_of),
-      );
-    }
+tell_row-requires c = record {
+  passes = both_passes c.rows_know_the_same_without_times.ensures.timed c.args.places.now _
+      (rw (← c.self.view_is) at c.requires.of) _ (rw (← c.others.view_is) at c.requires.others_of);
+}
 
 pub invariant_of-self : goal.invariant_of-self
 invariant_of-self c =
     let laws = c.rows_know_the_same_without_times.ensures in
-    let is = rw (← c.self.view_is) at c.requires.of in
-    let named = label_at c.args.places.now.outlets in
-    let row = c.self.inside.row.items in
-    let row_then = c.tell_row.new.from.items in
     let told = laws.told _ _ _ _ _ c.tell_row.ensures.told in
-    let now = are_of laws.known c.args.places.now row_then
-    (c.tell_row.ensures.from named (passes_of laws.timed c.args.places.now row is)) in
-    counted_told named (known_of (map view_of row)) (known_of (map view_of row_then))
-    c.self.inside.sent.items c.self.invariant is.known_so now.known_so told.as_many
-    (c.telling_changes_nothing_of_ones_own.ensures.teller _ _ _ _ _ told (all_placed row))
+    counted_after laws.known laws.timed c.args.places.now _ _ _
+    (rw (← c.self.view_is) at c.requires.of) c.tell_row.ensures.from c.self.invariant told.as_many
+    (c.telling_changes_nothing_of_ones_own.ensures.teller _ _ _ _ _ told
+    (all_placed c.self.inside.row.items))
 
 pub invariant_of-others : goal.invariant_of-others
 invariant_of-others c =
     let laws = c.rows_know_the_same_without_times.ensures in
-    let is = rw (← c.others.view_is) at c.requires.others_of in
-    let named = label_at c.args.places.now.outlets in
-    let row = c.others.inside.row.items in
-    let row_then = c.tell_row.new.into.items in
     let told = laws.told _ _ _ _ _ c.tell_row.ensures.told in
-    let now = are_of laws.known c.args.places.now row_then
-    (c.tell_row.ensures.into named (passes_of laws.timed c.args.places.now row is)) in
-    counted_told named (known_of (map view_of row)) (known_of (map view_of row_then))
-    c.others.inside.sent.items c.others.invariant is.known_so now.known_so told.others_many
-    (c.telling_changes_nothing_of_ones_own.ensures.hearer _ _ _ _ _ told (all_placed row))
+    counted_after laws.known laws.timed c.args.places.now _ _ _
+    (rw (← c.others.view_is) at c.requires.others_of) c.tell_row.ensures.into c.others.invariant
+    told.others_many
+    (c.telling_changes_nothing_of_ones_own.ensures.hearer _ _ _ _ _ told
+    (all_placed c.others.inside.row.items))
 
 pub returns-clause-of : goal.returns-clause-of
 returns-clause-of c =
     let laws = c.rows_know_the_same_without_times.ensures in
-    are_of laws.known c.args.places.now c.tell_row.new.from.items
-    (c.tell_row.ensures.from (label_at c.args.places.now.outlets)
-    (passes_of laws.timed c.args.places.now c.self.inside.row.items
-    (rw (← c.self.view_is) at c.requires.of)))
+    still_of laws.timed c.args.places.now _ (rw (← c.self.view_is) at c.requires.of) _
+    c.tell_row.ensures.from laws.known
 
 pub returns-clause-others_of : goal.returns-clause-others_of
 returns-clause-others_of c =
     let laws = c.rows_know_the_same_without_times.ensures in
-    are_of laws.known c.args.places.now c.tell_row.new.into.items
-    (c.tell_row.ensures.into (label_at c.args.places.now.outlets)
-    (passes_of laws.timed c.args.places.now c.others.inside.row.items
-    (rw (← c.others.view_is) at c.requires.others_of)))
+    still_of laws.timed c.args.places.now _ (rw (← c.others.view_is) at c.requires.others_of) _
+    c.tell_row.ensures.into laws.known
 
 pub returns-clause-told : goal.returns-clause-told
 returns-clause-told c =
@@ -77,15 +57,12 @@ returns-clause-told c =
 pub returns-clause-locks : goal.returns-clause-locks
 returns-clause-locks c =
     let timed = c.rows_know_the_same_without_times.ensures.timed in
-    let is = passes_of timed c.args.places.now c.self.inside.row.items
-    (rw (← c.self.view_is) at c.requires.of) in
-    let also = passes_of timed c.args.places.now c.others.inside.row.items
-    (rw (← c.others.view_is) at c.requires.others_of) in
-    let named = label_at c.args.places.now.outlets in
-    let one = c.tell_row.ensures.from named is in
-    let two = c.tell_row.ensures.into named also in
-    rw (← c.self.view_is, ← c.others.view_is)
-    (one.locks_are ∙ sym is.locks_are, two.locks_are ∙ sym also.locks_are)
+    rw (← c.self.view_is, ← c.others.view_is) (
+      same_locks timed c.args.places.now _ (rw (← c.self.view_is) at c.requires.of) _
+          c.tell_row.ensures.from,
+      same_locks timed c.args.places.now _ (rw (← c.others.view_is) at c.requires.others_of) _
+          c.tell_row.ensures.into,
+    )
 
 pub returns-clause-balanced : goal.returns-clause-balanced
 returns-clause-balanced c = λ s entered lost is.
