@@ -19,7 +19,7 @@ use Rattle.plane.specs.declared.plane.Plane.{Plane}
 use Rattle.plane.specs.Closings.{log_among, receiver_of}
 use Rattle.plane.specs.Passes.{FeederView, IsFeederOf, IsPortOf, PortView}
 use Rattle.plane.specs.Planes.{order_of, places_of}
-use Rattle.plane.specs.Remaining.{JoinTimely, TimelyPass, port_in, row_in, times_in, holder_of}
+use Rattle.plane.specs.Remaining.{AreTimelyIn, TimelyPass, port_in, row_in, times_in, holder_of}
 use Rattle.plane.proofs.KnownEvents.{steps_of}
 use Rattle.plane.proofs.OrderAtClose.{Held, all_timed, at, AreApart}
 use Rattle.std.proofs.lemmas.List.{length-map}
@@ -212,16 +212,16 @@ module _ (plane : Plane) (p : FeederView) (row : List TimedKnown) (clock : ℕ)
           all_entries.same queue list
           (subst (λ n. slice_get lists (place_for queue n) ≡ Some list) many there)
 
-  -- of the ports whose passes were joined
-  pub closed_order : Orders → (last : List TimedKnown) (ps : List PortView)
-      (receivers : List PortReceiver) (h : Histories) → (so : JoinTimely ps row last) →
-      Every (IsPortOf plane) ps → ((port : ℕ) → times_in port ps ≤ 1) →
-      receivers ≡ map receiver_of ps →
-      AreTimedEntries (places_of plane) (row ∷ map row_in so.passes) receivers h.entries →
-      h.logs ≡ map (log_among ps) (order_of plane) → HasTotalOrder h
-  closed_order orders last ps receivers h so is once heard all_entries logs =
-      passes_order orders so.passes receivers h
-      (subst (Every (IsPortOf plane)) (sym so.are) is)
-      (subst (λ (l : List PortView). (port : ℕ) → times_in port l ≤ 1) (sym so.are) once)
-      (heard ∙ ap (map receiver_of) (sym so.are)) all_entries
-      (logs ∙ ap (λ (l : List PortView). map (log_among l) (order_of plane)) (sym so.are))
+-- of the passes that were joined into a row
+pub closed_order : (plane : Plane) (p : FeederView) → IsFeederOf plane p → Orders →
+    (ps : List PortView) (last : List TimedKnown) (receivers : List PortReceiver)
+    (h : Histories) → (t : AreTimelyIn p ps last) → Every (IsPortOf plane) ps →
+    ((port : ℕ) → times_in port ps ≤ 1) → receivers ≡ map receiver_of ps →
+    AreTimedEntries (places_of plane) (t.first ∷ map row_in t.passes) receivers h.entries →
+    h.logs ≡ map (log_among ps) (order_of plane) → HasTotalOrder h
+closed_order plane p feeds orders ps last receivers h t is once heard all_entries logs =
+    passes_order plane p t.first t.clock feeds t.same t.timely orders t.passes receivers h
+    (subst (Every (IsPortOf plane)) (sym t.are) is)
+    (subst (λ (l : List PortView). (port : ℕ) → times_in port l ≤ 1) (sym t.are) once)
+    (heard ∙ ap (map receiver_of) (sym t.are)) all_entries
+    (logs ∙ ap (λ (l : List PortView). map (log_among l) (order_of plane)) (sym t.are))

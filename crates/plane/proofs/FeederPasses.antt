@@ -14,6 +14,7 @@ use Rattle.place_rows.specs.Rows.{Known, AreKnown}
 use Rattle.place_rows.specs.Shares.{sent_in, IsBalanced, IsBalancedBut}
 use Rattle.place_turns.specs.Trails.{Trail}
 use Rattle.plane.specs.Feeders.{IsSplitOff, IsJoined}
+use Rattle.plane.specs.Meetings.{with_known}
 use Rattle.plane.specs.Passes.{FeederView}
 
 -- what the laws of rows say of splitting
@@ -62,6 +63,24 @@ live_parts : (named : ℕ → PlaceLabel) (known : List Known) → AreKnown labe
     (is_normal v.part ≡ true) × (void v.part ≡ false)
 live_parts named known are j v at = ((are j v at).normal, (are j v at).live)
 
+-- a pass is what contracts see of it
+same_feeder : (one two : FeederView) → one.locks ≡ two.locks →
+    one.trail.known ≡ two.trail.known → one.trail.lost ≡ two.trail.lost → one.fed ≡ two.fed →
+    one ≡ two
+same_feeder one two locks known lost fed =
+    ap (λ (ls : List TableId). record { locks = ls; trail = one.trail; fed = one.fed }) locks
+    ∙ ap (λ (k : List Known). record {
+      locks = two.locks;
+      trail = record { known = k; lost = one.trail.lost };
+      fed = one.fed;
+    }) known
+    ∙ ap (λ (l : List Lost). record {
+      locks = two.locks;
+      trail = record { known = two.trail.known; lost = l };
+      fed = one.fed;
+    }) lost
+    ∙ ap (λ (cs : List Card). record { locks = two.locks; trail = two.trail; fed = cs }) fed
+
 pub split_so : NoneSent → PartsSplit → (named : ℕ → PlaceLabel) (old new made : FeederView) →
     AreKnown label_of named old.trail.known → new.locks ≡ old.locks →
     new.trail.known ≡ map kept_view old.trail.known → new.trail.lost ≡ old.trail.lost →
@@ -70,46 +89,15 @@ pub split_so : NoneSent → PartsSplit → (named : ℕ → PlaceLabel) (old new
     IsSplitOff old new made
 split_so none_sent parts named old new made are locks known lost fed made_locks made_known made_lost
     made_fed = record {
-      kept = ap (λ (ls : List TableId). record {
-        locks = ls;
-        trail = new.trail;
-        fed = new.fed;
-      }) locks
-          ∙ ap (λ (k : List Known). record {
-            locks = old.locks;
-            trail = record { known = k; lost = new.trail.lost };
-            fed = new.fed;
-          }) known
-          ∙ ap (λ (l : List Lost). record {
-            locks = old.locks;
-            trail = record { known = map kept_view old.trail.known; lost = l };
-            fed = new.fed;
-          }) lost
-          ∙ ap (λ (cs : List Card). record {
-            locks = old.locks;
-            trail = record { known = map kept_view old.trail.known; lost = old.trail.lost };
-            fed = cs;
-          }) fed;
-      made_so = ap (λ (ls : List TableId). record {
-        locks = ls;
-        trail = made.trail;
-        fed = made.fed;
-      }) made_locks
-          ∙ ap (λ (k : List Known). record {
-            locks = old.locks;
-            trail = record { known = k; lost = made.trail.lost };
-            fed = made.fed;
-          }) made_known
-          ∙ ap (λ (l : List Lost). record {
-            locks = old.locks;
-            trail = record { known = map split_view old.trail.known; lost = l };
-            fed = made.fed;
-          }) made_lost
-          ∙ ap (λ (cs : List Card). record {
+      kept = same_feeder new
+          (record old { trail = with_known old.trail (map kept_view old.trail.known) })
+          locks known lost fed;
+      made_so = same_feeder made
+          (record {
             locks = old.locks;
             trail = record { known = map split_view old.trail.known; lost = [] };
-            fed = cs;
-          }) made_fed;
+            fed = [];
+          }) made_locks made_known made_lost made_fed;
       none_sent = λ port.
           ap (sent_in port) made_known ∙ none_sent port old.trail.known;
       parts = λ k rows.

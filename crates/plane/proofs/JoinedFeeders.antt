@@ -3,6 +3,7 @@ use Rattle.std.proofs.Common.{◌≡◌, ◌<◌, ◌≤◌, ◌+◌, ℕ, zero,
 use Rattle.std.proofs.Common.{sym, ap, ◌∙◌, arith, append_assoc, Option, Some, None, inl, inr}
 use Rattle.std.specs.Prelude.{Result, Ok, Err, IfOk, OnOk, OnErr, min}
 use Rattle.std.proofs.lemmas.List.{length-append}
+use Rattle.packet_entry.specs.ListWithRoom.{ListWithRoom}
 use Rattle.packet_entry.specs.declared.packet.Card.{Card}
 use Rattle.hook_chain.specs.declared.chain.Next.{Next}
 use Rattle.hook_chain.specs.declared.chain.Next.TheVariants.{Released, To}
@@ -21,7 +22,8 @@ use Rattle.place_turns.specs.Trails.{Trail, StepsAt, MayLook}
 use Rattle.place_turns.specs.Moving.{Goes, Settles, Carries, IsFed}
 use Rattle.plane.specs.Feeders.{count_of}
 use Rattle.plane.specs.Numbers.{most_fed}
-use Rattle.plane.specs.Past.{after_lost}
+use Rattle.plane.specs.declared.past.Past.{Past}
+use Rattle.plane.specs.Past.{after_lost, fed_by, lost_by}
 
 module _ (front : List Lost) where
   -- whatever is lost, is lost behind these
@@ -141,9 +143,23 @@ by_twos front own back more =
     ∙ ap (λ (l : List _). front ++ l) (append_assoc own back more)
     ∙ sym (append_assoc front own (back ++ more))
 
-pub put_so : {X : Type 0} (front own back more past rest : List X) →
+put_so : {X : Type 0} (front own back more past rest : List X) →
     past ≡ front ++ (own ++ back) → rest ≡ more → past ++ rest ≡ (front ++ own) ++ (back ++ more)
 put_so front own back more past rest is also =
     ap (λ (l : List _). l ++ rest) is
     ∙ ap (λ (l : List _). (front ++ (own ++ back)) ++ l) also
     ∙ by_twos front own back more
+
+-- what a pass fed and lost, behind which another's lists were put
+pub both_put : (front back past : Past) (own fed then_ : ListWithRoom Card)
+    (lost was gone left : List Lost) → fed_by past ≡ fed_by front ++ (own.items ++ fed_by back) →
+    lost_by past ≡ lost_by front ++ (lost ++ lost_by back) → then_ ≡ fed →
+    (left ≡ gone) × (lost ≡ was) →
+    (fed_by past ++ then_.items ≡ (fed_by front ++ own.items) ++ (fed_by back ++ fed.items))
+    × (lost_by past ++ left ≡ (lost_by front ++ was) ++ (lost_by back ++ gone))
+both_put front back past own fed then_ lost was gone left all_fed all_lost same rest = (
+  put_so (fed_by front) own.items (fed_by back) fed.items (fed_by past) then_.items all_fed
+      (ap (λ (s : ListWithRoom Card). s.items) same),
+  put_so (lost_by front) lost (lost_by back) gone (lost_by past) left all_lost rest.0
+      ∙ ap (λ (l : List Lost). (lost_by front ++ l) ++ (lost_by back ++ gone)) rest.1,
+)

@@ -14,5 +14,6 @@ mod KnownEvents
 mod OrderAtClose
 mod TimelyPorts
 mod PortLogs
+mod PortStates
 mod TimelyStart
 mod ClosedOrder

@@ -8,14 +8,19 @@ use Rattle.std.proofs.lemmas.List.{map-set, length-map, length-append}
 use Rattle.std.proofs.lemmas.Option.{slice_get-map, slice_get_within}
 use Rattle.atomic_table.specs.Seated.{TableId}
 use Rattle.place_rows.specs.Lists.{Every}
-use Rattle.place_rows.specs.Meeting.{AreNormal, TellsFirst, TellsRow, ToldUpTo, HasGathered}
-use Rattle.place_rows.specs.Meeting.{HasSpread, HaveMet}
+use Rattle.histories.specs.declared.histories.Lost.{Lost}
+use Rattle.place_rows.specs.Meeting.{AreNormal, TellsFirst, TellsRow, HasGathered, HasSpread}
+use Rattle.place_rows.specs.Meeting.{HaveMet}
 use Rattle.place_rows.specs.Rows.{Known, id_of}
+use Rattle.place_rows.specs.Shares.{IsBalanced}
+use Rattle.plane.specs.declared.meeting.Direction.{Direction}
+use Rattle.plane.specs.declared.meeting.Direction.TheVariants.{ToFeeder, ToPorts}
 use Rattle.plane.specs.declared.plane.Plane.{Plane}
 use Rattle.plane.specs.Meetings.{KeepsAll, FeederKeepsAll, Meets, with_known}
 use Rattle.plane.specs.Opening.{known_in}
 use Rattle.plane.specs.Passes.{FeederView, PortView, IsFeederOf, IsPortOf}
-use Rattle.plane.specs.Planes.{places_of}
+use Rattle.plane.specs.Planes.{places_of, setting_of}
+use Rattle.plane.specs.Tellings.{HaveTold, TellEach, Told}
 use Rattle.place_turns.specs.Passes.{AreOf}
 use Rattle.place_turns.specs.Trails.{Trail}
 use Rattle.plane.proofs.RowSplits.{some_same}
@@ -106,48 +111,94 @@ feeder_keeps_trans a b c one two =
 keeps_self : (a : PortView) → KeepsAll a a
 keeps_self a = refl
 
--- a pass of which at most what it knows has changed
-pub port_kept : (known : List Known) (old : PortView) (locks : List TableId) (trail : Trail) →
-    old.trail.known ≡ known → locks ≡ old.locks → trail.lost ≡ old.trail.lost →
-    KeepsAll old (record old { locks = locks; trail = trail })
-port_kept known old locks trail was same lost =
-    ap (λ ls. record old { locks = ls; trail = trail }) same
-    ∙ ap (λ l. record old { trail = record { known = trail.known; lost = l } }) lost
+-- a port's pass that told the feeder's, or was told
+pub port_told : (plane : Plane) (old : PortView) (locks : List TableId) (trail : Trail) →
+    IsPortOf plane old → AreOf plane.shared locks trail.known → locks ≡ old.locks →
+    trail.lost ≡ old.trail.lost →
+    (IsBalanced (setting_of plane) [] old.trail.known old.trail.lost →
+    IsBalanced (setting_of plane) [] trail.known old.trail.lost) →
+    IsPortOf plane (record old { locks = locks; trail = trail })
+    × KeepsAll old (record old { locks = locks; trail = trail })
+port_told plane old locks trail is of same lost keeps = (
+  record {
+    of = of;
+    balanced = subst (λ (l : List Lost). IsBalanced (setting_of plane) [] trail.known l) (sym lost)
+        (keeps is.balanced);
+    mailbox = is.mailbox;
+    alone = is.alone;
+    unmailed = is.unmailed;
+  },
+  ap (λ ls. record old { locks = ls; trail = trail }) same
+      ∙ ap (λ l. record old { trail = record { known = trail.known; lost = l } }) lost,
+)
 
-pub feeder_kept : (known : List Known) (old : FeederView) (locks : List TableId) (trail : Trail) →
-    old.trail.known ≡ known → locks ≡ old.locks → trail.lost ≡ old.trail.lost →
-    FeederKeepsAll old (record old { locks = locks; trail = trail })
-feeder_kept known old locks trail was same lost =
-    ap (λ ls. record old { locks = ls; trail = trail }) same
-    ∙ ap (λ l. record old { trail = record { known = trail.known; lost = l } }) lost
+-- and the feeder's
+pub feeder_told : (plane : Plane) (old : FeederView) (locks : List TableId) (trail : Trail) →
+    IsFeederOf plane old → AreOf plane.shared locks trail.known → locks ≡ old.locks →
+    trail.lost ≡ old.trail.lost →
+    (IsBalanced (setting_of plane) old.fed old.trail.known old.trail.lost →
+    IsBalanced (setting_of plane) old.fed trail.known old.trail.lost) →
+    IsFeederOf plane (record old { locks = locks; trail = trail })
+    × FeederKeepsAll old (record old { locks = locks; trail = trail })
+feeder_told plane old locks trail is of same lost keeps = (
+  record {
+    of = of;
+    balanced = subst (λ (l : List Lost). IsBalanced (setting_of plane) old.fed trail.known l)
+        (sym lost) (keeps is.balanced);
+  },
+  ap (λ ls. record old { locks = ls; trail = trail }) same
+      ∙ ap (λ l. record old { trail = record { known = trail.known; lost = l } }) lost,
+)
 
 -- ---- the ports before port n told the feeder, or were told by it
 
-module _ (Has : ℕ → List Known → List Known → List (List Known) → List (List Known) → Type 0)
-    (Tells : List Known → List Known → List Known → List Known → Type 0) where
-  -- one row more, by its number
-  abbrev pub Steps : Type 0
-  Steps = (n : ℕ) (first before after : List Known) (rows olds news : List (List Known))
-      (row row_then : List Known) → Has n first before rows olds →
-      slice_get olds n ≡ Some row → news ≡ slice_set olds n row_then →
-      Tells row before row_then after → Has (n + 1) first after rows news
+-- one row more, by its number
+abbrev pub Steps : Direction → ℕ → Type 0
+Steps direction places =
+    (n : ℕ) (first before after : List Known) (rows olds news : List (List Known))
+    (row row_then : List Known) → HaveTold direction places n first before rows olds →
+    slice_get olds n ≡ Some row → news ≡ slice_set olds n row_then →
+    Told direction places row before row_then after →
+    HaveTold direction places (n + 1) first after rows news
 
-  pub record MetSo (plane : Plane) (n : ℕ) (feeder feeder_then : FeederView)
-      (olds ports : List PortView) : Type 0 where
-    pub ports_are : Every (IsPortOf plane) ports
-    pub feeder_is : IsFeederOf plane feeder_then
-    pub same : AllZip KeepsAll olds ports
-    pub feeder_same : FeederKeepsAll feeder feeder_then
-    pub met : (first : List Known) (rows front back : List (List Known)) →
-        Has (length front) first feeder.trail.known rows
-        (front ++ (map known_in olds ++ back)) →
-        Has (length front + n) first feeder_then.trail.known rows
-        (front ++ (map known_in ports ++ back))
+-- so the laws of rows say
+pub one_more : ((places n : ℕ) (first before after : List Known)
+    (rows olds news : List (List Known)) → HasGathered places n first before rows olds →
+    TellsFirst places n before after olds news →
+    HasGathered places (n + 1) first after rows news) →
+    ((places n : ℕ) (first before after : List Known)
+    (rows olds news : List (List Known)) → HasSpread places n first before rows olds →
+    TellsRow places n before after olds news → HasSpread places (n + 1) first after rows news) →
+    (direction : Direction) (places : ℕ) → Steps direction places
+one_more gathers spreads ToFeeder places n first before after rows olds news row row_then so had has
+    told =
+    gathers places n first before after rows olds news so
+    (record { row = row; row_then = row_then; had = had; has = has; told = told })
+one_more gathers spreads ToPorts places n first before after rows olds news row row_then so had has
+    told =
+    spreads places n first before after rows olds news so
+    (record { row = row; row_then = row_then; had = had; has = has; told = told })
 
-  pub none_met : (plane : Plane) (feeder : FeederView) (ports : List PortView) →
+module _ (direction : Direction) (plane : Plane) where
+  abbrev Has : ℕ → List Known → List Known → List (List Known) → List (List Known) → Type 0
+  Has = HaveTold direction (places_of plane)
+
+  pub record MetSo (n : ℕ) (feeder feeder_then : FeederView) (olds ports : List PortView) : Type 0
+    where
+      pub ports_are : Every (IsPortOf plane) ports
+      pub feeder_is : IsFeederOf plane feeder_then
+      pub same : AllZip KeepsAll olds ports
+      pub feeder_same : FeederKeepsAll feeder feeder_then
+      pub met : (first : List Known) (rows front back : List (List Known)) →
+          Has (length front) first feeder.trail.known rows
+          (front ++ (map known_in olds ++ back)) →
+          Has (length front + n) first feeder_then.trail.known rows
+          (front ++ (map known_in ports ++ back))
+
+  pub none_met : (feeder : FeederView) (ports : List PortView) →
       Every (IsPortOf plane) ports → IsFeederOf plane feeder →
-      MetSo plane 0 feeder feeder ports ports
-  none_met plane feeder ports all is = record {
+      MetSo 0 feeder feeder ports ports
+  none_met feeder ports all is = record {
     ports_are = all;
     feeder_is = is;
     same = zip_self KeepsAll ports keeps_self;
@@ -157,22 +208,22 @@ module _ (Has : ℕ → List Known → List Known → List (List Known) → List
         (omega arith) so;
   }
 
-  pub one_met : Steps → (plane : Plane) (n : ℕ) (feeder before after : FeederView)
+  pub one_met : Steps direction (places_of plane) → (n : ℕ) (feeder before after : FeederView)
       (olds ports nexts : List PortView) (pass then_ : PortView) →
-      MetSo plane n feeder before olds ports → slice_get ports n ≡ Some pass →
-      nexts ≡ slice_set ports n then_ → IsPortOf plane then_ → KeepsAll pass then_ →
-      IsFeederOf plane after → FeederKeepsAll before after →
-      Tells pass.trail.known before.trail.known then_.trail.known after.trail.known →
-      MetSo plane (n + 1) feeder after olds nexts
-  one_met steps plane n feeder before after olds ports nexts pass then_ so at pushed is keeps
-      feeds feeder_keeps tells =
-      subst (λ (ps : List PortView). MetSo plane (n + 1) feeder after olds ps) (sym pushed)
+      MetSo n feeder before olds ports → slice_get ports n ≡ Some pass →
+      nexts ≡ slice_set ports n then_ → IsPortOf plane then_ × KeepsAll pass then_ →
+      IsFeederOf plane after × FeederKeepsAll before after →
+      Told direction (places_of plane) pass.trail.known before.trail.known then_.trail.known
+      after.trail.known →
+      MetSo (n + 1) feeder after olds nexts
+  one_met steps n feeder before after olds ports nexts pass then_ so at pushed is feeds tells =
+      subst (λ (ps : List PortView). MetSo (n + 1) feeder after olds ps) (sym pushed)
       (record {
-        ports_are = every_set (IsPortOf plane) ports n then_ so.ports_are is;
-        feeder_is = feeds;
+        ports_are = every_set (IsPortOf plane) ports n then_ so.ports_are is.0;
+        feeder_is = feeds.0;
         same = zip_set KeepsAll olds ports n pass then_ so.same at
-            (λ old one. keeps_trans old pass then_ one keeps);
-        feeder_same = feeder_keeps_trans feeder before after so.feeder_same feeder_keeps;
+            (λ old one. keeps_trans old pass then_ one is.1);
+        feeder_same = feeder_keeps_trans feeder before after so.feeder_same feeds.1;
         met = λ first rows front back begun.
             let within : n < length (map known_in ports) =
             omega (arith, length-map ports known_in, slice_get_within ports n pass at) in
@@ -190,55 +241,25 @@ module _ (Has : ℕ → List Known → List Known → List (List Known) → List
             tells);
       })
 
-  pub all_met : (plane : Plane) (n : ℕ) (feeder after : FeederView) (olds ports : List PortView) →
-      MetSo plane n feeder after olds ports → n ≡ length olds →
-      (first : List Known) (rows front back : List (List Known)) →
-      Has (length front) first feeder.trail.known rows (front ++ (map known_in olds ++ back)) →
-      Has (length front + length olds) first after.trail.known rows
-      (front ++ (map known_in ports ++ back))
-  all_met plane n feeder after olds ports so all first rows front back begun =
+  pub all_met : (n : ℕ) (feeder after : FeederView) (olds ports : List PortView) →
+      MetSo n feeder after olds ports → n ≡ length olds →
+      TellEach direction (places_of plane) feeder after olds ports
+  all_met n feeder after olds ports so all first rows front back begun =
       subst (λ m. Has (length front + m) first after.trail.known rows
       (front ++ (map known_in ports ++ back))) all (so.met first rows front back begun)
 
--- the first hears
-abbrev pub Hears : ℕ → List Known → List Known → List Known → List Known → Type 0
-Hears places row before row_then after = ToldUpTo places row before row_then after
-
--- the first tells
-abbrev pub IsTold : ℕ → List Known → List Known → List Known → List Known → Type 0
-IsTold places row before row_then after = ToldUpTo places before row after row_then
-
--- what is known of rows that meet
-pub record Laws : Type 0 where
-  pub begins : (places : ℕ) (first : List Known) (rows : List (List Known)) →
-      Every (λ (known : List Known). length known ≡ places) (first ∷ rows) →
-      Every AreNormal (first ∷ rows) → HasGathered places 0 first first rows rows
-  pub gathers : (places n : ℕ) (first before after : List Known)
-      (rows olds news : List (List Known)) → HasGathered places n first before rows olds →
-      TellsFirst places n before after olds news →
-      HasGathered places (n + 1) first after rows news
-  pub turns : (places : ℕ) (first after : List Known) (rows news : List (List Known)) →
-      HasGathered places (length rows) first after rows news →
-      HasSpread places 0 first after rows news
-  pub spreads : (places n : ℕ) (first before after : List Known)
-      (rows olds news : List (List Known)) → HasSpread places n first before rows olds →
-      TellsRow places n before after olds news → HasSpread places (n + 1) first after rows news
-  pub met : (places : ℕ) (first after : List Known) (rows news : List (List Known)) →
-      HasSpread places (length rows) first after rows news →
-      HaveMet places (first ∷ rows) (after ∷ news)
-
-module _ (laws : Laws) (places : ℕ) where
-  pub gather_steps : Steps (HasGathered places) (Hears places)
-  gather_steps n first before after rows olds news row row_then so had has told =
-      laws.gathers places n first before after rows olds news so
-      (record { row = row; row_then = row_then; had = had; has = has; told = told })
-
-  pub spread_steps : Steps (HasSpread places) (IsTold places)
-  spread_steps n first before after rows olds news row row_then so had has told =
-      laws.spreads places n first before after rows olds news so
-      (record { row = row; row_then = row_then; had = had; has = has; told = told })
-
 -- ---- all of it
+
+-- so it is of what each port knows
+every_row : (plane : Plane) (P : List Known → Type 0) →
+    ((p : PortView) → IsPortOf plane p → P p.trail.known) → (ps more : List PortView) →
+    Every (IsPortOf plane) ps → Every (IsPortOf plane) more →
+    Every P (map known_in ps ++ map known_in more)
+every_row plane P is [] [] one two = tt
+every_row plane P is [] (q ∷ more) one two =
+    (is q two.0, every_row plane P is [] more tt two.1)
+every_row plane P is (p ∷ ps) more one two =
+    (is p one.0, every_row plane P is ps more one.1 two)
 
 -- there is one pass for each place
 row_long : (plane : Plane) (locks : List TableId) (known : List Known) →
@@ -251,32 +272,42 @@ row_normal : (plane : Plane) (locks : List TableId) (known : List Known) →
     AreOf plane.shared locks known → AreNormal known
 row_normal plane locks known is = λ k v at. (is.known_so k v at).normal
 
-every_long : (plane : Plane) (ps more : List PortView) → Every (IsPortOf plane) ps →
-    Every (IsPortOf plane) more →
-    Every (λ (known : List Known). length known ≡ places_of plane)
-    (map known_in ps ++ map known_in more)
-every_long plane [] [] one two = tt
-every_long plane [] (q ∷ more) one two =
-    (row_long plane q.locks q.trail.known two.0.of, every_long plane [] more tt two.1)
-every_long plane (p ∷ ps) more one two =
-    (row_long plane p.locks p.trail.known one.0.of, every_long plane ps more one.1 two)
+-- the open ports and then the closed ones told the feeder, or it told them
+both_told : (direction : Direction) (places : ℕ) (first : List Known) (rows : List (List Known))
+    (f f1 f2 : FeederView) (ports p1 closed c1 : List PortView) → length p1 ≡ length ports →
+    TellEach direction places f f1 ports p1 → TellEach direction places f1 f2 closed c1 →
+    HaveTold direction places 0 first f.trail.known rows
+    (map known_in ports ++ map known_in closed) →
+    HaveTold direction places (length ports + length closed) first f2.trail.known rows
+    (map known_in p1 ++ map known_in c1)
+both_told direction places first rows f f1 f2 ports p1 closed c1 many one two begun =
+    let many_rows = length-map p1 known_in in
+    let halfway : HaveTold direction places (length (map known_in p1)) first f1.trail.known rows
+    (map known_in p1 ++ map known_in closed) =
+    subst (λ n. HaveTold direction places n first f1.trail.known rows
+    (map known_in p1 ++ map known_in closed)) (omega (arith, many_rows, many))
+    (one first rows [] (map known_in closed) begun) in
+    subst (λ n. HaveTold direction places n first f2.trail.known rows
+    (map known_in p1 ++ map known_in c1)) (omega (arith, many_rows, many))
+    (subst (λ (l : List (List Known)). HaveTold direction places
+    (length (map known_in p1) + length closed) first f2.trail.known rows (map known_in p1 ++ l))
+    (append-nil (map known_in c1))
+    (two first rows (map known_in p1) []
+    (subst (λ (l : List (List Known)). HaveTold direction places (length (map known_in p1)) first
+    f1.trail.known rows (map known_in p1 ++ l)) (sym (append-nil (map known_in closed)))
+    halfway)))
 
-every_normal : (plane : Plane) (ps more : List PortView) → Every (IsPortOf plane) ps →
-    Every (IsPortOf plane) more → Every AreNormal (map known_in ps ++ map known_in more)
-every_normal plane [] [] one two = tt
-every_normal plane [] (q ∷ more) one two =
-    (row_normal plane q.locks q.trail.known two.0.of, every_normal plane [] more tt two.1)
-every_normal plane (p ∷ ps) more one two =
-    (row_normal plane p.locks p.trail.known one.0.of, every_normal plane ps more one.1 two)
-
--- what a loop over these ports gives
-abbrev pub Goes : (ℕ → List Known → List Known → List (List Known) → List (List Known) → Type 0) →
-    FeederView → FeederView → List PortView → List PortView → Type 0
-Goes Has feeder feeder_then olds ports =
-    (first : List Known) (rows front back : List (List Known)) →
-    Has (length front) first feeder.trail.known rows (front ++ (map known_in olds ++ back)) →
-    Has (length front + length olds) first feeder_then.trail.known rows
-    (front ++ (map known_in ports ++ back))
+-- what is known of rows that meet
+pub record Laws : Type 0 where
+  pub begins : (places : ℕ) (first : List Known) (rows : List (List Known)) →
+      Every (λ (known : List Known). length known ≡ places) (first ∷ rows) →
+      Every AreNormal (first ∷ rows) → HasGathered places 0 first first rows rows
+  pub turns : (places : ℕ) (first after : List Known) (rows news : List (List Known)) →
+      HasGathered places (length rows) first after rows news →
+      HasSpread places 0 first after rows news
+  pub met : (places : ℕ) (first after : List Known) (rows news : List (List Known)) →
+      HasSpread places (length rows) first after rows news →
+      HaveMet places (first ∷ rows) (after ∷ news)
 
 pub meet_so : Laws → (plane : Plane) (feeder f1 f2 f3 f4 : FeederView)
     (ports p1 p2 closed c1 c2 : List PortView) → IsFeederOf plane feeder →
@@ -285,77 +316,48 @@ pub meet_so : Laws → (plane : Plane) (feeder f1 f2 f3 f4 : FeederView)
     AllZip KeepsAll closed c1 × FeederKeepsAll f1 f2 →
     AllZip KeepsAll p1 p2 × FeederKeepsAll f2 f3 →
     AllZip KeepsAll c1 c2 × FeederKeepsAll f3 f4 →
-    Goes (HasGathered (places_of plane)) feeder f1 ports p1 →
-    Goes (HasGathered (places_of plane)) f1 f2 closed c1 →
-    Goes (HasSpread (places_of plane)) f2 f3 p1 p2 →
-    Goes (HasSpread (places_of plane)) f3 f4 c1 c2 →
+    TellEach ToFeeder (places_of plane) feeder f1 ports p1 →
+    TellEach ToFeeder (places_of plane) f1 f2 closed c1 →
+    TellEach ToPorts (places_of plane) f2 f3 p1 p2 →
+    TellEach ToPorts (places_of plane) f3 f4 c1 c2 →
     Meets (places_of plane) feeder f4 ports p2 closed c2
 meet_so laws plane feeder f1 f2 f3 f4 ports p1 p2 closed c1 c2 feeds opens shut k1 k2 k3 k4 g1 g2
     s1 s2 =
     let places = places_of plane in
     let first = feeder.trail.known in
     let rows : List (List Known) = map known_in ports ++ map known_in closed in
+    let long : length rows ≡ length ports + length closed =
+    omega (
+      arith,
+      length-append (map known_in ports) (map known_in closed),
+      length-map ports known_in,
+      length-map closed known_in,
+    ) in
     let many : length p1 ≡ length ports = zip_long KeepsAll ports p1 k1.0 in
     let shut_many : length c1 ≡ length closed = zip_long KeepsAll closed c1 k2.0 in
     let more : length p2 ≡ length p1 = zip_long KeepsAll p1 p2 k3.0 in
-    let one : HasGathered places (length ports) first f1.trail.known rows
-    (map known_in p1 ++ map known_in closed) =
-    subst (λ n. HasGathered places n first f1.trail.known rows
-    (map known_in p1 ++ map known_in closed)) (omega arith)
-    (g1 first rows [] (map known_in closed)
-    (laws.begins places first rows
-    (row_long plane feeder.locks first feeds.of, every_long plane ports closed opens shut)
-    (row_normal plane feeder.locks first feeds.of, every_normal plane ports closed opens shut))) in
-    let two : HasGathered places (length rows) first f2.trail.known rows
+    let heard : HasGathered places (length rows) first f2.trail.known rows
     (map known_in p1 ++ map known_in c1) =
-    subst (λ (l : List (List Known)). HasGathered places (length rows) first f2.trail.known rows
-    (map known_in p1 ++ l)) (append-nil (map known_in c1))
-    (subst (λ n. HasGathered places n first f2.trail.known rows
-    (map known_in p1 ++ (map known_in c1 ++ [])))
-    (omega (
-      arith,
-      length-map p1 known_in,
-      many,
-      length-append (map known_in ports) (map known_in closed),
-      length-map ports known_in,
-      length-map closed known_in,
-    ))
-    (g2 first rows (map known_in p1) []
-    (subst (λ (l : List (List Known)). HasGathered places (length (map known_in p1)) first
-    f1.trail.known rows (map known_in p1 ++ l)) (sym (append-nil (map known_in closed)))
-    (subst (λ n. HasGathered places n first f1.trail.known rows
-    (map known_in p1 ++ map known_in closed))
-    (omega (arith, length-map p1 known_in, many)) one)))) in
-    let three : HasSpread places (length p1) first f3.trail.known rows
-    (map known_in p2 ++ map known_in c1) =
-    subst (λ n. HasSpread places n first f3.trail.known rows
-    (map known_in p2 ++ map known_in c1)) (omega arith)
-    (s1 first rows [] (map known_in c1)
-    (laws.turns places first f2.trail.known rows (map known_in p1 ++ map known_in c1) two)) in
-    let four : HasSpread places (length rows) first f4.trail.known rows
+    subst (λ n. HasGathered places n first f2.trail.known rows
+    (map known_in p1 ++ map known_in c1)) (sym long)
+    (both_told ToFeeder places first rows feeder f1 f2 ports p1 closed c1 many g1 g2
+    (laws.begins places first rows (
+      row_long plane feeder.locks first feeds.of,
+      every_row plane (λ (known : List Known). length known ≡ places)
+          (λ p is. row_long plane p.locks p.trail.known is.of) ports closed opens shut,
+    ) (
+      row_normal plane feeder.locks first feeds.of,
+      every_row plane AreNormal (λ p is. row_normal plane p.locks p.trail.known is.of) ports closed
+          opens shut,
+    ))) in
+    let told : HasSpread places (length rows) first f4.trail.known rows
     (map known_in p2 ++ map known_in c2) =
-    subst (λ (l : List (List Known)). HasSpread places (length rows) first f4.trail.known rows
-    (map known_in p2 ++ l)) (append-nil (map known_in c2))
-    (subst (λ n. HasSpread places n first f4.trail.known rows
-    (map known_in p2 ++ (map known_in c2 ++ [])))
-    (omega (
-      arith,
-      length-map p2 known_in,
-      more,
-      many,
-      shut_many,
-      length-append (map known_in ports) (map known_in closed),
-      length-map ports known_in,
-      length-map closed known_in,
-    ))
-    (s2 first rows (map known_in p2) []
-    (subst (λ (l : List (List Known)). HasSpread places (length (map known_in p2)) first
-    f3.trail.known rows (map known_in p2 ++ l)) (sym (append-nil (map known_in c1)))
-    (subst (λ n. HasSpread places n first f3.trail.known rows
-    (map known_in p2 ++ map known_in c1))
-    (omega (arith, length-map p2 known_in, more)) three)))) in
+    subst (λ n. HasSpread places n first f4.trail.known rows
+    (map known_in p2 ++ map known_in c2)) (omega (arith, long, many, shut_many))
+    (both_told ToPorts places first rows f2 f3 f4 p1 p2 c1 c2 more s1 s2
+    (laws.turns places first f2.trail.known rows (map known_in p1 ++ map known_in c1) heard)) in
     record {
-      rows = laws.met places first f4.trail.known rows (map known_in p2 ++ map known_in c2) four;
+      rows = laws.met places first f4.trail.known rows (map known_in p2 ++ map known_in c2) told;
       feeder_keeps = feeder_keeps_trans feeder f1 f4 k1.1
           (feeder_keeps_trans f1 f2 f4 k2.1 (feeder_keeps_trans f2 f3 f4 k3.1 k4.1));
       each_port = zip_trans KeepsAll keeps_trans ports p1 p2 k1.0 k3.0;

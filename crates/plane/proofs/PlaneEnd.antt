@@ -3,7 +3,9 @@ use Rattle.std.proofs.Common.{◌≡◌, ◌≢◌, ◌<◌, ◌≤◌, ◌+◌,
 use Rattle.std.proofs.Common.{refl, sym, ap, ◌∙◌, subst, arith, inl, inr, take, get_or}
 use Rattle.std.proofs.Common.{append_assoc, append-nil, Bool, true, false, drop}
 use Rattle.std.specs.Prelude.{map, flat_map, slice_set, if◌then◌else◌, ◌&&◌, ◌==◌}
-use Rattle.std.specs.Prelude.{Result, Ok, Err, OnOk, is_ok, slice_get, Some, option_map}
+use Rattle.std.specs.Prelude.{Result, Ok, Err, OnOk, is_ok, slice_get, Option, Some, option_map}
+use Rattle.std.specs.Prelude.{IfSome}
+use Rattle.std.specs.Bool.{then_some}
 use Rattle.std.proofs.lemmas.Bool.{cases_Bool, eqb-true, eqb-false}
 use Rattle.std.proofs.lemmas.List.{length-map, map-append, drop_all, drop_more, take_more}
 use Rattle.std.proofs.lemmas.Option.{slice_get-map}
@@ -36,7 +38,7 @@ use Rattle.plane.specs.Closings.{feeder_holds, port_holds, receiver_of, all_hold
 use Rattle.plane.specs.Closings.{dids_among, log_among}
 use Rattle.plane.specs.Opening.{all_rows, known_in}
 use Rattle.plane.specs.Remaining.{log_left, lost_in, dids_in, log_in, IsRowOf}
-use Rattle.plane.specs.Remaining.{IsAdded, AreAdded, JoinTimely, TimelyPass}
+use Rattle.plane.specs.Remaining.{IsAdded, AreAdded, JoinTimely, TimelyPass, AreAllIn, AreLeft}
 use Rattle.plane.proofs.RowSplits.{as_many}
 use Rattle.plane.proofs.TimelyPorts.{none_timely, one_timely}
 
@@ -233,30 +235,31 @@ pub none_fed : (ps : List PortView) → all_fed (map port_holds ps) ≡ []
 none_fed [] = refl
 none_fed (p ∷ ps) = none_fed ps
 
--- what is left of all ports
-pub both_added : (ports closed : List PortView) (old now then_ : Remains) →
-    AreAdded ports old now → AreAdded closed now then_ → AreAdded (ports ++ closed) old then_
-both_added ports closed old now then_ one two = record {
+-- what is left of all passes, where nothing was before
+pub left_so : (p : FeederView) (ports closed : List PortView) (old now last : Remains) →
+    old.receivers.items ≡ [] → old.logs.items ≡ [] → old.lost.items ≡ p.trail.lost →
+    AreAdded ports old now → AreAdded closed now last → AreLeft p (ports ++ closed) last
+left_so p ports closed old now last none none_logged was one two = record {
   receivers = two.receivers
-      ∙ ap (λ (l : List PortReceiver). l ++ map receiver_of closed) one.receivers
-      ∙ append_assoc old.receivers.items (map receiver_of ports) (map receiver_of closed)
-      ∙ ap (λ (l : List PortReceiver). old.receivers.items ++ l)
-      (sym (map-append receiver_of ports closed));
+      ∙ ap (λ (l : List PortReceiver). l ++ map receiver_of closed)
+      (one.receivers ∙ ap (λ (l : List PortReceiver). l ++ map receiver_of ports) none)
+      ∙ sym (map-append receiver_of ports closed);
   logs = two.logs
-      ∙ ap (λ (l : List PortLog). l ++ map log_left closed) one.logs
-      ∙ append_assoc old.logs.items (map log_left ports) (map log_left closed)
-      ∙ ap (λ (l : List PortLog). old.logs.items ++ l) (sym (map-append log_left ports closed));
+      ∙ ap (λ (l : List PortLog). l ++ map log_left closed)
+      (one.logs ∙ ap (λ (l : List PortLog). l ++ map log_left ports) none_logged)
+      ∙ sym (map-append log_left ports closed);
   lost_too = two.lost_too
-      ∙ ap (λ (l : List Lost). l ++ flat_map lost_in closed) one.lost_too
-      ∙ append_assoc old.lost.items (flat_map lost_in ports) (flat_map lost_in closed)
-      ∙ ap (λ (l : List Lost). old.lost.items ++ l) (sym (flat_both lost_in ports closed));
+      ∙ ap (λ (l : List Lost). l ++ flat_map lost_in closed)
+      (one.lost_too ∙ ap (λ (l : List Lost). l ++ flat_map lost_in ports) was)
+      ∙ append_assoc p.trail.lost (flat_map lost_in ports) (flat_map lost_in closed)
+      ∙ ap (λ (l : List Lost). p.trail.lost ++ l) (sym (flat_both lost_in ports closed));
 }
 
--- their receivers, where there were none before
-pub all_receivers : (ps : List PortView) (old now : Remains) → old.receivers.items ≡ [] →
-    AreAdded ps old now → now.receivers.items ≡ map receiver_of ps
-all_receivers ps old now none added =
-    added.receivers ∙ ap (λ (rs : List PortReceiver). rs ++ map receiver_of ps) none
+-- there is something where a test says so
+pub some_where : {X : Type 0} (P : X → Type 0) (b : Bool) (x : X) (o : Option X) →
+    o ≡ then_some b x → (b ≡ true → P x) → IfSome o P
+some_where P true x o is so = rw is (so refl)
+some_where P false x o is so = rw is tt
 
 pub lost_are : (ps : List PortView) → flat_map lost_in ps ≡ all_lost (map port_holds ps)
 lost_are [] = refl
@@ -381,50 +384,29 @@ logs_same ps (port ∷ order) =
     ∙ ap (λ (l : List PortLog). log_among ps port ∷ l) (logs_same ps order)
 
 -- the logs that were left, in the order of the ports
-pub closed_logs : (ps : List PortView) (order : List ℕ) (logs : List PortLog)
-    (old now : Remains) → old.logs.items ≡ [] → AreAdded ps old now →
-    logs ≡ map (log_in now.logs.items) order → logs ≡ map (log_among ps) order
-closed_logs ps order logs old now none added logged =
-    logged
-    ∙ ap (λ (l : List PortLog). map (log_in l) order)
-    (added.logs ∙ ap (λ (l : List PortLog). l ++ map log_left ps) none)
-    ∙ logs_same ps order
+pub closed_logs : (ps : List PortView) (order : List ℕ) (left logs : List PortLog) →
+    left ≡ map log_left ps → logs ≡ map (log_in left) order → logs ≡ map (log_among ps) order
+closed_logs ps order left logs are logged =
+    logged ∙ ap (λ (l : List PortLog). map (log_in l) order) are ∙ logs_same ps order
 
 -- ---- all of it
 
-pub holders_joined : (ports closed : List PortView) (first last : List Known) →
-    AllJoined (map known_in ports ++ map known_in closed) first last →
-    AllJoined (rows_of (map port_holds (ports ++ closed))) first last
-holders_joined ports closed first last joined =
-    subst (λ (l : List (List Known)). AllJoined l first last)
-    (sym (map-append known_in ports closed) ∙ sym (rows_are (ports ++ closed))) joined
+pub rows_joined : (ps : List PortView) (first last : List Known) →
+    AllJoined (map known_in ps) first last → AllJoined (rows_of (map port_holds ps)) first last
+rows_joined ps first last joined =
+    subst (λ (l : List (List Known)). AllJoined l first last) (sym (rows_are ps)) joined
 
-pub closed_so : (plane : Plane) (feeder : FeederView) (ps : List PortView) (old now : Remains)
-    (es : List Entry) (logs : List PortLog) (lost : List Lost) → old.receivers.items ≡ [] →
-    old.logs.items ≡ [] → old.lost.items ≡ feeder.trail.lost → AreAdded ps old now →
-    AreAllEntries (setting_of plane) (places_of plane) (all_holders feeder ps)
-    now.receivers.items es →
-    logs ≡ map (log_in now.logs.items) (order_of plane) → lost ≡ now.lost.items →
-    IsClosed plane feeder ps (record { entries = es; logs = logs; lost = lost })
-closed_so plane feeder ps old now es logs lost none none_logged was added entries logged gone =
-    record {
-      entries = subst (λ (rs : List PortReceiver). AreAllEntries (setting_of plane)
-          (places_of plane) (all_holders feeder ps) rs es)
-          (added.receivers
-          ∙ ap (λ (rs : List PortReceiver). rs ++ map receiver_of ps) none) entries;
-      lost = gone ∙ added.lost_too
-          ∙ ap (λ (l : List Lost). l ++ flat_map lost_in ps) was
-          ∙ ap (λ (l : List Lost). feeder.trail.lost ++ l) (lost_are ps);
-      logs = closed_logs ps (order_of plane) logs old now none_logged added logged;
-    }
-
--- the row that all are joined into: it has the whole of each lock
-pub record AllIn {g : Ghosts LockedView (Entry × ℕ)} (plane : Plane) (ports closed : List PortView)
-    (first : List Known) (row : List (Pass LockedView (Entry × ℕ) g)) : Type 0 where
-  pub passes : rows.ArePasses label_of (rows.label_at (outlets_of plane)) plane.shared.locks.items row
-  pub joined : AllJoined (map known_in ports ++ map known_in closed) first
-      (known_of (map view_of row))
-  pub whole : (k : ℕ) (v : TimedKnown) → slice_get (map view_of row) k ≡ Some v → v.part ≡ Whole
+pub closed_so : (plane : Plane) (p : FeederView) (ps : List PortView) (r : Remains)
+    (es : List Entry) (logs : List PortLog) (lost : List Lost) → AreLeft p ps r →
+    AreAllEntries (setting_of plane) (places_of plane) (all_holders p ps) r.receivers.items es →
+    logs ≡ map (log_in r.logs.items) (order_of plane) → lost ≡ r.lost.items →
+    IsClosed plane p ps (record { entries = es; logs = logs; lost = lost })
+closed_so plane p ps r es logs lost left entries logged gone = record {
+  entries = subst (λ (rs : List PortReceiver). AreAllEntries (setting_of plane)
+      (places_of plane) (all_holders p ps) rs es) left.receivers entries;
+  lost = gone ∙ left.lost_too ∙ ap (λ (l : List Lost). p.trail.lost ++ l) (lost_are ps);
+  logs = closed_logs ps (order_of plane) r.logs.items logs left.logs logged;
+}
 
 pub all_in : {g : Ghosts LockedView (Entry × ℕ)} (plane : Plane) (feeder : FeederView)
     (ports closed : List PortView) (start now last : List (Pass LockedView (Entry × ℕ) g)) →
@@ -447,11 +429,12 @@ pub all_in : {g : Ghosts LockedView (Entry × ℕ)} (plane : Plane) (feeder : Fe
     AllJoined others first (known_of (map view_of now)) →
     AllJoined (others ++ map known_in closed) first (known_of (map view_of last))) →
     AreWhole (places_of plane) (all_rows feeder ports closed) →
-    AllIn plane ports closed feeder.trail.known last
+    AreAllIn plane feeder (ports ++ closed) last
 all_in plane feeder ports closed start now last timed none whole feeds locks known keeps also one
     two all = record {
       passes = passes;
-      joined = joined;
+      joined = subst (λ (l : List (List Known)). AllJoined l feeder.trail.known
+          (known_of (map view_of last))) (sym (map-append known_in ports closed)) joined;
       whole = λ k v there.
           whole (places_of plane) feeder.trail.known (known_of (map view_of last))
           (map known_in ports ++ map known_in closed) joined

@@ -1,10 +1,11 @@
 -- The text of the listing of all places.
 use Rattle.std.proofs.Common.{◌≡◌, ◌<◌, ◌≤◌, ◌+◌, ℕ, zero, suc, List, ◌++◌}
 use Rattle.std.proofs.Common.{sym, refl, ap, ◌∙◌, subst, arith, append_assoc, append-nil}
-use Rattle.std.specs.Prelude.{flat_map}
+use Rattle.std.specs.Prelude.{flat_map, Result, Ok, Err, OnOk}
 use Rattle.std.specs.List.{range_with_len}
 use Rattle.std.specs.BTreeMap.{BTreeMap}
 use Rattle.std.proofs.lemmas.Nat.{mod_below}
+use Rattle.packet_entry.specs.declared.no_memory.NoMemory.{NoMemory}
 use Rattle.packet_entry.specs.declared.packet.Card.{Card}
 use Rattle.histories.specs.declared.histories.Lost.{Lost}
 use Rattle.histories.specs.Listing.{line_of}
@@ -43,24 +44,26 @@ all_texts places known lines some are =
     within q = mod_below q places some
 
 -- a pass that looked at places stays balanced
-pub listed_balanced : (s : Setting) (entered : List Card) (olds news : List Known)
-    (lost then_ : List Lost) →
+pub listed_balanced : (s : Setting) (entered : List Card) (front : List Lost)
+    (olds news : List Known) (lost then_ : List Lost) →
     ((u : Setting) (es : List Card) (ls : List Lost) → IsBalanced u es olds ls →
-    IsBalanced u es news ls) → then_ ≡ lost → IsBalanced s entered olds lost →
-    IsBalanced s entered news then_
-listed_balanced s entered olds news lost then_ keeps same is =
-    subst (λ (l : List Lost). IsBalanced s entered news l) (sym same) (keeps s entered lost is)
+    IsBalanced u es news ls) → then_ ≡ lost → IsBalanced s entered olds (front ++ lost) →
+    IsBalanced s entered news (front ++ then_)
+listed_balanced s entered front olds news lost then_ keeps same is =
+    subst (λ (l : List Lost). IsBalanced s entered news (front ++ l)) (sym same)
+    (keeps s entered (front ++ lost) is)
 
 -- all lines are appended
 pub listed_so : (places : ℕ) (olds news : List Known) (lines : BTreeMap ℕ (List ℕ))
-    (text before after : List ℕ) → 1 ≤ places → TurnedUpTo places olds news LooksOn →
-    AreLinesUpTo places places news lines → text ≡ flat_map (text_at lines) every_number →
-    after ≡ before ++ text → IsListed places olds news before after
-listed_so places olds news lines text before after some looked are is appended = record {
+    (before after : List ℕ) (r : Result Unit NoMemory) → 1 ≤ places →
+    TurnedUpTo places olds news LooksOn → AreLinesUpTo places places news lines →
+    OnOk r (after ≡ before ++ flat_map (text_at lines) every_number) →
+    OnOk r (IsListed places olds news before after)
+listed_so places olds news lines before after (Ok x) some looked are appended = record {
   looked = looked;
-  text = appended
-      ∙ ap (λ (t : List ℕ). before ++ t) (is ∙ all_texts places news lines some are);
+  text = appended ∙ ap (λ (t : List ℕ). before ++ t) (all_texts places news lines some are);
 }
+listed_so places olds news lines before after (Err e) some looked are appended = tt
 
 -- one number more
 texts_more : (f : ℕ → List ℕ) (low n : ℕ) →

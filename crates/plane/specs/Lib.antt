@@ -5,6 +5,7 @@ pub mod Past
 pub mod Passes
 pub mod Opening
 pub mod Meetings
+pub mod Tellings
 pub mod Feeders
 pub mod Closings
 pub mod Remaining

@@ -1,19 +1,27 @@
--- What is left of ports, while their passes are joined into one row.
-use Rattle.std.specs.Prelude.{◌≡◌, ℕ, List, [], ◌∷◌, ◌++◌, map, flat_map}
+-- What is left of passes, while they are joined into one row.
+use Rattle.std.specs.Prelude.{◌≡◌, ℕ, List, [], ◌∷◌, ◌++◌, map, flat_map, slice_get, Some}
 use Rattle.std.specs.Prelude.{if◌then◌else◌, ◌==◌, length}
 use Rattle.atomic_table.specs.Seated.{TableId}
 use Rattle.mailbox.specs.Views.{ReceiverView}
+use Rattle.histories.specs.declared.entry.Entry.{Entry}
 use Rattle.histories.specs.declared.histories.Lost.{Lost}
 use Rattle.histories.specs.declared.log.Did.{Did}
 use Rattle.histories.specs.declared.log.PortLog.{PortLog}
-use Rattle.locked_place.specs.Views.{PlaceLabel, label_of}
+use Rattle.turn_lock.specs.declared.storied.Storied.{Ghosts}
+use Rattle.turn_lock.specs.declared.pass.Pass.{Pass}
+use Rattle.turn_lock.specs.Parts.{Whole}
+use Rattle.turn_lock.specs.Passes.{view_of}
+use Rattle.locked_place.specs.Views.{LockedView, PlaceLabel, label_of}
 use Rattle.place_rows.specs.Hearing as row
 use Rattle.place_rows.specs.Joining.{AllJoined}
-use Rattle.place_rows.specs.Rows.{AreKnown, TimedKnown, known_of}
-use Rattle.place_turns.specs.Timely.{AreTimely, Holder, port_with}
+use Rattle.place_rows.specs.Rows.{AreKnown, ArePasses, TimedKnown, known_of, label_at}
+use Rattle.place_turns.specs.Timely.{AreTimely, Holder, port_with, feeder}
 use Rattle.plane.specs.declared.finish.Remains.{Remains}
+use Rattle.plane.specs.declared.plane.Plane.{Plane}
 use Rattle.plane.specs.Closings.{receiver_of}
-use Rattle.plane.specs.Passes.{PortView}
+use Rattle.plane.specs.Opening.{known_in}
+use Rattle.plane.specs.Passes.{FeederView, PortView}
+use Rattle.plane.specs.Planes.{outlets_of}
 
 abbrev pub log_left : PortView → PortLog
 log_left p = record { port = p.port; dids = p.dids }
@@ -78,3 +86,29 @@ pub record JoinTimely (ports : List PortView) (before after : List TimedKnown) :
   pub are : map port_in passes ≡ ports
   pub joined : (rows : List (List TimedKnown)) (first : List TimedKnown) →
       AllJoined rows first before → AllJoined (rows ++ map row_in passes) first after
+
+-- ---- all passes of a plane
+
+-- those of who feeds and of these ports were joined into a row, which has the whole of each lock
+pub record AreAllIn {g : Ghosts LockedView (Entry × ℕ)} (plane : Plane) (p : FeederView)
+    (ports : List PortView) (row : List (Pass LockedView (Entry × ℕ) g)) : Type 0 where
+  pub passes : ArePasses label_of (label_at (outlets_of plane)) plane.shared.locks.items row
+  pub joined : AllJoined (map known_in ports) p.trail.known (known_of (map view_of row))
+  pub whole : (k : ℕ) (v : TimedKnown) → slice_get (map view_of row) k ≡ Some v → v.part ≡ Whole
+
+-- and so were they with times
+pub record AreTimelyIn (p : FeederView) (ports : List PortView) (row : List TimedKnown) : Type 0
+  where
+    pub first : List TimedKnown
+    pub same : known_of first ≡ p.trail.known
+    pub clock : ℕ
+    pub timely : AreTimely clock first feeder
+    pub passes : List TimelyPass
+    pub are : map port_in passes ≡ ports
+    pub joined : AllJoined (map row_in passes) first row
+
+-- what is left of them
+pub record AreLeft (p : FeederView) (ports : List PortView) (r : Remains) : Type 0 where
+  pub receivers : r.receivers.items ≡ map receiver_of ports
+  pub logs : r.logs.items ≡ map log_left ports
+  pub lost_too : r.lost.items ≡ p.trail.lost ++ flat_map lost_in ports

@@ -1,6 +1,6 @@
 //! The end of a plane.
 
-ghost use Rattle.std.specs.Prelude.{◌≡◌, ◌≢◌, ◌≤◌, ◌++◌, ℕ, List, true, map, IfOk, OnOk};
+ghost use Rattle.std.specs.Prelude.{◌≡◌, ◌≢◌, ◌≤◌, ◌++◌, ℕ, List, true, map, IfOk, IfSome, OnOk};
 ghost use Rattle.mailbox.specs.Roles.{AreDistinct};
 ghost use Rattle.turn_lock.specs.Passes.{view_of};
 ghost use Rattle.locked_place.specs.Views.{PlaceLabel, label_of};
@@ -14,12 +14,12 @@ ghost use Rattle.plane.specs.Planes.{places_of};
 ghost use Rattle.plane.specs.Closings.{IsClosed};
 ghost use Rattle.plane.specs.Opening.{all_rows, known_in};
 ghost use Rattle.plane.specs.Remaining.{times_in, dids_in, log_in, IsRowOf, IsAdded, AreAdded};
-ghost use Rattle.plane.specs.Remaining.{JoinTimely};
+ghost use Rattle.plane.specs.Remaining.{JoinTimely, AreAllIn, AreTimelyIn, AreLeft};
 
 use crate::opened::{ClosedPorts, PortPasses};
 use crate::past::{Link, Past};
 use crate::plane::Plane;
-use crate::port::{ClosedPort, FeederPass, PortPass};
+use crate::port::{FeederPass, Port, PortState};
 use histories::{Dids, Histories, Logs, Lost, PortLog};
 use mailbox::Receiver;
 use packet_entry::{NoMemory, Sequence, Stock};
@@ -134,7 +134,12 @@ fn join_passes(locks: &Locks, into: &mut Row, passes: Passes) -> Stock<Lost>
 }
 
 /// Joins the passes of ports into a row, and adds what is left of them: whether there was memory.
-fn join_ports(locks: &Locks, into: &mut Row, ports: PortPasses, remains: &mut Remains) -> bool
+fn join_ports<S: PortState>(
+    locks: &Locks,
+    into: &mut Row,
+    ports: Sequence<Port<S>>,
+    remains: &mut Remains,
+) -> bool
     requires passes { (named : ℕ → PlaceLabel)
         × ArePasses label_of named locks.now.items into.old.items
         × Every (IsRowOf (map id_of locks.now.items) named) ports }
@@ -150,11 +155,12 @@ fn join_ports(locks: &Locks, into: &mut Row, ports: PortPasses, remains: &mut Re
     rows_are_joined_one_by_one();
     let mut kept = true;
     for pass in ports {
-        let PortPass {
+        let Port {
             passes,
             port,
             receiver,
             log,
+            state: _state,
         } = pass;
         let lost = join_passes(locks, into, passes);
         let room = add(remains, port, receiver, log.into_dids(), lost).is_ok();
@@ -163,34 +169,47 @@ fn join_ports(locks: &Locks, into: &mut Row, ports: PortPasses, remains: &mut Re
     kept
 }
 
-/// The same of closed ports.
-fn join_closed(locks: &Locks, into: &mut Row, ports: ClosedPorts, remains: &mut Remains) -> bool
-    requires passes { (named : ℕ → PlaceLabel)
-        × ArePasses label_of named locks.now.items into.old.items
-        × Every (IsRowOf (map id_of locks.now.items) named) ports }
-    ensures passes { (named : ℕ → PlaceLabel) →
-        ArePasses label_of named locks.now.items into.old.items →
-        ArePasses label_of named locks.now.items into.new.items }
-    ensures joined { (rows : List (List Known)) (first : List Known) →
-        AllJoined rows first (known_of (map view_of into.old.items)) →
-        AllJoined (rows ++ map known_in ports) first (known_of (map view_of into.new.items)) }
-    ensures timely { JoinTimely ports (map view_of into.old.items) (map view_of into.new.items) }
-    ensures kept { result ≡ true → AreAdded ports remains.old remains.new }
+/// Joins all passes of a plane into one row, and gives what is left of them, where there was memory
+/// for it.
+fn join_all(
+    alloc: Global,
+    plane: &Plane,
+    feeder: FeederPass,
+    ports: PortPasses,
+    closed: ClosedPorts,
+) -> (Row, Option<Remains>)
+    requires feeder { IsFeederOf plane.now feeder }
+    requires ports { Every (IsPortOf plane.now) ports }
+    requires closed { Every (IsPortOf plane.now) closed }
+    requires whole { AreWhole (places_of plane.now) (all_rows feeder ports closed) }
+    ensures joined { AreAllIn plane.now feeder (ports ++ closed) result.0.items }
+    ensures timely { AreTimelyIn feeder (ports ++ closed) (map view_of result.0.items) }
+    ensures left { IfSome result.1 (AreLeft feeder (ports ++ closed)) }
 {
     rows_are_joined_one_by_one();
-    let mut kept = true;
-    for pass in ports {
-        let ClosedPort {
-            passes,
-            port,
-            receiver,
-            log,
-        } = pass;
-        let lost = join_passes(locks, into, passes);
-        let room = add(remains, port, receiver, log.into_dids(), lost).is_ok();
-        kept = kept & room;
-    }
-    kept
+    rows_know_the_same_without_times();
+    let FeederPass {
+        passes,
+        fed: _fed,
+        past,
+        fed_before: _before,
+        link: _link,
+    } = feeder;
+    let Passes {
+        mut row,
+        sent: _sent,
+        lost,
+        clock: _clock,
+    } = passes;
+    let (lost, first) = lost_by_feeder(alloc, past, lost);
+    let mut remains = Remains {
+        receivers: Vec::new(alloc),
+        logs: Vec::new(alloc),
+        lost,
+    };
+    let second = join_ports(&plane.shared.locks, &mut row, ports, &mut remains);
+    let third = join_ports(&plane.shared.locks, &mut row, closed, &mut remains);
+    (row, (first & second & third).then_some(remains))
 }
 
 /// Takes what a port did out of its log, where there is one.
@@ -238,45 +257,25 @@ impl Plane {
         ensures closed { IfOk result (IsClosed self feeder (ports ++ closed)) }
         ensures order { IfOk result HasTotalOrder }
     {
-        rows_are_joined_one_by_one();
-        rows_know_the_same_without_times();
         timed_lists_have_one_order();
+        let (row, left) = join_all(alloc, &self, feeder, ports, closed);
         let Plane { order, shared } = self;
         let Places {
             setting: _setting,
             outlets,
             locks,
         } = shared;
-        let FeederPass {
-            passes,
-            fed: _fed,
-            past,
-            fed_before: _before,
-            link: _link,
-        } = feeder;
-        let Passes {
-            mut row,
-            sent: _sent,
-            lost,
-            clock: _clock,
-        } = passes;
-        let (lost, third) = lost_by_feeder(alloc, past, lost);
-        let mut remains = Remains {
-            receivers: Vec::new(alloc),
-            logs: Vec::new(alloc),
-            lost,
-        };
-        let first = join_ports(&locks, &mut row, ports, &mut remains);
-        let second = join_closed(&locks, &mut row, closed, &mut remains);
-        if !(first & second & third) {
+        let Some(
+            Remains {
+                receivers,
+                logs,
+                lost,
+            },
+        ) = left
+        else {
             close_all(locks, row);
             return Err(NoMemory);
-        }
-        let Remains {
-            receivers,
-            logs,
-            lost,
-        } = remains;
+        };
         let entries = end_rows(alloc, &outlets, locks, row, receivers)?;
         Ok(Histories {
             entries,

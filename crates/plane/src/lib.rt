@@ -18,4 +18,4 @@ pub use opened::{ClosedPorts, Opened, PortPasses};
 pub use packet_moves::{Fed, Refused};
 pub use place_turns::passes_stay_balanced;
 pub use plane::Plane;
-pub use port::{ClosedPort, FeederPass, PortPass};
+pub use port::{Closed, ClosedPort, FeederPass, Open, Port, PortPass, PortState};

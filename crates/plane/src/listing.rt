@@ -1,6 +1,6 @@
 //! The listing of all queues.
 
-ghost use Rattle.std.specs.Prelude.{◌≡◌, ℕ, IfOk, OnOk, OnErr, flat_map};
+ghost use Rattle.std.specs.Prelude.{◌≡◌, ◌++◌, ℕ, IfOk, OnOk, OnErr, flat_map};
 ghost use Rattle.histories.specs.States.{every_number};
 ghost use Rattle.place_history.specs.Lines.{text_at};
 ghost use Rattle.locked_place.specs.Turns.{LooksOn};
@@ -33,6 +33,16 @@ fn text_of_all(alloc: Global, lines: &Lines) -> Result<Vec<u8>, NoMemory>
     Ok(text)
 }
 
+/// Appends all lines, by ascending queue number. `NoMemory` leaves the text as it was.
+fn append_all(alloc: Global, lines: &Lines, out: &mut Vec<u8>) -> Result<(), NoMemory>
+    ensures appended { OnOk result (out.new.items
+        ≡ out.old.items ++ flat_map (text_at lines.now) every_number) }
+    ensures err { OnErr result (out.new.items ≡ out.old.items) }
+{
+    let text = text_of_all(alloc, lines)?;
+    Ok(out.extend_from_slice(&text)?)
+}
+
 impl Plane {
     /// Appends a line for each bound queue of all places, by ascending number. The lines of a place
     /// are of one moment, in a turn there. `NoMemory` leaves `out` as it was. Either way the pass
@@ -55,7 +65,6 @@ impl Plane {
         ensures err { OnErr result (out.new.items ≡ out.old.items) }
     {
         let lines = pass.passes.lines(&self.shared, rt, alloc)?;
-        let text = text_of_all(alloc, &lines)?;
-        Ok(out.extend_from_slice(&text)?)
+        append_all(alloc, &lines, out)
     }
 }

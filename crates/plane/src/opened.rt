@@ -23,7 +23,7 @@ ghost use Rattle.plane.specs.Remaining.{IsRowOf};
 
 use crate::past::{Past, new_link};
 use crate::plane::Plane;
-use crate::port::{ClosedPort, FeederPass, PortPass};
+use crate::port::{ClosedPort, FeederPass, Port, PortPass};
 use glance::{Board, GlancePass};
 use hook_chain::Tables;
 use locked_place::Outlets;
@@ -37,6 +37,7 @@ use place_rows::{
 use place_turns::{Counts, Log, Passes, Places, passes_begin_and_end_timely};
 use std::alloc::Global;
 use std::collections::BTreeMap;
+use std::marker::PhantomData;
 use turn_lock::{a_part_is_known_by_its_ways, parts_are_put_together_in_any_order};
 
 /// The passes of ports.
@@ -185,11 +186,12 @@ fn fill(alloc: Global, locks: &Locks, row: &mut Row, unfilled: Unfilled) -> Port
     rows_know_the_same_without_times();
     passes_begin_and_end_timely();
     split_row(locks, row, &mut made);
-    PortPass {
+    Port {
         passes: passes_of(alloc, made, sent),
         port,
         receiver,
         log,
+        state: PhantomData,
     }
 }
 

@@ -7,7 +7,7 @@ ghost use Rattle.std.specs.Ordering.{nat_cmp};
 ghost use Rattle.mailbox.specs.Roles.{AreDistinct};
 ghost use Rattle.plane.specs.Apart.{AreDistinct-prop};
 
-use crate::port::{ClosedPort, FeederPass, PortPass};
+use crate::port::{ClosedPort, FeederPass, Port, PortPass};
 use glance::{GlancePass, Totals};
 use locked_place::Gate;
 use packet_entry::{Letter, NoMemory, Packet};
@@ -17,6 +17,7 @@ use place_turns::{
     Places, Turns, passes_begin_and_end_timely, passes_keep_their_parts, passes_stay_balanced,
 };
 use std::alloc::Global;
+use std::marker::PhantomData;
 use std::sync::Wait;
 
 /// A plane: places of queues, each behind a lock of its own, and a mailbox for each port. Threads
@@ -198,19 +199,21 @@ impl Plane {
         ensures parts { parts_of result.trail.known ≡ parts_of pass.trail.known }
     {
         passes_begin_and_end_timely();
-        let PortPass {
+        let Port {
             mut passes,
             port,
             receiver,
             mut log,
+            state: _open,
         } = pass;
         passes.close_port(&self.shared, rt, port);
         log.close();
-        ClosedPort {
+        Port {
             passes,
             port,
             receiver,
             log,
+            state: PhantomData,
         }
     }
 

@@ -1,6 +1,6 @@
 //! The passes of a plane: of who feeds, and of ports, open and closed.
 
-ghost use Rattle.std.specs.Prelude.{◌≡◌, min};
+ghost use Rattle.std.specs.Prelude.{◌≡◌, Bool, true, false, min};
 ghost use Rattle.packet_moves.specs.Calls.{sent_in};
 ghost use Rattle.place_rows.specs.Shares as share;
 ghost use Rattle.plane.specs.Numbers.{most_fed};
@@ -9,10 +9,10 @@ use crate::past::{Link, Past};
 use mailbox::Receiver;
 use packet_entry::{Card, Stock};
 use place_turns::{Log, Passes};
-use std::marker::Model;
+use std::marker::{Model, PhantomData};
 
 /// How many packets are fed at most by one pass.
-const MOST_FED: u32 = 16_777_215;
+const MAX_FED: u32 = 16_777_215;
 
 /// The right to feed packets to one plane. It may go from thread to thread.
 #[derive(Drop)]
@@ -55,7 +55,7 @@ impl Model for FeederPass {
 pub(crate) fn up_to_most(count: u32) -> u32
     ensures { result ≡ min count most_fed }
 {
-    count.min(MOST_FED)
+    count.min(MAX_FED)
 }
 
 impl FeederPass {
@@ -77,20 +77,48 @@ impl FeederPass {
     }
 }
 
-/// The right to act as one port of one plane. It may go from thread to thread.
+/// Whether a port is open: the state of its pass is [`Open`] or [`Closed`].
+pub trait PortState {
+    ghost is_open: { Bool };
+}
+
+/// The port may send, receive and close.
 #[derive(Drop)]
-pub struct PortPass {
+pub struct Open;
+
+/// The port closed.
+#[derive(Drop)]
+pub struct Closed;
+
+impl PortState for Open {
+    ghost is_open = { true };
+}
+
+impl PortState for Closed {
+    ghost is_open = { false };
+}
+
+/// The pass of a port in one of the two states: its log, and its parts of the locks.
+#[derive(Drop)]
+pub struct Port<S: PortState> {
     pub(crate) passes: Passes,
     pub(crate) port: u32,
     pub(crate) receiver: Receiver,
     pub(crate) log: Log,
+    pub(crate) state: PhantomData<S>,
 }
 
-impl Model for PortPass {
-    ghost use Rattle.std.specs.Prelude.{◌<◌};
+/// The right to act as one port of one plane. It may go from thread to thread.
+pub type PortPass = Port<Open>;
+
+/// A port that closed: its log, and its parts of the locks.
+pub type ClosedPort = Port<Closed>;
+
+impl<S: PortState> Model for Port<S> {
+    ghost use Rattle.std.specs.Prelude.{MatchBool};
     ghost use Rattle.std.specs.Coded.{codes};
     ghost use Rattle.turn_lock.specs.Parts.{tree_code};
-    ghost use Rattle.plane.specs.Passes.{PortView, IsPort};
+    ghost use Rattle.plane.specs.Passes.{PortView, HasLogged, IsPort};
 
     ghost Value = { PortView };
 
@@ -104,11 +132,22 @@ impl Model for PortPass {
       dids = p.log.dids.items;
     } };
 
-    ghost use Rattle.place_turns.specs.Timely.{AreTimelyOpen, port_with};
+    ghost use Rattle.place_turns.specs.Timely.{AreTimely, AreTimelyOpen, port_with};
 
-    ghost invariant = { λ p. IsPort p.log.dids p.receiver
-        × AreTimelyOpen p.passes.clock p.passes.timed
-        (port_with p.port p.log.dids.items p.receiver.received) };
+    ghost invariant = { λ p. MatchBool S.is_open
+        (IsPort p.log.dids p.receiver × AreTimelyOpen p.passes.clock p.passes.timed
+        (port_with p.port p.log.dids.items p.receiver.received))
+        (HasLogged p.log.dids.items p.receiver × AreTimely p.passes.clock p.passes.timed
+        (port_with p.port p.log.dids.items p.receiver.received)) };
+}
+
+impl<S: PortState> Port<S> {
+    /// How many notices its calls put into a port's mailbox.
+    pub fn sent(&self, port: u32) -> u128
+        ensures { result ≡ share.sent_in port self.now.trail.known }
+    {
+        self.passes.sent_to(port)
+    }
 }
 
 impl PortPass {
@@ -124,54 +163,5 @@ impl PortPass {
         ensures { result ≡ sent_in self.now.dids }
     {
         self.log.calls()
-    }
-
-    /// How many notices its calls put into a port's mailbox.
-    pub fn sent(&self, port: u32) -> u128
-        ensures { result ≡ share.sent_in port self.now.trail.known }
-    {
-        self.passes.sent_to(port)
-    }
-}
-
-/// A port that closed: its log, and its parts of the locks.
-#[derive(Drop)]
-pub struct ClosedPort {
-    pub(crate) passes: Passes,
-    pub(crate) port: u32,
-    pub(crate) receiver: Receiver,
-    pub(crate) log: Log,
-}
-
-impl Model for ClosedPort {
-    ghost use Rattle.std.specs.Coded.{codes};
-    ghost use Rattle.turn_lock.specs.Parts.{tree_code};
-    ghost use Rattle.plane.specs.Passes.{PortView, HasLogged};
-
-    ghost Value = { PortView };
-
-    ghost coded = { Prim.hlevel (codes, tree_code) };
-
-    ghost view = { λ p. record {
-      locks = p.passes.locks;
-      trail = p.passes.trail;
-      port = p.port;
-      receiver = p.receiver;
-      dids = p.log.dids.items;
-    } };
-
-    ghost use Rattle.place_turns.specs.Timely.{AreTimely, port_with};
-
-    ghost invariant = { λ p. HasLogged p.log.dids.items p.receiver
-        × AreTimely p.passes.clock p.passes.timed
-        (port_with p.port p.log.dids.items p.receiver.received) };
-}
-
-impl ClosedPort {
-    /// How many notices its calls put into a port's mailbox.
-    pub fn sent(&self, port: u32) -> u128
-        ensures { result ≡ share.sent_in port self.now.trail.known }
-    {
-        self.passes.sent_to(port)
     }
 }

@@ -4,17 +4,18 @@ use Rattle.place_rows.specs.Rows.{id_of}
 use Rattle.plane.specs.Passes.{PortView}
 use Rattle.plane.specs.Remaining.{IsRowOf, TimelyPass}
 use Rattle.plane.proofs.PlaneEnd.{Laws, none_so, one_so, all_so, at_hand, added_too}
+use Rattle.plane.proofs.PortStates.{timely_in}
 use Rattle.plane.proofs.finish.join_ports.Goals as goal
 
 pub loop-pass-init : goal.loop-pass-init
-loop-pass-init c = record {
+loop-pass-init g c = record {
   into = λ named are. are;
   so = rw c.into_iter-pass-iterator.ensures.into_iter_gives
       (none_so (map view_of c.args.into.now.items) c.args.remains.now c.args.ports);
 }
 
 pub join_passes-lost-requires : goal.join_passes-lost-requires
-join_passes-lost-requires c =
+join_passes-lost-requires g c =
     let inv = c.loop-pass.invariant in
     let r = c.requires.passes in
     let is =
@@ -25,7 +26,7 @@ join_passes-lost-requires c =
     record { passes = (r.0, inv.into r.0 r.1, is.locks_are, is.known_so) }
 
 pub loop-pass-preserved : goal.loop-pass-preserved
-loop-pass-preserved c =
+loop-pass-preserved g c =
     let laws : Laws =
     record {
       one = c.rows_are_joined_one_by_one.ensures.one;
@@ -46,7 +47,7 @@ loop-pass-preserved c =
       row = passes.timed;
       same = c.join_passes-lost.ensures.known;
       clock = passes.clock;
-      timely = c.pass.invariant.1.timely;
+      timely = timely_in _ _ g.S.PortState.is_open c.pass.invariant;
     } in
     let inv = c.loop-pass.invariant in
     record {
@@ -63,19 +64,19 @@ loop-pass-preserved c =
     }
 
 pub returns-clause-passes : goal.returns-clause-passes
-returns-clause-passes c = c.loop-pass.invariant.into
+returns-clause-passes g c = c.loop-pass.invariant.into
 
 pub returns-clause-joined : goal.returns-clause-joined
-returns-clause-joined c =
+returns-clause-joined g c =
     let none : c.loop-pass.pass-iterator ≡ [] = search rules in
     (all_so _ _ _ _ _ c.args.ports c.loop-pass.pass-iterator none c.loop-pass.invariant.so).joined
 
 pub returns-clause-timely : goal.returns-clause-timely
-returns-clause-timely c =
+returns-clause-timely g c =
     let none : c.loop-pass.pass-iterator ≡ [] = search rules in
     (all_so _ _ _ _ _ c.args.ports c.loop-pass.pass-iterator none c.loop-pass.invariant.so).timely
 
 pub returns-clause-kept : goal.returns-clause-kept
-returns-clause-kept c =
+returns-clause-kept g c =
     let none : c.loop-pass.pass-iterator ≡ [] = search rules in
     (all_so _ _ _ _ _ c.args.ports c.loop-pass.pass-iterator none c.loop-pass.invariant.so).added

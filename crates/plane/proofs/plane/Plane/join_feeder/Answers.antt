@@ -1,13 +1,12 @@
-use Rattle.std.proofs.Common.{◌≤◌, ◌∙◌, sym, ap, subst, List, length, ◌++◌}
+use Rattle.std.proofs.Common.{◌≤◌, ◌∙◌, sym, ap, subst, length}
 use Rattle.packet_entry.specs.ListWithRoom.{ListWithRoom}
 use Rattle.packet_entry.specs.declared.packet.Card.{Card}
-use Rattle.histories.specs.declared.histories.Lost.{Lost}
 use Rattle.plane.specs.Feeders.{count_of}
 use Rattle.plane.specs.Numbers.{most_fed}
-use Rattle.plane.specs.Past.{fed_by, lost_by}
+use Rattle.plane.specs.Past.{fed_by}
 use Rattle.plane.specs.Planes.{setting_of}
 use Rattle.plane.proofs.FeederPasses.{both_so, joined_so}
-use Rattle.plane.proofs.JoinedFeeders.{counted_both, put_so}
+use Rattle.plane.proofs.JoinedFeeders.{both_put, counted_both}
 use Rattle.plane.proofs.plane.Plane.join_feeder.Goals as goal
 
 pub join-lost-requires-clause-of : goal.join-lost-requires-clause-of
@@ -35,39 +34,25 @@ pub returns-clause-into : goal.returns-clause-into
 returns-clause-into c =
     let one = rw (← c.into.view_is) at c.requires.into in
     let two = rw (← c.from.view_is) at c.requires.from in
+    let put =
+    both_put c.into.inside.past c.from.inside.past c.put_behind.new.past c.into.inside.fed
+    c.from.inside.fed c.put_behind.new.own c.join-lost.result.items _ _ _ c.put_behind.ensures.fed
+    c.put_behind.ensures.lost c.put_behind.ensures.own c.join-lost.ensures.lost in
     record {
       of = c.join-lost.ensures.of;
       balanced = both_so c.rows_are_balanced_together.ensures (setting_of c.args.self.now) _ _ _
-          _ _ _ _ _ _ one.balanced two.balanced c.join-lost.ensures.joined
-          (put_so (fed_by c.into.inside.past) c.into.inside.fed.items (fed_by c.from.inside.past)
-          c.from.inside.fed.items (fed_by c.put_behind.new.past) c.put_behind.new.own.items
-          c.put_behind.ensures.fed
-          (ap (λ (s : ListWithRoom Card). s.items) c.put_behind.ensures.own))
-          (put_so (lost_by c.into.inside.past) c.join-lost.result.items
-          (lost_by c.from.inside.past) c.from.inside.passes.trail.lost
-          (lost_by c.put_behind.new.past) c.join-lost.new.self.trail.lost
-          c.put_behind.ensures.lost c.join-lost.ensures.lost.0
-          ∙ ap (λ (l : List Lost). (lost_by c.into.inside.past ++ l)
-          ++ (lost_by c.from.inside.past ++ c.from.inside.passes.trail.lost))
-          c.join-lost.ensures.lost.1);
+          _ _ _ _ _ _ one.balanced two.balanced c.join-lost.ensures.joined put.0 put.1;
     }
 
 pub returns-clause-joined : goal.returns-clause-joined
 returns-clause-joined c =
     let one = rw (← c.into.view_is) at c.requires.into in
     let two = rw (← c.from.view_is) at c.requires.from in
+    let law = c.joined_rows_have_what_both_had.ensures in
+    let put =
+    both_put c.into.inside.past c.from.inside.past c.put_behind.new.past c.into.inside.fed
+    c.from.inside.fed c.put_behind.new.own c.join-lost.result.items _ _ _ c.put_behind.ensures.fed
+    c.put_behind.ensures.lost c.put_behind.ensures.own c.join-lost.ensures.lost in
     rw (← c.into.view_is, ← c.from.view_is)
-    (joined_so c.joined_rows_have_what_both_had.ensures.sent
-    c.joined_rows_have_what_both_had.ensures.parts (setting_of c.args.self.now) _ _ _
-    one.balanced two.balanced c.join-lost.ensures.joined c.join-lost.ensures.locks
-    (put_so (fed_by c.into.inside.past) c.into.inside.fed.items (fed_by c.from.inside.past)
-    c.from.inside.fed.items (fed_by c.put_behind.new.past) c.put_behind.new.own.items
-    c.put_behind.ensures.fed
-    (ap (λ (s : ListWithRoom Card). s.items) c.put_behind.ensures.own))
-    (put_so (lost_by c.into.inside.past) c.join-lost.result.items
-    (lost_by c.from.inside.past) c.from.inside.passes.trail.lost
-    (lost_by c.put_behind.new.past) c.join-lost.new.self.trail.lost
-    c.put_behind.ensures.lost c.join-lost.ensures.lost.0
-    ∙ ap (λ (l : List Lost). (lost_by c.into.inside.past ++ l)
-    ++ (lost_by c.from.inside.past ++ c.from.inside.passes.trail.lost))
-    c.join-lost.ensures.lost.1))
+    (joined_so law.sent law.parts (setting_of c.args.self.now) _ _ _ one.balanced two.balanced
+    c.join-lost.ensures.joined c.join-lost.ensures.locks put.0 put.1)
