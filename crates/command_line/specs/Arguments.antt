@@ -244,12 +244,16 @@ IsAllowed (Migrates m) = ⊤
 IsAllowed (Lives l) = IsLiveAllowed l
 IsAllowed (Audits a) = ⊤
 
+-- the inputs that these three words name
+abbrev pub inputs_at : List ℕ → List ℕ → List ℕ → InputFiles
+inputs_at rules script capture = record { rules = rules; script = script; capture = capture }
+
 -- the files of a run that these six words name, where each of them may
 abbrev pub run_files_of : List ℕ → List ℕ → List ℕ → List ℕ → List ℕ → List ℕ → Option PlayFiles
 run_files_of rules script capture output ledger journal =
     let f : PlayFiles =
     record {
-      inputs = record { rules = rules; script = script; capture = capture };
+      inputs = inputs_at rules script capture;
       output = output;
       ledger = ledger;
       journal = journal;
@@ -302,10 +306,7 @@ live_of (verb ∷ words) =
 abbrev pub list_of : List (List ℕ) → Option ListFiles
 list_of (verb ∷ rules ∷ script ∷ capture ∷ output ∷ []) =
     let f : ListFiles =
-    record {
-      inputs = record { rules = rules; script = script; capture = capture };
-      output = output;
-    } in
+    record { inputs = inputs_at rules script capture; output = output } in
     if bytes_eq verb (codes "list") && are_list_files f then Some f else None
 list_of words = None
 
@@ -319,7 +320,7 @@ sample_of_words number count = do
 -- the numbers and files of a `gen` command
 abbrev pub gen_of : List (List ℕ) → Option GenFiles
 gen_of (verb ∷ number ∷ count ∷ rules ∷ script ∷ capture ∷ []) =
-    let f : InputFiles = record { rules = rules; script = script; capture = capture } in
+    let f : InputFiles = inputs_at rules script capture in
     if bytes_eq verb (codes "gen") && are_inputs f && are_inputs_apart f
     then option_map (λ (s : Sample). record { sample = s; files = f })
     (sample_of_words number count) else None
@@ -342,10 +343,7 @@ migrate_of words = None
 abbrev pub audit_of : List (List ℕ) → Option AuditFiles
 audit_of (verb ∷ rules ∷ script ∷ capture ∷ journal ∷ []) =
     let f : AuditFiles =
-    record {
-      inputs = record { rules = rules; script = script; capture = capture };
-      journal = journal;
-    } in
+    record { inputs = inputs_at rules script capture; journal = journal } in
     if bytes_eq verb (codes "audit") && are_audit_files f then Some f else None
 audit_of words = None
 

@@ -212,6 +212,18 @@ fn play_of(words: &[String]) -> Option<Play<'_>>
     }
 }
 
+/// The inputs that these words name.
+fn inputs_at<'a>(rules: &'a String, script: &'a String, capture: &'a String) -> Inputs<'a>
+    ensures { named.inputs_of result ≡ named.inputs_at (string_bytes rules.now)
+        (string_bytes script.now) (string_bytes capture.now) }
+{
+    Inputs {
+        rules: rules.as_str(),
+        script: script.as_str(),
+        capture: capture.as_str(),
+    }
+}
+
 /// The files of a run that these words name, where each of them may.
 fn run_files_of<'a>(
     rules: &'a String,
@@ -231,11 +243,7 @@ fn run_files_of<'a>(
     ensures apart { IfSome result (λ p. named.are_outputs_apart (named.files_of p) ≡ true) }
 {
     let files = Play {
-        inputs: Inputs {
-            rules: rules.as_str(),
-            script: script.as_str(),
-            capture: capture.as_str(),
-        },
+        inputs: inputs_at(rules, script, capture),
         output: output.as_str(),
         ledger: ledger.as_str(),
         journal: journal.as_str(),
@@ -256,11 +264,7 @@ fn list_of(words: &[String]) -> Option<Listing<'_>>
         return None;
     };
     let listing = Listing {
-        inputs: Inputs {
-            rules: rules.as_str(),
-            script: script.as_str(),
-            capture: capture.as_str(),
-        },
+        inputs: inputs_at(rules, script, capture),
         output: output.as_str(),
     };
     if verb.as_str() == "list" && are_inputs(&listing.inputs) && is_file(listing.output) {
@@ -279,11 +283,7 @@ fn gen_of(words: &[String]) -> Option<Generation<'_>>
     let [verb, number, count, rules, script, capture] = words else {
         return None;
     };
-    let files = Inputs {
-        rules: rules.as_str(),
-        script: script.as_str(),
-        capture: capture.as_str(),
-    };
+    let files = inputs_at(rules, script, capture);
     if verb.as_str() == "gen"
         && are_inputs(&files)
         && are_apart(files.rules, files.script, files.capture)
@@ -339,11 +339,7 @@ fn audit_of(words: &[String]) -> Option<Audit<'_>>
         return None;
     };
     let audit = Audit {
-        inputs: Inputs {
-            rules: rules.as_str(),
-            script: script.as_str(),
-            capture: capture.as_str(),
-        },
+        inputs: inputs_at(rules, script, capture),
         journal: journal.as_str(),
     };
     if verb.as_str() == "audit" && are_inputs(&audit.inputs) && is_file(audit.journal) {
