@@ -11,11 +11,33 @@ use Rattle.live_work.specs.Sharing.{SharePasses}
 use Rattle.live_work.proofs.UnchangedPass.{feeder_here, feeder_stays}
 use Rattle.live_work.proofs.SharePackets.{fed_all, fed_next, few_more, left_cards, left_first}
 use Rattle.live_work.proofs.SharePackets.{next_within}
-use Rattle.live_work.proofs.ShareWalk.{IsUpTo, up_to_first, up_to_last, up_to_next}
+use Rattle.live_work.proofs.ShareWalk.{IsUpTo, ShareLaws, up_to_first, up_to_last, up_to_next}
+use Rattle.live_work.proofs.feeding.feed_share.Given.{Over}
 use Rattle.live_work.proofs.feeding.feed_share.Goals as goal
+use Rattle.live_work.proofs.feeding.feed_share.Goals.{After-the_feeder_keeps_its_time}
+
+-- the laws of a share, all at once
+laws : (g : Over) (c : After-the_feeder_keeps_its_time g) → ShareLaws
+laws g c = record {
+  begins = c.a_feeder_keeps_its_share.ensures.begins;
+  waits = c.a_feeder_keeps_its_share.ensures.waits;
+  feeds = c.a_feeder_keeps_its_share.ensures.feeds;
+  falls = c.a_feeder_keeps_its_share.ensures.falls;
+  fed = c.feeders_feed_their_passes.ensures.feeds;
+  fell = c.feeders_feed_their_passes.ensures.falls;
+  grows = c.the_feeder_keeps_its_time.ensures.fed;
+  no_place = c.the_feeder_keeps_its_time.ensures.no_place;
+  next_place = c.the_feeder_keeps_its_time.ensures.next_place;
+  first = c.lines_of_a_share_add_up.ensures.first;
+  on = c.lines_of_a_share_add_up.ensures.on;
+  none = c.lines_of_a_share_add_up.ensures.none;
+  more = c.lines_of_a_share_add_up.ensures.more;
+  all = c.lines_of_a_share_add_up.ensures.all;
+}
 
 pub loop-step-init : goal.loop-step-init
 loop-step-init g c =
+    let every = laws g (goal.at.loop-step-init g c).After-the_feeder_keeps_its_time in
     let s = c.args.share in
     let first = c.new-feeder.ensures.first in
     let share = ap (λ (f : FeederState). f.share) first in
@@ -36,28 +58,13 @@ loop-step-init g c =
           c.requires.number;
       up = subst (λ n. IsUpTo c.args.stage.now.script.now (places_of c.args.stage.now.plane.now) s n
           (shares_in c.args.feeding.now.pass) (shares_in c.args.feeding.now.pass)) (sym next)
-          (up_to_first (record {
-            begins = c.a_feeder_keeps_its_share.ensures.begins;
-            waits = c.a_feeder_keeps_its_share.ensures.waits;
-            feeds = c.a_feeder_keeps_its_share.ensures.feeds;
-            falls = c.a_feeder_keeps_its_share.ensures.falls;
-            fed = c.feeders_feed_their_passes.ensures.feeds;
-            fell = c.feeders_feed_their_passes.ensures.falls;
-            grows = c.the_feeder_keeps_its_time.ensures.fed;
-            no_place = c.the_feeder_keeps_its_time.ensures.no_place;
-            next_place = c.the_feeder_keeps_its_time.ensures.next_place;
-            first = c.lines_of_a_share_add_up.ensures.first;
-            on = c.lines_of_a_share_add_up.ensures.on;
-            none = c.lines_of_a_share_add_up.ensures.none;
-            more = c.lines_of_a_share_add_up.ensures.more;
-            all = c.lines_of_a_share_add_up.ensures.all;
-          }) c.args.stage.now.script.now (places_of c.args.stage.now.plane.now) s
-          (shares_in c.args.feeding.now.pass)
-          c.requires.number);
+          (up_to_first every c.args.stage.now.script.now (places_of c.args.stage.now.plane.now) s
+          (shares_in c.args.feeding.now.pass) c.requires.number);
     }
 
 pub loop-step-preserved : goal.loop-step-preserved
 loop-step-preserved g c =
+    let every = laws g (goal.at.loop-step-preserved g c).After-the_feeder_keeps_its_time in
     let plane = c.args.stage.now.plane.now in
     let script = c.args.stage.now.script.now in
     let capture = c.args.capture.now in
@@ -84,23 +91,8 @@ loop-step-preserved g c =
       fed = fed_next c.each_frame_is_one_shares.ensures.own
           c.each_frame_is_one_shares.ensures.between plane script capture s was now old new
           c.loop-step.invariant.share c.loop-step.invariant.next goes c.loop-step.invariant.fed;
-      up = up_to_next (record {
-        begins = c.a_feeder_keeps_its_share.ensures.begins;
-        waits = c.a_feeder_keeps_its_share.ensures.waits;
-        feeds = c.a_feeder_keeps_its_share.ensures.feeds;
-        falls = c.a_feeder_keeps_its_share.ensures.falls;
-        fed = c.feeders_feed_their_passes.ensures.feeds;
-        fell = c.feeders_feed_their_passes.ensures.falls;
-        grows = c.the_feeder_keeps_its_time.ensures.fed;
-        no_place = c.the_feeder_keeps_its_time.ensures.no_place;
-        next_place = c.the_feeder_keeps_its_time.ensures.next_place;
-        first = c.lines_of_a_share_add_up.ensures.first;
-        on = c.lines_of_a_share_add_up.ensures.on;
-        none = c.lines_of_a_share_add_up.ensures.none;
-        more = c.lines_of_a_share_add_up.ensures.more;
-        all = c.lines_of_a_share_add_up.ensures.all;
-      }) plane script capture was now s (shares_in c.args.feeding.now.pass) old new
-          c.loop-step.invariant.share c.requires.number c.loop-step.invariant.stays.of goes
+      up = up_to_next every plane script capture was now s (shares_in c.args.feeding.now.pass)
+          old new c.loop-step.invariant.share c.requires.number c.loop-step.invariant.stays.of goes
           c.step_by.ensures.pass c.loop-step.invariant.up;
     }
 
@@ -110,6 +102,8 @@ returns-in_err-downs-clause-stays g c =
 
 pub returns-then-not-branch-clause-on : goal.returns-then-not-branch-clause-on
 returns-then-not-branch-clause-on g c =
+    let at = goal.at.returns-then-not-branch-clause-on g c in
+    let every = laws g at.After-the_feeder_keeps_its_time in
     let plane = c.args.stage.now.plane.now in
     let capture = c.args.capture.now in
     let frames = length capture.frames in
@@ -122,23 +116,9 @@ returns-then-not-branch-clause-on g c =
     c.in_ok-step_by.ensures.stepped in
     subst (λ (p : FeederView). SharePasses c.args.stage.now.script.now (places_of plane) s frames
     (shares_in c.args.feeding.now.pass) (shares_in p)) (sym none.1.1)
-    (up_to_last (record {
-      begins = c.a_feeder_keeps_its_share.ensures.begins;
-      waits = c.a_feeder_keeps_its_share.ensures.waits;
-      feeds = c.a_feeder_keeps_its_share.ensures.feeds;
-      falls = c.a_feeder_keeps_its_share.ensures.falls;
-      fed = c.feeders_feed_their_passes.ensures.feeds;
-      fell = c.feeders_feed_their_passes.ensures.falls;
-      grows = c.the_feeder_keeps_its_time.ensures.fed;
-      no_place = c.the_feeder_keeps_its_time.ensures.no_place;
-      next_place = c.the_feeder_keeps_its_time.ensures.next_place;
-      first = c.lines_of_a_share_add_up.ensures.first;
-      on = c.lines_of_a_share_add_up.ensures.on;
-      none = c.lines_of_a_share_add_up.ensures.none;
-      more = c.lines_of_a_share_add_up.ensures.more;
-      all = c.lines_of_a_share_add_up.ensures.all;
-    }) c.args.stage.now.script.now (places_of plane) frames c.loop-step.feeder.next s
-    (shares_in c.args.feeding.now.pass) (shares_in c.loop-step.feeding.pass) c.requires.number
+    (up_to_last every c.args.stage.now.script.now (places_of plane) frames
+    c.loop-step.feeder.next s (shares_in c.args.feeding.now.pass)
+    (shares_in c.loop-step.feeding.pass) c.requires.number
     none.0 c.loop-step.invariant.near c.loop-step.invariant.up)
 
 pub returns-then-not-branch-clause-fed : goal.returns-then-not-branch-clause-fed
@@ -157,25 +137,12 @@ returns-then-not-branch-clause-fed g c =
 
 pub returns-clause-on : goal.returns-clause-on
 returns-clause-on g c =
+    let every = laws g (goal.at.returns-clause-on g c).After-the_feeder_keeps_its_time in
     let plane = c.args.stage.now.plane.now in
     let frames = length c.args.capture.now.frames in
-    up_to_last (record {
-      begins = c.a_feeder_keeps_its_share.ensures.begins;
-      waits = c.a_feeder_keeps_its_share.ensures.waits;
-      feeds = c.a_feeder_keeps_its_share.ensures.feeds;
-      falls = c.a_feeder_keeps_its_share.ensures.falls;
-      fed = c.feeders_feed_their_passes.ensures.feeds;
-      fell = c.feeders_feed_their_passes.ensures.falls;
-      grows = c.the_feeder_keeps_its_time.ensures.fed;
-      no_place = c.the_feeder_keeps_its_time.ensures.no_place;
-      next_place = c.the_feeder_keeps_its_time.ensures.next_place;
-      first = c.lines_of_a_share_add_up.ensures.first;
-      on = c.lines_of_a_share_add_up.ensures.on;
-      none = c.lines_of_a_share_add_up.ensures.none;
-      more = c.lines_of_a_share_add_up.ensures.more;
-      all = c.lines_of_a_share_add_up.ensures.all;
-    }) c.args.stage.now.script.now (places_of plane) frames c.loop-step.feeder.next c.args.share
-    (shares_in c.args.feeding.now.pass) (shares_in c.loop-step.feeding.pass) c.requires.number
+    up_to_last every c.args.stage.now.script.now (places_of plane) frames
+    c.loop-step.feeder.next c.args.share (shares_in c.args.feeding.now.pass)
+    (shares_in c.loop-step.feeding.pass) c.requires.number
     (omega (
       arith,
       c.loop-step-test.false,
