@@ -341,6 +341,15 @@ module _ (feeders count time : ℕ) (q : Option Bound) (fallen : ℕ → List Do
   apart : count < count → ⊥
   apart wrong = absurd (omega (arith, wrong))
 
+  below_other : (f : ℕ) → f < count + 1 → (f == count) ≡ false → f < count
+  below_other f below other = below_it (λ same. no_way (eq-eqb f count same))
+    where
+      no_way : (f == count) ≡ true → ⊥
+      no_way it_is = absurd (cc)
+
+      below_it : (f ≡ count → ⊥) → f < count
+      below_it away = omega (arith, below, away)
+
   line_of : (f : ℕ) → f < count + 1 → ((f == count) ≡ true) ⊎ ((f == count) ≡ false) →
       filter (is_line_of feeders f) (flat_map own_lines united.sights) ≡ fallen f
   line_of f below (inl at) = subst (λ g.
@@ -351,21 +360,12 @@ module _ (feeders count time : ℕ) (q : Option Bound) (fallen : ℕ → List Do
       (no_lines feeders count (IsBefore count) apart one.sights one.own)
       ∙ all_lines feeders count two.sights two.own ∙ two.lines)
   line_of f below (inr other) =
-      let less : f < count = before other in
+      let less = below_other f below other in
       filtered feeders f united.sights
       ∙ united.lines_one (lines_in feeders f) (λ e. refl)
       (no_lines feeders f (IsThis count) (λ same. absurd (omega (arith, same, less))) two.sights
       two.own)
       ∙ sym (filtered feeders f one.sights) ∙ one.lines f less
-    where
-      before : (f == count) ≡ false → f < count
-      before other = below_it (λ same. no_way (eq-eqb f count same))
-        where
-          no_way : (f == count) ≡ true → ⊥
-          no_way it_is = absurd (cc)
-
-          below_it : (f ≡ count → ⊥) → f < count
-          below_it away = omega (arith, below, away)
 
   time_of : (f : ℕ) → f < count + 1 → ((f == count) ≡ true) ⊎ ((f == count) ≡ false) →
       AscendFrom front_time (flat_map (own_times_in feeders f) united.sights)
@@ -377,20 +377,11 @@ module _ (feeders count time : ℕ) (q : Option Bound) (fallen : ℕ → List Do
       (no_times feeders count (IsBefore count) apart one.sights one.own)
       ∙ all_times feeders count two.sights two.own)) two.times.ascend)
   time_of f below (inr other) =
-      let less : f < count = before other in
+      let less = below_other f below other in
       subst (AscendFrom front_time)
       (sym (united.times_one (own_times_in feeders f) (λ e. refl)
       (no_times feeders f (IsThis count) (λ same. absurd (omega (arith, same, less))) two.sights
       two.own))) (one.times f less)
-    where
-      before : (f == count) ≡ false → f < count
-      before other = below_it (λ same. no_way (eq-eqb f count same))
-        where
-          no_way : (f == count) ≡ true → ⊥
-          no_way it_is = absurd (cc)
-
-          below_it : (f ≡ count → ⊥) → f < count
-          below_it away = omega (arith, below, away)
 
   more_at : AreSharesOf feeders (count + 1) q fallen l
   more_at = record {

@@ -160,6 +160,15 @@ module _ (feeders feeder : ℕ) (q : Option Bound) where
       (quiet_event (IsFrameOf feeders (IsThis feeder)) e.event not_fed.1, tt)
       (λ xs were. no_time front_time time xs (times_of_event e.event) not_fed.1 were) is)
 
+  -- an entry, if it is of the queue, and then the rest
+  if_of_queue : (c : Bool) (time : ℕ) (fallen : List Down) (h rest : List Seen) (x : Seen) →
+      Shared time fallen h → Shared time fallen (h ++ x ∷ []) →
+      ((g : List Seen) → Shared time fallen g → Shared time fallen (g ++ rest)) →
+      Shared time fallen (h ++ (if c then x ∷ rest else rest))
+  if_of_queue true time fallen h rest x is pushed on =
+      subst (Shared time fallen) (append_assoc h (x ∷ []) rest) (on (h ++ x ∷ []) pushed)
+  if_of_queue false time fallen h rest x is pushed on = on h is
+
   -- the entries of a list, those that are of the queue
   pub quiet_share : (queue time : ℕ) (fallen : List Down) (h ys : List Seen) →
       OursAre IsNotFed ys → Shared time fallen h →
@@ -167,29 +176,12 @@ module _ (feeders feeder : ℕ) (q : Option Bound) where
   quiet_share queue time fallen h [] are is =
       subst (Shared time fallen) (sym (append-nil h)) is
   quiet_share queue time fallen h (Theirs e ∷ ys) are is =
-      by (is_of queue e) (λ g so. quiet_share queue time fallen g ys are so)
-    where
-      by : (c : Bool) →
-          ((g : List Seen) → Shared time fallen g →
-          Shared time fallen (g ++ history_seen queue ys)) →
-          Shared time fallen (h ++ (if c then Theirs e ∷ history_seen queue ys
-          else history_seen queue ys))
-      by true rest = subst (Shared time fallen)
-          (append_assoc h (Theirs e ∷ []) (history_seen queue ys))
-          (rest (h ++ Theirs e ∷ []) (saw_push time fallen h e is))
-      by false rest = rest h is
+      if_of_queue (is_of queue e) time fallen h (history_seen queue ys) (Theirs e) is
+      (saw_push time fallen h e is) (λ g so. quiet_share queue time fallen g ys are so)
   quiet_share queue time fallen h (Ours e ∷ ys) are is =
-      by (is_of queue e) (λ g so. quiet_share queue time fallen g ys are.1 so)
-    where
-      by : (c : Bool) →
-          ((g : List Seen) → Shared time fallen g →
-          Shared time fallen (g ++ history_seen queue ys)) →
-          Shared time fallen (h ++ (if c then Ours e ∷ history_seen queue ys
-          else history_seen queue ys))
-      by true rest = subst (Shared time fallen)
-          (append_assoc h (Ours e ∷ []) (history_seen queue ys))
-          (rest (h ++ Ours e ∷ []) (quiet_push time fallen h e are.0 is))
-      by false rest = rest h is
+      if_of_queue (is_of queue e) time fallen h (history_seen queue ys) (Ours e) is
+      (quiet_push time fallen h e are.0 is)
+      (λ g so. quiet_share queue time fallen g ys are.1 so)
 
   -- the first arrival of a frame of the share
   first_push : (time number : ℕ) (fallen : List Down) (h : List Seen) (e : Entry) →
