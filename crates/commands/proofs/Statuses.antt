@@ -17,7 +17,7 @@ use Rattle.run_files.specs.Statuses.{IfStopRefuses, IsOfInputs, IsOfRefusal, sta
 use Rattle.run_files.specs.Statuses.{status_of_refusal}
 use Rattle.journal_audit.specs.declared.finding.Finding.{Finding}
 use Rattle.journal_audit.specs.Printed as finding
-use Rattle.commands.specs.Ending.{IfAudit, IsAnswer, IsEnded, IsNoCommand, IsOut, IsStatusOf}
+use Rattle.commands.specs.Ending.{IfAudit, IsAnswer, IsEnded, IsOut, IsStatusOf}
 use Rattle.commands.specs.Ending.{MayEndWith, Span, UnlessJournal}
 use Rattle.commands.specs.Headline.{Finds, IsAtEnd, IsAudited, IsFoundBy, IsOnlyFoundBy}
 use Rattle.commands.specs.Headline.{IsOnlyJudged, MayFind, status_at_end}
@@ -376,8 +376,12 @@ pub of_command : (o : Option Call) (c : Call) (s : Span) (n : ℕ) → o ≡ Som
     IsStatusOf c s n → IsAnswer o s n
 of_command o c s n is status = subst (λ (p : Option Call). IsAnswer p s n) (sym is) status
 
-pub of_none : (o : Option Call) (s : Span) (n : ℕ) → o ≡ None → IsNoCommand s n → IsAnswer o s n
-of_none o s n is none = subst (λ (p : Option Call). IsAnswer p s n) (sym is) none
+pub no_command : (o : Option Call) (s : Span) → o ≡ None →
+    (IsTrue s.tells → IsPrinted usage_line s.old_write_faults s.new_write_faults s.new) →
+    ChangesOnly standard_output s.old s.new → IsAnswer o s 1
+no_command o s is printed files =
+    subst (λ (p : Option Call). IsAnswer p s 1) (sym is)
+    (record { is = refl; printed = printed; files = files })
 
 pub of_other : (o p : Option Call) (s : Span) (n : ℕ) → o ≡ p → IsAnswer o s n → IsAnswer p s n
 of_other o p s n same answer = subst (λ (q : Option Call). IsAnswer q s n) same answer

@@ -142,7 +142,7 @@ pub fn program<R: Threads + Wait + Sync, H: Host>(
     status_of_arguments(rt, alloc, arguments, host)
 }
 
-/// The status of the command that the arguments are.
+/// The status of the command that the arguments are, with threads or without.
 fn status_of_arguments<R: Threads + Wait + Sync, H: Host>(
     rt: &R,
     alloc: Global,
@@ -155,30 +155,19 @@ fn status_of_arguments<R: Threads + Wait + Sync, H: Host>(
     ensures later { IsLater H.tells H.read_faults H.write_faults host.old host.new }
 {
     match words_of(alloc, arguments) {
-        Ok(words) => status_of_any(rt, alloc, words.as_slice(), host),
+        Ok(words) => {
+            let words = words.as_slice();
+            if is_live(words) {
+                live_status(rt, alloc, words, host, &OpenGate, &OpenJobGate)
+            } else {
+                status_of_words(alloc, words, host)
+            }
+        }
         Err(NoWords::NoMemory) => NO_MEMORY,
         Err(NoWords::NoText) => {
             print_usage(host);
             USAGE
         }
-    }
-}
-
-/// The status of the command that the words are, with threads or without.
-fn status_of_any<R: Threads + Wait + Sync, H: Host>(
-    rt: &R,
-    alloc: Global,
-    words: &[String],
-    host: &mut H,
-) -> u8
-    ensures answer { IsAnswer (program_call words.now)
-        (span H.tells H.content H.read_faults H.write_faults host.old host.new) result }
-    ensures later { IsLater H.tells H.read_faults H.write_faults host.old host.new }
-{
-    if is_live(words) {
-        live_status(rt, alloc, words, host, &OpenGate, &OpenJobGate)
-    } else {
-        status_of_words(alloc, words, host)
     }
 }
 

@@ -125,7 +125,7 @@ pub fn live<R: Threads + Wait + Sync, H: Host, G: Gate>(
     ensures answer { IsAnswer (live_call_of_words words.now)
         (span H.tells H.content H.read_faults H.write_faults host.old host.new) result }
 {
-    live_status(rt, alloc, words, host, gate, &OpenJobGate)
+    live_pools(rt, alloc, words, host, gate, &OpenJobGate)
 }
 
 /// The same, where `jobs` is told of each job of the pools.
@@ -273,53 +273,26 @@ fn live_files<R: Threads + Wait + Sync, H: Host, G: Gate, J: JobGate>(
         (H.content host.old) (H.content host.new) }
     ensures later { IsLater H.tells H.read_faults H.write_faults host.old host.new }
 {
+    a_run_is_accounted_for();
+    released_frames_can_be_written();
     let made = read_inputs(alloc, &command.files.inputs, host)?;
     let Made {
         tables,
         script,
         capture,
     } = made;
-    let size = command.size;
-    let histories = run_of(rt, alloc, size, &script, tables, &capture, gate, jobs)?;
-    write_run(alloc, &command.files, &capture, histories, host)
-}
-
-/// Runs a script over the packets of a capture with threads, in a run of this size; each of them is
-/// accounted for in the histories. What is released can be written as a capture.
-fn run_of<R: Threads + Wait + Sync, G: Gate, J: JobGate>(
-    rt: &R,
-    alloc: Global,
-    size: RunSize,
-    script: &Script,
-    tables: Tables,
-    capture: &Capture,
-    gate: &G,
-    jobs: &J,
-) -> Result<Histories, NoMemory>
-    requires size { IsSizeAllowed (size_of size) }
-    requires script { IsScript script.now }
-    requires held { IsHeld capture.now }
-    requires frames { length capture.now.frames ≤ most_frames }
-    ensures account { IfOk result
-        (IsAccountedOf (size_of size) tables script.now capture.now) }
-    ensures fit { IfOk result
-        (λ h. All (λ l. length l.payload ≤ longest_packet) (fates_of capture.now h)) }
-    ensures held { IfOk result (λ h. IsHeld (released capture.now (fates_of capture.now h))) }
-{
-    a_run_is_accounted_for();
-    released_frames_can_be_written();
     let RunSize {
         places,
         feeders,
         workers,
-    } = size;
+    } = command.size;
     let fanned = tables.with_feeders(feeders);
-    let opened = open(alloc, places, script, fanned)?;
+    let opened = open(alloc, places, &script, fanned)?;
     let histories = run_pools(
-        rt, alloc, opened, script, capture, feeders, workers, gate, jobs,
+        rt, alloc, opened, &script, &capture, feeders, workers, gate, jobs,
     )?;
     histories_fit(&histories);
-    Ok(histories)
+    write_run(alloc, &command.files, &capture, histories, host)
 }
 
 /// A plane of so many places for a script.

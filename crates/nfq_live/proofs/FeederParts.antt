@@ -28,7 +28,7 @@ use Rattle.live_work.proofs.ShareWalk.{feeder_long}
 use Rattle.nfq_live.specs.Feeders.{AllFeed, AllJoin, HaveItsParts, IsFresh, IsHelper, fed_by}
 use Rattle.nfq_live.specs.Feeders.{rows_of, share_of}
 use Rattle.nfq_live.proofs.JoinedShares.{EachWell}
-use Rattle.nfq_live.proofs.WorkerSeats.{both_true, is_not_true}
+use Rattle.nfq_live.proofs.WorkerSeats.{all_well}
 use Rattle.nfq_live.proofs.WholeLocks.{UnionLaws, feeder_normal, part_at, same_part, turned_round}
 
 -- ---- the laws
@@ -258,26 +258,58 @@ each_well (h ∷ hs) all = (
   each_well hs (All-tail (λ (g : Feeding). g.failed ≡ false) h hs all),
 )
 
-one_more_well : (x : Feeding) (xs : List Feeding) → x.failed ≡ false →
-    All (λ (h : Feeding). h.failed ≡ false) xs → All (λ (h : Feeding). h.failed ≡ false) (x ∷ xs)
-one_more_well x xs is are zero d within = is
-one_more_well x xs is are (suc i) d within = are i d (omega (arith, within))
-
-pub helpers_well : (well : Bool) (was rest helpers : List Feeding) (helper : Feeding) →
-    was ≡ helper ∷ rest → (well ≡ true → All (λ (h : Feeding). h.failed ≡ false) was →
-    All (λ (h : Feeding). h.failed ≡ false) helpers) → (well && not helper.failed) ≡ true →
-    All (λ (h : Feeding). h.failed ≡ false) rest →
-    All (λ (h : Feeding). h.failed ≡ false) helpers
-helpers_well well was rest helpers helper steps so both are =
-    let parts = both_true well (not helper.failed) both in
-    so parts.0 (subst (λ (l : List Feeding). All (λ (h : Feeding). h.failed ≡ false) l) (sym steps)
-    (one_more_well helper rest (is_not_true helper.failed parts.1) are))
-
 -- nothing failed
 pub neither : (a b : Bool) → (a || not b) ≡ false → (a ≡ false) × (b ≡ true)
 neither true b is = let wrong : true ≡ false = is in absurd (cc wrong)
 neither false true is = (refl, refl)
 neither false false is = let wrong : true ≡ false = is in absurd (cc wrong)
+
+-- ---- joined one after the other
+
+-- The feeders' passes before these were joined into the first one's, which was this at first:
+-- what the rest makes with it, all of them make with the first. Whether none of them failed.
+pub record IsJoining (plane : Plane) (begun : FeederView) (helpers : List Feeding)
+    (into : FeederView) (rest : List Feeding) (well : Bool) : Type 0 where
+  pub of : IsFeederOf plane into
+  pub others : Every (λ (h : Feeding). IsFeederOf plane h.pass) rest
+  pub parts : (all : FeederView) → HaveItsParts into rest all → HaveItsParts begun helpers all
+  pub fed : (all : List Card) → all ≡ into.fed ++ fed_by rest → all ≡ begun.fed ++ fed_by helpers
+  pub joined : (all : Shares) → AllJoin (shares_in into) rest all →
+      AllJoin (shares_in begun) helpers all
+  pub none_failed : well ≡ true → All (λ (h : Feeding). h.failed ≡ false) rest →
+      All (λ (h : Feeding). h.failed ≡ false) helpers
+
+pub joining_first : (plane : Plane) (begun : FeederView) (helpers : List Feeding) →
+    IsFeederOf plane begun → Every (λ (h : Feeding). IsFeederOf plane h.pass) helpers →
+    IsJoining plane begun helpers begun helpers true
+joining_first plane begun helpers of others = record {
+  of = of;
+  others = others;
+  parts = λ all parts. parts;
+  fed = λ all fed. fed;
+  joined = λ all joined. joined;
+  none_failed = λ yes_ all. all;
+}
+
+pub joining_next : JoinedLaw → (plane : Plane) (begun : FeederView)
+    (helpers was rest : List Feeding) (into after : FeederView) (h : Feeding) (well : Bool) →
+    was ≡ h ∷ rest →
+    IsFeederOf plane after → IsJoined into h.pass after →
+    IsJoining plane begun helpers into was well →
+    IsJoining plane begun helpers after rest (well && not h.failed)
+joining_next law plane begun helpers was rest into after h well steps of joins j =
+    let here : IsJoining plane begun helpers into (h ∷ rest) well =
+    subst (λ (l : List Feeding). IsJoining plane begun helpers into l well) steps j in
+    record {
+      of = of;
+      others = here.others.1;
+      parts = λ all parts. here.parts all (join_parts into after all h rest joins parts);
+      fed = λ all fed. here.fed all (join_fed into after h rest all joins fed);
+      joined = λ all join. here.joined all
+          (join_on law plane into after h rest all here.of here.others.0 joins join);
+      none_failed = all_well (λ (g : Feeding). g.failed) well (h ∷ rest) rest helpers h refl
+          here.none_failed;
+    }
 
 pub nothing_left : {X : Type 0} (xs : List X) → length xs ≡ 0 → xs ≡ []
 nothing_left [] none = refl

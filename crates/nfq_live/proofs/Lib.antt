@@ -15,4 +15,5 @@ pub mod PortEndMeeting
 pub mod WholeRun
 pub mod WorkerSeats
 pub mod SamePasses
+pub mod SeatedCrew
 pub mod WorkStage

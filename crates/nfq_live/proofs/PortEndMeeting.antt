@@ -26,7 +26,7 @@ use Rattle.nfq_live.specs.Endings.{stage_before}
 use Rattle.nfq_live.specs.Sizes.{Size}
 use Rattle.nfq_live.proofs.CrewSteps.{ClosesNothingLaw, MeetsNothingLaw, SumLaw}
 use Rattle.nfq_live.proofs.FedPlaces.{FedMeetsLaw, fed_still}
-use Rattle.nfq_live.proofs.PortEndStage.{open_from, same_place}
+use Rattle.nfq_live.proofs.PortEndStage.{apart_if_shut, same_place}
 
 -- ---- laws
 
@@ -291,12 +291,9 @@ shuts_so goes closes closed script places size place port c m some is_in at_plac
     (λ p. by p (cases_Bool (is_port script p)) (cases_Bool (place_in p script.ports == place)))
   where
     differs : (p : ℕ) → (e.stands p).is_open ≡ false → p ≢ port
-    differs p gone equal =
-        let wrong : true ≡ false =
-        sym (open_from script places size place e.met e.notes e.stands e.ended port is_in
-        (omega (arith, at_place)))
-        ∙ ap (λ (q : ℕ). (e.stands q).is_open) (sym equal) ∙ gone in
-        absurd (cc)
+    differs p gone =
+        apart_if_shut script places size place e.met e.notes e.stands e.ended port p is_in
+        (omega (arith, at_place)) gone
 
     its : (q : ℕ) → q ≡ port →
         Shuts places q (passes_of c q) (passes_of m q)

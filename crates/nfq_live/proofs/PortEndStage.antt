@@ -122,6 +122,14 @@ module _ (script : ScriptValue) (places : ℕ) (size : Size) (place : ℕ) (met 
       (stands port).is_open ≡ true
   open_from port is most = ap (λ (t : Stand). t.is_open) (ended.behind port is most)
 
+  -- so whoever has closed is another one
+  pub apart_if_shut : (port q : ℕ) → is_port script port ≡ true →
+      place ≤ place_in port script.ports → (stands q).is_open ≡ false → q ≢ port
+  apart_if_shut port q is most closed equal =
+      let wrong : true ≡ false =
+      sym (open_from port is most) ∙ ap (λ (p : ℕ). (stands p).is_open) (sym equal) ∙ closed in
+      absurd (cc)
+
 -- ---- the port that ends
 
 module _ (script : ScriptValue) (places : ℕ) (size : Size) (place port : ℕ)
@@ -156,12 +164,9 @@ module _ (script : ScriptValue) (places : ℕ) (size : Size) (place port : ℕ)
   }
     where
       apart : (q : ℕ) → (e.stands q).is_open ≡ false → q ≢ port
-      apart q closed equal =
-          let wrong : true ≡ false =
-          sym (open_from script places size place e.met e.notes e.stands e.ended port is
-          (omega (arith, here)))
-          ∙ ap (λ (p : ℕ). (e.stands p).is_open) (sym equal) ∙ closed in
-          absurd (cc)
+      apart q closed =
+          apart_if_shut script places size place e.met e.notes e.stands e.ended port q is
+          (omega (arith, here)) closed
 
   pub nothing_new : (c m : Crew) → PortsAlone c m → ((p : ℕ) → passes_of m p ≡ passes_of c p) →
       OnePass port c m

@@ -75,6 +75,10 @@ pub as_long : (script : ScriptValue) (ports : List PortView) → numbers_of port
 as_long script ports same =
     sym (length-map ports (λ (p : PortView). p.port)) ∙ ap (λ (l : List ℕ). length l) same
 
+pub within_ports : (script : ScriptValue) (ports : List PortView) (place : ℕ) →
+    numbers_of ports ≡ script.ports → place < length script.ports → place < length ports
+within_ports script ports place same less = omega (arith, less, as_long script ports same)
+
 -- ---- a port opens
 
 pub no_ports : (ps : List PortView) → numbers_of ps ≡ [] → ps ≡ []

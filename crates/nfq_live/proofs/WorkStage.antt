@@ -1,5 +1,5 @@
 -- The stage in which the workers work: all passes stand where they stood, and have met.
-use Rattle.std.proofs.Common.{◌≡◌, ◌<◌, ◌∙◌, ◌++◌, ◌∷◌, [], ℕ, Bool, List, ap, arith}
+use Rattle.std.proofs.Common.{◌≡◌, ◌∙◌, ◌++◌, ◌∷◌, [], ℕ, Bool, List, ap, arith}
 use Rattle.std.proofs.Common.{false, length, refl, subst, sym, true}
 use Rattle.std.proofs.lemmas.Bool.{eqb-true}
 use Rattle.std.specs.List.{AllZip, list_any}
@@ -18,7 +18,7 @@ use Rattle.live_runs.specs.Owners.{IsFeeders}
 use Rattle.live_runs.specs.Passes.{AreMet, Pass, feeder_number}
 use Rattle.live_runs.specs.Ports.{IsPort}
 use Rattle.live_runs.specs.Seen.{Grows, Shares}
-use Rattle.live_runs.specs.Stages.{Follows, Stage, Went, WentFeeding, Working}
+use Rattle.live_runs.specs.Stages.{Stage, Went, WentFeeding, Working}
 use Rattle.live_runs.specs.Stands.{Stand, idle, opened}
 use Rattle.live_passes.specs.Numbered.{numbers_of, pass_among, passes_in}
 use Rattle.live_passes.specs.Views.{feeder_pass, port_pass}
@@ -31,6 +31,7 @@ use Rattle.nfq_live.specs.Feeders.{HaveAllFed}
 use Rattle.nfq_live.specs.Sizes.{size_of}
 use Rattle.nfq_live.specs.Workers.{HaveWorked, WentOn}
 use Rattle.nfq_live.proofs.FedPlaces.{FedMeetsLaw, fed_at_meeting}
+use Rattle.nfq_live.proofs.PortEndMeeting.{MeetingLaw}
 use Rattle.live_work.proofs.FeederCalls.{grows_both}
 use Rattle.live_work.proofs.UnchangedPass.{some_place}
 use Rattle.live_work.proofs.MailboxLooks.{NoLookLaw}
@@ -56,18 +57,6 @@ LooksLaw = (workers : ℕ) (script : ScriptValue) (places port : ℕ) (stage : S
     IsPort workers script places port was (idle ends) old →
     (now : List Note) × IsPort workers script places port now (idle ends) new
     × Went workers script stage port was now old.shares new.shares
-
-abbrev pub MeetingLaw : Type 0
-MeetingLaw = (workers : ℕ) (script : ScriptValue) (places : ℕ) (before stage : Stage)
-    (old mid new : ℕ → Pass) (was now : ℕ → List Note) (stood stands : ℕ → Stand) → 0 < places →
-    Follows script.ports before stage → IsMeeting workers script places before old was stood →
-    ((p : ℕ) → is_port script p ≡ true →
-    IsPort workers script places p (now p) (stands p) (mid p)) →
-    ((p : ℕ) → is_port script p ≡ true →
-    Went workers script stage p (was p) (now p) (old p).shares (mid p).shares) →
-    ((p : ℕ) → is_port script p ≡ false → now p ≡ []) →
-    WentFeeding script stage (old feeder_number).shares (mid feeder_number).shares →
-    AreMet script.ports mid new → IsMeeting workers script places stage new now stands
 
 abbrev pub FeederWentLaw : Type 0
 FeederWentLaw = (script : ScriptValue) (old new : Shares) →

@@ -241,17 +241,17 @@ pub is_not_true : (b : Bool) → not b ≡ true → b ≡ false
 is_not_true true is = let wrong : false ≡ true = is in absurd (cc wrong)
 is_not_true false is = refl
 
-one_more_well : (x : Inspector) (xs : List Inspector) → x.failed ≡ false → All IsWell xs →
-    (k : ℕ) (d : Inspector) → k < length (x ∷ xs) → IsWell (slice_index_or (x ∷ xs) k d)
-one_more_well x xs is are zero d within = is
-one_more_well x xs is are (suc i) d within = are i d (omega (arith, within))
+one_more_well : {X : Type 0} (failed : X → Bool) (x : X) (xs : List X) → failed x ≡ false →
+    All (λ (i : X). failed i ≡ false) xs → All (λ (i : X). failed i ≡ false) (x ∷ xs)
+one_more_well {X} failed x xs is are zero d within = is
+one_more_well {X} failed x xs is are (suc i) d within = are i d (omega (arith, within))
 
-pub all_well : (well : Bool) (was rest seats : List Inspector) (seat : Inspector) →
-    was ≡ seat ∷ rest → (well ≡ true → All (λ (i : Inspector). i.failed ≡ false) was →
-    All (λ (i : Inspector). i.failed ≡ false) seats) → (well && not seat.failed) ≡ true →
-    All (λ (i : Inspector). i.failed ≡ false) rest →
-    All (λ (i : Inspector). i.failed ≡ false) seats
-all_well well was rest seats seat steps so both are =
-    let parts = both_true well (not seat.failed) both in
-    so parts.0 (subst (λ (l : List Inspector). All IsWell l) (sym steps)
-    (one_more_well seat rest (is_not_true seat.failed parts.1) are))
+-- whether none failed, of those behind one that was looked at
+pub all_well : {X : Type 0} (failed : X → Bool) (well : Bool) (was rest all : List X) (x : X) →
+    was ≡ x ∷ rest → (well ≡ true → All (λ (i : X). failed i ≡ false) was →
+    All (λ (i : X). failed i ≡ false) all) → (well && not (failed x)) ≡ true →
+    All (λ (i : X). failed i ≡ false) rest → All (λ (i : X). failed i ≡ false) all
+all_well {X} failed well was rest all x steps so both are =
+    let parts = both_true well (not (failed x)) both in
+    so parts.0 (subst (λ (l : List X). All (λ (i : X). failed i ≡ false) l) (sym steps)
+    (one_more_well failed x rest (is_not_true (failed x) parts.1) are))

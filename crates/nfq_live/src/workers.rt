@@ -331,42 +331,57 @@ impl Crew {
         what_a_port_does_adds_up();
         ports_open_one_after_the_other();
         a_stage_ends_where_all_meet();
+        parts_stay_whole();
         let alloc = run.stage.alloc;
         let room = room_for(alloc, self.ports.len(), run.feeders)?;
-        if !self.work_in(run, room) {
+        let Room {
+            helpers,
+            mut seats,
+            ports,
+            minds,
+        } = room;
+        self.take_seats(alloc, &mut seats);
+        run.split_and_work(&mut self.feeding, helpers, &mut seats);
+        if !self.leave_seats(seats, ports, minds) {
             return Err(NoMemory);
         }
         self.meet(alloc, run.stage.plane)
     }
 
-    /// The feeders and the inspectors work beside each other, where there is room for all. Whether
-    /// none of them failed.
-    fn work_in<R: Threads + Wait + Sync, G: Gate, J: JobGate>(
-        &mut self,
-        run: &Run<'_, R, G, J>,
-        room: Room,
-    ) -> bool
-        requires crew { IsCrewOf run.now.stage.plane.now self.old }
-        requires minds { HaveMinds run.now.stage.script.now self.old }
-        requires none { self.old.feeding.pass.fed ≡ [] }
-        requires room { HasRoom (length self.old.ports.items) run.now.feeders room }
-        ensures crew { IsCrewOf run.now.stage.plane.now self.new }
-        ensures minds { IsTrue result → HaveMinds run.now.stage.script.now self.new }
-        ensures worked { IsTrue result → HaveWorked run.now.pool.workers run.now.feeders
-            run.now.stage.script.now run.now.capture.now (places_of run.now.stage.plane.now)
-            self.old self.new }
+    /// Each open port's pass takes its seat, with what is kept of the port. There is room for all.
+    fn take_seats(&mut self, alloc: Global, seats: &mut Vec<Inspector>)
+        requires both { length self.old.minds.items ≡ length self.old.ports.items }
+        requires none { seats.old.items ≡ [] }
+        requires room { length self.old.ports.items ≤ seats.old.cap }
+        ensures passes { passes_at seats.new.items ≡ self.old.ports.items }
+        ensures minds { minds_at seats.new.items ≡ self.old.minds.items }
+        ensures feeding { self.new.feeding ≡ self.old.feeding }
+        ensures closed { self.new.closed ≡ self.old.closed }
     {
-        parts_stay_whole();
-        let Room {
-            helpers,
-            mut seats,
-            mut ports,
-            mut minds,
-        } = room;
-        let open_ports = replace(&mut self.ports, Vec::new(run.stage.alloc));
-        let their_minds = replace(&mut self.minds, Vec::new(run.stage.alloc));
-        seat_all(open_ports, their_minds, &mut seats);
-        run.split_and_work(&mut self.feeding, helpers, &mut seats);
+        let ports = replace(&mut self.ports, Vec::new(alloc));
+        let minds = replace(&mut self.minds, Vec::new(alloc));
+        seat_all(ports, minds, seats);
+    }
+
+    /// Each pass goes from its seat back to the open ports, into lists with room for all. Whether
+    /// nobody has failed.
+    fn leave_seats(
+        &mut self,
+        seats: Vec<Inspector>,
+        mut ports: Vec<PortPass>,
+        mut minds: Vec<Mind>,
+    ) -> bool
+        requires no_ports { ports.items ≡ [] }
+        requires no_minds { minds.items ≡ [] }
+        requires room { length seats.items ≤ ports.cap }
+        requires more_room { length seats.items ≤ minds.cap }
+        ensures passes { passes_at seats.items ≡ self.new.ports.items }
+        ensures minds { minds_at seats.items ≡ self.new.minds.items }
+        ensures feeding { self.new.feeding ≡ self.old.feeding }
+        ensures closed { self.new.closed ≡ self.old.closed }
+        ensures went_well { IsTrue result → All (λ i. i.failed ≡ false) seats.items }
+        ensures fed_well { IsTrue result → self.new.feeding.failed ≡ false }
+    {
         let well = unseat_all(seats, &mut ports, &mut minds);
         self.ports = ports;
         self.minds = minds;

@@ -1,16 +1,12 @@
 use Rattle.command_line.specs.Arguments.{call_of, call_of_words}
-use Rattle.std.proofs.Common.{refl}
 use Rattle.commands.specs.Ending.{span}
-use Rattle.commands.proofs.Statuses.{at_a_stop, at_its_end, of_command, of_none}
+use Rattle.commands.proofs.Statuses.{at_a_stop, at_its_end, no_command, of_command}
 use Rattle.commands.proofs.command.status_of_words.Goals as goal
 
 pub returns-in_default-clause-answer : goal.returns-in_default-clause-answer
 returns-in_default-clause-answer g c =
-    of_none (call_of_words c.args.words.now) _ _ c.in_default.ensures.call (record {
-      is = refl;
-      printed = c.print_usage.ensures.printed;
-      files = c.print_usage.ensures.files;
-    })
+    no_command (call_of_words c.args.words.now) _ c.in_default.ensures.call
+    c.print_usage.ensures.printed c.print_usage.ensures.files
 
 pub returns-in-Ok-clause-answer : goal.returns-in-Ok-clause-answer
 returns-in-Ok-clause-answer g c =

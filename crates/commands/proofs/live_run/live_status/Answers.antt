@@ -1,16 +1,13 @@
 use Rattle.std.proofs.Common.{refl}
 use Rattle.command_line.specs.Arguments.{live_call_of_words, live_files_of, Lives}
 use Rattle.commands.specs.Ending.{span}
-use Rattle.commands.proofs.Statuses.{at_a_stop, at_its_end_alone, of_command, of_none}
+use Rattle.commands.proofs.Statuses.{at_a_stop, at_its_end_alone, no_command, of_command}
 use Rattle.commands.proofs.live_run.live_status.Goals as goal
 
 pub returns-in_default-clause-answer : goal.returns-in_default-clause-answer
 returns-in_default-clause-answer g c =
-    of_none (live_call_of_words c.args.words.now) _ _ c.in_default.ensures.call (record {
-      is = refl;
-      printed = c.print_usage.ensures.printed;
-      files = c.print_usage.ensures.files;
-    })
+    no_command (live_call_of_words c.args.words.now) _ c.in_default.ensures.call
+    c.print_usage.ensures.printed c.print_usage.ensures.files
 
 pub returns-in-Ok-clause-answer : goal.returns-in-Ok-clause-answer
 returns-in-Ok-clause-answer g c =

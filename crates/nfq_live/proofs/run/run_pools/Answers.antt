@@ -1,9 +1,14 @@
-use Rattle.std.proofs.Common.{◌≡◌, ◌≤◌, ◌++◌, ℕ, refl, rules, subst}
+use Rattle.std.proofs.Common.{◌≡◌, ◌<◌, ◌≤◌, ◌++◌, ℕ, refl, rules, subst}
+use Rattle.std.specs.Prelude.{All}
+use Rattle.histories.specs.declared.entry.Entry.{Entry}
+use Rattle.histories.specs.Numbers.{queue_count}
 use Rattle.run_parts.specs.Entering.{cards}
 use Rattle.place_rows.specs.Lists.{flat}
 use Rattle.plane.specs.Closings.{IsClosed}
 use Rattle.plane.specs.Planes.{places_of}
 use Rattle.plane.specs.Remaining.{times_in}
+use Rattle.live_runs.specs.ClosedPlanes.{IsClosedPlane}
+use Rattle.nfq_live.specs.Crews.{passes_of}
 use Rattle.nfq_live.specs.Run.{setting_for, tables_of}
 use Rattle.nfq_live.specs.Sizes.{size_of}
 use Rattle.live_work.proofs.UnchangedPass.{some_place}
@@ -11,6 +16,33 @@ use Rattle.nfq_live.proofs.WholeRun.{closed_by, closed_run, live_run, no_zero, n
 use Rattle.nfq_live.proofs.WholeRun.{once_each, opened_crew}
 use Rattle.nfq_live.proofs.WholeRun.{short_for, sound_for}
 use Rattle.nfq_live.proofs.run.run_pools.Goals as goal
+use Rattle.nfq_live.proofs.run.run_pools.Given.{Over}
+use Rattle.nfq_live.proofs.run.run_pools.Goals.{In_ok-histories}
+
+-- the plane was closed with the crew's passes
+closed : (g : Over) (c : In_ok-histories g) →
+    IsClosed c.args.opened.plane c.go-outcome.new.crew.feeding.pass
+    (c.go-outcome.new.crew.ports.items ++ c.go-outcome.new.crew.closed.items)
+    c.in_ok-histories.histories
+closed g c =
+    let crew = c.go-outcome.new.crew in
+    let are_open : c.from_vec-ports.result ≡ crew.ports.items = search rules in
+    let are_shut : c.from_vec.result ≡ crew.closed.items = search rules in
+    closed_by c.args.opened.plane crew.feeding.pass c.from_vec-ports.result crew.ports.items
+    c.from_vec.result crew.closed.items c.in_ok-histories.histories are_open are_shut
+    c.in_ok-histories.ensures.closed
+
+-- so all that its passes did is there
+whole : (g : Over) (c : In_ok-histories g) →
+    All (λ (e : Entry). e.queue < queue_count) c.in_ok-histories.histories.entries →
+    IsClosedPlane c.args.script.now.ports c.args.script.now.mail (places_of c.args.opened.plane)
+    (passes_of c.go-outcome.new.crew) c.in_ok-histories.histories
+whole g c short =
+    let script = c.args.script.now in
+    closed_run c.a_closed_plane_has_all_that_its_passes_did.ensures c.args.opened.plane script
+    (setting_for script (tables_of c.args.opened)) c.go-outcome.new.crew
+    c.in_ok-histories.histories c.requires.opened.order_is c.requires.opened.setting refl
+    c.go-outcome.ensures.crew (closed g c) short
 
 pub go-outcome-requires-clause-crew : goal.go-outcome-requires-clause-crew
 go-outcome-requires-clause-crew g c κs within =
@@ -52,67 +84,32 @@ close-histories-requires-clause-apart g c =
 
 pub returns-clause-made : goal.returns-clause-made
 returns-clause-made g c =
-    let script = c.args.script.now in
     let plane = c.args.opened.plane in
-    let crew = c.go-outcome.new.crew in
-    let h = c.in_ok-histories.histories in
-    let are_open : c.from_vec-ports.result ≡ crew.ports.items = search rules in
-    let are_shut : c.from_vec.result ≡ crew.closed.items = search rules in
-    let closed : IsClosed plane crew.feeding.pass (crew.ports.items ++ crew.closed.items) h =
-    closed_by plane crew.feeding.pass c.from_vec-ports.result crew.ports.items
-    c.from_vec.result crew.closed.items h are_open are_shut c.in_ok-histories.ensures.closed in
-    let run = closed_run c.a_closed_plane_has_all_that_its_passes_did.ensures plane script
-    (setting_for script (tables_of c.args.opened)) crew h c.requires.opened.order_is
-    c.requires.opened.setting refl c.go-outcome.ensures.crew closed
-    c.queues_are_short.ensures in
     live_run c.nothing_is_sent_to_a_closed_port.ensures.at_last
-    c.a_run_with_threads_is_made_by_its_script.ensures.made_by_all c.args.pool c.args.feeders script
-    (places_of plane) c.args.capture.now crew h (some_place plane) c.in_ok-outcome.ensures.ended
-    c.in_ok-outcome.ensures.received run
+    c.a_run_with_threads_is_made_by_its_script.ensures.made_by_all c.args.pool c.args.feeders
+    c.args.script.now (places_of plane) c.args.capture.now c.go-outcome.new.crew
+    c.in_ok-histories.histories (some_place plane) c.in_ok-outcome.ensures.ended
+    c.in_ok-outcome.ensures.received
+    (whole g (goal.at.returns-clause-made g c).In_ok-histories c.queues_are_short.ensures)
 
 pub returns-clause-sound : goal.returns-clause-sound
 returns-clause-sound g c =
-    let script = c.args.script.now in
-    let plane = c.args.opened.plane in
     let crew = c.go-outcome.new.crew in
-    let h = c.in_ok-histories.histories in
-    let are_open : c.from_vec-ports.result ≡ crew.ports.items = search rules in
-    let are_shut : c.from_vec.result ≡ crew.closed.items = search rules in
-    let closed : IsClosed plane crew.feeding.pass (crew.ports.items ++ crew.closed.items) h =
-    closed_by plane crew.feeding.pass c.from_vec-ports.result crew.ports.items
-    c.from_vec.result crew.closed.items h are_open are_shut c.in_ok-histories.ensures.closed in
-    sound_for plane (setting_for script (tables_of c.args.opened)) crew.feeding.pass
-    (crew.ports.items ++ crew.closed.items) h (cards c.args.capture.now) closed
+    sound_for c.args.opened.plane (setting_for c.args.script.now (tables_of c.args.opened))
+    crew.feeding.pass (crew.ports.items ++ crew.closed.items) c.in_ok-histories.histories
+    (cards c.args.capture.now) (closed g (goal.at.returns-clause-sound g c).In_ok-histories)
     c.requires.opened.setting c.in_ok-outcome.ensures.fed
 
 pub returns-clause-short : goal.returns-clause-short
 returns-clause-short g c =
-    let script = c.args.script.now in
     let plane = c.args.opened.plane in
-    let crew = c.go-outcome.new.crew in
-    let h = c.in_ok-histories.histories in
-    let are_open : c.from_vec-ports.result ≡ crew.ports.items = search rules in
-    let are_shut : c.from_vec.result ≡ crew.closed.items = search rules in
-    let closed : IsClosed plane crew.feeding.pass (crew.ports.items ++ crew.closed.items) h =
-    closed_by plane crew.feeding.pass c.from_vec-ports.result crew.ports.items
-    c.from_vec.result crew.closed.items h are_open are_shut c.in_ok-histories.ensures.closed in
-    let run = closed_run c.a_closed_plane_has_all_that_its_passes_did.ensures plane script
-    (setting_for script (tables_of c.args.opened)) crew h c.requires.opened.order_is
-    c.requires.opened.setting refl c.go-outcome.ensures.crew closed
-    c.queues_are_short.ensures in
-    short_for c.a_run_with_threads_is_made_by_its_script.ensures.short script (places_of plane)
-    (size_of c.args.pool c.args.feeders c.args.capture.now) crew h (some_place plane)
-    c.in_ok-outcome.ensures.ended run
+    short_for c.a_run_with_threads_is_made_by_its_script.ensures.short c.args.script.now
+    (places_of plane) (size_of c.args.pool c.args.feeders c.args.capture.now)
+    c.go-outcome.new.crew c.in_ok-histories.histories (some_place plane)
+    c.in_ok-outcome.ensures.ended
+    (whole g (goal.at.returns-clause-short g c).In_ok-histories c.queues_are_short.ensures)
 
 pub returns-clause-grouped : goal.returns-clause-grouped
 returns-clause-grouped g c =
-    let script = c.args.script.now in
-    let plane = c.args.opened.plane in
-    let crew = c.go-outcome.new.crew in
-    let h = c.in_ok-histories.histories in
-    let are_open : c.from_vec-ports.result ≡ crew.ports.items = search rules in
-    let are_shut : c.from_vec.result ≡ crew.closed.items = search rules in
-    let closed : IsClosed plane crew.feeding.pass (crew.ports.items ++ crew.closed.items) h =
-    closed_by plane crew.feeding.pass c.from_vec-ports.result crew.ports.items
-    c.from_vec.result crew.closed.items h are_open are_shut c.in_ok-histories.ensures.closed in
-    (flat closed.entries.lists, closed.entries.grouped)
+    let is = closed g (goal.at.returns-clause-grouped g c).In_ok-histories in
+    (flat is.entries.lists, is.entries.grouped)

@@ -1,5 +1,6 @@
 use Rattle.std.proofs.Common.{◌∙◌}
 use Rattle.std.specs.Vec.Iter.{into_iter_items}
+use Rattle.nfq_live.specs.declared.workers.Inspector.{Inspector}
 use Rattle.nfq_live.proofs.WorkerSeats.{all_well, mind_left, pass_left, pushed_fits}
 use Rattle.nfq_live.proofs.workers.unseat_all.Goals as goal
 
@@ -23,6 +24,6 @@ loop-seat-preserved c =
       minds = mind_left c.loop-seat.minds.items c.push_reserved-in-loop-seat.new.self.items was
           rest seat c.push_reserved-in-loop-seat.ensures.items steps
           ∙ c.loop-seat.invariant.minds;
-      well = all_well c.loop-seat.well was rest c.args.seats.items seat steps
-          c.loop-seat.invariant.well;
+      well = all_well (λ (i : Inspector). i.failed) c.loop-seat.well was rest c.args.seats.items
+          seat steps c.loop-seat.invariant.well;
     }

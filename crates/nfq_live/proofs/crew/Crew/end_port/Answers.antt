@@ -1,8 +1,10 @@
-use Rattle.std.proofs.Common.{◌≡◌, ◌∙◌, ℕ, List, ap, arith, subst, suc, sym}
+use Rattle.std.proofs.Common.{◌≡◌, ◌∙◌, ℕ, List, ap, arith, subst, suc, sym, true}
 use Rattle.std.specs.Prelude.{nat_eq, slice_index, slice_index_or}
 use Rattle.std.specs.List.{list_any}
 use Rattle.script_lines.specs.declared.ask.Ask.{Ask}
 use Rattle.inspector_script.specs.Scripts.{closing}
+use Rattle.run_parts.specs.Ports.{is_port, place_in}
+use Rattle.plane.specs.Passes.{PortView}
 use Rattle.plane.specs.Planes.{order_of, places_of}
 use Rattle.port_scripts.specs.Words.{ClosesLast}
 use Rattle.live_runs.specs.Passes.{AreMet}
@@ -16,7 +18,23 @@ use Rattle.nfq_live.proofs.PortEnd.{a_port, both_long, found_place, machine_plac
 use Rattle.nfq_live.proofs.PortEnd.{next_open}
 use Rattle.live_work.proofs.UnchangedPass.{some_place}
 use Rattle.nfq_live.proofs.PortEndMeeting.{at_meeting, still_received}
+use Rattle.nfq_live.proofs.crew.Crew.end_port.Given.{Over}
 use Rattle.nfq_live.proofs.crew.Crew.end_port.Goals as goal
+use Rattle.nfq_live.proofs.crew.Crew.end_port.Goals.{In-Some}
+
+-- the port that was found is the script's at this place
+found : (g : Over) (c : In-Some g) (d : PortView) →
+    (place_in (slice_index_or c.args.self.now.ports.items c.in-Some.at d).port
+    c.args.stage.now.script.now.ports ≡ c.args.place)
+    × (is_port c.args.stage.now.script.now
+    (slice_index_or c.args.self.now.ports.items c.in-Some.at d).port ≡ true)
+found g c d =
+    let script = c.args.stage.now.script.now in
+    found_place script c.args.place
+    (slice_index_or c.args.self.now.ports.items c.in-Some.at d).port
+    (c.each_port_has_its_place.ensures script c.ports.ensures.facts.ports_differ)
+    c.requires.place (c.in-Some.ensures.there.1 d
+    ∙ ap (λ (l : List ℕ). slice_index l c.args.place) c.ports.ensures.value)
 
 pub index-requires : goal.index-requires
 index-requires g c =
@@ -68,9 +86,7 @@ returns-clause-are_open g c =
     let d = a_port crew c.in-Some.at c.in-Some.ensures.there.0 in
     let port = (slice_index_or crew.ports.items c.in-Some.at d).port in
     let places = c.each_port_has_its_place.ensures script c.ports.ensures.facts.ports_differ in
-    let its = found_place script c.args.place port places c.requires.place
-    (c.in-Some.ensures.there.1 d
-    ∙ ap (λ (l : List ℕ). slice_index l c.args.place) c.ports.ensures.value) in
+    let its = found g (goal.at.returns-clause-are_open g c).In-Some d in
     at_any c.meet.result (AreOpenFrom script (suc c.args.place) c.meet.new.self)
     (next_open script c.args.place port crew c.end_at.new.self c.meet.new.self places its.0
     c.requires.are_open (c.in_ok-end_at.ensures.others d) c.meet.ensures.numbers)
@@ -81,10 +97,7 @@ returns-clause-ended g c =
     let crew = c.args.self.now in
     let d = a_port crew c.in-Some.at c.in-Some.ensures.there.0 in
     let port = (slice_index_or crew.ports.items c.in-Some.at d).port in
-    let places = c.each_port_has_its_place.ensures script c.ports.ensures.facts.ports_differ in
-    let its = found_place script c.args.place port places c.requires.place
-    (c.in-Some.ensures.there.1 d
-    ∙ ap (λ (l : List ℕ). slice_index l c.args.place) c.ports.ensures.value) in
+    let its = found g (goal.at.returns-clause-ended g c).In-Some d in
     let many = places_of c.args.stage.now.plane.now in
     let mine = machine_place script crew c.in-Some.at c.args.place d c.index.result.now
     c.requires.minds c.in-Some.ensures.there.0 c.index.ensures its.0 in

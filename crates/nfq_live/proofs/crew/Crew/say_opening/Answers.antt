@@ -1,4 +1,4 @@
-use Rattle.std.proofs.Common.{◌<◌, ◌∙◌, ◌++◌, [], ℕ, List, ap, arith, length, refl, subst, sym}
+use Rattle.std.proofs.Common.{◌∙◌, ◌++◌, [], ℕ, List, ap, arith, refl, subst, sym}
 use Rattle.std.specs.Prelude.{slice_index, slice_set}
 use Rattle.script_lines.specs.declared.ask.Ask.{Ask}
 use Rattle.inspector_script.specs.Scripts.{opening}
@@ -15,27 +15,19 @@ use Rattle.nfq_live.proofs.AllPasses.{goes_on_at}
 use Rattle.live_work.proofs.PortMinds.{mind_stays, mind_within}
 use Rattle.nfq_live.proofs.PortNumbers.{put_back, zip_long, zip_put}
 use Rattle.nfq_live.proofs.CrewSteps.{mind_there, port_there}
-use Rattle.nfq_live.proofs.PortOpenings.{as_long, opening_port, says_opening}
+use Rattle.nfq_live.proofs.PortOpenings.{opening_port, says_opening, within_ports}
 use Rattle.nfq_live.proofs.crew.Crew.say_opening.Goals as goal
 
 pub index_mut-pass-requires : goal.index_mut-pass-requires
 index_mut-pass-requires g c =
-    let less : c.args.place < length c.args.self.now.ports.items =
-    omega (
-      arith,
-      c.requires.place,
-      as_long c.args.stage.now.script.now c.args.self.now.ports.items c.requires.opened.in_order,
-    ) in
+    let less = within_ports c.args.stage.now.script.now c.args.self.now.ports.items c.args.place
+    c.requires.opened.in_order c.requires.place in
     omega (arith, less)
 
 pub index_mut-mind-requires : goal.index_mut-mind-requires
 index_mut-mind-requires g c =
-    let less : c.args.place < length c.args.self.now.ports.items =
-    omega (
-      arith,
-      c.requires.place,
-      as_long c.args.stage.now.script.now c.args.self.now.ports.items c.requires.opened.in_order,
-    ) in
+    let less = within_ports c.args.stage.now.script.now c.args.self.now.ports.items c.args.place
+    c.requires.opened.in_order c.requires.place in
     omega (
       arith,
       less,
@@ -46,12 +38,8 @@ index_mut-mind-requires g c =
 
 pub opening-requires : goal.opening-requires
 opening-requires g c =
-    let less : c.args.place < length c.args.self.now.ports.items =
-    omega (
-      arith,
-      c.requires.place,
-      as_long c.args.stage.now.script.now c.args.self.now.ports.items c.requires.opened.in_order,
-    ) in
+    let less = within_ports c.args.stage.now.script.now c.args.self.now.ports.items c.args.place
+    c.requires.opened.in_order c.requires.place in
     record {
       has_port = mind_within c.args.stage.now.script.now c.index_mut-pass.result.now
           c.index_mut-mind.result.now
@@ -69,23 +57,15 @@ say_all-requires-clause-words g c κs within =
 
 pub say_all-requires-clause-pass : goal.say_all-requires-clause-pass
 say_all-requires-clause-pass g c κs within =
-    let less : c.args.place < length c.args.self.now.ports.items =
-    omega (
-      arith,
-      c.requires.place,
-      as_long c.args.stage.now.script.now c.args.self.now.ports.items c.requires.opened.in_order,
-    ) in
+    let less = within_ports c.args.stage.now.script.now c.args.self.now.ports.items c.args.place
+    c.requires.opened.in_order c.requires.place in
     port_there c.args.stage.now.plane.now c.args.self.now c.args.place c.index_mut-pass.result.now
     c.requires.crew less c.index_mut-pass.ensures.value
 
 pub returns : goal.returns
 returns g c =
-    let less : c.args.place < length c.args.self.now.ports.items =
-    omega (
-      arith,
-      c.requires.place,
-      as_long c.args.stage.now.script.now c.args.self.now.ports.items c.requires.opened.in_order,
-    ) in
+    let less = within_ports c.args.stage.now.script.now c.args.self.now.ports.items c.args.place
+    c.requires.opened.in_order c.requires.place in
     let goes = goes_on_at c.args.stage.now.plane.now c.args.self.now.feeding.pass
     c.args.self.now.closed.items c.parts_stay_whole.ensures c.args.self.now.ports.items
     c.args.place c.index_mut-pass.result.now c.say_all.new.pass less
