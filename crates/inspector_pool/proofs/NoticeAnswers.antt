@@ -1,14 +1,16 @@
 -- The answers to notices, by their numbers and one after the other.
 use Rattle.std.proofs.Common.{◌≡◌, ℕ, zero, suc, ◌+◌, ◌-◌, ◌≤◌, List, [], ◌∷◌, ◌++◌, length}
-use Rattle.std.proofs.Common.{get_or, refl, ap, ◌∙◌, arith, rules, Some, All}
+use Rattle.std.proofs.Common.{get_or, refl, ap, sym, ◌∙◌, arith, rules, Some, All}
+use Rattle.std.specs.Prelude.{take}
 use Rattle.std.specs.List.{slice_get}
 use Rattle.nfqa_msgs.specs.declared.notice.Notice.{Notice}
 use Rattle.script_lines.specs.declared.ask.Ask.{Ask}
 use Rattle.script_lines.specs.Limits.{IsAsk}
-use Rattle.inspector_script.specs.Scripts.{ScriptValue, answer, count_after}
+use Rattle.inspector_script.specs.Scripts.{ScriptValue, answer, count_after, next_count}
 use Rattle.inspector_pool.specs.Answers.{answers, in_turn}
 use Rattle.inspector_pool.specs.declared.assignment.Assignment.{Assignment}
 use Rattle.inspector_pool.specs.Work.{IsAnswered, jobs_in}
+use Rattle.inspector_pool.specs.Desks.{IsAnswerTo}
 
 -- ---- by their numbers
 pub answers_length : (s : ScriptValue) (place counted : ℕ) (ns : List Notice)
@@ -51,6 +53,29 @@ job_answered a job n asks lo hi at is fit =
           ∙ answers_get a.script.now a.place a.counted a.notices.now (job - 1) n at;
       fit = fit;
     }
+
+-- the answers to one notice more
+pub answers_further : (s : ScriptValue) (place counted : ℕ) (ns : List Notice) (k before : ℕ)
+    (n : Notice) (given : List Ask) → slice_get ns k ≡ Some n → before ≡ count_after counted k
+    → IsAnswerTo s place before n given
+    → answers s place counted (take k ns) ++ given ∷ []
+    ≡ answers s place counted (take (suc k) ns)
+answers_further s place counted (m ∷ ns) zero before n given at counts is =
+    let same : m ≡ n = search (rules, at) in
+    let e : next_count before ≡ next_count counted = omega (arith, counts) in
+    ap (λ (a : List Ask). a ∷ [])
+    (is.asks ∙ ap (λ (j : ℕ). answer s place j n) e
+    ∙ ap (λ (x : Notice). answer s place (next_count counted) x) (sym same))
+answers_further s place counted (m ∷ ns) (suc k) before n given at counts is =
+    let next : next_count before ≡ next_count (count_after (counted + 1) k) =
+    omega (arith, counts) in
+    ap (λ (l : List (List Ask)). answer s place (next_count counted) m ∷ l)
+    (answers_further s place (counted + 1) ns k (count_after (counted + 1) k) n given at refl
+    (record {
+      asks = is.asks ∙ ap (λ (j : ℕ). answer s place j n) next;
+      fit = is.fit;
+    }))
+answers_further s place counted [] k before n given at counts is = search (rules, at)
 
 -- ---- one after the other
 -- a count that has stopped at its last value goes on as one that hasn't

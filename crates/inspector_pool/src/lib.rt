@@ -4,13 +4,16 @@
 
 mod assignment;
 mod deque;
+mod desk;
 mod gate;
 mod laws;
 mod lists;
 mod pool;
 mod pool_worker;
+mod sheet;
 mod tray;
 
+pub use desk::Desk;
 pub use gate::{JobGate, OpenJobGate};
 pub use laws::{
     a_pool_answers_as_one_inspector, each_notice_is_answered_by_its_number,

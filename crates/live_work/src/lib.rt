@@ -22,5 +22,5 @@ pub use looking::{inspect, look};
 pub use mind::{Mind, minds};
 pub use pause::Pause;
 pub use pool::Pool;
-pub use pooling::{inspect_by_pool, look_by_pool};
+pub use pooling::inspect_by_pool;
 pub use sending::say_all;

@@ -1,6 +1,7 @@
 //! How a port answers its notices with a pool of workers behind it.
 
 ghost use Rattle.std.specs.Prelude.{◌≡◌, ◌≤◌, ◌<◌, ◌+◌, ◌↔◌, ℕ, [], true, length, All, IfOk, OnOk};
+ghost use Rattle.std.specs.Thread.{IsSync};
 ghost use Rattle.script_lines.specs.Limits.{IsAsk};
 ghost use Rattle.inspector_pool.specs.Answers.{answers};
 ghost use Rattle.inspector_pool.specs.Numbers.{least_workers, most_notices};
@@ -20,7 +21,7 @@ use crate::pause::Pause;
 use crate::pool::Pool;
 use crate::sending::say_all;
 use feeder_set::Stage;
-use inspector_pool::{AsksList, JobGate, MAX_NOTICES, Notices, PoolAnswers, pool_answers};
+use inspector_pool::{AsksList, Desk, JobGate, MAX_NOTICES, Notices};
 use inspector_script::Script;
 use live_passes::ports_speak_by_their_passes;
 use live_runs::{a_pool_answers_in_groups, what_a_port_does_adds_up};
@@ -28,7 +29,7 @@ use packet_entry::NoMemory;
 use plane::{Gate, PortPass};
 use port_scripts::{notice_in, ports_close_at_the_end};
 use std::sync::Wait;
-use std::thread::Threads;
+use std::thread::{Threads, join_mut};
 
 /// What a port received, to be answered together.
 struct Batch {
@@ -36,12 +37,15 @@ struct Batch {
     notices: Notices,
     /// Whether one more came behind them that can't be read. Nothing is asked for in answer.
     unread: bool,
+    /// The number of the first of them on the desk.
+    first: u64,
 }
 
 /// Receives notices until the mailbox is found empty, at most 64, or one can't be read. Each is
-/// counted.
-fn receive_batch<R: Wait, G: Gate>(
+/// counted, and laid on the desk.
+fn receive_batch<R: Wait, G: Gate, J: JobGate>(
     stage: &Stage<'_, R, G>,
+    desk: &Desk<'_, J>,
     pass: &mut PortPass,
     mind: &mut Mind,
 ) -> Result<Batch, NoMemory>
@@ -60,19 +64,23 @@ fn receive_batch<R: Wait, G: Gate>(
     ports_speak_by_their_passes();
     a_pool_answers_in_groups();
     ports_close_at_the_end();
+    let first = desk.laid();
     let mut notices = Notices::new(stage.alloc);
-    for _received in 0..MAX_NOTICES {
+    for received in 0..MAX_NOTICES {
         let Some(letter) = stage.plane.receive(stage.rt, pass)? else {
             break;
         };
+        let counted = mind.machine.counted();
         mind.machine.count(1);
         mind.received = mind.received.saturating_add(1);
         let Some(notice) = notice_in(&letter.bytes)? else {
             return Ok(Batch {
                 notices,
                 unread: true,
+                first,
             });
         };
+        desk.lay(counted, received + 1, &notice);
         let Ok(()) = notices.push(notice) else {
             return Err(NoMemory);
         };
@@ -80,6 +88,7 @@ fn receive_batch<R: Wait, G: Gate>(
     Ok(Batch {
         notices,
         unread: false,
+        first,
     })
 }
 
@@ -123,16 +132,19 @@ fn send_answers<R: Wait, G: Gate>(
     Ok(())
 }
 
-/// A port looks into its mailbox: the notices that it finds, at most 64, are received, a pool works
-/// out the answers, and they are sent in the order of the notices. Whether there was a notice.
-/// `NoMemory` leaves a part of the answers sent. `pool.jobs` is told of each job.
-pub fn look_by_pool<R: Threads + Wait + Sync, G: Gate, J: JobGate>(
+/// A port looks into its mailbox: the notices that it finds, at most 64, are received, the pool at
+/// its desk works out the answers, and they are sent in the order of the notices. Whether there was
+/// a notice. `NoMemory` leaves a part of the answers sent.
+fn look_by_pool<R: Wait, G: Gate, J: JobGate>(
     stage: &Stage<'_, R, G>,
     pool: &Pool<'_, J>,
+    desk: &Desk<'_, J>,
     pass: &mut PortPass,
     mind: &mut Mind,
 ) -> Result<bool, NoMemory>
     requires workers { least_workers ≤ pool.now.workers }
+    requires script { desk.now.script.now ≡ stage.now.script.now }
+    requires place { desk.now.place ≡ place_in pass.old.port stage.now.script.now.ports }
     requires pass { IsPortOf stage.now.plane.now pass.old }
     requires mind { IsMind stage.now.script.now pass.old mind.old }
     ensures stays { StaysPort stage.now.plane.now pass.old pass.new }
@@ -144,29 +156,87 @@ pub fn look_by_pool<R: Threads + Wait + Sync, G: Gate, J: JobGate>(
 {
     what_a_port_does_adds_up();
     a_pool_answers_in_groups();
-    let place = place_of(stage.script, pass.port());
     let counted = mind.machine.counted();
-    let Batch { notices, unread } = receive_batch(stage, pass, mind)?;
+    let batch = receive_batch(stage, desk, pass, mind)?;
+    let Batch {
+        notices,
+        unread,
+        first,
+    } = batch;
     if !unread && notices.is_empty() {
         return Ok(false);
     }
-    let PoolAnswers { answers, shares: _ } = pool_answers(
-        stage.rt,
-        stage.alloc,
-        stage.script,
-        place,
-        counted,
-        &notices,
-        pool.workers,
-        pool.jobs,
-    )?;
+    let answers = desk.answers(stage.rt, first, counted, &notices)?;
     send_answers(stage, pass, mind, answers)?;
     Ok(true)
 }
 
-/// A port looks, with a pool of workers behind it, until its 100,000th look in a row finds nothing.
-/// After one that does it pauses, so that others come to work, unless nothing is left to do.
-/// `NoMemory` leaves a part of an answer sent.
+/// A port looks, with a pool of workers at its desk, until its 100,000th look in a row finds
+/// nothing. After one that does it pauses, so that others come to work, unless nothing is left to
+/// do. `NoMemory` leaves a part of an answer sent.
+fn inspect_at<R: Wait, G: Gate, J: JobGate>(
+    stage: &Stage<'_, R, G>,
+    pool: &Pool<'_, J>,
+    desk: &Desk<'_, J>,
+    pause: &mut Pause<'_>,
+    pass: &mut PortPass,
+    mind: &mut Mind,
+) -> Result<(), NoMemory>
+    requires workers { least_workers ≤ pool.now.workers }
+    requires script { desk.now.script.now ≡ stage.now.script.now }
+    requires place { desk.now.place ≡ place_in pass.old.port stage.now.script.now.ports }
+    requires pass { IsPortOf stage.now.plane.now pass.old }
+    requires mind { IsMind stage.now.script.now pass.old mind.old }
+    ensures stays { StaysPort stage.now.plane.now pass.old pass.new }
+    ensures mind { OnOk result (IsMind stage.now.script.now pass.new mind.new) }
+    ensures on { OnOk result (LooksOn pool.now.workers stage.now.script.now
+        (places_of stage.now.plane.now) pass.old pass.new) }
+{
+    what_a_port_does_adds_up();
+    let mut empty = 0;
+    for _ in stage.rt.forever() {
+        if empty >= LAST_LOOK {
+            return Ok(());
+        }
+        if look_by_pool(stage, pool, desk, pass, mind)? {
+            pause.found();
+            empty = 0;
+        } else {
+            pause.pause(stage.rt);
+            empty += 1;
+        }
+    }
+    unreachable!()
+}
+
+/// As `inspect_at`, and then the desk is closed.
+fn inspect_to_the_end<R: Wait, G: Gate, J: JobGate>(
+    stage: &Stage<'_, R, G>,
+    pool: &Pool<'_, J>,
+    desk: &Desk<'_, J>,
+    pause: &mut Pause<'_>,
+    pass: &mut PortPass,
+    mind: &mut Mind,
+) -> Result<(), NoMemory>
+    requires workers { least_workers ≤ pool.now.workers }
+    requires script { desk.now.script.now ≡ stage.now.script.now }
+    requires place { desk.now.place ≡ place_in pass.old.port stage.now.script.now.ports }
+    requires pass { IsPortOf stage.now.plane.now pass.old }
+    requires mind { IsMind stage.now.script.now pass.old mind.old }
+    ensures stays { StaysPort stage.now.plane.now pass.old pass.new }
+    ensures mind { OnOk result (IsMind stage.now.script.now pass.new mind.new) }
+    ensures on { OnOk result (LooksOn pool.now.workers stage.now.script.now
+        (places_of stage.now.plane.now) pass.old pass.new) }
+{
+    let outcome = inspect_at(stage, pool, desk, pause, pass, mind);
+    desk.close();
+    outcome
+}
+
+/// A port answers its notices until its 100,000th look in a row finds nothing. Its pool stays for
+/// as long, the workers beside the inspector in threads of their own where threads can be started.
+/// `NoMemory` leaves a part of an answer sent, or has come before there was a desk. `pool.jobs` is
+/// told of each job.
 pub fn inspect_by_pool<R: Threads + Wait + Sync, G: Gate, J: JobGate>(
     stage: &Stage<'_, R, G>,
     pool: &Pool<'_, J>,
@@ -183,18 +253,15 @@ pub fn inspect_by_pool<R: Threads + Wait + Sync, G: Gate, J: JobGate>(
         (places_of stage.now.plane.now) pass.old pass.new) }
 {
     what_a_port_does_adds_up();
-    let mut empty = 0;
-    for _ in stage.rt.forever() {
-        if empty >= LAST_LOOK {
-            return Ok(());
-        }
-        if look_by_pool(stage, pool, pass, mind)? {
-            pause.found();
-            empty = 0;
-        } else {
-            pause.pause(stage.rt);
-            empty += 1;
-        }
-    }
-    unreachable!()
+    let place = place_of(stage.script, pass.port());
+    let desk = Desk::new(stage.alloc, stage.script, place, pool.jobs)?;
+    let desk = &desk;
+    let ((), outcome) = join_mut(
+        stage.rt,
+        &mut ||
+            requires { IsSync J.row × IsSync R.row }
+        { desk.staff(stage.rt, pool.workers - 1) },
+        &mut || { inspect_to_the_end(stage, pool, desk, pause, pass, mind) },
+    );
+    outcome
 }

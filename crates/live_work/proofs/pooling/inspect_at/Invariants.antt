@@ -2,7 +2,7 @@ use Rattle.plane.specs.Planes.{places_of}
 use Rattle.live_passes.specs.Numbered.{StaysPort}
 use Rattle.live_work.specs.Looking.{LooksOn}
 use Rattle.live_work.specs.Minds.{IsMind}
-use Rattle.live_work.proofs.pooling.inspect_by_pool.Given as goal
+use Rattle.live_work.proofs.pooling.inspect_at.Given as goal
 
 abbrev pub invariant-loop : goal.invariant-loop
 invariant-loop g l = record {
