@@ -24,7 +24,7 @@ use Rattle.live_runs.specs.Sums.{WasSent}
 use Rattle.live_runs.proofs.OwnInWhole.{each_by_index, ours_at, theirs_are}
 use Rattle.live_runs.proofs.OwnInSegment.{behind_front, entries_length, in_front, within}
 use Rattle.live_runs.proofs.LowerLaws.{ClosingLaws}
-use Rattle.live_runs.proofs.Marks.{each_both, each_front, each_rest, entries_append, grows_as}
+use Rattle.live_runs.proofs.Marks.{each_both, each_parts, entries_append, grows_as}
 use Rattle.live_runs.proofs.Marks.{grows_on, met_grows, same_grows, theirs_front}
 use Rattle.live_runs.proofs.OwnEntries.{cover, others_own, pass_cases, port_passes}
 use Rattle.live_runs.proofs.NoticeSums.{AreFree, IsAway, all_same, sent_stays}
@@ -98,16 +98,16 @@ module _ (laws : ClosingLaws) (workers : ℕ) (script : ScriptValue) (places mai
   away k p below is =
       let c = closed.covered k below in
       let rest = entries (grows k p is).more ++ c.rest p in
-      each_front (IsAway port) (entries (grows k p is).more) (c.rest p)
+      (each_parts (IsAway port) (entries (grows k p is).more) (c.rest p)
       (each_both (IsNotBy port) (λ e. e.queue < queue_count) rest
       (each_by_index (IsNotBy port) rest (λ j e at.
       let o = c.owned.owned (length (meeting.whole k) + j) e
       (ap (λ es. slice_get es (length (meeting.whole k) + j)) (whole_is k p below is)
       ∙ behind_front (meeting.whole k) rest j ∙ at) in
       by o.0 j e o.1 o.2 (cases_Bool (o.0 == port))))
-      (each_rest (λ e. e.queue < queue_count) (meeting.whole k) rest
+      (each_parts (λ e. e.queue < queue_count) (meeting.whole k) rest
       (subst (EachIs (λ e. e.queue < queue_count)) (whole_is k p below is)
-      (closed.queues k below))))
+      (closed.queues k below))).1)).0
     where
       by : (q j : ℕ) (e : Entry) → is_pass script.ports q ≡ true →
           slice_get (seen_at new k q) (length (meeting.whole k) + j) ≡ Some (Ours e) →

@@ -131,6 +131,14 @@ module _ (logs : LogLaws) (laws : ClosingLaws) (conserve : Conserve) (workers : 
       let k : n - look ≡ 0 = omega (arith, none) in
       cutting_ends (cut_in (n - look) rest) pass (ap (λ j. cut_in j rest) k) c
 
+-- where no byte is used, nothing was sent
+pub unsent : (rest : List ℕ) (places port : ℕ) (old new : Pass) (used : ℕ)
+    (front : Option (NetlinkMessage × ℕ)) → first_message rest ≡ front → used ≤ 0 →
+    SpeaksFirst places port front old new used → new ≡ old
+unsent rest places port old new used None same none is = is.1
+unsent rest places port old new used (Some (m, n)) same none is =
+    absurd (omega (arith, (first_uses rest m n same).0, none, is.0))
+
 pub used_within : (rest : List ℕ) (places port : ℕ) (old new : Pass) (used : ℕ)
     (front : Option (NetlinkMessage × ℕ)) → first_message rest ≡ front →
     SpeaksFirst places port front old new used → used ≤ length rest

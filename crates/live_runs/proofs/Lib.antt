@@ -1,4 +1,5 @@
 mod LowerLaws
+mod OnePlace
 mod Marks
 mod RequestCounts
 mod Closings

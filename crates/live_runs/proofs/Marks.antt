@@ -71,6 +71,11 @@ pub nothing_ours : (Q : Entry → Type 0) (es : List Entry) → OursAre Q (all_t
 nothing_ours Q [] = tt
 nothing_ours Q (e ∷ es) = nothing_ours Q es
 
+-- each that is one's own
+pub ours_each : (Q : Entry → Type 0) (es : List Entry) → EachIs Q es → OursAre Q (all_ours es)
+ours_each Q [] are = tt
+ours_each Q (e ∷ es) are = (are.0, ours_each Q es are.1)
+
 pub theirs_then : (Q : Entry → Type 0) (es mine : List Entry) → OursAre Q (all_ours mine) →
     OursAre Q (all_theirs es ++ all_ours mine)
 theirs_then Q [] mine are = are
@@ -142,13 +147,16 @@ pub each_append : (Q : Entry → Type 0) (es fs : List Entry) → EachIs Q es �
 each_append Q [] fs one two = two
 each_append Q (e ∷ es) fs one two = (one.0, each_append Q es fs one.1 two)
 
-pub each_front : (Q : Entry → Type 0) (es fs : List Entry) → EachIs Q (es ++ fs) → EachIs Q es
-each_front Q [] fs are = tt
-each_front Q (e ∷ es) fs are = (are.0, each_front Q es fs are.1)
+-- what holds of each of a longer list holds of its front, and of its rest
+pub each_parts : (Q : Entry → Type 0) (es fs : List Entry) → EachIs Q (es ++ fs) →
+    EachIs Q es × EachIs Q fs
+each_parts Q [] fs are = (tt, are)
+each_parts Q (e ∷ es) fs are = let rest = each_parts Q es fs are.1 in ((are.0, rest.0), rest.1)
 
-pub each_rest : (Q : Entry → Type 0) (es fs : List Entry) → EachIs Q (es ++ fs) → EachIs Q fs
-each_rest Q [] fs are = are
-each_rest Q (e ∷ es) fs are = each_rest Q es fs are.1
+pub each_as : (P Q : Entry → Type 0) → ((e : Entry) → P e → Q e) → (es : List Entry) →
+    EachIs P es → EachIs Q es
+each_as P Q so [] are = tt
+each_as P Q so (e ∷ es) are = (so e are.0, each_as P Q so es are.1)
 
 pub each_both : (P Q : Entry → Type 0) (es : List Entry) → EachIs P es → EachIs Q es →
     EachIs (λ e. P e × Q e) es

@@ -1,13 +1,13 @@
 -- What each pass has of its own, the whole list has.
-use Rattle.std.proofs.Common.{◌++◌, ◌∙◌, ◌∷◌, ◌≡◌, ◌≢◌, ◌⊎◌, Bool, List, None, Option, Some, [], ap}
-use Rattle.std.proofs.Common.{false, inl, inr, refl, subst, suc, sym, true, zero, ℕ}
-use Rattle.std.proofs.lemmas.Bool.{cases_Bool, eq-eqb, eqb-true}
+use Rattle.std.proofs.Common.{◌++◌, ◌∙◌, ◌∷◌, ◌≡◌, ◌≢◌, Bool, List, None, Option, Some, [], ap}
+use Rattle.std.proofs.Common.{inl, inr, refl, subst, suc, sym, true, zero, ℕ}
+use Rattle.std.proofs.lemmas.Bool.Decides.{eqb_tells}
 use Rattle.std.proofs.lemmas.Option.{slice_get-map}
-use Rattle.std.specs.Prelude.{◌==◌, flat_map, option_map, slice_get}
+use Rattle.std.specs.Prelude.{flat_map, option_map, slice_get}
 use Rattle.histories.specs.declared.entry.Entry.{Entry}
 use Rattle.run_parts.specs.Log.{Note}
 use Rattle.run_parts.specs.Requests.{pleas_told}
-use Rattle.live_runs.specs.ClosedPlanes.{IsCovered}
+use Rattle.live_runs.specs.ClosedPlanes.{AreOwned, IsCovered}
 use Rattle.live_runs.specs.Owners.{IsEven, IsNotBy}
 use Rattle.live_runs.specs.Seen.{EachIs, Ours, OursAre, Seen, Theirs, TheirsAre, all_theirs}
 use Rattle.live_runs.specs.Seen.{entries, entry}
@@ -67,6 +67,27 @@ at_front [] ys i x is = absurd (none is)
 at_front (y ∷ xs) ys zero x is = is
 at_front (y ∷ xs) ys (suc i) x is = at_front xs ys i x is
 
+-- where each entry is some pass's own, those in a list that goes on from what a pass has seen, and
+-- that aren't its own, are other passes'
+pub theirs_of_others : (Q : Entry → Type 0) (count : ℕ → Bool) (all : ℕ → List Seen) (p : ℕ)
+    (xs : List Seen) → AreOwned count all (entries xs) →
+    ((i : ℕ) (x : Seen) → slice_get (all p) i ≡ Some x → slice_get xs i ≡ Some x) →
+    ((k : ℕ) → count k ≡ true → k ≢ p → OursAre Q (all k)) → TheirsAre Q xs
+theirs_of_others Q count all p xs owned longer others =
+    theirs_by_index Q xs (λ i e is. found i e is
+    (owned.owned i e (slice_get-map entry xs i ∙ ap (option_map entry) is)))
+  where
+    found : (i : ℕ) (e : Entry) → slice_get xs i ≡ Some (Theirs e) →
+        (k : ℕ) × (count k ≡ true) × (slice_get (all k) i ≡ Some (Ours e)) → Q e
+    found i e is o =
+        elim (eqb_tells o.0 p) [
+          | inl (yes_, same) ↦
+              absurd (clash e e (sym is ∙ longer i (Ours e)
+              (ap (λ k. slice_get (all k) i) (sym same) ∙ o.2)))
+          | inr (no_, other) ↦
+              ours_at Q (all o.0) (others o.0 o.1 other) i e o.2
+        ]
+
 module _ (count : ℕ → Bool) (all : ℕ → List Seen) (whole : List Entry)
     (c : IsCovered count all whole) where
   abbrev filled : ℕ → List Seen
@@ -79,23 +100,10 @@ module _ (count : ℕ → Bool) (all : ℕ → List Seen) (whole : List Entry)
   -- the entries that aren't this pass's own are other passes'
   pub theirs_are : (Q : Entry → Type 0) (p : ℕ) → count p ≡ true →
       ((k : ℕ) → count k ≡ true → k ≢ p → OursAre Q (all k)) → TheirsAre Q (filled p)
-  theirs_are Q p below others = theirs_by_index Q (filled p) (λ i e is. found i e is
-      (c.owned.owned i e
-      (ap (λ es. slice_get es i) (sym (full_entries p below)) ∙ slice_get-map entry (filled p) i
-      ∙ ap (option_map entry) is)))
-    where
-      found : (i : ℕ) (e : Entry) → slice_get (filled p) i ≡ Some (Theirs e) →
-          (k : ℕ) × (count k ≡ true) × (slice_get (all k) i ≡ Some (Ours e)) → Q e
-      found i e is o = by (cases_Bool (o.0 == p))
-        where
-          by : ((o.0 == p) ≡ true) ⊎ ((o.0 == p) ≡ false) → Q e
-          by (inl h) = absurd (clash e e (sym is ∙ at_front (all p) (all_theirs (c.rest p)) i
-              (Ours e) (ap (λ k. slice_get (all k) i) (sym (eqb-true o.0 p h)) ∙ o.2)))
-          by (inr h) = ours_at Q (all o.0) (others o.0 o.1 (λ same. no (eq-eqb o.0 p same))) i e
-              o.2
-            where
-              no : (o.0 == p) ≡ true → ⊥
-              no it_is = absurd (cc)
+  theirs_are Q p below others =
+      theirs_of_others Q count all p (filled p)
+      (subst (AreOwned count all) (sym (full_entries p below)) c.owned)
+      (at_front (all p) (all_theirs (c.rest p))) others
 
   -- what holds of each pass's own holds of all
   pub each_is : (Q : Entry → Type 0) → ((k : ℕ) → count k ≡ true → OursAre Q (all k)) →

@@ -1,10 +1,9 @@
 -- A port does what a stage asks of it: call by call.
-use Rattle.std.proofs.Common.{◌++◌, ◌<◌, ◌∙◌, ◌∷◌, ◌≡◌, ◌⊎◌, Bool, List, [], ap, false, inl, inr}
+use Rattle.std.proofs.Common.{◌++◌, ◌<◌, ◌∙◌, ◌∷◌, ◌≡◌, Bool, List, [], ap, false, inl, inr}
 use Rattle.std.proofs.Common.{length, refl, subst, suc, sym, true, ℕ}
-use Rattle.std.proofs.lemmas.Bool.{cases_Bool, eq-eqb, eqb-true}
 use Rattle.std.proofs.lemmas.List.Folds.{list_any-append}
 use Rattle.std.specs.List.{list_any}
-use Rattle.std.specs.Prelude.{◌==◌, ◌||◌}
+use Rattle.std.specs.Prelude.{◌||◌}
 use Rattle.packet_entry.specs.declared.letter.Letter.{Letter}
 use Rattle.packet_entry.specs.declared.packet.Card.{Card}
 use Rattle.netlink_codec.specs.Messages.{NetlinkMessage}
@@ -33,7 +32,7 @@ use Rattle.live_runs.specs.Doing.{HasHeard, IsAnswering, IsDoing, IsQuiet}
 use Rattle.live_runs.specs.Owners.{IsAskingEvent, IsAskingOf}
 use Rattle.live_runs.specs.Passes.{CarriesOut, Pass, Receives, Speaks}
 use Rattle.live_runs.specs.Ports.{IsPort}
-use Rattle.live_runs.specs.Seen.{Grows, IsNone, Shares}
+use Rattle.live_runs.specs.Seen.{Grows, IsNone, Seen, Shares}
 use Rattle.live_runs.specs.Stages.{Ending, IsRanked, MaySpeak, Opening, Stage, Working, early_of}
 use Rattle.live_runs.specs.Stages.{late_of}
 use Rattle.live_runs.specs.Stands.{AtEnd, Now, Side, Stand, answering, cut_side, cut_then, full}
@@ -41,6 +40,7 @@ use Rattle.live_runs.specs.Stands.{side}
 use Rattle.live_runs.proofs.StageNotes.{adds_nothing, adds_quiet, adds_spoke}
 use Rattle.live_runs.proofs.LowerLaws.{ClosingLaws, Conserve, LogLaws}
 use Rattle.live_runs.proofs.Marks.{grows_as, grows_on, none_is, same_grows, turn_grows}
+use Rattle.live_runs.proofs.OnePlace.{here_and_elsewhere}
 use Rattle.live_runs.proofs.PortNotes.{begins, gets, speaks, turns}
 use Rattle.live_runs.proofs.StageEntries.{answers_here, ends_here, opens_here}
 use Rattle.live_runs.proofs.EmptyQueues.{quiet_asks, quiet_grows, quiet_same}
@@ -66,7 +66,12 @@ carried_grows places port call errno Nothing old new fits c k =
 carried_grows places port call errno (Refused refusal) old new fits c k =
     same_grows (IsAskingOf port) (old k) (new k) (c.1 k)
 carried_grows places port call errno (Asked r) old new fits c k =
-    by (cases_Bool (k == place_of places r))
+    here_and_elsewhere (λ j. Grows (IsAskingOf port) (old j) (new j)) here
+    (grows_on (IsAskingOf port) (old here) c.between (new here)
+    (turn_grows (IsAskingOf port) c.others (asked port call r es ∷ []) (old here) c.between c.turn
+    ((refl, fits), tt))
+    (handed c.between (new here) c.here))
+    (λ j other. handed (old j) (new j) (c.elsewhere j other)) k
   where
     here : ℕ
     here = place_of places r
@@ -74,21 +79,10 @@ carried_grows places port call errno (Asked r) old new fits c k =
     es : List Entry
     es = found_by places r old c.others
 
-    hs : List (Card × Decision)
-    hs = handed_by port call r es
-
-    by : ((k == here) ≡ true) ⊎ ((k == here) ≡ false) → Grows (IsAskingOf port) (old k) (new k)
-    by (inl h) = subst (λ j. Grows (IsAskingOf port) (old j) (new j)) (sym (eqb-true k here h))
-        (grows_on (IsAskingOf port) (old here) c.between (new here)
-        (turn_grows (IsAskingOf port) c.others (asked port call r es ∷ []) (old here)
-        c.between c.turn ((refl, fits), tt))
-        (grows_as (IsHandedOn hs) (IsAskingOf port) (handed_asking port hs) c.between (new here)
-        c.here))
-    by (inr h) = grows_as (IsHandedOn hs) (IsAskingOf port) (handed_asking port hs) (old k) (new k)
-        (c.elsewhere k (λ same. differ (eq-eqb k here same)))
-      where
-        differ : (k == here) ≡ true → ⊥
-        differ it_is = absurd (cc)
+    handed : (xs ys : List Seen) → Grows (IsHandedOn (handed_by port call r es)) xs ys →
+        Grows (IsAskingOf port) xs ys
+    handed xs ys = grows_as (IsHandedOn (handed_by port call r es)) (IsAskingOf port)
+        (handed_asking port (handed_by port call r es)) xs ys
 
 carried_quiet : Conserve → (places port call errno : ℕ) (d : Decoded) (old mid new : Shares) →
     0 < places → IsQuiet places old mid → CarriesOut places port call d errno mid new →

@@ -1,10 +1,9 @@
 -- A port does what is next: call by call.
-use Rattle.std.proofs.Common.{◌++◌, ◌<◌, ◌∙◌, ◌∷◌, ◌≡◌, ◌⊎◌, Bool, List, [], ap, append-nil}
-use Rattle.std.proofs.Common.{false, inl, inr, refl, subst, sym, true, ℕ}
+use Rattle.std.proofs.Common.{◌++◌, ◌<◌, ◌∙◌, ◌∷◌, ◌≡◌, Bool, List, [], ap, append-nil}
+use Rattle.std.proofs.Common.{false, refl, subst, sym, true, ℕ}
 use Rattle.std.proofs.Math.Nat.{mod-lt}
-use Rattle.std.proofs.lemmas.Bool.{cases_Bool, eq-eqb, eqb-true}
 use Rattle.std.proofs.lemmas.List.Concat.{flat_map-append}
-use Rattle.std.specs.Prelude.{◌==◌, flat_map, if◌then◌else◌, map, not}
+use Rattle.std.specs.Prelude.{flat_map, if◌then◌else◌, map, not}
 use Rattle.packet_entry.specs.declared.letter.Letter.{Letter}
 use Rattle.packet_entry.specs.declared.packet.Card.{Card}
 use Rattle.netlink_codec.specs.Messages.{NetlinkMessage}
@@ -36,6 +35,7 @@ use Rattle.live_runs.specs.Stands.{shut_stand, side}
 use Rattle.live_runs.proofs.Closings.{asks_shutting, grown_shutting, shuts_shutting}
 use Rattle.live_runs.proofs.LowerLaws.{ClosingLaws, LogLaws}
 use Rattle.live_runs.proofs.Marks.{grows_as, met_grows, none_is, same_grows}
+use Rattle.live_runs.proofs.OnePlace.{here_and_elsewhere}
 use Rattle.live_runs.proofs.RequestCounts.{asks_even, grown_even, handed_not_by, one_told}
 use Rattle.live_runs.proofs.RequestCounts.{shuts_even}
 
@@ -246,7 +246,13 @@ module _ (logs : LogLaws) (laws : ClosingLaws) (workers : ℕ) (script : ScriptV
   carried_shutting call errno (Refused refusal) old new c k is =
       subst (IsShutting port false) (sym (c.1 k)) is
   carried_shutting call errno (Asked r) old new c k is =
-      by (cases_Bool (k == place_of places r))
+      here_and_elsewhere (λ j. IsShutting port false (old j) → IsShutting port false (new j)) here
+      (λ was. grown_shutting laws port false c.between (new here)
+      (others c.between (new here) c.here)
+      (asks_shutting laws port c.others (asked port call r es) (old here) c.between c.turn refl
+      was))
+      (λ j other. grown_shutting laws port false (old j) (new j) (others (old j) (new j)
+      (c.elsewhere j other))) k is
     where
       here : ℕ
       here = place_of places r
@@ -259,18 +265,6 @@ module _ (logs : LogLaws) (laws : ClosingLaws) (workers : ℕ) (script : ScriptV
 
       others : (xs ys : List Seen) → Grows (IsHandedOn hs) xs ys → Grows (IsNotBy port) xs ys
       others xs ys g = grows_as (IsHandedOn hs) (IsNotBy port) (handed_not_by port hs) xs ys g
-
-      by : ((k == here) ≡ true) ⊎ ((k == here) ≡ false) → IsShutting port false (new k)
-      by (inl h) = subst (λ j. IsShutting port false (new j)) (sym (eqb-true k here h))
-          (grown_shutting laws port false c.between (new here)
-          (others c.between (new here) c.here)
-          (asks_shutting laws port c.others (asked port call r es) (old here) c.between c.turn refl
-          (subst (λ j. IsShutting port false (old j)) (eqb-true k here h) is)))
-      by (inr h) = grown_shutting laws port false (old k) (new k) (others (old k) (new k)
-          (c.elsewhere k (λ same. differ (eq-eqb k here same)))) is
-        where
-          differ : (k == here) ≡ true → ⊥
-          differ it_is = absurd (cc)
 
   -- a message is sent
   pub speaks : (notes : List Note) (x : Side) (m : NetlinkMessage) (errno : ℕ) (ds : List Due)

@@ -14,6 +14,7 @@ use Rattle.live_runs.specs.Owners.{IsAskingEvent, IsAskingOf, IsEventOf, IsFeede
 use Rattle.live_runs.specs.Owners.{IsOf}
 use Rattle.live_runs.specs.Seen.{EachIs}
 use Rattle.live_runs.specs.Stages.{IsPlain, IsPlainEvent, IsRanked}
+use Rattle.live_runs.proofs.Marks.{each_as}
 
 late_none : (ports : List ℕ) (late : ℕ) (visit : ℕ) → 2 ≤ visit →
     IsNow late (if visit == 1 then 0 ∷ [] else [])
@@ -71,9 +72,8 @@ ending_is_plain ports port e is = ending_plain ports port e.event is
 
 pub asks_are_plain : (ports : List ℕ) (early late : ℕ) (es : List Entry) → EachIs IsAsk es →
     EachIs (IsPlain ports early late) es
-asks_are_plain ports early late [] are = tt
-asks_are_plain ports early late (e ∷ es) are =
-    (ask_plain ports early late e.event are.0, asks_are_plain ports early late es are.1)
+asks_are_plain ports early late =
+    each_as IsAsk (IsPlain ports early late) (λ e is. ask_plain ports early late e.event is)
 
 -- ---- kinds
 

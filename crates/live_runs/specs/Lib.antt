@@ -10,5 +10,6 @@ pub mod Meetings
 pub mod Doing
 pub mod Feeding
 pub mod Sums
+pub mod Laws
 pub mod Locks
 pub mod ByHand

@@ -1,8 +1,9 @@
 //! A run, written out.
 
-ghost use Rattle.std.specs.Prelude.{◌≡◌, ◌<◌, ℕ, true, [], ◌∷◌, length};
+ghost use Rattle.std.specs.Prelude.{◌≡◌, ◌<◌, ℕ, true, List, [], ◌∷◌, length};
 ghost use Rattle.nfqa_msgs.specs.declared.request.Decoded.TheVariants.{Asked};
 ghost use Rattle.nfqa_msgs.specs.RequestReading.{decoded};
+ghost use Rattle.histories.specs.declared.entry.Entry.{Entry};
 ghost use Rattle.run_parts.specs.Datagrams.{messages_in};
 ghost use Rattle.run_parts.specs.Feeder.{downs_in_effect};
 ghost use Rattle.run_parts.specs.Ports.{is_port};
@@ -13,10 +14,24 @@ ghost use Rattle.live_runs.specs.ClosedPlanes.{IsClosedPlane, sent_by_all};
 ghost use Rattle.live_runs.specs.Stands.{IsDone};
 ghost use Rattle.live_runs.specs.Stages.{Ending};
 ghost use Rattle.live_runs.specs.Meetings.{IsMeeting};
-ghost use Rattle.live_runs.specs.ByHand.{binding, bytes, histories, message, notes, passes, script};
-ghost use Rattle.live_runs.specs.ByHand.{stands};
+ghost use Rattle.live_runs.specs.ByHand.{AreFedTo3, binding, bytes, histories, histories_with};
+ghost use Rattle.live_runs.specs.ByHand.{message, notes, passes, passes_with, script, stands};
 
 use crate::a_run_with_threads_is_made_by_its_script;
+
+/// A run of one port and what feeds at one place: the port binds a queue, these entries are fed
+/// there, and the port closes. Whatever they are, the plane is closed with all passes met and no
+/// notice left.
+pub fn a_run_around_what_is_fed()
+    ensures closed { (fed : List Entry) → AreFedTo3 fed →
+        IsClosedPlane (7 ∷ []) 1 1 (passes_with fed) (histories_with fed) }
+    ensures meeting { (fed : List Entry) → AreFedTo3 fed →
+        IsMeeting 1 script 1 (Ending 0) (passes_with fed) notes stands }
+    ensures received { (fed : List Entry) → AreFedTo3 fed → (port : ℕ) →
+        is_port script port ≡ true →
+        sent_by_all script.ports 1 (passes_with fed) port
+        ≡ length (passes_with fed port).letters }
+{}
 
 /// A run of one port and a feeder at one place: the port binds a queue, frame 1 arrives there, a
 /// device goes down, and the port closes. What a run needs is known of it: a closed plane, whose
@@ -33,5 +48,6 @@ pub fn a_run_by_hand()
         sent_by_all script.ports 1 passes port ≡ length (passes port).letters }
     ensures made { IsMadeBy 1 1 script 1 histories notes (λ port. []) }
 {
+    a_run_around_what_is_fed();
     a_run_with_threads_is_made_by_its_script();
 }

@@ -69,7 +69,7 @@ pub fn a_port_does_what_is_next()
 }
 
 /// The messages of an ask are sent one by one, each the first of the bytes that are left, until
-/// none is. There are no more of them than bytes.
+/// none is. There are no more of them than bytes, and where no byte is used nothing was sent.
 pub fn messages_are_sent_one_by_one()
     ensures begin { (workers : ℕ) (script : ScriptValue) (places : ℕ) (stage : Stage) (port : ℕ)
         (was : List Note) (start : Pass) (x : Side) (call : ℕ) (words : AskWords) (ds : List Due)
@@ -103,6 +103,8 @@ pub fn messages_are_sent_one_by_one()
         IsDoing workers script places stage port was start (side x ds) pass }
     ensures used { (places port : ℕ) (rest : List ℕ) (old new : Pass) (used : ℕ) →
         SpeaksFirst places port (first_message rest) old new used → used ≤ length rest }
+    ensures unsent { (places port : ℕ) (rest : List ℕ) (old new : Pass) (used : ℕ) → used ≤ 0 →
+        SpeaksFirst places port (first_message rest) old new used → new ≡ old }
 {
     logs_go_on();
     closings_are_kept();

@@ -11,13 +11,14 @@ ghost use Rattle.run_parts.specs.Ports.{is_port};
 ghost use Rattle.run_parts.specs.Run.{IsMadeBy};
 ghost use Rattle.live_runs.specs.Seen.{Grows, IsAny, IsNone, Shares, all_theirs};
 ghost use Rattle.live_runs.specs.Calls.{ShutsAll};
-ghost use Rattle.live_runs.specs.Owners.{IsFedByAll, IsFeeding};
+ghost use Rattle.live_runs.specs.Owners.{IsFeeding};
 ghost use Rattle.live_runs.specs.Passes.{AreMet, Pass, feeder_number, is_pass, seen_at};
 ghost use Rattle.live_runs.specs.ClosedPlanes.{IsClosedPlane, sent_at, sent_by_all};
 ghost use Rattle.live_runs.specs.Stands.{IsDone, Stand};
 ghost use Rattle.live_runs.specs.Stages.{Stage, Went, WentFeeding};
 ghost use Rattle.live_runs.specs.Sums.{WasSent};
 ghost use Rattle.live_runs.specs.Meetings.{ArePorts, IsMeeting};
+ghost use Rattle.live_runs.specs.Laws.{MakesHistories};
 
 use run_parts::{closings_are_kept, fed_histories_go_on, logs_go_on, one_feeder_feeds_all};
 
@@ -82,17 +83,7 @@ pub fn a_run_with_threads_is_made_by_its_script()
         ((port : ℕ) → is_port script port ≡ true →
         sent_by_all script.ports places passes port ≡ length (passes port).letters) →
         IsMadeBy workers 1 script frames h notes (λ port. []) }
-    ensures made_by_all { (workers feeders : ℕ) (script : ScriptValue) (places frames : ℕ)
-        (stage : Stage) (passes : ℕ → Pass) (h : Histories) (notes : ℕ → List Note)
-        (stands : ℕ → Stand) → 0 < places →
-        IsClosedPlane script.ports script.mail places passes h →
-        IsMeeting workers script places stage passes notes stands →
-        ((port : ℕ) → is_port script port ≡ true → IsDone (stands port)) →
-        ((k : ℕ) → k < places → IsFedByAll feeders (downs_in_effect script frames)
-        (seen_at passes k feeder_number)) →
-        ((port : ℕ) → is_port script port ≡ true →
-        sent_by_all script.ports places passes port ≡ length (passes port).letters) →
-        IsMadeBy workers feeders script frames h notes (λ port. []) }
+    ensures made_by_all { MakesHistories }
     ensures short { (workers : ℕ) (script : ScriptValue) (places mail : ℕ) (passes : ℕ → Pass)
         (h : Histories) (notes : ℕ → List Note) (stands : ℕ → Stand) → 0 < places →
         IsClosedPlane script.ports mail places passes h →

@@ -10,7 +10,7 @@ mod feeding;
 mod locks;
 mod meeting;
 
-pub use by_hand::a_run_by_hand;
+pub use by_hand::{a_run_around_what_is_fed, a_run_by_hand};
 pub use doing::{
     a_pool_answers_in_groups, a_port_does_what_is_next, a_port_goes_through_a_stage,
     messages_are_sent_one_by_one, what_a_port_does_adds_up,

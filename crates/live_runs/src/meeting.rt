@@ -1,18 +1,17 @@
 //! What is known of all passes where they have met.
 
-ghost use Rattle.std.specs.Prelude.{◌≡◌, ◌<◌, ◌==◌, ℕ, suc, true, false, List, [], length};
-ghost use Rattle.std.specs.Prelude.{if◌then◌else◌};
-ghost use Rattle.inspector_script.specs.Scripts.{IsScript, ScriptValue};
+ghost use Rattle.std.specs.Prelude.{◌≡◌, ℕ, true, List, [], length};
+ghost use Rattle.inspector_script.specs.Scripts.{ScriptValue};
 ghost use Rattle.run_parts.specs.Log.{Note};
 ghost use Rattle.run_parts.specs.Ports.{is_port, place_in};
 ghost use Rattle.live_runs.specs.Seen.{Shares, Grows};
 ghost use Rattle.live_runs.specs.Owners.{IsFeeders};
-ghost use Rattle.live_runs.specs.Passes.{AreMet, Pass, feeder_number, is_pass, with_pass};
+ghost use Rattle.live_runs.specs.Passes.{Pass, is_pass};
 ghost use Rattle.live_runs.specs.Stands.{Stand, opened, unopened};
-ghost use Rattle.live_runs.specs.Ports.{IsPort};
-ghost use Rattle.live_runs.specs.Stages.{Follows, Opening, Stage, Went, WentFeeding, Working};
+ghost use Rattle.live_runs.specs.Stages.{Opening, Stage, WentFeeding, Working};
 ghost use Rattle.live_runs.specs.Meetings.{IsMeeting, IsNew, IsOpenTo};
 ghost use Rattle.live_runs.specs.Doing.{IsDoing};
+ghost use Rattle.live_runs.specs.Laws.{EndsStage, OpensNext};
 
 use queue_core::each_packet_stays_or_leaves;
 use run_parts::{closings_are_kept, logs_go_on};
@@ -28,16 +27,7 @@ pub fn ports_open_one_after_the_other()
         IsOpenTo workers script places (place_in port script.ports) passes notes stands →
         IsDoing workers script places (Opening (place_in port script.ports)) port (notes port)
         (passes port) (unopened script port) (passes port) }
-    ensures next { (workers : ℕ) (script : ScriptValue) (places port : ℕ) (old new : ℕ → Pass)
-        (notes : ℕ → List Note) (stands : ℕ → Stand) (mine : Pass) → 0 < places →
-        IsScript script → is_port script port ≡ true →
-        IsOpenTo workers script places (place_in port script.ports) old notes stands →
-        (a : IsDoing workers script places (Opening (place_in port script.ports)) port
-        (notes port) (old port) (opened script port) mine) →
-        AreMet script.ports (with_pass port mine old) new →
-        IsOpenTo workers script places (suc (place_in port script.ports)) new
-        (λ p. if p == port then a.notes else notes p)
-        (λ p. if p == port then opened script port else stands p) }
+    ensures next { OpensNext }
     ensures all { (workers : ℕ) (script : ScriptValue) (places : ℕ) (passes : ℕ → Pass)
         (notes : ℕ → List Note) (stands : ℕ → Stand) →
         IsOpenTo workers script places (length script.ports) passes notes stands →
@@ -55,17 +45,7 @@ pub fn ports_open_one_after_the_other()
 /// A stage ends where all passes meet, each port's having done what is of the stage and the
 /// feeder's having fed, while no port ends: so they are in order up to the stage.
 pub fn a_stage_ends_where_all_meet()
-    ensures meeting { (workers : ℕ) (script : ScriptValue) (places : ℕ) (before stage : Stage)
-        (old mid new : ℕ → Pass) (was now : ℕ → List Note) (stood stands : ℕ → Stand) →
-        0 < places → Follows script.ports before stage →
-        IsMeeting workers script places before old was stood →
-        ((p : ℕ) → is_port script p ≡ true →
-        IsPort workers script places p (now p) (stands p) (mid p)) →
-        ((p : ℕ) → is_port script p ≡ true →
-        Went workers script stage p (was p) (now p) (old p).shares (mid p).shares) →
-        ((p : ℕ) → is_port script p ≡ false → now p ≡ []) →
-        WentFeeding script stage (old feeder_number).shares (mid feeder_number).shares →
-        AreMet script.ports mid new → IsMeeting workers script places stage new now stands }
+    ensures meeting { EndsStage }
     ensures feeds { (script : ScriptValue) (old new : Shares) →
         ((k : ℕ) → Grows IsFeeders (old k) (new k)) → WentFeeding script Working old new }
     ensures rests { (script : ScriptValue) (stage : Stage) (shares : Shares) →

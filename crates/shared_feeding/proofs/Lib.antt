@@ -4,6 +4,5 @@ mod ShareInvariant
 mod MarkedLists
 mod ShareLines
 mod ShareGrowth
-mod ExampleRun
 mod ListUnion
 mod ExampleFeeders

@@ -68,6 +68,20 @@ own_first Frame (Saw e) ss one are = are
 own_first Frame (Own i) ss one are = (one.0, are)
 
 module _ (Frame : ℕ → Type 0) where
+  -- which of the two lists is called the first is the same
+  exchanged : (q : Option Bound) (ss ts : List Sight) (zs : List Seen) → Both Frame q ss ts zs →
+      Both Frame q ts ss zs
+  exchanged q ss ts zs is = record {
+    sights = is.sights;
+    seen = is.seen;
+    each = is.each;
+    own = is.own;
+    lines_one = is.lines_two;
+    lines_two = is.lines_one;
+    times_one = is.times_two;
+    times_two = is.times_one;
+  }
+
   -- ---- one sight more in front
 
   -- a line of the one passes first, or of the other
@@ -90,18 +104,9 @@ module _ (Frame : ℕ → Type 0) where
   two_passes : (q : Option Bound) (d : Down) (ss ts : List Sight) (zs : List Seen) →
       IsItem q (Passed d) → Frame d.after → Both Frame q ss ts zs →
       Both Frame q ss (Own (Passed d) ∷ ts) zs
-  two_passes q d ss ts zs here of is = record {
-    sights = Own (Passed d) ∷ is.sights;
-    seen = is.seen;
-    each = (here, is.each);
-    own = (of, is.own);
-    lines_one = λ g blank none. ap (λ l. l ++ flat_map g is.sights) none.0
-        ∙ is.lines_one g blank none.1;
-    lines_two = λ g blank none. ap (λ l. g (Own (Passed d)) ++ l) (is.lines_two g blank none);
-    times_one = λ g blank none. ap (λ l. l ++ flat_map g is.sights) none.0
-        ∙ is.times_one g blank none.1;
-    times_two = λ g blank none. ap (λ l. g (Own (Passed d)) ++ l) (is.times_two g blank none);
-  }
+  two_passes q d ss ts zs here of is =
+      exchanged q (Own (Passed d) ∷ ts) ss zs
+      (one_passes q d ts ss zs here of (exchanged q ss ts zs is))
 
   right : {X : Type 0} (g : Sight → List X) (x y : Sight) (ts us : List Sight) → g x ≡ [] →
       g y ≡ [] → flat_map g us ≡ flat_map g ts → g x ++ flat_map g us ≡ g y ++ flat_map g ts
@@ -140,23 +145,10 @@ module _ (Frame : ℕ → Type 0) where
       (zs : List Seen) → IsAt y n → x ≡ Saw e → z ≡ n → IsSight q y → OwnAreOf Frame (y ∷ []) →
       Both Frame (replay_from q (entry n ∷ [])) ss ts zs →
       Both Frame q (x ∷ ss) (y ∷ ts) (z ∷ zs)
-  keep_two q x y e n z ss ts zs at saw mark here of is = record {
-    sights = y ∷ is.sights;
-    seen = ap (λ l. l ++ flat_map seen_of is.sights) at.seen ∙ ap (λ l. n ∷ l) is.seen
-        ∙ ap (λ w. w ∷ zs) (sym mark);
-    each = (
-      here,
-      subst (λ es. AreSightsFrom (replay_from q es) is.sights) (sym at.under_it)
-          is.each,
-    );
-    own = own_first Frame y is.sights of is.own;
-    lines_one = λ g blank none. right g y x ss is.sights none.0 (blank_at g x e blank saw)
-        (is.lines_one g blank none.1);
-    lines_two = λ g blank none. ap (λ l. g y ++ l) (is.lines_two g blank none.1);
-    times_one = λ g blank none. right g y x ss is.sights none.0 (blank_at g x e blank saw)
-        (is.times_one g blank none.1);
-    times_two = λ g blank none. ap (λ l. g y ++ l) (is.times_two g blank none.1);
-  }
+  keep_two q x y e n z ss ts zs at saw mark here of is =
+      exchanged q (y ∷ ts) (x ∷ ss) (z ∷ zs)
+      (keep_one q y x e n z ts ss zs at saw mark here of
+      (exchanged (replay_from q (entry n ∷ [])) ss ts zs is))
 
   -- two sights of one entry; what follows is in the state behind it
   pair : (q : Option Bound) (x y : Sight) (m n z : Seen) (ss ts : List Sight) (zs : List Seen) →

@@ -24,7 +24,8 @@ ghost use Rattle.shared_feeding.specs.Sights.{IsSharing, front_time};
 
 use crate::joined_feeders_fed_the_place;
 use live_runs::{
-    a_place_stays_fed_by_all, a_run_by_hand, a_run_with_threads_is_made_by_its_script,
+    a_place_stays_fed_by_all, a_run_around_what_is_fed, a_run_by_hand,
+    a_run_with_threads_is_made_by_its_script,
 };
 
 /// Two feeders feed a frame each, and between the first one's and its line the other one's arrives.
@@ -63,6 +64,7 @@ pub fn a_run_of_two_feeders_by_hand()
     joined_feeders_fed_the_place();
     two_feeders_by_hand();
     a_place_stays_fed_by_all();
+    a_run_around_what_is_fed();
     a_run_by_hand();
     a_run_with_threads_is_made_by_its_script();
 }

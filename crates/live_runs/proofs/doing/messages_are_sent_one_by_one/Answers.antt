@@ -1,6 +1,6 @@
 use Rattle.std.proofs.Common.{refl}
 use Rattle.netlink_codec.specs.Messages.{first_message}
-use Rattle.live_runs.proofs.Cuts.{looked_all, sent_all, sent_on, used_within}
+use Rattle.live_runs.proofs.Cuts.{looked_all, sent_all, sent_on, unsent, used_within}
 use Rattle.live_runs.proofs.doing.messages_are_sent_one_by_one.Goals as goal
 
 pub returns : goal.returns
@@ -26,4 +26,6 @@ returns c =
           count look rest pass none a;
       used = λ places port rest old new used s. used_within rest places port old new used
           (first_message rest) refl s;
+      unsent = λ places port rest old new used none s. unsent rest places port old new used
+          (first_message rest) refl none s;
     }
