@@ -233,7 +233,7 @@ impl<'a, J: JobGate> Desk<'a, J> {
     }
 
     /// Works until the desk is closed: takes up what is laid on it, and sleeps where nothing is.
-    pub fn serve<R: Wait>(&self, rt: &R) {
+    fn serve<R: Wait>(&self, rt: &R) {
         let mut looks = 0;
         for _ in rt.forever() {
             if self.do_one(rt) {
