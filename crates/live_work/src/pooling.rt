@@ -259,9 +259,15 @@ pub fn inspect_by_pool<R: Threads + Wait + Sync, G: Gate, J: JobGate>(
     let ((), outcome) = join_mut(
         stage.rt,
         &mut ||
-            requires { IsSync J.row × IsSync R.row }
+            requires { IsSync J.row × IsSync R.row × (least_workers ≤ pool.now.workers) }
         { desk.staff(stage.rt, pool.workers - 1) },
-        &mut || { inspect_to_the_end(stage, pool, desk, pause, pass, mind) },
+        &mut ||
+            requires { IsSync J.row × IsSync R.row × (least_workers ≤ pool.now.workers)
+                × (desk.now.script.now ≡ stage.now.script.now)
+                × (desk.now.place ≡ place_in pass.now.port stage.now.script.now.ports)
+                × IsPortOf stage.now.plane.now pass.now
+                × IsMind stage.now.script.now pass.now mind.now }
+        { inspect_to_the_end(stage, pool, desk, pause, pass, mind) },
     );
     outcome
 }

@@ -14,7 +14,7 @@ abbrev pub invariant-loop-received : goal.invariant-loop-received
 invariant-loop-received g l = record {
   stays : StaysPort l.stage.plane.now l.initial.pass l.pass;
   mind : IsMind l.stage.script.now l.pass l.mind;
-  few : length l.notices ≤ l._received;
+  few : length l.notices ≤ l.received;
   counted : l.mind.machine.received
       ≡ count_after l.initial.mind.machine.received (length l.notices);
   heard : heard_by l.pass ≡ heard_by l.initial.pass + length l.notices;
