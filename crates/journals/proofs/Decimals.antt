@@ -1,7 +1,9 @@
 -- How many digits numbers have.
-use Rattle.std.proofs.Common.{◌≡◌, ℕ, ◌+◌, ◌/◌, ◌%◌, ◌^◌, ◌≤◌, ◌<◌, ◌∷◌, [], length, decimal, arith}
-use Rattle.std.proofs.Common.{ap, ◌∙◌, length-append}
+use Rattle.std.proofs.Common.{◌≡◌, ℕ, suc, zero, ◌+◌, ◌/◌, ◌%◌, ◌^◌, ◌≤◌, ◌<◌, ◌∷◌, []}
+use Rattle.std.proofs.Common.{length, decimal, arith, ap, sym, ◌∙◌, length-append}
+use Rattle.std.proofs.Math.Nat.{div-one, div-div-eq-div-mul, pow-succ', one-le-pow}
 use Rattle.std.proofs.lemmas.Fmt.{decimal_digit, decimal_step}
+use Rattle.std.proofs.lemmas.Nat.{div_below, le-div}
 
 pub one_digit : (n : ℕ) → n < 10 → length (decimal n) ≡ 1
 one_digit n few = ap length (decimal_digit n few)
@@ -10,73 +12,27 @@ one_more : (n : ℕ) → 10 ≤ n → n < 2 ^ 64 → length (decimal n) ≡ leng
 one_more n many fits =
     ap length (decimal_step n many fits) ∙ length-append (decimal (n / 10)) ((48 + n % 10) ∷ [])
 
-pub two_digits : (n : ℕ) → 10 ≤ n → n < 100 → length (decimal n) ≡ 2
-two_digits n many few =
-    omega (arith, one_more n many (omega (arith, few)), one_digit (n / 10) (omega (arith, few)))
-
-pub three_digits : (n : ℕ) → 100 ≤ n → n < 1000 → length (decimal n) ≡ 3
-three_digits n many few =
+-- as many more than the number without its last ones
+pub more : (k n : ℕ) → 10 ^ k ≤ n → n < 2 ^ 64 →
+    length (decimal n) ≡ k + length (decimal (n / 10 ^ k))
+more zero n many fits = omega (arith, ap (λ m. length (decimal m)) (div-one n))
+more (suc k) n many fits =
+    let p = pow-succ' 10 k in
+    let some : 1 ≤ 10 ^ k = one-le-pow k 10 (omega arith) in
+    let left : 10 ^ k ≤ n / 10 = le-div (10 ^ k) n 10 (omega arith) (omega (arith, p, many)) in
+    let same : n / 10 / 10 ^ k ≡ n / 10 ^ suc k
+    = div-div-eq-div-mul n 10 (10 ^ k) ∙ ap (λ m. n / m) (sym p) in
     omega (
       arith,
-      one_more n (omega (arith, many)) (omega (arith, few)),
-      two_digits (n / 10) (omega (arith, many)) (omega (arith, few)),
+      one_more n (omega (arith, p, many, some)) fits,
+      more k (n / 10) left (omega (arith, fits)),
+      ap (λ m. length (decimal m)) same,
     )
 
-pub four_digits : (n : ℕ) → 1000 ≤ n → n < 10000 → length (decimal n) ≡ 4
-four_digits n many few =
-    omega (
-      arith,
-      one_more n (omega (arith, many)) (omega (arith, few)),
-      three_digits (n / 10) (omega (arith, many)) (omega (arith, few)),
-    )
-
--- four more than the number without its last four
-pub four_more : (n : ℕ) → 10000 ≤ n → n < 2 ^ 64 →
-    length (decimal n) ≡ 4 + length (decimal (n / 10000))
-four_more n many fits =
-    let last : n / 10 / 10 / 10 / 10 ≡ n / 10000 = omega arith in
-    let e = ap (λ m. length (decimal m)) last in
-    omega (
-      arith,
-      e,
-      one_more n (omega (arith, many)) fits,
-      one_more (n / 10) (omega (arith, many)) (omega (arith, fits)),
-      one_more (n / 10 / 10) (omega (arith, many)) (omega (arith, fits)),
-      one_more (n / 10 / 10 / 10) (omega (arith, many)) (omega (arith, fits)),
-    )
-
-pub eight_more : (n : ℕ) → 100000000 ≤ n → n < 2 ^ 64 →
-    length (decimal n) ≡ 8 + length (decimal (n / 100000000))
-eight_more n many fits =
-    let last : n / 10000 / 10000 ≡ n / 100000000 = omega arith in
-    let e = ap (λ m. length (decimal m)) last in
-    omega (
-      arith,
-      e,
-      four_more n (omega (arith, many)) fits,
-      four_more (n / 10000) (omega (arith, many)) (omega (arith, fits)),
-    )
-
-pub twelve_more : (n : ℕ) → 1000000000000 ≤ n → n < 2 ^ 64 →
-    length (decimal n) ≡ 12 + length (decimal (n / 1000000000000))
-twelve_more n many fits =
-    let last : n / 100000000 / 10000 ≡ n / 1000000000000 = omega arith in
-    let e = ap (λ m. length (decimal m)) last in
-    omega (
-      arith,
-      e,
-      eight_more n (omega (arith, many)) fits,
-      four_more (n / 100000000) (omega (arith, many)) (omega (arith, fits)),
-    )
-
-pub sixteen_more : (n : ℕ) → 10000000000000000 ≤ n → n < 2 ^ 64 →
-    length (decimal n) ≡ 16 + length (decimal (n / 10000000000000000))
-sixteen_more n many fits =
-    let last : n / 1000000000000 / 10000 ≡ n / 10000000000000000 = omega arith in
-    let e = ap (λ m. length (decimal m)) last in
-    omega (
-      arith,
-      e,
-      twelve_more n (omega (arith, many)) fits,
-      four_more (n / 1000000000000) (omega (arith, many)) (omega (arith, fits)),
-    )
+-- a number between two powers of ten
+pub digits_are : (k n : ℕ) → 10 ^ k ≤ n → n < 10 ^ suc k → n < 2 ^ 64 →
+    length (decimal n) ≡ suc k
+digits_are k n many few fits =
+    let some : 1 ≤ 10 ^ k = one-le-pow k 10 (omega arith) in
+    let left = div_below n (10 ^ k) 10 some (omega (arith, few, pow-succ' 10 k)) in
+    omega (arith, more k n many fits, one_digit (n / 10 ^ k) left)

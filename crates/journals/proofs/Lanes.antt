@@ -3,10 +3,11 @@ use Rattle.std.proofs.Common.{◌≡◌, ◌+◌, ◌-◌, ◌*◌, ◌%◌, ◌
 use Rattle.std.proofs.Common.{zero, bit_and, List, cond, get_or, w8, take, drop, length, map}
 use Rattle.std.proofs.Common.{slice_index, refl, sym, ap, ◌∙◌, subst, arith}
 use Rattle.std.proofs.lemmas.List.{take-take, take-append-drop, drop-take, take_at, take_all}
-use Rattle.std.proofs.lemmas.List.{take_rest, take-append-le, length-take-le, length-drop}
+use Rattle.std.proofs.lemmas.List.{take_rest, take-append-le, length-take-le, length-drop, length-map}
+use Rattle.std.proofs.lemmas.List.{length-replicate}
 use Rattle.std.proofs.lemmas.Nat.{and_mask}
 use Rattle.std.proofs.lemmas.Simd.{swz_l, map-map, zip2_splat, take_more_put_chunk}
-use Rattle.std.proofs.lemmas.Simd.{length-put_chunk, pick_l_whole}
+use Rattle.std.proofs.lemmas.Simd.{length-put_chunk, length-zip2, pick_l_whole}
 use lib.Lanes.{Each1, zip2, sel_l, top, put_chunk, pick_l}
 use lib.ListN.{replicate}
 use Rattle.std.specs.List.{range_with_len}
@@ -77,55 +78,73 @@ masked n v long =
     ap (map (λ x. digit x)) (zip2_splat bit_and v n 15 long)
     ∙ map-map (λ x. digit x) (λ b. bit_and b 15) v ∙ (λ i. map (λ b. digit (and_mask b 4 i)) v)
 
--- the lanes of two lists of 16 in turn
+-- the lanes of the digits, in turn, are the digits of each byte: what a pair of lists of places says
+abbrev Weave : ℕ → List ℕ → List ℕ → Type 0
+Weave n firsts seconds =
+    (v : List ℕ) → length v ≡ n →
+    pick_l 0 (highs v ++ lows v) firsts ++ pick_l 0 (highs v ++ lows v) seconds ≡ encode_lower v
+
+-- the places in two lists of 16 in turn
 abbrev pub first_16 : List ℕ
 first_16 = 0 ∷ 16 ∷ 1 ∷ 17 ∷ 2 ∷ 18 ∷ 3 ∷ 19 ∷ 4 ∷ 20 ∷ 5 ∷ 21 ∷ 6 ∷ 22 ∷ 7 ∷ 23 ∷ []
 
 abbrev pub second_16 : List ℕ
 second_16 = 8 ∷ 24 ∷ 9 ∷ 25 ∷ 10 ∷ 26 ∷ 11 ∷ 27 ∷ 12 ∷ 28 ∷ 13 ∷ 29 ∷ 14 ∷ 30 ∷ 15 ∷ 31 ∷ []
 
-pub woven_16 : (v : List ℕ) → length v ≡ 16 →
-    pick_l 0 (highs v ++ lows v) first_16 ++ pick_l 0 (highs v ++ lows v) second_16 ≡ encode_lower v
+pub woven_16 : Weave 16 first_16 second_16
 unfolding encode_with
 woven_16 v long =
     subst (λ u. pick_l 0 (highs u ++ lows u) first_16 ++ pick_l 0 (highs u ++ lows u) second_16
     ≡ encode_lower u)
     (pick_l_whole 0 v 16 long) refl
 
--- two runs of 16 that were put one after the other
-pub two_runs_16 : (to first second : List ℕ) → length first ≡ 16 → length second ≡ 16 →
-    32 ≤ length to →
-    take 32 (put_chunk 16 (put_chunk 0 to first) second) ≡ first ++ second
-two_runs_16 to first second long as_long room =
-    take_more_put_chunk 16 (put_chunk 0 to first) second 32 (omega (arith, as_long))
-    (omega (arith, room, length-put_chunk 0 to first))
-    ∙ ap (λ z. z ++ second)
-    (take_more_put_chunk 0 to first 16 (omega (arith, long)) (omega (arith, room)))
-
--- the lanes of two lists of 8 in turn
+-- the places in two lists of 8 in turn
 abbrev pub first_8 : List ℕ
 first_8 = 0 ∷ 8 ∷ 1 ∷ 9 ∷ 2 ∷ 10 ∷ 3 ∷ 11 ∷ []
 
 abbrev pub second_8 : List ℕ
 second_8 = 4 ∷ 12 ∷ 5 ∷ 13 ∷ 6 ∷ 14 ∷ 7 ∷ 15 ∷ []
 
-pub woven_8 : (v : List ℕ) → length v ≡ 8 →
-    pick_l 0 (highs v ++ lows v) first_8 ++ pick_l 0 (highs v ++ lows v) second_8 ≡ encode_lower v
+pub woven_8 : Weave 8 first_8 second_8
 unfolding encode_with
 woven_8 v long =
     subst (λ u. pick_l 0 (highs u ++ lows u) first_8 ++ pick_l 0 (highs u ++ lows u) second_8
     ≡ encode_lower u)
     (pick_l_whole 0 v 8 long) refl
 
--- two runs of 8 that were put one after the other
-pub two_runs_8 : (to first second : List ℕ) → length first ≡ 8 → length second ≡ 8 →
-    16 ≤ length to →
-    take 16 (put_chunk 8 (put_chunk 0 to first) second) ≡ first ++ second
-two_runs_8 to first second long as_long room =
-    take_more_put_chunk 8 (put_chunk 0 to first) second 16 (omega (arith, as_long))
+-- two runs of n that were put one after the other
+two_runs : (n : ℕ) (to first second : List ℕ) → length first ≡ n → length second ≡ n →
+    n * 2 ≤ length to →
+    take (n * 2) (put_chunk n (put_chunk 0 to first) second) ≡ first ++ second
+two_runs n to first second long as_long room =
+    take_more_put_chunk n (put_chunk 0 to first) second (n * 2) (omega (arith, as_long))
     (omega (arith, room, length-put_chunk 0 to first))
     ∙ ap (λ z. z ++ second)
-    (take_more_put_chunk 0 to first 8 (omega (arith, long)) (omega (arith, room)))
+    (take_more_put_chunk 0 to first n (omega (arith, long)) (omega (arith, room)))
+
+-- the lanes of a shift, of those that are masked: as many as there are bytes
+pub masked_long : (n : ℕ) (bytes : List ℕ) → n ≤ length bytes →
+    length (zip2 bit_and (take n bytes) (replicate n 15)) ≡ n
+masked_long n bytes enough =
+    let long = length-take-le n bytes enough in
+    length-zip2 bit_and (take n bytes) (replicate n 15) (long ∙ sym (length-replicate n 15)) ∙ long
+
+-- the digits of the first n bytes, put as two runs
+pub two_runs_of : (n : ℕ) (bytes to high low firsts seconds : List ℕ) → Weave n firsts seconds →
+    length firsts ≡ n → length seconds ≡ n → n ≤ length bytes → n * 2 ≤ length to →
+    high ≡ map (λ x. digit x) (zip2 (λ a b. a / 2 ^ b) (take n bytes) (replicate n 4)) →
+    low ≡ map (λ x. digit x) (zip2 bit_and (take n bytes) (replicate n 15)) →
+    take (n * 2) (put_chunk n (put_chunk 0 to (pick_l 0 (high ++ low) firsts))
+    (pick_l 0 (high ++ low) seconds)) ≡ encode_lower (take n bytes)
+two_runs_of n bytes to high low firsts seconds woven first_long second_long enough room up down =
+    let v = take n bytes in
+    let long = length-take-le n bytes enough in
+    let up_is = up ∙ shifted n v long in
+    let down_is = down ∙ masked n v long in
+    two_runs n to (pick_l 0 (high ++ low) firsts) (pick_l 0 (high ++ low) seconds)
+    (length-map firsts _ ∙ first_long) (length-map seconds _ ∙ second_long) room
+    ∙ (λ i. pick_l 0 (up_is i ++ down_is i) firsts ++ pick_l 0 (up_is i ++ down_is i) seconds)
+    ∙ woven v long
 
 -- ---- run by run
 

@@ -38,6 +38,7 @@ fn digits_16(lanes: u8x16) -> u8x16
 
 /// Writes the digits of the first 8 bytes.
 #[inline(always)]
+#[tactic(auto, using(crate::proofs::Lanes::masked_long))]
 fn put_8(bytes: &[u8], to: &mut [u8])
     requires bytes { 8 ≤ length bytes.now }
     requires room { 16 ≤ length to.old }

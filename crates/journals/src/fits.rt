@@ -7,7 +7,9 @@ ghost use Rattle.journals.specs.Formed.{FitsAsk, FitsCard, FitsDid, FitsHead, Fi
 ghost use Rattle.journals.specs.Formed.{FitsParams, FitsRequest, IsHalf, IsSmall, IsWide};
 ghost use Rattle.journals.specs.WellFormed.{Fit, FitsEntry, FitsEvent, FitsLog, FitsReply};
 
-use histories::{AskWords, Did, Dids, Entries, Entry, Event, Histories, Logs, PortLog, Reply};
+use histories::{
+    AskWords, Did, Dids, Entries, Entry, Event, Histories, Logs, PortLog, Reply, queue_of,
+};
 use nfqa_msgs::{Head, Params, Request};
 use packet_entry::{Bytes, Card};
 use queue_core::Outcome;
@@ -24,7 +26,7 @@ fn wide(n: u32)
     ensures { IsWide n }
 {}
 
-fn half(n: u16)
+pub(crate) fn half(n: u16)
     ensures { IsHalf n }
 {}
 
@@ -36,7 +38,7 @@ fn are_bytes(bytes: &[u8])
     ensures { IsBytes bytes.now }
 {}
 
-fn some_wide(n: Option<u32>)
+pub(crate) fn some_wide(n: Option<u32>)
     ensures { IfSome n IsWide }
 {
     if let Some(n) = n {
@@ -69,7 +71,7 @@ fn params_fit(params: Option<Params>)
     }
 }
 
-fn head_fits(head: Option<Head>)
+pub(crate) fn head_fits(head: Option<Head>)
     ensures { IfSome head FitsHead }
 {
     if let Some(Head { verdict, id }) = head {
@@ -86,19 +88,19 @@ fn payload_fits(payload: &Option<Bytes>)
     }
 }
 
-fn request_fits(request: &Request)
+pub(crate) fn request_fits(request: &Request)
     ensures { FitsRequest Second request.now }
 {
+    half(queue_of(request));
     match request {
         Request::Config {
-            queue,
             command,
             params,
             maxlen,
             flags,
             mask,
+            ..
         } => {
-            half(*queue);
             some_small(*command);
             params_fit(*params);
             some_wide(*maxlen);
@@ -106,25 +108,23 @@ fn request_fits(request: &Request)
             some_wide(*mask);
         }
         Request::Verdict {
-            queue,
             head,
             mark,
             payload,
             priority,
+            ..
         } => {
-            half(*queue);
             head_fits(*head);
             some_wide(*mark);
             payload_fits(payload);
             some_wide(*priority);
         }
         Request::Batch {
-            queue,
             head,
             mark,
             priority,
+            ..
         } => {
-            half(*queue);
             head_fits(*head);
             some_wide(*mark);
             some_wide(*priority);

@@ -1,16 +1,17 @@
 //! How many bytes the line of an entry has at most.
 
-ghost use Rattle.std.specs.Prelude.{◌≡◌, ◌+◌, ◌≤◌, ◌++◌, ℕ, List, length, IfSome, decimal, codes};
+ghost use Rattle.std.specs.Prelude.{◌≡◌, ◌+◌, ◌≤◌, ◌++◌, length, IfSome, decimal, codes};
 ghost use Rattle.text_lines.specs.Hexadecimal.{hexadecimal};
-ghost use Rattle.nfqa_msgs.specs.declared.request.Request.TheVariants.{Config};
+ghost use Rattle.histories.specs.Happenings.{payload_of};
 ghost use Rattle.journals.specs.declared.version.Version.TheVariants.{Second};
 ghost use Rattle.journals.specs.Format as text;
 ghost use Rattle.journals.specs.Journal as today;
 
 use crate::digits::DIGITS;
+use crate::fits::{half, head_fits, request_fits, some_wide};
 use crate::version::Version;
 use histories::{Entry, Event, Reply};
-use nfqa_msgs::{Head, Params, Request};
+use nfqa_msgs::{Head, Request};
 use packet_entry::{Bytes, Card};
 use queue_core::Outcome;
 
@@ -75,44 +76,20 @@ fn card_room(card: &Card, bypass: &str, room: &str) -> Option<usize>
 fn request_room(request: &Request) -> Option<usize>
     ensures { IfSome result (λ room. length (text.request Second request.now) ≤ room) }
 {
+    request_is_short(request);
     match request {
-        Request::Config {
-            queue,
-            command,
-            params,
-            maxlen,
-            flags,
-            mask,
-        } => {
-            config_is_short(*queue, *command, *params, *maxlen, *flags, *mask);
-            Some(REQUEST)
-        }
-        Request::Verdict {
-            queue,
-            head,
-            mark,
-            payload,
-            priority,
-        } => {
-            number_is_short(*queue as u64);
-            head_is_short(*head);
-            mark_is_short(*mark);
-            priority_is_short(Version::Second, *priority);
-            payload_room(payload)?.checked_add(REQUEST)
-        }
-        Request::Batch {
-            queue,
-            head,
-            mark,
-            priority,
-        } => {
-            number_is_short(*queue as u64);
-            head_is_short(*head);
-            mark_is_short(*mark);
-            priority_is_short(Version::Second, *priority);
-            Some(REQUEST)
-        }
+        Request::Verdict { payload, .. } => payload_room(payload)?.checked_add(REQUEST),
+        Request::Config { .. } => Some(REQUEST),
+        Request::Batch { .. } => Some(REQUEST),
     }
+}
+
+/// A request has at most so many bytes beside its payload.
+pub(crate) fn request_is_short(request: &Request)
+    ensures { length (text.request Second request.now)
+        ≤ 182 + length (text.payload (payload_of request.now)) }
+{
+    request_fits(request);
 }
 
 fn payload_room(payload: &Option<Bytes>) -> Option<usize>
@@ -130,24 +107,6 @@ fn bytes_room(bytes: &Bytes) -> Option<usize>
     ensures { IfSome result (λ room. length (hexadecimal bytes.now) ≤ room) }
 {
     bytes.len().checked_mul(DIGITS)?.checked_add(1)
-}
-
-pub(crate) fn config_is_short(
-    queue: u16,
-    command: Option<u8>,
-    params: Option<Params>,
-    maxlen: Option<u32>,
-    flags: Option<u32>,
-    mask: Option<u32>,
-)
-    ensures { length (text.request Second (Config queue command params maxlen flags mask)) ≤ 182 }
-{
-    number_is_short(queue as u64);
-    command_is_short(command);
-    params_are_short(params);
-    value_is_short(maxlen);
-    value_is_short(flags);
-    value_is_short(mask);
 }
 
 fn card_is_short(card: &Card, bypass: &str, room: &str)
@@ -212,59 +171,27 @@ fn outcome_is_short(outcome: Outcome)
     }
 }
 
-fn head_is_short(head: Option<Head>)
-    ensures { length (text.head head) ≤ 41 }
-{
-    if let Some(Head { verdict, id }) = head {
-        number_is_short(verdict as u64);
-        number_is_short(id as u64);
-    }
-}
-
-fn params_are_short(params: Option<Params>)
-    ensures { length (text.params params) ≤ 49 }
-{
-    if let Some(Params { range, mode }) = params {
-        number_is_short(mode as u64);
-        number_is_short(range as u64);
-    }
-}
-
-fn command_is_short(command: Option<u8>)
-    ensures { (word : List ℕ) → length (text.part word command) ≤ length word + 20 }
-{
-    if let Some(command) = command {
-        number_is_short(command as u64);
-    }
-}
-
-fn value_is_short(value: Option<u32>)
-    ensures { (word : List ℕ) → length (text.part word value) ≤ length word + 20 }
-{
-    if let Some(value) = value {
-        number_is_short(value as u64);
-    }
-}
-
-fn mark_is_short(mark: Option<u32>)
-    ensures { length (text.part (codes " mark ") mark) ≤ 26 }
-{
-    value_is_short(mark);
-}
-
 pub(crate) fn priority_is_short(version: Version, priority: Option<u32>)
     ensures { length (text.new_priority version priority) ≤ 30 }
 {
-    match version {
-        Version::First | Version::Second => (),
-    }
-    value_is_short(priority);
+    some_wide(priority);
 }
 
 /// A number of 64 bits has at most 20 digits.
 pub(crate) fn number_is_short(_number: u64)
     ensures { length (decimal _number) ≤ 20 }
 {}
+
+/// A letter, and a queue and two numbers behind it.
+pub(crate) fn three_are_short(letter: &str, queue: u16, first: u32, second: u32)
+    requires letter { length letter.now ≤ 2 }
+    ensures { length (letter.now ++ decimal queue ++ codes " " ++ decimal first ++ codes " "
+        ++ decimal second) ≤ 64 }
+{
+    number_is_short(queue as u64);
+    number_is_short(first as u64);
+    number_is_short(second as u64);
+}
 
 fn yes_no(yes: bool) -> &'static str
     ensures word { result.now ≡ text.yes_no yes }
@@ -291,9 +218,9 @@ pub(crate) fn verdict_is_short(word: &str, queue: u16, head: Option<Head>, mark:
     ensures { length (word.now ++ decimal queue ++ codes " " ++ text.head head
         ++ text.part (codes " mark ") mark) ≤ 96 }
 {
-    number_is_short(queue as u64);
-    head_is_short(head);
-    mark_is_short(mark);
+    half(queue);
+    head_fits(head);
+    some_wide(mark);
 }
 
 pub(crate) fn answer_is_short(answer: Option<u16>)

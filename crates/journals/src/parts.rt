@@ -102,6 +102,26 @@ fn put_priority(version: Version, priority: u32, to: &mut [u8], at: usize) -> us
     }
 }
 
+/// A letter, and a queue and two numbers behind it.
+#[inline(always)]
+pub(crate) fn put_three(
+    letter: &str,
+    queue: u16,
+    first: u32,
+    second: u32,
+    to: &mut [u8],
+    at: usize,
+) -> usize
+    requires room { at + length (letter.now ++ decimal queue ++ codes " " ++ decimal first
+        ++ codes " " ++ decimal second) ≤ length to.old }
+    ensures { Placed to.old to.new at (letter.now ++ decimal queue ++ codes " " ++ decimal first
+        ++ codes " " ++ decimal second) result }
+{
+    let at = put_number(letter, queue as u64, to, at);
+    let at = put_number(" ", first as u64, to, at);
+    put_number(" ", second as u64, to, at)
+}
+
 /// A configuration request.
 pub(crate) fn put_config(
     queue: u16,

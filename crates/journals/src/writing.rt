@@ -10,10 +10,12 @@ ghost use Rattle.journals.specs.Journal as today;
 use crate::appending::{append_number, append_text, append_word};
 use crate::digits::{DIGITS, put_digits};
 use crate::line_room::{
-    answer_is_short, arrival_is_short, config_is_short, number_is_short, priority_is_short,
-    reply_is_short, verdict_is_short,
+    answer_is_short, arrival_is_short, number_is_short, priority_is_short, reply_is_short,
+    request_is_short, three_are_short, verdict_is_short,
 };
-use crate::parts::{put_answer, put_arrival, put_config, put_new_priority, put_reply, put_verdict};
+use crate::parts::{
+    put_answer, put_arrival, put_config, put_new_priority, put_reply, put_three, put_verdict,
+};
 use crate::placing::{put_number, put_word};
 use crate::room::{room_for, room_for_logs};
 use crate::version::Version;
@@ -193,7 +195,10 @@ fn push_arrival(
         ++ text.facts version card.now
         ++ (hexadecimal card.now.link ++ codes " " ++ hexadecimal card.now.bytes ++ codes " ")) }
 {
-    push_front(version, queue, card, bypass, room, out)?;
+    arrival_is_short(version, queue, card, bypass, room);
+    let mut line = [0; FRONT];
+    let end = put_arrival(version, queue, card, bypass, room, &mut line, 0);
+    out.extend_from_slice(&line[..end])?;
     push_frame(card, out)
 }
 
@@ -206,26 +211,6 @@ fn push_frame(card: &Card, out: &mut Vec<u8>) -> Result<(), AllocError>
     append_word(" ", out)?;
     push_bytes(card.bytes.as_slice(), out)?;
     append_word(" ", out)
-}
-
-/// What an arrival's line says before the packet's bytes.
-fn push_front(
-    version: Version,
-    queue: u16,
-    card: &Card,
-    bypass: bool,
-    room: bool,
-    out: &mut Vec<u8>,
-) -> Result<(), AllocError>
-    ensures { Appends result out.old out.new (codes "A " ++ decimal queue ++ codes " "
-        ++ text.journey card.now
-        ++ (text.yes_no bypass ++ codes " " ++ text.yes_no room ++ codes " ")
-        ++ text.facts version card.now) }
-{
-    arrival_is_short(version, queue, card, bypass, room);
-    let mut line = [0; FRONT];
-    let end = put_arrival(version, queue, card, bypass, room, &mut line, 0);
-    out.extend_from_slice(&line[..end])
 }
 
 /// What a request's line says of the request and of who made it.
@@ -241,13 +226,9 @@ fn push_asked(
         ++ decimal port ++ codes " " ++ decimal call ++ codes " "
         ++ text.request version request.now) }
 {
-    number_is_short(queue as u64);
-    number_is_short(port as u64);
-    number_is_short(call as u64);
+    three_are_short("M ", queue, port, call);
     let mut line = [0; ASKED];
-    let at = put_number("M ", queue as u64, &mut line, 0);
-    let at = put_number(" ", port as u64, &mut line, at);
-    let at = put_number(" ", call as u64, &mut line, at);
+    let at = put_three("M ", queue, port, call, &mut line, 0);
     let at = put_word(" ", &mut line, at);
     push_request(version, request, &mut line, at, out)
 }
@@ -273,7 +254,7 @@ fn push_request(
             flags,
             mask,
         } => {
-            config_is_short(*queue, *command, *params, *maxlen, *flags, *mask);
+            request_is_short(request);
             let end = put_config(*queue, *command, *params, *maxlen, *flags, *mask, line, at);
             out.extend_from_slice(&line[..end])
         }
@@ -393,18 +374,14 @@ fn push_received(queue: u16, number: u32, visit: u32, out: &mut Vec<u8>) -> Resu
     ensures { Appends result out.old out.new (codes "R " ++ decimal queue ++ codes " "
         ++ decimal number ++ codes " " ++ decimal visit ++ codes "\n") }
 {
-    number_is_short(queue as u64);
-    number_is_short(number as u64);
-    number_is_short(visit as u64);
+    three_are_short("R ", queue, number, visit);
     let mut line = [0; RECEIVED];
-    let at = put_number("R ", queue as u64, &mut line, 0);
-    let at = put_number(" ", number as u64, &mut line, at);
-    let at = put_number(" ", visit as u64, &mut line, at);
+    let at = put_three("R ", queue, number, visit, &mut line, 0);
     let end = put_word("\n", &mut line, at);
     out.extend_from_slice(&line[..end])
 }
 
-/// What a port sent, and in which call.
+/// What a port sent, a request or the bytes of another message, and in which call.
 fn push_sent(
     version: Version,
     call: u32,
@@ -418,24 +395,10 @@ fn push_sent(
     let mut line = [0; ASKED];
     let at = put_number("S ", call as u64, &mut line, 0);
     let at = put_word(" ", &mut line, at);
-    push_ask(version, ask, &mut line, at, out)
-}
-
-/// Appends the first bytes of a line, and after them a request, or the bytes of another message.
-fn push_ask(
-    version: Version,
-    ask: &AskWords,
-    line: &mut [u8],
-    at: usize,
-    out: &mut Vec<u8>,
-) -> Result<(), AllocError>
-    requires room { at + 182 ≤ length line.old }
-    ensures { Appends result out.old out.new (take at line.old ++ text.ask version ask.now) }
-{
     match ask {
-        AskWords::Plain { request } => push_request(version, request, line, at, out),
+        AskWords::Plain { request } => push_request(version, request, &mut line, at, out),
         AskWords::Raw { bytes } => {
-            let end = put_word("raw ", line, at);
+            let end = put_word("raw ", &mut line, at);
             out.extend_from_slice(&line[..end])?;
             push_bytes(bytes.as_slice(), out)
         }

@@ -1,17 +1,12 @@
-use Rattle.std.proofs.Common.{List, subst, sym}
-use Rattle.std.specs.List.{AllByRecursion}
-use Rattle.histories.specs.declared.log.Did.{Did}
 use Rattle.journals.specs.declared.version.Version.TheVariants.{Second}
 use Rattle.journals.specs.Formed.{FitsDid}
+use Rattle.journals.proofs.StillToCome.{at_first, one_on}
 use Rattle.journals.proofs.fits.dids_fit.Goals as goal
 
 pub loop-did-init : goal.loop-did-init
-loop-did-init c = λ h.
-    subst (λ (es : List Did). AllByRecursion (FitsDid Second) es)
-    c.into_iter-did-iterator.ensures.into_iter_gives h
+loop-did-init c = at_first (FitsDid Second) _ _ c.into_iter-did-iterator.ensures.into_iter_gives
 
 pub loop-did-preserved : goal.loop-did-preserved
-loop-did-preserved c = λ h.
+loop-did-preserved c =
+    one_on (FitsDid Second) c.in-Some.did.now _ _ _ c.in-Some.ensures.steps c.did_fits.ensures
     c.loop-did.invariant
-    (subst (λ (es : List Did). AllByRecursion (FitsDid Second) es) (sym c.in-Some.ensures.steps)
-    (c.did_fits.ensures, h))

@@ -1,5 +1,5 @@
 use Rattle.std.proofs.Common.{arith}
-use Rattle.journals.proofs.Decimals.{four_more, eight_more}
+use Rattle.journals.proofs.Decimals.{more}
 use Rattle.journals.proofs.placing.count_digits.Goals as goal
 
 pub returns-then-number-lt100000000 : goal.returns-then-number-lt100000000
@@ -7,7 +7,7 @@ returns-then-number-lt100000000 c =
     omega (
       arith,
       c.count_few-then-number-lt100000000.ensures.digits,
-      four_more c.args.number c.if-number-lt10000.false c.ranges.number.fits,
+      more 4 c.args.number c.if-number-lt10000.false c.ranges.number.fits,
     )
 
 pub returns-then-number-lt1000000000000 : goal.returns-then-number-lt1000000000000
@@ -15,5 +15,5 @@ returns-then-number-lt1000000000000 c =
     omega (
       arith,
       c.count_few-then-number-lt1000000000000.ensures.digits,
-      eight_more c.args.number c.if-number-lt100000000.false c.ranges.number.fits,
+      more 8 c.args.number c.if-number-lt100000000.false c.ranges.number.fits,
     )
