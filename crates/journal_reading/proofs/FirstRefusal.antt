@@ -93,6 +93,17 @@ pub begins_at : (v : Version) (p : Place) → IsSound v p → BeginsJournal v (s
 begins_at v p h =
     (codes "end\n", histories_of p, record { well_formed = well_formed v p h; text_is = refl })
 
+begins_ended : (v : Version) (p : Place) → IsSound v p →
+    BeginsJournal v (so_far v p ++ codes "end\n")
+begins_ended v p sound = (
+  [],
+  histories_of p,
+  record {
+    well_formed = well_formed v p sound;
+    text_is = append-nil (so_far v p ++ codes "end\n");
+  },
+)
+
 pub begins_nothing : (v : Version) → BeginsJournal v []
 begins_nothing v = (
   text.journal_in v (histories_of start),
@@ -214,14 +225,7 @@ behind_end v laws p bytes behind n sound front t count some None cut =
       text_is = t;
       no_line = cut;
       count = omega (arith, count, one_line_more (so_far v p) (codes "end") refl);
-      begins = (
-        [],
-        histories_of p,
-        record {
-          well_formed = well_formed v p sound;
-          text_is = append-nil (so_far v p ++ codes "end\n");
-        },
-      );
+      begins = begins_ended v p sound;
       unfinished = λ h j. some (ends_here v laws p h behind front
           (subst (λ (z : List ℕ). IsJournal v z h)
           (t ∙ append_assoc (so_far v p) (codes "end\n") behind) j)).0;
@@ -235,14 +239,7 @@ behind_end v laws p bytes behind n sound front t count some (Some parts) cut =
       text_is = t;
       line_is = cut;
       count = omega (arith, count, one_line_more (so_far v p) (codes "end") refl);
-      begins = (
-        [],
-        histories_of p,
-        record {
-          well_formed = well_formed v p sound;
-          text_is = append-nil (so_far v p ++ codes "end\n");
-        },
-      );
+      begins = begins_ended v p sound;
       refused = λ begun.
           let none = (ends_here v laws p begun.1 ((parts.0 ++ 10 ∷ []) ++ begun.0) front
           (subst (λ (z : List ℕ). IsJournal v z begun.1)

@@ -14,6 +14,7 @@ use Rattle.queue_core.specs.declared.event.Event.{Event}
 use Rattle.queue_core.specs.declared.event.Event.TheVariants.{Arrive, Ask, PortClosed, DeviceDown}
 use Rattle.queue_core.specs.declared.event.Reply.{Reply}
 use Rattle.queue_core.specs.declared.event.Reply.TheVariants.{Arrived, Answer, Flushed}
+use Rattle.histories.specs.declared.entry.Entry.{Entry}
 use Rattle.histories.specs.declared.log.Did.{Did}
 use Rattle.histories.specs.declared.log.Did.TheVariants.{Received, Sent, Closed}
 use Rattle.histories.specs.declared.log.AskWords.{AskWords}
@@ -208,13 +209,49 @@ asking_told v q p c r errno count =
     (request_text v r) (answered_text (errno, count)) (spaced_request v r
     (answered_text (errno, count))))
 
-triple_regroup : (q p t : List ℕ) → ((q ++ 32 ∷ []) ++ p) ++ 32 ∷ t
-    ≡ ((q ++ 32 ∷ []) ++ (p ++ 32 ∷ [])) ++ t
-triple_regroup q p t = simp append_assoc
+-- a line of three numbers: what it makes of them fits if they do, and is written so
+record IsTripleLine (v : Version) (letter : List ℕ) (made : Triple → Line) : Type 0 where
+  fits : (x : Triple) → FitsTriple x → FitsLine v (made x)
+  told : (x : Triple) → line_text v (made x) ≡ letter ++ triple_text x
+
+abbrev closing : Triple → Entry
+closing x = record { queue = (x.0).0; event = PortClosed (x.0).1; reply = Flushed x.1 }
+
+abbrev falling : Triple → Entry
+falling x = record { queue = (x.0).0; event = DeviceDown (x.0).1; reply = Flushed x.1 }
+
+abbrev notice : Triple → Did
+notice x = Received (x.0).0 (x.0).1 x.1
+
+flushed_regroup : (letter q p t : List ℕ) →
+    (((letter ++ q) ++ 32 ∷ []) ++ p) ++ 32 ∷ t ≡ letter ++ (((q ++ 32 ∷ []) ++ (p ++ 32 ∷ [])) ++ t)
+flushed_regroup letter q p t = simp append_assoc
+
+closing_line : (v : Version) → IsTripleLine v (codes "C ") (λ x. EntryLine (closing x))
+closing_line v = record {
+  fits = λ x fits. record { queue = (fits.0).0; event = (fits.0).1; reply = fits.1 };
+  told = λ x.
+      flushed_regroup (codes "C ") (decimal (x.0).0) (decimal (x.0).1) (decimal x.1);
+}
+
+falling_line : (v : Version) → IsTripleLine v (codes "D ") (λ x. EntryLine (falling x))
+falling_line v = record {
+  fits = λ x fits. record { queue = (fits.0).0; event = (fits.0).1; reply = fits.1 };
+  told = λ x.
+      flushed_regroup (codes "D ") (decimal (x.0).0) (decimal (x.0).1) (decimal x.1);
+}
 
 received_regroup : (q p t : List ℕ) → (((q ++ 32 ∷ []) ++ p) ++ 32 ∷ []) ++ t
     ≡ ((q ++ 32 ∷ []) ++ (p ++ 32 ∷ [])) ++ t
 received_regroup q p t = simp append_assoc
+
+notice_line : (v : Version) → IsTripleLine v (codes "R ") (λ x. DidLine (notice x))
+notice_line v = record {
+  fits = λ x fits. ((fits.0).0, (fits.0).1, fits.1);
+  told = λ x.
+      ap (λ w. codes "R " ++ w)
+      (received_regroup (decimal (x.0).0) (decimal (x.0).1) (decimal x.1));
+}
 
 message_told : (v : Version) (c : ℕ) (a : AskWords) (o : Option ℕ) →
     text.did_line v (Sent c a o) ≡ codes "S " ++ message_text v ((c, a), o)
@@ -240,6 +277,13 @@ ask_again v laws q p c r errno count fits same =
     ((asking_word v laws).again (((q, (p, c)), r), (errno, count)) fits)
     ∙ taken (eqb (queue_of r) q) _ None (eq-eqb (queue_of r) q same)
 
+triple_again : {X : Type 0} → Laws → (outer : X → Line) (made : Triple → X) (x : Triple) →
+    FitsTriple x →
+    option_map outer (option_map made (triple_read (triple_text x))) ≡ Some (outer (made x))
+triple_again laws outer made x fits =
+    ap (λ (read : Option Triple). option_map outer (option_map made read))
+    ((triple_word laws).again x fits)
+
 entry_again : (v : Version) → Laws → (q : ℕ) (event : Event) (reply : Reply) → IsHalf q →
     IsEventAt v q event →
     IsReplyTo event reply → line_in v (text.event v q event ++ text.reply reply)
@@ -264,30 +308,20 @@ entry_again v laws q (Ask p c r) (Flushed t) qf ef rf = absurd rf
 entry_again v laws q (PortClosed p) (Arrived o) qf ef rf = absurd rf
 entry_again v laws q (PortClosed p) (Answer e t) qf ef rf = absurd rf
 entry_again v laws q (PortClosed p) (Flushed t) qf ef rf =
-    ap (λ w. line_in v (codes "C " ++ w)) (triple_regroup (decimal q) (decimal p) (decimal t))
-    ∙ ap (λ (x : Option Triple). option_map EntryLine (option_map (λ (y : Triple). record {
-      queue = (y.0).0;
-      event = PortClosed (y.0).1;
-      reply = Flushed y.1;
-    }) x)) ((triple_word laws).again ((q, p), t) ((qf, ef), rf))
+    ap (line_in v) ((closing_line v).told ((q, p), t))
+    ∙ triple_again laws EntryLine closing ((q, p), t) ((qf, ef), rf)
 entry_again v laws q (DeviceDown p) (Arrived o) qf ef rf = absurd rf
 entry_again v laws q (DeviceDown p) (Answer e t) qf ef rf = absurd rf
 entry_again v laws q (DeviceDown p) (Flushed t) qf ef rf =
-    ap (λ w. line_in v (codes "D " ++ w)) (triple_regroup (decimal q) (decimal p) (decimal t))
-    ∙ ap (λ (x : Option Triple). option_map EntryLine (option_map (λ (y : Triple). record {
-      queue = (y.0).0;
-      event = DeviceDown (y.0).1;
-      reply = Flushed y.1;
-    }) x)) ((triple_word laws).again ((q, p), t) ((qf, ef), rf))
+    ap (line_in v) ((falling_line v).told ((q, p), t))
+    ∙ triple_again laws EntryLine falling ((q, p), t) ((qf, ef), rf)
 
 did_again : (v : Version) → Laws → (d : Did) → FitsDid v d →
     line_in v (text.did_line v d) ≡ Some (DidLine d)
 unfolding line_in line_by received_in sent_in
 did_again v laws (Received q n t) fits =
-    ap (λ w. line_in v (codes "R " ++ w)) (received_regroup (decimal q) (decimal n) (decimal t))
-    ∙ ap (λ (x : Option Triple). option_map DidLine (option_map (λ (y : Triple).
-    Received (y.0).0 (y.0).1 y.1) x)) ((triple_word laws).again ((q, n), t)
-    ((fits.0, fits.1), fits.2))
+    ap (line_in v) ((notice_line v).told ((q, n), t))
+    ∙ triple_again laws DidLine notice ((q, n), t) ((fits.0, fits.1), fits.2)
 did_again v laws (Sent c a o) fits =
     ap (line_in v) (message_told v c a o)
     ∙ ap (λ (x : Option Message). option_map DidLine (option_map (λ (y : Message).
@@ -347,49 +381,17 @@ asking_spelled v laws line rest l is e =
           ((x.0).1).0 ((x.0).1).1),
     )
 
-port_closed_spelled : (v : Version) → Laws → (line rest : List ℕ) (l : Line) →
-    line ≡ codes "C " ++ rest →
-    option_map EntryLine (port_closed_in rest) ≡ Some l → IsLineText v line l
-unfolding port_closed_in
-port_closed_spelled v laws line rest l is e =
-    let entry = map_some EntryLine (port_closed_in rest) l e in
-    let x = map_some _ (triple_read rest) entry.0 entry.1 in
+triple_spelled : {X : Type 0} (v : Version) → Laws → (letter : List ℕ) (outer : X → Line)
+    (made : Triple → X) → IsTripleLine v letter (λ x. outer (made x)) →
+    (line rest : List ℕ) (l : Line) → line ≡ letter ++ rest →
+    option_map outer (option_map made (triple_read rest)) ≡ Some l → IsLineText v line l
+triple_spelled v laws letter outer made is_line line rest l is e =
+    let whole = map_some outer (option_map made (triple_read rest)) l e in
+    let x = map_some made (triple_read rest) whole.0 whole.1 in
     let s = (triple_word laws).spelled rest x.0 x.1 in
-    let t = s.0 in
-    subst (IsLineText v line) (ap EntryLine x.2 ∙ entry.2) (
-      record { queue = (t.0).0; event = (t.0).1; reply = t.1 },
-      is ∙ ap (λ w. codes "C " ++ w) (s.1
-          ∙ sym (triple_regroup (decimal ((x.0).0).0) (decimal ((x.0).0).1) (decimal (x.0).1))),
-    )
-
-device_down_spelled : (v : Version) → Laws → (line rest : List ℕ) (l : Line) →
-    line ≡ codes "D " ++ rest →
-    option_map EntryLine (device_down_in rest) ≡ Some l → IsLineText v line l
-unfolding device_down_in
-device_down_spelled v laws line rest l is e =
-    let entry = map_some EntryLine (device_down_in rest) l e in
-    let x = map_some _ (triple_read rest) entry.0 entry.1 in
-    let s = (triple_word laws).spelled rest x.0 x.1 in
-    let t = s.0 in
-    subst (IsLineText v line) (ap EntryLine x.2 ∙ entry.2) (
-      record { queue = (t.0).0; event = (t.0).1; reply = t.1 },
-      is ∙ ap (λ w. codes "D " ++ w) (s.1
-          ∙ sym (triple_regroup (decimal ((x.0).0).0) (decimal ((x.0).0).1) (decimal (x.0).1))),
-    )
-
-received_spelled : (v : Version) → Laws → (line rest : List ℕ) (l : Line) →
-    line ≡ codes "R " ++ rest →
-    option_map DidLine (received_in rest) ≡ Some l → IsLineText v line l
-unfolding received_in
-received_spelled v laws line rest l is e =
-    let did = map_some DidLine (received_in rest) l e in
-    let x = map_some _ (triple_read rest) did.0 did.1 in
-    let s = (triple_word laws).spelled rest x.0 x.1 in
-    let t = s.0 in
-    subst (IsLineText v line) (ap DidLine x.2 ∙ did.2) (
-      ((t.0).0, (t.0).1, t.1),
-      is ∙ ap (λ w. codes "R " ++ w) (s.1
-          ∙ sym (received_regroup (decimal ((x.0).0).0) (decimal ((x.0).0).1) (decimal (x.0).1))),
+    subst (IsLineText v line) (ap outer x.2 ∙ whole.2) (
+      is_line.fits x.0 s.0,
+      is ∙ ap (λ w. letter ++ w) s.1 ∙ sym (is_line.told x.0),
     )
 
 sent_spelled : (v : Version) → Laws → (line rest : List ℕ) (l : Line) → line ≡ codes "S " ++ rest →
@@ -416,7 +418,7 @@ port_spelled v laws line rest l is e =
 by_spelled : (v : Version) → Laws → (line word rest : List ℕ) (l : Line) →
     line ≡ word ++ 32 ∷ rest →
     line_by v word rest ≡ Some l → IsLineText v line l
-unfolding line_by
+unfolding line_by port_closed_in device_down_in received_in
 by_spelled v laws line word rest l is e =
     let front = λ (name : List ℕ) (named : word ≡ name).
     is ∙ ap (λ z. z ++ 32 ∷ rest) named in
@@ -425,11 +427,11 @@ by_spelled v laws line word rest l is e =
     (λ e1. pick word (codes "M") _ _ l (IsLineText v line l) e1
     (λ n f. asking_spelled v laws line rest l (front (codes "M") n) f)
     (λ e2. pick word (codes "C") _ _ l (IsLineText v line l) e2
-    (λ n f. port_closed_spelled v laws line rest l (front (codes "C") n) f)
+    (λ n f. triple_spelled v laws (codes "C ") EntryLine closing (closing_line v) line rest l (front (codes "C") n) f)
     (λ e3. pick word (codes "D") _ _ l (IsLineText v line l) e3
-    (λ n f. device_down_spelled v laws line rest l (front (codes "D") n) f)
+    (λ n f. triple_spelled v laws (codes "D ") EntryLine falling (falling_line v) line rest l (front (codes "D") n) f)
     (λ e4. pick word (codes "R") _ _ l (IsLineText v line l) e4
-    (λ n f. received_spelled v laws line rest l (front (codes "R") n) f)
+    (λ n f. triple_spelled v laws (codes "R ") DidLine notice (notice_line v) line rest l (front (codes "R") n) f)
     (λ e5. pick word (codes "S") _ _ l (IsLineText v line l) e5
     (λ n f. sent_spelled v laws line rest l (front (codes "S") n) f)
     (λ e6. pick word (codes "P") _ _ l (IsLineText v line l) e6
@@ -470,19 +472,19 @@ entry_line v laws q (Ask p c r) (Flushed t) qf ef rf = absurd rf
 entry_line v laws q (PortClosed p) (Arrived o) qf ef rf = absurd rf
 entry_line v laws q (PortClosed p) (Answer e t) qf ef rf = absurd rf
 entry_line v laws q (PortClosed p) (Flushed t) qf ef rf =
-    ap (λ w. cut_at 10 (codes "C " ++ w)) (triple_regroup (decimal q) (decimal p) (decimal t))
+    ap (cut_at 10) ((closing_line v).told ((q, p), t))
     ∙ uncut_append 10 (codes "C ") (triple_text ((q, p), t)) refl
     ((triple_word laws).one_line ((q, p), t) ((qf, ef), rf))
 entry_line v laws q (DeviceDown p) (Arrived o) qf ef rf = absurd rf
 entry_line v laws q (DeviceDown p) (Answer e t) qf ef rf = absurd rf
 entry_line v laws q (DeviceDown p) (Flushed t) qf ef rf =
-    ap (λ w. cut_at 10 (codes "D " ++ w)) (triple_regroup (decimal q) (decimal p) (decimal t))
+    ap (cut_at 10) ((falling_line v).told ((q, p), t))
     ∙ uncut_append 10 (codes "D ") (triple_text ((q, p), t)) refl
     ((triple_word laws).one_line ((q, p), t) ((qf, ef), rf))
 
 did_line : (v : Version) → Laws → (d : Did) → FitsDid v d → cut_at 10 (text.did_line v d) ≡ None
 did_line v laws (Received q n t) fits =
-    ap (λ w. cut_at 10 (codes "R " ++ w)) (received_regroup (decimal q) (decimal n) (decimal t))
+    ap (cut_at 10) ((notice_line v).told ((q, n), t))
     ∙ uncut_append 10 (codes "R ") (triple_text ((q, n), t)) refl
     ((triple_word laws).one_line ((q, n), t) ((fits.0, fits.1), fits.2))
 did_line v laws (Sent c a o) fits =

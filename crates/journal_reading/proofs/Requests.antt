@@ -355,59 +355,56 @@ change_apart v rest p before =
     ∙ apart (codes "mark") (codes "payload") bytes_text p.0 _ (λ z. refl)
     (priority_apart v (codes "mark") rest p.1 (λ z. refl) (λ z. refl) before)
 
-abbrev Body : Type 0
-Body = Option ℕ × Change
+-- a mark, and what stands behind it
+abbrev Marked : Type 0 → Type 0
+Marked P = Option ℕ × P
 
-abbrev body_read : Version → List ℕ → Option (Body × List ℕ)
-body_read v = both (part (codes "mark") (field digits.decimal)) (change_read v)
+abbrev marked_read : {P : Type 0} → (List ℕ → Option (P × List ℕ)) →
+    List ℕ → Option (Marked P × List ℕ)
+marked_read read = both (part (codes "mark") (field digits.decimal)) read
 
-abbrev body_text : Version → Body → List ℕ
-body_text v p = part_text (codes "mark") number_text p.0 ++ change_text v p.1
+abbrev marked_text : {P : Type 0} → (P → List ℕ) → Marked P → List ℕ
+marked_text text p = part_text (codes "mark") number_text p.0 ++ text p.1
 
-abbrev FitsBody : Version → Body → Type 0
-FitsBody v p = IfSome p.0 IsWide × FitsChange v p.1
+abbrev FitsMarked : {P : Type 0} → (P → Type 0) → Marked P → Type 0
+FitsMarked Fits p = IfSome p.0 IsWide × Fits p.1
 
-body_field : (v : Version) → Laws →
-    IsField (body_read v) (body_text v) (FitsBody v) BeforeEquals
-body_field v laws =
-    both_is (part (codes "mark") (field digits.decimal)) (change_read v)
-    (part_text (codes "mark") number_text) (change_text v) (λ o. IfSome o IsWide) (FitsChange v)
-    (NotBehind (codes "mark")) BeforeEquals (number_part laws (codes "mark") refl refl)
-    (change_field v laws) (λ y rest fits before. change_apart v rest y before)
+-- the same behind a queue and a verdict header
+abbrev judged_read : {P : Type 0} → (List ℕ → Option (P × List ℕ)) →
+    List ℕ → Option (((ℕ × Option Head) × Marked P) × List ℕ)
+judged_read read = both headed_read (marked_read read)
 
-verdict_field : (v : Version) → Laws → IsField (both headed_read (body_read v))
-    (λ p. headed_text p.0 ++ body_text v p.1) (λ p. FitsHeaded p.0 × FitsBody v p.1) BeforeEquals
+abbrev judged_text : {P : Type 0} → (P → List ℕ) → ((ℕ × Option Head) × Marked P) → List ℕ
+judged_text text p = headed_text p.0 ++ marked_text text p.1
+
+abbrev FitsJudged : {P : Type 0} → (P → Type 0) → ((ℕ × Option Head) × Marked P) → Type 0
+FitsJudged Fits p = FitsHeaded p.0 × FitsMarked Fits p.1
+
+judged_field : {P : Type 0} (read : List ℕ → Option (P × List ℕ)) (text : P → List ℕ)
+    (Fits : P → Type 0) → Laws →
+    IsField read text Fits BeforeEquals →
+    ((rest : List ℕ) (p : P) → BeforeEquals rest → NotBehind (codes "mark") (text p ++ rest)) →
+    IsField (judged_read read) (judged_text text) (FitsJudged Fits) BeforeEquals
+judged_field {P} read text Fits laws is apart =
+    both_is headed_read (marked_read read) headed_text (marked_text text) FitsHeaded
+    (FitsMarked Fits) Any BeforeEquals (headed_field laws)
+    (both_is (part (codes "mark") (field digits.decimal)) read
+    (part_text (codes "mark") number_text) text (λ o. IfSome o IsWide) Fits
+    (NotBehind (codes "mark")) BeforeEquals (number_part laws (codes "mark") refl refl) is
+    (λ y rest fits before. apart rest y before)) (λ y rest fits before. tt)
+
+verdict_field : (v : Version) → Laws → IsField (judged_read (change_read v))
+    (judged_text (change_text v)) (FitsJudged (FitsChange v)) BeforeEquals
 verdict_field v laws =
-    both_is headed_read (body_read v) headed_text (body_text v) FitsHeaded (FitsBody v) Any
-    BeforeEquals (headed_field laws) (body_field v laws) (λ y rest fits before. tt)
+    judged_field (change_read v) (change_text v) (FitsChange v) laws (change_field v laws)
+    (change_apart v)
 
-abbrev Edit : Type 0
-Edit = Option ℕ × Option ℕ
-
-abbrev edit_read : Version → List ℕ → Option (Edit × List ℕ)
-edit_read v = both (part (codes "mark") (field digits.decimal)) (new_priority_in v)
-
-abbrev edit_text : Version → Edit → List ℕ
-edit_text v p = part_text (codes "mark") number_text p.0 ++ new_priority_text v p.1
-
-abbrev FitsEdit : Version → Edit → Type 0
-FitsEdit v p = IfSome p.0 IsWide × FitsNewPriority v p.1
-
-edit_field : (v : Version) → Laws →
-    IsField (edit_read v) (edit_text v) (FitsEdit v) BeforeEquals
-edit_field v laws =
-    both_is (part (codes "mark") (field digits.decimal)) (new_priority_in v)
-    (part_text (codes "mark") number_text) (new_priority_text v) (λ o. IfSome o IsWide)
-    (FitsNewPriority v) (NotBehind (codes "mark")) BeforeEquals
-    (number_part laws (codes "mark") refl refl) (new_priority_field v laws)
-    (λ y rest fits before.
-    priority_apart v (codes "mark") rest y (λ z. refl) (λ z. refl) before)
-
-batch_field : (v : Version) → Laws → IsField (both headed_read (edit_read v))
-    (λ p. headed_text p.0 ++ edit_text v p.1) (λ p. FitsHeaded p.0 × FitsEdit v p.1) BeforeEquals
+batch_field : (v : Version) → Laws → IsField (judged_read (new_priority_in v))
+    (judged_text (new_priority_text v)) (FitsJudged (FitsNewPriority v)) BeforeEquals
 batch_field v laws =
-    both_is headed_read (edit_read v) headed_text (edit_text v) FitsHeaded (FitsEdit v) Any
-    BeforeEquals (headed_field laws) (edit_field v laws) (λ y rest fits before. tt)
+    judged_field (new_priority_in v) (new_priority_text v) (FitsNewPriority v) laws
+    (new_priority_field v laws)
+    (λ rest p before. priority_apart v (codes "mark") rest p (λ z. refl) (λ z. refl) before)
 
 -- ---- requests
 
@@ -415,8 +412,8 @@ batch_field v laws =
 abbrev pub request_text : Version → Request → List ℕ
 request_text v (Config q c p l f m) = codes "config " ++ config_text (q, (c, (p, (l, (f, m)))))
 request_text v (Verdict q h m b n) =
-    codes "verdict " ++ (headed_text (q, h) ++ body_text v (m, (b, n)))
-request_text v (Batch q h m n) = codes "batch " ++ (headed_text (q, h) ++ edit_text v (m, n))
+    codes "verdict " ++ judged_text (change_text v) ((q, h), (m, (b, n)))
+request_text v (Batch q h m n) = codes "batch " ++ judged_text (new_priority_text v) ((q, h), (m, n))
 
 request_again : (v : Version) → Laws → (r : Request) (rest : List ℕ) → FitsRequest v r →
     BeforeEquals rest → request_in v (request_text v r ++ rest) ≡ Some (r, rest)
@@ -440,72 +437,64 @@ request_again v laws (Config q c p l f m) rest fits before =
       ),
     ) before)
 request_again v laws (Verdict q h m b n) rest fits before =
-    ap (option_map (λ (x : ((ℕ × Option Head) × Body) × List ℕ). (verdict_made x.0, x.1)))
+    ap (option_map (λ (x : ((ℕ × Option Head) × Marked Change) × List ℕ). (verdict_made x.0, x.1)))
     ((verdict_field v laws).again ((q, h), (m, (b, n))) rest (
       (fits.queue_fits, fits.head_fits),
       (fits.mark_fits, (fits.payload_fits, fits.priority_fits)),
     ) before)
 request_again v laws (Batch q h m n) rest fits before =
-    ap (option_map (λ (x : ((ℕ × Option Head) × Edit) × List ℕ). (batch_made x.0, x.1)))
+    ap (option_map (λ (x : ((ℕ × Option Head) × Marked (Option ℕ)) × List ℕ). (batch_made x.0, x.1)))
     ((batch_field v laws).again ((q, h), (m, n)) rest
     ((fits.queue_fits, fits.head_fits), (fits.mark_fits, fits.priority_fits)) before)
 
 abbrev IsRequestText : Version → List ℕ → (Request × List ℕ) → Type 0
 IsRequestText v front p = FitsRequest v p.0 × (front ≡ request_text v p.0 ++ p.1)
 
+-- a request behind its name, where what it is made of has a field's form
+spelled_behind : {A : Type 0} (v : Version) (read : List ℕ → Option (A × List ℕ))
+    (text : A → List ℕ) (Fits : A → Type 0) →
+    IsField read text Fits BeforeEquals →
+    (name : List ℕ) (made : A → Request) → ((x : A) → Fits x → FitsRequest v (made x)) →
+    ((x : A) (rest : List ℕ) → name ++ 32 ∷ (text x ++ rest) ≡ request_text v (made x) ++ rest) →
+    (front word more : List ℕ) (p : Request × List ℕ) → front ≡ word ++ 32 ∷ more → word ≡ name →
+    option_map (λ (y : A × List ℕ). (made y.0, y.1)) (read more) ≡ Some p → IsRequestText v front p
+spelled_behind {A} v read text Fits field name made fits told front word more p is named e =
+    let x = map_some (λ (y : A × List ℕ). (made y.0, y.1)) (read more) p e in
+    let s = field.spelled more (x.0).0 (x.0).1 x.1 in
+    subst (IsRequestText v front) x.2 (
+      fits (x.0).0 s.0,
+      is ∙ ap (λ z. z ++ 32 ∷ more) named ∙ ap (λ z. name ++ 32 ∷ z) s.1 ∙ told (x.0).0 (x.0).1,
+    )
+
 request_by_spelled : (v : Version) → Laws → (front word more : List ℕ) (p : Request × List ℕ) →
     front ≡ word ++ 32 ∷ more → request_by v word more ≡ Some p → IsRequestText v front p
 unfolding request_by config_in verdict_in batch_in
 request_by_spelled v laws front word more p is e =
     pick word (codes "config") _ _ p (IsRequestText v front p) e
-    (λ named f.
-    let x = map_some (λ (y : (ℕ × Command) × List ℕ). (config_made y.0, y.1)) (config_read more) p
-    f in
-    let s = (config_field laws).spelled more (x.0).0 (x.0).1 x.1 in
-    let t = s.0 in
-    subst (IsRequestText v front) x.2 (
-      record {
-        queue_fits = t.0;
-        command_fits = (t.1).0;
-        params_fit = ((t.1).1).0;
-        maxlen_fits = (((t.1).1).1).0;
-        flags_fits = ((((t.1).1).1).1).0;
-        mask_fits = ((((t.1).1).1).1).1;
-      },
-      is ∙ ap (λ z. z ++ 32 ∷ more) named ∙ ap (λ z. codes "config " ++ z) s.1,
-    ))
+    (spelled_behind v _ _ _ (config_field laws) (codes "config") config_made (λ x t. record {
+      queue_fits = t.0;
+      command_fits = (t.1).0;
+      params_fit = ((t.1).1).0;
+      maxlen_fits = (((t.1).1).1).0;
+      flags_fits = ((((t.1).1).1).1).0;
+      mask_fits = ((((t.1).1).1).1).1;
+    }) (λ x rest. refl) front word more p is)
     (λ g. pick word (codes "verdict") _ _ p (IsRequestText v front p) g
-    (λ named f.
-    let x = map_some (λ (y : ((ℕ × Option Head) × Body) × List ℕ). (verdict_made y.0, y.1))
-    (both headed_read (body_read v) more) p f in
-    let s = (verdict_field v laws).spelled more (x.0).0 (x.0).1 x.1 in
-    let t = s.0 in
-    subst (IsRequestText v front) x.2 (
-      record {
-        queue_fits = (t.0).0;
-        head_fits = (t.0).1;
-        mark_fits = (t.1).0;
-        payload_fits = ((t.1).1).0;
-        priority_fits = ((t.1).1).1;
-      },
-      is ∙ ap (λ z. z ++ 32 ∷ more) named ∙ ap (λ z. codes "verdict " ++ z) s.1,
-    ))
+    (spelled_behind v _ _ _ (verdict_field v laws) (codes "verdict") verdict_made (λ x t. record {
+      queue_fits = (t.0).0;
+      head_fits = (t.0).1;
+      mark_fits = (t.1).0;
+      payload_fits = ((t.1).1).0;
+      priority_fits = ((t.1).1).1;
+    }) (λ x rest. refl) front word more p is)
     (λ h. pick word (codes "batch") _ _ p (IsRequestText v front p) h
-    (λ named f.
-    let x = map_some (λ (y : ((ℕ × Option Head) × Edit) × List ℕ). (batch_made y.0, y.1))
-    (both headed_read (edit_read v) more) p f in
-    let s = (batch_field v laws).spelled more (x.0).0 (x.0).1 x.1 in
-    let t = s.0 in
-    subst (IsRequestText v front) x.2 (
-      record {
-        queue_fits = (t.0).0;
-        head_fits = (t.0).1;
-        mark_fits = (t.1).0;
-        payload_fits = tt;
-        priority_fits = (t.1).1;
-      },
-      is ∙ ap (λ z. z ++ 32 ∷ more) named ∙ ap (λ z. codes "batch " ++ z) s.1,
-    ))
+    (spelled_behind v _ _ _ (batch_field v laws) (codes "batch") batch_made (λ x t. record {
+      queue_fits = (t.0).0;
+      head_fits = (t.0).1;
+      mark_fits = (t.1).0;
+      payload_fits = tt;
+      priority_fits = (t.1).1;
+    }) (λ x rest. refl) front word more p is)
     (λ i. absurd (none-some p i))))
 
 request_spelled : (v : Version) → Laws → (front : List ℕ) (r : Request) (rest : List ℕ) →
@@ -537,13 +526,13 @@ request_line v laws (Config q c p l f m) fits =
       ),
     ))
 request_line v laws (Verdict q h m b n) fits =
-    uncut_append 10 (codes "verdict ") (headed_text (q, h) ++ body_text v (m, (b, n))) refl
+    uncut_append 10 (codes "verdict ") (judged_text (change_text v) ((q, h), (m, (b, n)))) refl
     ((verdict_field v laws).one_line ((q, h), (m, (b, n))) (
       (fits.queue_fits, fits.head_fits),
       (fits.mark_fits, (fits.payload_fits, fits.priority_fits)),
     ))
 request_line v laws (Batch q h m n) fits =
-    uncut_append 10 (codes "batch ") (headed_text (q, h) ++ edit_text v (m, n)) refl
+    uncut_append 10 (codes "batch ") (judged_text (new_priority_text v) ((q, h), (m, n))) refl
     ((batch_field v laws).one_line ((q, h), (m, n))
     ((fits.queue_fits, fits.head_fits), (fits.mark_fits, fits.priority_fits)))
 

@@ -1,7 +1,8 @@
 -- How a journal's line is read: field by field from its front, each up to the next blank, and the
 -- last one to the line's end. Most definitions here are what one function of the reader answers.
 use Rattle.std.specs.Prelude.{ℕ, ◌^◌, ◌==◌, Bool, true, false, List, length, Option, Some}
-use Rattle.std.specs.Prelude.{None, option_map, bytes_eq, codes, if◌then◌else◌}
+use Rattle.std.specs.Prelude.{None, option_map, bytes_eq, codes, if◌then◌else◌, ◌≡◌, IfOk, Result}
+use Rattle.std.specs.Borrow.{Bor}
 use Rattle.std.specs.Option.{option_map_or}
 use Rattle.text_lines.specs.Words.{◌>>=◌, byte, cut_at}
 use Rattle.text_lines.specs.Digits.{decimal, decimal_below}
@@ -31,6 +32,11 @@ use Rattle.journals.specs.declared.version.Version.TheVariants.{First, Second}
 use Rattle.journals.specs.Format.{title}
 
 -- ---- fields in general: what is read, and the text behind it
+
+-- what a reader that may run out of memory answers: this, and the text behind it
+abbrev pub Reads : {A E : Type 0} → Result (Option (A × Bor (List ℕ))) E → Option (A × List ℕ) →
+    Type 0
+Reads result asked = IfOk result (λ read. option_map (λ x. (x.0, x.1.now)) read ≡ asked)
 
 -- a word and the blank behind it
 abbrev pub field : {A : Type 0} → (List ℕ → Option A) → List ℕ → Option (A × List ℕ)

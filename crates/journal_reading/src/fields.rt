@@ -5,7 +5,7 @@ ghost use Rattle.std.specs.Prelude.{◌≡◌, IfOk, option_map};
 ghost use Rattle.text_lines.specs.Digits.{decimal};
 ghost use Rattle.text_lines.specs.Words.{byte, cut_at};
 ghost use Rattle.journal_reading.specs.Reading.{behind, bytes_in, field, half, priority_in, small};
-ghost use Rattle.journal_reading.specs.Reading.{yes_no_in};
+ghost use Rattle.journal_reading.specs.Reading.{Reads, yes_no_in};
 
 use journals::Version;
 use packet_entry::{Bytes, NoMemory};
@@ -90,8 +90,7 @@ fn yes_no_word(word: &[u8]) -> Option<bool>
 
 /// Bytes in lower-case hexadecimal, or `-` for none.
 pub(crate) fn bytes(alloc: Global, text: &[u8]) -> Result<Option<(Bytes, &[u8])>, NoMemory>
-    ensures { IfOk result (λ read. option_map (λ x. (x.0, x.1.now)) read
-        ≡ field bytes_in text.now) }
+    ensures { Reads result (field bytes_in text.now) }
 {
     let Some((word, rest)) = word(text) else {
         return Ok(None);

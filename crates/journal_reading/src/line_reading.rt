@@ -278,18 +278,29 @@ fn answered(text: &[u8]) -> Option<(u16, u32)>
     Some((errno, decimal(rest)?))
 }
 
+/// `Q NUMBER NUMBER`
+fn three(text: &[u8]) -> Option<(u16, u32, u32)>
+    ensures { option_map (λ x. ((x.0, x.1), x.2)) result
+        ≡ read.last (read.both (read.field read.half) (read.field decimal)) decimal text.now }
+{
+    let (queue, rest) = half(text)?;
+    let (first, rest) = wide(rest)?;
+    let second = decimal(rest)?;
+    Some((queue, first, second))
+}
+
 /// `Q PORT TAKEN`
 #[tactic(auto, unfolding(crate::specs::Reading::port_closed_in))]
 fn port_closed(text: &[u8]) -> Option<Entry>
     ensures { result ≡ read.port_closed_in text.now }
 {
-    let (queue, rest) = half(text)?;
-    let (port, rest) = wide(rest)?;
-    let taken = decimal(rest)?;
+    let (queue, port, taken) = three(text)?;
+    let event = Event::PortClosed { port };
+    let reply = Reply::Flushed { taken };
     Some(Entry {
         queue,
-        event: Event::PortClosed { port },
-        reply: Reply::Flushed { taken },
+        event,
+        reply,
     })
 }
 
@@ -298,13 +309,13 @@ fn port_closed(text: &[u8]) -> Option<Entry>
 fn device_down(text: &[u8]) -> Option<Entry>
     ensures { result ≡ read.device_down_in text.now }
 {
-    let (queue, rest) = half(text)?;
-    let (device, rest) = wide(rest)?;
-    let taken = decimal(rest)?;
+    let (queue, device, taken) = three(text)?;
+    let event = Event::DeviceDown { device };
+    let reply = Reply::Flushed { taken };
     Some(Entry {
         queue,
-        event: Event::DeviceDown { device },
-        reply: Reply::Flushed { taken },
+        event,
+        reply,
     })
 }
 
@@ -313,9 +324,7 @@ fn device_down(text: &[u8]) -> Option<Entry>
 fn received(text: &[u8]) -> Option<Did>
     ensures { result ≡ read.received_in text.now }
 {
-    let (queue, rest) = half(text)?;
-    let (number, rest) = wide(rest)?;
-    let visit = decimal(rest)?;
+    let (queue, number, visit) = three(text)?;
     Some(Did::Received {
         queue,
         number,

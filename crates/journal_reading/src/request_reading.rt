@@ -1,10 +1,10 @@
 //! Requests, and other messages, as a journal's lines have them.
 
-ghost use Rattle.std.specs.Prelude.{◌≡◌, IfOk, Option, codes, option_map};
+ghost use Rattle.std.specs.Prelude.{◌≡◌, Option, codes, option_map};
 ghost use Rattle.text_lines.specs.Digits.{decimal};
 ghost use Rattle.journal_reading.specs.Reading.{asked_in, batch_in, both, bytes_in, config_in, field};
 ghost use Rattle.journal_reading.specs.Reading.{half, head_in, new_priority_in, params_in, part};
-ghost use Rattle.journal_reading.specs.Reading.{request_by, request_in, small, verdict_in};
+ghost use Rattle.journal_reading.specs.Reading.{Reads, request_by, request_in, small, verdict_in};
 
 use crate::fields::{behind, bytes, half, small, wide, word};
 use histories::AskWords;
@@ -21,8 +21,7 @@ pub(crate) fn asked(
     version: Version,
     text: &[u8],
 ) -> Result<Option<(AskWords, &[u8])>, NoMemory>
-    ensures { IfOk result (λ read. option_map (λ x. (x.0, x.1.now)) read
-        ≡ asked_in version text.now) }
+    ensures { Reads result (asked_in version text.now) }
 {
     if let Some(rest) = behind(text, b"raw") {
         return match bytes(alloc, rest)? {
@@ -43,8 +42,7 @@ pub(crate) fn request(
     version: Version,
     text: &[u8],
 ) -> Result<Option<(Request, &[u8])>, NoMemory>
-    ensures { IfOk result (λ read. option_map (λ x. (x.0, x.1.now)) read
-        ≡ request_in version text.now) }
+    ensures { Reads result (request_in version text.now) }
 {
     match word(text) {
         Some((word, rest)) => request_by(alloc, version, word, rest),
@@ -59,8 +57,7 @@ fn request_by<'a>(
     word: &[u8],
     rest: &'a [u8],
 ) -> Result<Option<(Request, &'a [u8])>, NoMemory>
-    ensures { IfOk result (λ read. option_map (λ x. (x.0, x.1.now)) read
-        ≡ request_by version word.now rest.now) }
+    ensures { Reads result (request_by version word.now rest.now) }
 {
     if is_word(word, b"config") {
         Ok(config(rest))
@@ -102,8 +99,7 @@ fn verdict(
     version: Version,
     text: &[u8],
 ) -> Result<Option<(Request, &[u8])>, NoMemory>
-    ensures { IfOk result (λ read. option_map (λ x. (x.0, x.1.now)) read
-        ≡ verdict_in version text.now) }
+    ensures { Reads result (verdict_in version text.now) }
 {
     let Some((queue, head, rest)) = headed(text) else {
         return Ok(None);
@@ -222,8 +218,7 @@ fn new_priority(version: Version, text: &[u8]) -> Option<(Option<u32>, &[u8])>
 
 /// `[payload BYTES]`
 fn payload_part(alloc: Global, text: &[u8]) -> Result<Option<(Option<Bytes>, &[u8])>, NoMemory>
-    ensures { IfOk result (λ read. option_map (λ x. (x.0, x.1.now)) read
-        ≡ part (codes "payload") (field bytes_in) text.now) }
+    ensures { Reads result (part (codes "payload") (field bytes_in) text.now) }
 {
     let Some(rest) = behind(text, b"payload") else {
         return Ok(Some((None, text)));
