@@ -19,7 +19,9 @@ use crate::parts::{
 use crate::placing::{put_number, put_word};
 use crate::room::{room_for, room_for_logs};
 use crate::version::Version;
-use histories::{AskWords, Did, Dids, Entries, Entry, Event, Histories, Logs, PortLog, Reply};
+use histories::{
+    AskWords, Did, Dids, Entries, Entry, Event, Histories, Logs, PortLog, Reply, queue_of,
+};
 use nfqa_msgs::Request;
 use packet_entry::{Bytes, Card, NoMemory};
 use std::alloc::{AllocError, Global};
@@ -245,38 +247,39 @@ fn push_request(
     ensures { Appends result out.old out.new
         (take at line.old ++ text.request version request.now) }
 {
+    let queue = queue_of(request);
     match request {
         Request::Config {
-            queue,
             command,
             params,
             maxlen,
             flags,
             mask,
+            ..
         } => {
             request_is_short(request);
-            let end = put_config(*queue, *command, *params, *maxlen, *flags, *mask, line, at);
+            let end = put_config(queue, *command, *params, *maxlen, *flags, *mask, line, at);
             out.extend_from_slice(&line[..end])
         }
         Request::Verdict {
-            queue,
             head,
             mark,
             payload,
             priority,
+            ..
         } => {
-            verdict_is_short("verdict ", *queue, *head, *mark);
-            let end = put_verdict("verdict ", *queue, *head, *mark, line, at);
+            verdict_is_short("verdict ", queue, *head, *mark);
+            let end = put_verdict("verdict ", queue, *head, *mark, line, at);
             push_payload(version, payload, *priority, line, end, out)
         }
         Request::Batch {
-            queue,
             head,
             mark,
             priority,
+            ..
         } => {
-            verdict_is_short("batch ", *queue, *head, *mark);
-            let end = put_verdict("batch ", *queue, *head, *mark, line, at);
+            verdict_is_short("batch ", queue, *head, *mark);
+            let end = put_verdict("batch ", queue, *head, *mark, line, at);
             push_new_priority(version, *priority, line, end, out)
         }
     }
