@@ -2,6 +2,7 @@
 
 ghost use Rattle.std.specs.Prelude.{◌≡◌, IfOk, bytes_eq, option_map};
 ghost use Rattle.text_lines.specs.Digits.{decimal};
+ghost use Rattle.queue_core.specs.declared.event.Reply.TheVariants.{Flushed};
 ghost use Rattle.journals.specs.Format.{title};
 ghost use Rattle.journal_reading.specs.Reading as read;
 
@@ -289,19 +290,24 @@ fn three(text: &[u8]) -> Option<(u16, u32, u32)>
     Some((queue, first, second))
 }
 
+/// The entry of an event whose reply is how many packets left.
+fn flushed(queue: u16, event: Event, taken: u32) -> Entry
+    ensures { result ≡ record { queue = queue; event = event; reply = Flushed taken } }
+{
+    Entry {
+        queue,
+        event,
+        reply: Reply::Flushed { taken },
+    }
+}
+
 /// `Q PORT TAKEN`
 #[tactic(auto, unfolding(crate::specs::Reading::port_closed_in))]
 fn port_closed(text: &[u8]) -> Option<Entry>
     ensures { result ≡ read.port_closed_in text.now }
 {
     let (queue, port, taken) = three(text)?;
-    let event = Event::PortClosed { port };
-    let reply = Reply::Flushed { taken };
-    Some(Entry {
-        queue,
-        event,
-        reply,
-    })
+    Some(flushed(queue, Event::PortClosed { port }, taken))
 }
 
 /// `Q DEVICE TAKEN`
@@ -310,13 +316,7 @@ fn device_down(text: &[u8]) -> Option<Entry>
     ensures { result ≡ read.device_down_in text.now }
 {
     let (queue, device, taken) = three(text)?;
-    let event = Event::DeviceDown { device };
-    let reply = Reply::Flushed { taken };
-    Some(Entry {
-        queue,
-        event,
-        reply,
-    })
+    Some(flushed(queue, Event::DeviceDown { device }, taken))
 }
 
 /// `Q NUMBER VISIT`
