@@ -5,3 +5,6 @@ pub mod Leaving
 pub mod Departed
 pub mod Replays
 pub mod Underway
+pub mod NumberKeys
+pub mod NumberWalk
+pub mod QueueHistories

@@ -1,12 +1,8 @@
 -- For proofs alone: entries that are gone over, one after the other, and what was found at them.
-use Rattle.std.proofs.Common.{◌≡◌, ℕ, List, [], ◌∷◌, ◌++◌, Option, None, true, false, cond, refl}
-use Rattle.std.proofs.Common.{sym, ap, ◌∙◌, subst, append_assoc, append-nil}
-use Rattle.std.proofs.lemmas.Bool.{eq-eqb}
-use Rattle.queue_core.specs.State.{Bound}
-use Rattle.queue_core.specs.Step.{step}
+use Rattle.std.proofs.Common.{◌≡◌, List, [], ◌∷◌, ◌++◌, sym, ap, ◌∙◌, subst, append_assoc}
+use Rattle.std.proofs.Common.{append-nil}
 use Rattle.histories.specs.declared.entry.Entry.{Entry}
-use Rattle.histories.specs.History.{history, replay, replay_from, is_of, IsStep, IsLegal, AreLegal}
-use Rattle.histories.specs.History.{IsLegalFrom}
+use Rattle.histories.specs.History.{history, replay}
 use Rattle.queue_replay.specs.declared.found.Found.{Found}
 use Rattle.queue_replay.specs.Replays.{IsFound, AreFound}
 
@@ -62,32 +58,31 @@ pub next_is : (before others : List Entry) (e : Entry) (found fs : List Found) (
     IsFound (replay (history e.queue before)) e f × AreFound (before ++ e ∷ []) others fs
 next_is before others e found fs f first are = subst (AreFound before (e ∷ others)) first are
 
--- ---- legal histories
+-- this was found at those that are still to come, and something holds besides
+abbrev pub WithFound : List Found → (List Entry → List Entry → Type 0) →
+    List Entry → List Entry → Type 0
+WithFound found P before rest = AreFound before rest found × P before rest
 
-history_on : (queue : ℕ) (es fs : List Entry) →
-    history queue (es ++ fs) ≡ history queue es ++ history queue fs
-history_on queue [] fs = refl
-history_on queue (e ∷ es) fs =
-    elim (is_of queue e) as (λ b. cond b (e ∷ history queue (es ++ fs)) (history queue (es ++ fs))
-    ≡ cond b (e ∷ history queue es) (history queue es) ++ history queue fs) [
-      | true ↦ ap (λ gs. e ∷ gs) (history_on queue es fs)
-      | false ↦ history_on queue es fs
-    ]
+module _ (found : List Found) (P : List Entry → List Entry → Type 0)
+    (entries rest others : List Entry) (e : Entry) (front : rest ≡ e ∷ others)
+    (u : IsUnderway (WithFound found P) entries rest) where
+  so_far : WithFound found P u.before (e ∷ others)
+  so_far = kept_there (WithFound found P) entries rest others e front u
 
-own_first : (queue : ℕ) (e : Entry) (fs : List Entry) → is_of queue e ≡ true →
-    history queue (e ∷ fs) ≡ e ∷ history queue fs
-own_first queue e fs own = ap (λ b. cond b (e ∷ history queue fs) (history queue fs)) own
+  pub found_is_some : found ≡ [] → ⊥
+  found_is_some = some_found u.before others e found so_far.0
 
-step_in : (q : Option Bound) (es fs : List Entry) (e : Entry) → IsLegalFrom q (es ++ e ∷ fs) →
-    IsStep (replay_from q es) e
-step_in q [] fs e legal = legal.0
-step_in q (d ∷ es) fs e legal = step_in (step q d.event).state es fs e legal.1
+  pub holds_there : P u.before (e ∷ others)
+  holds_there = so_far.1
 
--- each entry of legal histories is a step of its queue
-pub step_at : (before rest : List Entry) (e : Entry) → AreLegal (before ++ e ∷ rest) →
-    IsStep (replay (history e.queue before)) e
-step_at before rest e legal =
-    step_in None (history e.queue before) (history e.queue rest) e
-    (subst IsLegal (history_on e.queue before (e ∷ rest)
-    ∙ ap (λ (gs : List Entry). history e.queue before ++ gs)
-    (own_first e.queue e rest (eq-eqb e.queue e.queue refl))) (legal e.queue))
+  module _ (fs : List Found) (f : Found) (first : found ≡ f ∷ fs) where
+    pub found_there : IsFound (replay (history e.queue u.before)) e f
+    found_there = (next_is u.before others e found fs f first so_far.0).0
+
+    -- something else may hold from there on
+    pub found_on : (Q : List Entry → List Entry → Type 0) →
+        (IsFound (replay (history e.queue u.before)) e f → P u.before (e ∷ others) →
+        Q (u.before ++ e ∷ []) others) → IsUnderway (WithFound fs Q) entries others
+    found_on Q goes =
+        underway_on (WithFound found P) entries rest others e front u (WithFound fs Q)
+        ((next_is u.before others e found fs f first so_far.0).1, goes found_there holds_there)

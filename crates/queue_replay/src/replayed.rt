@@ -17,7 +17,7 @@ use crate::found::{Found, find};
 use crate::going::{Leavers, going_on};
 use crate::requests::port_of;
 use crate::standing::Standing;
-use histories::{Entries, Entry, a_legal_history_goes_on, an_entry_is_of_its_queue_alone};
+use histories::{Entries, Entry};
 use packet_entry::{NoMemory, Sequence};
 use std::alloc::Global;
 use std::collections::BTreeMap;
@@ -69,8 +69,6 @@ impl Replayed {
         ensures is { IfOk result (λ is. IsTrue is ↔ history.IsStep
             (replays.queue_in (get nat_cmp self.old.queues entry.now.queue)) entry.now) }
     {
-        an_entry_is_of_its_queue_alone();
-        a_legal_history_goes_on();
         let here = replay(alloc, entry, &mut self.queues, &mut self.departed)?;
         keep(here, &mut self.found)?;
         Ok(here.is_step)
