@@ -6,4 +6,3 @@ pub mod LineTimes
 pub mod FrameNumbers
 pub mod AscendingTimes
 pub mod Queues
-pub mod QueueWalk

@@ -1,25 +1,21 @@
 -- All histories, gone over entry by entry.
-use Rattle.std.proofs.Common.{◌≡◌, ◌<◌, ℕ, List, [], ◌∷◌, ◌++◌, Option, Some, None, Bool, true}
-use Rattle.std.proofs.Common.{false}
-use Rattle.std.proofs.Common.{refl, sym, ap, ◌∙◌, subst, inl, inr, cond}
-use Rattle.std.specs.Prelude.{◌==◌, ◌↔◌, IsTrue}
+use Rattle.std.proofs.Common.{◌≡◌, ◌<◌, ℕ, List, [], ◌∷◌, ◌++◌, Option, Some, None, Bool}
+use Rattle.std.proofs.Common.{false, refl, sym, ap, ◌∙◌, subst}
+use Rattle.std.specs.Prelude.{◌↔◌, IsTrue}
 use Rattle.std.specs.BTreeMap.{get, is_at}
-use Rattle.std.specs.Ordering.{nat_cmp, is_eq}
-use Rattle.std.specs.Cmp.{nat_cmp_is}
-use Rattle.std.specs.declared.cmp.Ordering.{Ordering}
-use Rattle.std.specs.declared.cmp.Ordering.TheVariants.{Less, Equal, Greater}
-use Rattle.std.proofs.lemmas.Bool.{cases_Bool, eq-eqb, ne_eqb}
-use Rattle.std.proofs.lemmas.Map.Lookups.{exact_unsigned}
+use Rattle.std.specs.Ordering.{nat_cmp}
+use Rattle.std.proofs.lemmas.Bool.{eq-eqb}
 use Rattle.queue_core.specs.State.{Bound}
 use Rattle.queue_core.specs.Step.{step}
 use Rattle.histories.specs.Numbers.{queue_count}
 use Rattle.histories.specs.declared.entry.Entry.{Entry}
-use Rattle.histories.specs.History.{history, replay, is_of}
+use Rattle.histories.specs.History.{history, replay}
 use Rattle.script_lines.specs.declared.line.Down.{Down}
 use Rattle.inspector_script.specs.Scripts.{ScriptValue}
 use Rattle.run_parts.specs.Feeder.{AreFed, IsFed, IsFedBy, downs_in_effect}
-use Rattle.queue_replay.specs.declared.found.Found.{Found}
-use Rattle.queue_replay.specs.Replays.{QueueMap, AreFound, AreReplayed}
+use Rattle.queue_replay.specs.Replays.{QueueMap, AreReplayed}
+use Rattle.queue_replay.specs.NumberKeys.{not_of, each_number}
+use Rattle.queue_replay.specs.QueueHistories.{own_first, other_first, others_last, state_last}
 use Rattle.feeder_audit.specs.declared.fed.Fed.{Fed}
 use Rattle.feeder_audit.specs.Fitting.{FitsBy, Rises}
 use Rattle.feeder_audit.specs.Rows.{all}
@@ -29,54 +25,15 @@ use Rattle.feeder_audit.proofs.RowMeaning.{from_first, all_open, all_put}
 use Rattle.feeder_audit.proofs.Items.{fits_if, is_fed_if}
 use Rattle.feeder_audit.proofs.AscendingTimes.{all_rise}
 
--- ---- numbers of queues
-
-pub at_own : (k q : ℕ) → is_at (nat_cmp k) q ≡ true → k ≡ q
-at_own k q h = exact_unsigned k q (equal (nat_cmp k q) h)
-  where
-    equal : (o : Ordering) → is_eq o ≡ true → o ≡ Equal
-    equal Less h = absurd (cc)
-    equal Equal h = refl
-    equal Greater h = absurd (cc)
-
-pub at_itself : (k : ℕ) → is_at (nat_cmp k) k ≡ true
-at_itself k = ap is_eq (sym (nat_cmp_is k k Equal refl))
-
-pub not_of : (k q : ℕ) → is_at (nat_cmp k) q ≡ false → (k == q) ≡ false
-not_of k q h = ne_eqb k q (λ same.
-    let at : is_at (nat_cmp k) q ≡ true =
-    subst (λ n. is_at (nat_cmp k) n ≡ true) same (at_itself k) in
-    let wrong : true ≡ false = sym at ∙ h in cc)
-
--- what laws say of one entry more
-pub record Laws : Type 0 where
-  pub own : (es : List Entry) (e : Entry) →
-      history e.queue (es ++ e ∷ []) ≡ history e.queue es ++ e ∷ []
-  pub others : (es : List Entry) (e : Entry) (queue : ℕ) → (e.queue == queue) ≡ false →
-      history queue (es ++ e ∷ []) ≡ history queue es
-  pub state : (es : List Entry) (e : Entry) →
-      replay (es ++ e ∷ []) ≡ (step (replay es) e.event).state
-
--- ---- histories
-
-own_first : (queue : ℕ) (e : Entry) (fs : List Entry) → is_of queue e ≡ true →
-    history queue (e ∷ fs) ≡ e ∷ history queue fs
-own_first queue e fs own = ap (λ b. cond b (e ∷ history queue fs) (history queue fs)) own
-
-other_first : (queue : ℕ) (e : Entry) (fs : List Entry) → is_of queue e ≡ false →
-    history queue (e ∷ fs) ≡ history queue fs
-other_first queue e fs other = ap (λ b. cond b (e ∷ history queue fs) (history queue fs)) other
-
 -- ---- entries that are gone over
 
 -- the lines can be put into a whole history
 abbrev Whole : List Down → List Entry → Type 0
 Whole downs h = FitsBy None 0 h downs all
 
--- the entries before are gone over, and this is found at the rest
-pub record AreGoing (downs : List Down) (entries : List Entry) (found : List Found) (feds : FedMap)
+-- the entries before are gone over
+pub record AreGoing (downs : List Down) (entries : List Entry) (feds : FedMap)
     (before rest : List Entry) : Type 0 where
-  pub found_are : AreFound before rest found
   pub kept : AreKept downs feds
   pub short : (q : ℕ) (f : Fed) → get nat_cmp feds q ≡ Some f → q < queue_count
   pub goes : (q : ℕ) → Whole downs (history q entries) →
@@ -85,37 +42,25 @@ pub record AreGoing (downs : List Down) (entries : List Entry) (found : List Fou
       IsFedIn downs (replay (history q before)) (get nat_cmp feds q) (history q rest) →
       Whole downs (history q entries)
 
-pub none_gone : (downs : List Down) (entries : List Entry) (found : List Found) (feds : FedMap) →
-    AreFound [] entries found → ((q : ℕ) → get nat_cmp feds q ≡ None) →
-    AreGoing downs entries found feds [] entries
-none_gone downs entries found feds are none = record {
-  found_are = are;
+pub none_gone : (downs : List Down) (entries : List Entry) (feds : FedMap) →
+    ((q : ℕ) → get nat_cmp feds q ≡ None) → AreGoing downs entries feds [] entries
+none_gone downs entries feds none = record {
   kept = λ q. subst (IsKeptIn downs) (sym (none q)) tt;
   short = λ q f there. absurd (let wrong : None ≡ Some f = sym (none q) ∙ there in cc);
   goes = λ q fed. subst (λ o. IsFedIn downs None o (history q entries)) (sym (none q)) fed;
   came = λ q fed. subst (λ o. IsFedIn downs None o (history q entries)) (none q) fed;
 }
 
-module _ (laws : Laws) (downs : List Down) (entries before others : List Entry) (e : Entry)
-    (found fs : List Found) (old new : FedMap)
-    (are : AreGoing downs entries found old before (e ∷ others))
-    (next : AreFound (before ++ e ∷ []) others fs)
+module _ (downs : List Down) (entries before others : List Entry) (e : Entry)
+    (old new : FedMap) (are : AreGoing downs entries old before (e ∷ others))
     (follows : FollowsIn downs (replay (history e.queue before)) old new e)
     (few : e.queue < queue_count) where
-  -- what holds at the entry's queue, and stays so at the others
-  at_queue : (P : ℕ → Type 0) → P e.queue →
-      ((q : ℕ) → is_at (nat_cmp e.queue) q ≡ false → P q) → (q : ℕ) → P q
-  at_queue P own others_too q = elim (cases_Bool (is_at (nat_cmp e.queue) q)) [
-    | inl here ↦ subst P (at_own e.queue q here) own
-    | inr other ↦ others_too q other
-  ]
-
   own_rest : history e.queue (e ∷ others) ≡ e ∷ history e.queue others
   own_rest = own_first e.queue e others (eq-eqb e.queue e.queue refl)
 
   own_state : (step (replay (history e.queue before)) e.event).state
       ≡ replay (history e.queue (before ++ e ∷ []))
-  own_state = sym (ap replay (laws.own before e) ∙ laws.state (history e.queue before) e)
+  own_state = sym (state_last before e)
 
   -- nothing is so of another queue that wasn't
   other_fed : (q : ℕ) → is_at (nat_cmp e.queue) q ≡ false →
@@ -126,30 +71,31 @@ module _ (laws : Laws) (downs : List Down) (entries before others : List Entry) 
       ap (λ es. IsFedIn downs (replay (history q before)) (get nat_cmp old q) es)
       (other_first q e others (not_of e.queue q other))
       ∙ ap (λ es. IsFedIn downs (replay es) (get nat_cmp old q) (history q others))
-      (sym (laws.others before e q (not_of e.queue q other)))
+      (sym (others_last before e q (not_of e.queue q other)))
       ∙ ap (λ o. IsFedIn downs (replay (history q (before ++ e ∷ []))) o (history q others))
       (sym (follows.others q other))
 
-  pub going_on : AreGoing downs entries fs new (before ++ e ∷ []) others
+  pub going_on : AreGoing downs entries new (before ++ e ∷ []) others
   going_on = record {
-    found_are = next;
-    kept = at_queue (λ q. IsKeptIn downs (get nat_cmp new q)) follows.kept
+    kept = each_number (λ q. IsKeptIn downs (get nat_cmp new q)) e.queue follows.kept
         (λ q other. subst (IsKeptIn downs) (sym (follows.others q other)) (are.kept q));
-    short = λ q f. at_queue (λ k. get nat_cmp new k ≡ Some f → k < queue_count)
+    short = λ q f. each_number (λ k. get nat_cmp new k ≡ Some f → k < queue_count) e.queue
         (λ there. few)
         (λ k other there. are.short k f (sym (follows.others k other) ∙ there)) q;
-    goes = at_queue
+    goes = each_number
         (λ q. Whole downs (history q entries) →
         IsFedIn downs (replay (history q (before ++ e ∷ []))) (get nat_cmp new q)
         (history q others))
+        e.queue
         (λ fed. subst (λ (q : Option Bound). IsFedIn downs q (get nat_cmp new e.queue)
         (history e.queue others)) own_state (follows.goes (history e.queue others)
         (subst (IsFedIn downs (replay (history e.queue before)) (get nat_cmp old e.queue))
         own_rest (are.goes e.queue fed))))
         (λ q other fed. subst (λ (T : Type 0). T) (other_fed q other) (are.goes q fed));
-    came = at_queue
+    came = each_number
         (λ q. IsFedIn downs (replay (history q (before ++ e ∷ []))) (get nat_cmp new q)
         (history q others) → Whole downs (history q entries))
+        e.queue
         (λ fed. are.came e.queue
         (subst (IsFedIn downs (replay (history e.queue before)) (get nat_cmp old e.queue))
         (sym own_rest) (follows.came (history e.queue others)
@@ -160,8 +106,8 @@ module _ (laws : Laws) (downs : List Down) (entries before others : List Entry) 
 
 -- ---- at the end
 
-module _ (downs : List Down) (entries : List Entry) (found : List Found) (feds : FedMap)
-    (are : AreGoing downs entries found feds entries []) where
+module _ (downs : List Down) (entries : List Entry) (feds : FedMap)
+    (are : AreGoing downs entries feds entries []) where
   fed_in : (q : Option Bound) (o : Option Fed) → IsWholeIn downs q o → IsFedIn downs q o []
   fed_in q None whole = all_put q 0 downs all refl
   fed_in q (Some f) whole = whole

@@ -13,9 +13,7 @@ ghost use Rattle.feeder_audit.specs.Queues as kept;
 
 use crate::fed::Fed;
 use crate::lines::downs_in_effect;
-use histories::{
-    Entries, Entry, Histories, a_legal_history_goes_on, an_entry_is_of_its_queue_alone,
-};
+use histories::{Entries, Entry, Histories};
 use inspector_script::Script;
 use packet_entry::{NoMemory, Sequence};
 use pcap_io::Capture;
@@ -62,8 +60,6 @@ fn follow_all(
     requires found { replays.AreFound [] entries.now found.now }
     ensures { IfOk result (kept.AreGoneOver downs.now entries.now) }
 {
-    an_entry_is_of_its_queue_alone();
-    a_legal_history_goes_on();
     let mut found = found.iter();
     let mut feds = BTreeMap::new(alloc);
     for entry in entries {

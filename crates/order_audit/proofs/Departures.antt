@@ -16,8 +16,8 @@ use Rattle.histories.specs.declared.entry.Entry.{Entry}
 use Rattle.histories.specs.History.{history, replay, replay_from}
 use Rattle.histories.specs.Stays.{departures, departures_from}
 use Rattle.queue_replay.specs.Leaving.{visits_of}
+use Rattle.queue_replay.specs.QueueHistories.{own_last, others_last}
 use Rattle.total_order.specs.Steps.{Has, HasLeft, taken, taken_by}
-use Rattle.order_audit.proofs.Places.{Laws}
 use Rattle.order_audit.specs.Sets.{is_pair, is_among, notifies, notifies_by}
 
 -- ---- packets among others
@@ -97,7 +97,7 @@ taken_more (d ∷ es) e =
     ap (λ cs. taken_by d.event d.reply ++ cs) (taken_more es e)
     ∙ sym (append_assoc (taken_by d.event d.reply) (taken es) (taken_by e.event e.reply))
 
-module _ (laws : Laws) (es : List Entry) (e : Entry) (number visit : ℕ) where
+module _ (es : List Entry) (e : Entry) (number visit : ℕ) where
   -- the packet left before, or it leaves now
   pub left_more : HasLeft number visit (es ++ e ∷ [])
       ↔ (Has number visit (leaving_in (step (replay (history e.queue es)) e.event))
@@ -107,7 +107,7 @@ module _ (laws : Laws) (es : List Entry) (e : Entry) (number visit : ℕ) where
       whole : departures (history e.queue (es ++ e ∷ []))
           ≡ departures (history e.queue es)
           ++ leaving_in (step (replay (history e.queue es)) e.event)
-      whole = ap departures (laws.own es e) ∙ departed None (history e.queue es) e
+      whole = ap departures (own_last es e) ∙ departed None (history e.queue es) e
 
       split : HasLeft number visit (es ++ e ∷ []) →
           Has number visit (leaving_in (step (replay (history e.queue es)) e.event))
@@ -124,7 +124,7 @@ module _ (laws : Laws) (es : List Entry) (e : Entry) (number visit : ℕ) where
         | inr other ↦ inr (record {
           queue = has.queue;
           left = subst (λ hs. Has number visit (departures hs))
-              (laws.others es e has.queue other) has.left;
+              (others_last es e has.queue other) has.left;
         })
       ]
 
@@ -148,7 +148,7 @@ module _ (laws : Laws) (es : List Entry) (e : Entry) (number visit : ℕ) where
         | inr other ↦ record {
           queue = has.queue;
           left = subst (λ hs. Has number visit (departures hs))
-              (sym (laws.others es e has.queue other)) has.left;
+              (sym (others_last es e has.queue other)) has.left;
         }
       ]
 
@@ -160,11 +160,11 @@ module _ (laws : Laws) (es : List Entry) (e : Entry) (number visit : ℕ) where
         ↔ ((notifies q number visit e ≡ true) ⊎ Has number visit (taken (history q es))))
         (eqb-true e.queue queue own) at_own
     | inr other ↦ (
-      (λ has. inr (subst (λ hs. Has number visit (taken hs)) (laws.others es e queue other) has)),
+      (λ has. inr (subst (λ hs. Has number visit (taken hs)) (others_last es e queue other) has)),
       (λ h. elim h [
         | inl is ↦ absurd (elsewhere other e.event e.reply is)
         | inr has ↦ subst (λ hs. Has number visit (taken hs))
-            (sym (laws.others es e queue other)) has
+            (sym (others_last es e queue other)) has
       ]),
     )
   ]
@@ -205,7 +205,7 @@ module _ (laws : Laws) (es : List Entry) (e : Entry) (number visit : ℕ) where
 
       whole : taken (history e.queue (es ++ e ∷ []))
           ≡ taken (history e.queue es) ++ taken_by e.event e.reply
-      whole = ap taken (laws.own es e) ∙ taken_more (history e.queue es) e
+      whole = ap taken (own_last es e) ∙ taken_more (history e.queue es) e
 
       at_own : Has number visit (taken (history e.queue (es ++ e ∷ [])))
           ↔ ((notifies e.queue number visit e ≡ true)

@@ -14,6 +14,7 @@ use Rattle.histories.specs.declared.log.Did.{Did}
 use Rattle.histories.specs.declared.log.Did.TheVariants.{Received, Sent, Closed}
 use Rattle.histories.specs.declared.log.PortLog.{PortLog}
 use Rattle.histories.specs.History.{history, is_of}
+use Rattle.queue_replay.specs.QueueHistories.{own_last, others_last}
 use Rattle.total_order.specs.Orders.{EachIs}
 use Rattle.total_order.specs.Steps.{Step, Has, AreTaken, IsAsked, IsSent, log_of, taken, IsCausedAs}
 use Rattle.total_order.specs.Steps.{InLogOrderAs}
@@ -27,7 +28,6 @@ use Rattle.order_audit.specs.Walking.{is_sent, IsBehindAs, IsBehind, IsOver, Are
 use Rattle.order_audit.proofs.Membership.{or_none}
 use Rattle.order_audit.proofs.Entries.{entries_more, one_goes_on, Persists, taken_on}
 use Rattle.order_audit.proofs.Lists.{each_more, each_kept, each_filter, pairs_more, caused_more}
-use Rattle.order_audit.proofs.Places.{Laws}
 
 -- ---- the beginning
 
@@ -209,7 +209,7 @@ module _ (logs : List PortLog) (es : List Entry) (ss : List Step) (s : Step) whe
       ∙ asked_more port call (entries ss) s.entry
       ∙ or_right (is_asked port call (entries ss)) (asks port call s.entry) is)
 
-  module _ (persists : Persists) (laws : Laws) (rest more : ℕ → List Entry)
+  module _ (persists : Persists) (rest more : ℕ → List Entry)
       (cursor further : ℕ → ℕ) (gone : AreGone logs es ss rest cursor) where
     heard_on : (port : ℕ) → AreTaken (take (cursor port) (log_of port logs)) (entries ss) →
         AreTaken (take (cursor port) (log_of port logs)) (entries (ss ++ s ∷ []))
@@ -244,7 +244,7 @@ module _ (logs : List PortLog) (es : List Entry) (ss : List Step) (s : Step) whe
             ∙ ap (λ xs. history s.entry.queue (entries ss) ++ xs) first
             ∙ sym (append_assoc (history s.entry.queue (entries ss)) (s.entry ∷ [])
             (more s.entry.queue))
-            ∙ ap (λ xs. xs ++ more s.entry.queue) (sym (laws.own (entries ss) s.entry))
+            ∙ ap (λ xs. xs ++ more s.entry.queue) (sym (own_last (entries ss) s.entry))
             ∙ ap (λ xs. history s.entry.queue xs ++ more s.entry.queue)
             (sym (entries_more ss s))
 
@@ -253,7 +253,7 @@ module _ (logs : List PortLog) (es : List Entry) (ss : List Step) (s : Step) whe
           | inl here ↦ subst (λ k. history k es ≡ history k (entries (ss ++ s ∷ [])) ++ more k)
               (eqb-true s.entry.queue q here) own
           | inr other ↦ gone.same q
-              ∙ ap (λ xs. xs ++ rest q) (sym (laws.others (entries ss) s.entry q other))
+              ∙ ap (λ xs. xs ++ rest q) (sym (others_last (entries ss) s.entry q other))
               ∙ ap (λ xs. history q xs ++ rest q) (sym (entries_more ss s))
               ∙ ap (λ xs. history q (entries (ss ++ s ∷ [])) ++ xs) (sym (others q other))
         ]

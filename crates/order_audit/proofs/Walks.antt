@@ -17,7 +17,8 @@ use Rattle.histories.specs.declared.log.Did.{Did}
 use Rattle.histories.specs.declared.log.Did.TheVariants.{Received, Sent, Closed}
 use Rattle.histories.specs.declared.log.PortLog.{PortLog}
 use Rattle.histories.specs.History.{history, is_of, replay, IsStep, AreLegal}
-use Rattle.queue_replay.specs.Underway.{step_at}
+use Rattle.queue_replay.specs.NumberKeys.{each_number, not_of}
+use Rattle.queue_replay.specs.QueueHistories.{own_last, others_last, step_at}
 use Rattle.queue_replay.specs.Leaving.{visits_left}
 use Rattle.total_order.specs.Orders.{EachIs}
 use Rattle.total_order.specs.Steps.{Step, Has, HasLeft, HasCome, IsSent, log_of, taken, IsCausedAs}
@@ -30,7 +31,7 @@ use Rattle.order_audit.specs.declared.cursors.Cursor.{Cursor}
 use Rattle.order_audit.specs.declared.walk.Walk.{Walk}
 use Rattle.order_audit.specs.Walking.{is_sent, can_go, first_place, can_pass, MovesBy, Goes}
 use Rattle.order_audit.specs.Walking.{Passes, AreGone, IsWalk, IsBehindAs}
-use Rattle.order_audit.proofs.Places.{each_number, not_of, IsFirst, some_first, cut_at, Laws}
+use Rattle.order_audit.proofs.Places.{IsFirst, some_first, cut_at}
 use Rattle.order_audit.proofs.Entries.{Persists, entries_more}
 use Rattle.order_audit.proofs.Departures.{left_more, taken_one_more, among_has}
 use Rattle.order_audit.proofs.Gone.{IsNoAsk, next_is, sent_is, past, taken_front, IsHeard}
@@ -90,7 +91,7 @@ abbrev IsLeaving : List Entry → ℕ → Entry → List (ℕ × ℕ) → Type 0
 IsLeaving es place e visits =
     visits ≡ visits_left (step (replay (history e.queue (take place es))) e.event)
 
-module _ (persists : Persists) (laws : Laws) (h : Histories) (old new : Walk) (place : ℕ)
+module _ (persists : Persists) (h : Histories) (old new : Walk) (place : ℕ)
     (e : Entry) (visits : List (ℕ × ℕ)) (w : IsWalk h old)
     (first : first_place old e.queue ≡ Some place) (there : slice_get h.entries place ≡ Some e)
     (can : can_go h.logs old e.event ≡ true) (leave : IsLeaving h.entries place e visits)
@@ -140,7 +141,7 @@ module _ (persists : Persists) (laws : Laws) (h : Histories) (old new : Walk) (p
       (at : ℕ) × AreGone h.logs h.entries (w.steps ++ step_of at ∷ []) more (at_of new.cursors)
   gone_by (Arrive card bypass room) is may moves = (
     0,
-    free_gone h.logs h.entries w.steps (step_of 0) persists laws w.rest more
+    free_gone h.logs h.entries w.steps (step_of 0) persists w.rest more
         (at_of old.cursors) (at_of new.cursors) w.gone front more_other
         (subst IsNoAsk (sym is) tt) (λ port. ap (λ m. at_of m port) moves)
         (subst (λ x. IsCausedAs h.logs (entries w.steps) 0 x) (sym is)
@@ -152,7 +153,7 @@ module _ (persists : Persists) (laws : Laws) (h : Histories) (old new : Walk) (p
       subst (IsSent call) (next_at port)
       (sent_is call (next_of h.logs old.cursors port) may) in (
         at_of old.cursors port,
-        ask_gone h.logs h.entries w.steps (step_of (at_of old.cursors port)) persists laws w.rest
+        ask_gone h.logs h.entries w.steps (step_of (at_of old.cursors port)) persists w.rest
             more (at_of old.cursors) (at_of new.cursors) w.gone front more_other port call request
             is refl sent
             (cursor_goes h.logs old.cursors new.cursors port moves w.cursors
@@ -163,7 +164,7 @@ module _ (persists : Persists) (laws : Laws) (h : Histories) (old new : Walk) (p
       let over : is_none (slice_get (log_of port h.logs) (at_of old.cursors port)) ≡ true =
       subst (λ o. is_none o ≡ true) (next_at port) may in (
         0,
-        free_gone h.logs h.entries w.steps (step_of 0) persists laws w.rest more
+        free_gone h.logs h.entries w.steps (step_of 0) persists w.rest more
             (at_of old.cursors) (at_of new.cursors) w.gone front more_other
             (subst IsNoAsk (sym is) tt) (λ p. ap (λ m. at_of m p) moves)
             (subst (λ x. IsCausedAs h.logs (entries w.steps) 0 x) (sym is)
@@ -174,7 +175,7 @@ module _ (persists : Persists) (laws : Laws) (h : Histories) (old new : Walk) (p
       )
   gone_by (DeviceDown device) is may moves = (
     0,
-    free_gone h.logs h.entries w.steps (step_of 0) persists laws w.rest more
+    free_gone h.logs h.entries w.steps (step_of 0) persists w.rest more
         (at_of old.cursors) (at_of new.cursors) w.gone front more_other
         (subst IsNoAsk (sym is) tt) (λ port. ap (λ m. at_of m port) moves)
         (subst (λ x. IsCausedAs h.logs (entries w.steps) 0 x) (sym is) tt)
@@ -221,7 +222,7 @@ module _ (persists : Persists) (laws : Laws) (h : Histories) (old new : Walk) (p
         (leave ∙ ap (λ es. visits_left (step (replay es) e.event)) is_first.so_far))
         (among_has number visit
         (leaving_in (step (replay (history e.queue (entries w.steps))) e.event)))
-        (w.left number visit) (left_more laws (entries w.steps) e number visit))
+        (w.left number visit) (left_more (entries w.steps) e number visit))
 
     taken_too : (queue number visit : ℕ) → (has_notice new.taken queue number visit ≡ true)
         ↔ Has number visit (taken (history queue (entries (w.steps ++ step_of at ∷ []))))
@@ -231,7 +232,7 @@ module _ (persists : Persists) (laws : Laws) (h : Histories) (old new : Walk) (p
         (put_in (has_notice new.taken queue number visit) (notifies queue number visit e)
         (has_notice old.taken queue number visit) (goes.taken queue number visit)
         ((λ t. t), (λ t. t)) (w.taken queue number visit)
-        (taken_one_more laws (entries w.steps) e number visit queue))
+        (taken_one_more (entries w.steps) e number visit queue))
 
     -- the places then
     rows_on : (q : ℕ) → AreAt h.entries q (history q (entries (w.steps ++ step_of at ∷ [])))
@@ -245,13 +246,13 @@ module _ (persists : Persists) (laws : Laws) (h : Histories) (old new : Walk) (p
         (subst (λ ps. AreAt h.entries e.queue (history e.queue (entries w.steps ++ e ∷ [])) ps
         is_first.others) (sym (goes.rows.own place is_first.places is_first.there))
         (subst (λ bs. AreAt h.entries e.queue bs is_first.places is_first.others)
-        (sym (laws.own (entries w.steps) e)) is_first.rest)))
+        (sym (own_last (entries w.steps) e)) is_first.rest)))
         (λ q other. subst (λ xs. AreAt h.entries q (history q (entries w.steps ++ e ∷ []))
         (places_of new.rows q) xs) (sym (more_other q (not_of e.queue q other)))
         (subst (λ o. AreAt h.entries q (history q (entries w.steps ++ e ∷ [])) (places_in o)
         (w.rest q)) (sym (goes.rows.others q other))
         (subst (λ bs. AreAt h.entries q bs (places_of old.rows q) (w.rest q))
-        (sym (laws.others (entries w.steps) e q (not_of e.queue q other))) (w.rows q)))))
+        (sym (others_last (entries w.steps) e q (not_of e.queue q other))) (w.rows q)))))
 
   -- all are still of their queues
   own_on : (q : ℕ) → EachIs (λ x. is_of q x ≡ true) (more q)
@@ -291,13 +292,13 @@ of_queue h old queue place e w first there =
     (subst (λ xs. EachIs (λ x. is_of queue x ≡ true) xs) f.front (w.own queue)).0
 
 -- an entry of a queue goes, if it is the first that is left and can go
-pub queue_gone : (persists : Persists) (laws : Laws) (h : Histories) (old new : Walk)
+pub queue_gone : (persists : Persists) (h : Histories) (old new : Walk)
     (queue place : ℕ) (e : Entry) (visits : List (ℕ × ℕ)) → IsWalk h old →
     first_place old queue ≡ Some place → slice_get h.entries place ≡ Some e →
     can_go h.logs old e.event ≡ true → IsLeaving h.entries place e visits →
     Goes old new e visits → IsWalk h new
-queue_gone persists laws h old new queue place e visits w first there can leave goes =
-    entry_gone persists laws h old new place e visits w
+queue_gone persists h old new queue place e visits w first there can leave goes =
+    entry_gone persists h old new place e visits w
     (subst (λ q. first_place old q ≡ Some place)
     (sym (of_queue h old queue place e w first there)) first) there can leave goes
 

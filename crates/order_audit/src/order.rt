@@ -11,7 +11,7 @@ use crate::cursors::next;
 use crate::hints::{Hints, Task};
 use crate::rows::first;
 use crate::walk::{Walk, begin, can_go, can_pass, can_some_go};
-use histories::{Entries, Histories, an_entry_is_of_its_queue_alone};
+use histories::{Entries, Histories};
 use packet_entry::NoMemory;
 use queue_replay::Replayed;
 use std::alloc::Global;
@@ -83,7 +83,6 @@ fn look_at_queue(
     requires walk { walking.IsWalk histories.now walk.old }
     ensures { OnOk result (walking.IsWalk histories.now walk.new) }
 {
-    an_entry_is_of_its_queue_alone();
     total_orders_are_orders_of_steps();
     let Some(place) = first(&walk.rows, queue) else {
         return Ok(());

@@ -4,7 +4,7 @@ ghost use Rattle.std.specs.Prelude.{◌≡◌, ℕ, [], OnOk, IfOk};
 ghost use Rattle.histories.specs.History.{history};
 ghost use Rattle.order_audit.specs.Rows as row;
 
-use histories::{Entries, an_entry_is_of_its_queue_alone};
+use histories::Entries;
 use packet_entry::{NoMemory, Sequence};
 use std::alloc::Global;
 use std::collections::BTreeMap;
@@ -17,7 +17,6 @@ pub(crate) fn rows_of(alloc: Global, entries: &Entries) -> Result<Rows, NoMemory
     ensures { IfOk result (λ all. (queue : ℕ) →
         row.AreAt entries.now queue [] (row.places_of all queue) (history queue entries.now)) }
 {
-    an_entry_is_of_its_queue_alone();
     let mut rows = BTreeMap::new(alloc);
     for place in 0..entries.len() {
         let Some(entry) = entries.get(place) else {

@@ -1,12 +1,8 @@
 use Rattle.std.proofs.Common.{refl, rules}
-use Rattle.order_audit.proofs.Places.{Laws, one_more}
+use Rattle.order_audit.proofs.Places.{one_more}
 use Rattle.order_audit.proofs.rows.rows_of.Goals as goal
 
 pub loop-place-preserved : goal.loop-place-preserved
 loop-place-preserved c =
-    let laws : Laws = record {
-      own = c.an_entry_is_of_its_queue_alone.ensures.own;
-      others = c.an_entry_is_of_its_queue_alone.ensures.others;
-    } in
-    one_more laws c.args.entries.now c.loop-place.rows c.lengthen.new.rows c.loop-place.place _
+    one_more c.args.entries.now c.loop-place.rows c.lengthen.new.rows c.loop-place.place _
     c.in-Some.entry.now (search rules) refl c.loop-place.invariant c.in_ok-lengthen.ensures
