@@ -1,5 +1,5 @@
 -- Soundness with nothing lost is that as many arrivals came as were asked for, number by number.
-use Rattle.std.proofs.Common.{◌≡◌, ℕ, ◌+◌, List, [], Bool, true, false, Option, Some}
+use Rattle.std.proofs.Common.{◌≡◌, ℕ, ◌+◌, List, [], Bool, true, Option, Some}
 use Rattle.std.proofs.Common.{None, refl, sym, ap, ◌∙◌, arith}
 use Rattle.std.specs.Prelude.{count_by, sum_by, flat_map, not, ◌↔◌, ◌&&◌}
 use Rattle.packet_entry.specs.declared.packet.Card.{Card}
@@ -12,9 +12,6 @@ use Rattle.journey_audit.specs.Unmet.{all_came, all_asked, AreAsMany, IsMet, IsL
 use Rattle.journey_audit.specs.Unmet.{of_number}
 use Rattle.journey_audit.proofs.TestCounts.{count_flat, count_append, count_filter, count_not}
 use Rattle.journey_audit.proofs.TestCounts.{all_numbers}
-
-pub true_is_not_false : true ≡ false → ⊥
-true_is_not_false e = cc
 
 -- ---- two lists
 

@@ -2,6 +2,5 @@ pub mod TestCounts
 pub mod JourneySoundness
 pub mod ArrivalComparison
 pub mod Tallies
-pub mod TallyWalk
 pub mod LeastUneven
 pub mod Entries

@@ -1,40 +1,18 @@
 -- Tallies that grow arrival by arrival.
 use Rattle.std.proofs.Common.{◌≡◌, ℕ, List, [], ◌∷◌, ◌++◌, Option, None, Bool, true, false}
-use Rattle.std.proofs.Common.{cond, refl, sym, ap, ◌∙◌, subst, inl, inr, append_assoc, append-nil}
-use Rattle.std.specs.Prelude.{◌==◌, flat_map}
+use Rattle.std.proofs.Common.{cond, refl, sym, ap, ◌∙◌, subst, append_assoc, append-nil}
+use Rattle.std.specs.Prelude.{flat_map}
 use Rattle.std.specs.BTreeMap.{get, is_at}
-use Rattle.std.specs.Ordering.{nat_cmp, is_eq}
-use Rattle.std.specs.Cmp.{nat_cmp_is}
-use Rattle.std.specs.declared.cmp.Ordering.{Ordering}
-use Rattle.std.specs.declared.cmp.Ordering.TheVariants.{Less, Equal, Greater}
-use Rattle.std.proofs.lemmas.Bool.{cases_Bool, eq-eqb, ne_eqb}
+use Rattle.std.specs.Ordering.{nat_cmp}
+use Rattle.std.proofs.lemmas.Bool.{eq-eqb}
 use Rattle.std.proofs.lemmas.List.Elements.{filter-append}
 use Rattle.std.proofs.lemmas.Grind.{flat_map-append}
-use Rattle.std.proofs.lemmas.Map.Lookups.{exact_unsigned}
 use Rattle.histories.specs.Journeys.{Arrival}
+use Rattle.queue_replay.specs.NumberKeys.{not_of, each_number}
 use Rattle.journey_audit.specs.declared.tally.Tally.{Tally}
 use Rattle.journey_audit.specs.Unmet.{of_number, has_number}
 use Rattle.journey_audit.specs.Tallying.{TallyMap, IsTallied, NotesCame, NotesAsked, Grows}
 use Rattle.journey_audit.specs.Tallying.{came_in, asked_in}
-
--- ---- numbers of packets
-
-pub at_own : (k q : ℕ) → is_at (nat_cmp k) q ≡ true → k ≡ q
-at_own k q h = exact_unsigned k q (equal (nat_cmp k q) h)
-  where
-    equal : (o : Ordering) → is_eq o ≡ true → o ≡ Equal
-    equal Less h = absurd (cc)
-    equal Equal h = refl
-    equal Greater h = absurd (cc)
-
-pub at_itself : (k : ℕ) → is_at (nat_cmp k) k ≡ true
-at_itself k = ap is_eq (sym (nat_cmp_is k k Equal refl))
-
-pub not_of : (k q : ℕ) → is_at (nat_cmp k) q ≡ false → (k == q) ≡ false
-not_of k q h = ne_eqb k q (λ same.
-    let at : is_at (nat_cmp k) q ≡ true =
-    subst (λ n. is_at (nat_cmp k) n ≡ true) same (at_itself k) in
-    let wrong : true ≡ false = sym at ∙ h in cc)
 
 -- ---- the arrivals of one number, with one more
 
@@ -66,20 +44,16 @@ module _ (kept : Option Tally → List Arrival) (old new : TallyMap) (a : Arriva
   with_one_more : kept (get nat_cmp new a.card.number)
       ≡ kept (get nat_cmp old a.card.number) ++ a ∷ [] →
       (n : ℕ) → kept (get nat_cmp new n) ≡ of_number n (xs ++ a ∷ [])
-  with_one_more own n = elim (cases_Bool (is_at (nat_cmp a.card.number) n)) [
-    | inl here ↦ subst (λ m. kept (get nat_cmp new m) ≡ of_number m (xs ++ a ∷ []))
-        (at_own a.card.number n here)
-        (own ∙ ap (λ ys. ys ++ a ∷ []) (was a.card.number) ∙ sym (own_more a xs))
-    | inr other ↦ ap kept (others n other) ∙ was n ∙ sym (others_same n a xs other)
-  ]
+  with_one_more own =
+      each_number (λ n. kept (get nat_cmp new n) ≡ of_number n (xs ++ a ∷ [])) a.card.number
+      (own ∙ ap (λ ys. ys ++ a ∷ []) (was a.card.number) ∙ sym (own_more a xs))
+      (λ n other. ap kept (others n other) ∙ was n ∙ sym (others_same n a xs other))
 
   with_none : kept (get nat_cmp new a.card.number) ≡ kept (get nat_cmp old a.card.number) →
       (n : ℕ) → kept (get nat_cmp new n) ≡ of_number n xs
-  with_none own n = elim (cases_Bool (is_at (nat_cmp a.card.number) n)) [
-    | inl here ↦ subst (λ m. kept (get nat_cmp new m) ≡ of_number m xs)
-        (at_own a.card.number n here) (own ∙ was a.card.number)
-    | inr other ↦ ap kept (others n other) ∙ was n
-  ]
+  with_none own =
+      each_number (λ n. kept (get nat_cmp new n) ≡ of_number n xs) a.card.number
+      (own ∙ was a.card.number) (λ n other. ap kept (others n other) ∙ was n)
 
 none_more : (xs : List Arrival) → xs ≡ xs ++ []
 none_more xs = sym (append-nil xs)

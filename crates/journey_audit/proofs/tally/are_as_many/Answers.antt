@@ -1,9 +1,9 @@
 use Rattle.std.proofs.Common.{◌≡◌, ◌<◌, ◌≤◌, ◌+◌, [], length, drop, sym, ap, ◌∙◌, subst, arith}
+use Rattle.std.proofs.Common.{true≢false}
 use Rattle.std.proofs.lemmas.Bool.{eqb-true, eq-eqb}
 use Rattle.std.proofs.lemmas.List.{drop_all, nil_from_length}
 use Rattle.journey_audit.specs.Unmet.{AreAsMany}
 use Rattle.journey_audit.proofs.ArrivalComparison.{left_from, not_as_many, taken_both, none_left}
-use Rattle.journey_audit.proofs.JourneySoundness.{true_is_not_false}
 use Rattle.journey_audit.proofs.tally.are_as_many.Goals as goal
 
 pub returns-in_default : goal.returns-in_default
@@ -14,7 +14,7 @@ returns-in_default c =
     let within : at < length items = omega arith in
     let front = left_from came items at c.arrival-item.result c.deref-arrival-items.ensures.value
     within c.arrival-item.is in (
-      λ h. absurd (true_is_not_false (sym h)),
+      λ h. absurd (true≢false (sym h)),
       λ many. absurd (not_as_many (drop at came) (drop (at + 1) came) c.loop-arrival.asked.items
           c.arrival-item.result front c.in_default.ensures (c.loop-arrival.invariant.0 many)),
     )
