@@ -1,8 +1,8 @@
 -- Ports that closed, entry by entry.
 use Rattle.std.proofs.Common.{◌≡◌, ◌<◌, ℕ, List, [], ◌∷◌, ◌++◌, Option, Some, None, Bool}
 use Rattle.std.proofs.Common.{true, false, refl, sym, ap, ◌∙◌, subst, inl, inr, cond}
-use Rattle.std.proofs.Common.{map}
-use Rattle.std.specs.Prelude.{◌==◌, nat_eq, ◌||◌, ◌&&◌, not, filter}
+use Rattle.std.proofs.Common.{map, true≢false}
+use Rattle.std.specs.Prelude.{◌==◌, nat_eq, ◌||◌, ◌&&◌, not, filter, ⊤}
 use Rattle.std.specs.List.{list_any}
 use Rattle.std.specs.BTreeMap.{get, is_at}
 use Rattle.std.specs.Ordering.{nat_cmp}
@@ -29,17 +29,16 @@ use Rattle.port_audit.specs.Closing.{Notes}
 use Rattle.port_audit.specs.Closing.{EndsWell, ends_badly, has_closed, is_in}
 use Rattle.queue_replay.specs.Replays.{QueueMap, queue_in, port_in, AreReplayed}
 use Rattle.port_audit.specs.Told.{AreTold, dids_of}
-use Rattle.port_audit.proofs.Entries.{at_own, not_of, each_on, own_within, own_last, others_last}
-use Rattle.port_audit.proofs.Entries.{true_is_not_false}
+use Rattle.queue_replay.specs.NumberKeys.{at_own, not_of}
+use Rattle.queue_replay.specs.QueueHistories.{each_on, own_within, own_last, others_last}
 use Rattle.port_audit.proofs.HeardNotices.{or_right, or_none, or_left_none, choose, chosen}
-use Rattle.port_audit.proofs.NumberWalk.{HoldsIn}
 
 -- ---- what stands behind the first
 
 module _ (test : Entry → Bool) where
   behind_found : (es fs : List Entry) → list_any test es ≡ true →
       behind_first test (es ++ fs) ≡ behind_first test es ++ fs
-  behind_found [] fs some = absurd (true_is_not_false (sym some))
+  behind_found [] fs some = absurd (true≢false (sym some))
   behind_found (e ∷ es) fs some = by (test e) some (behind_found es fs)
     where
       by : (b : Bool) → (b || list_any test es) ≡ true →
@@ -60,7 +59,7 @@ module _ (test : Entry → Bool) where
       by : (b : Bool) → (b || list_any test es) ≡ false →
           (list_any test es ≡ false → behind_first test (es ++ e ∷ []) ≡ []) →
           cond b (es ++ e ∷ []) (behind_first test (es ++ e ∷ [])) ≡ []
-      by true none rest = absurd (true_is_not_false none)
+      by true none rest = absurd (true≢false none)
       by false none rest = rest none
 
 -- ---- one history so far
@@ -93,14 +92,14 @@ module _ (p : ℕ) (h : List Entry) (e : Entry) where
   broken_behind : (b : Bool) (rest : List Entry) → list_any (is_closing_of p) h ≡ true →
       is_of_port p e ≡ true → IsClosing p b (h ++ e ∷ rest) → ⊥
   broken_behind true rest some own is =
-      true_is_not_false (sym (
+      true≢false (sym (
       ap (list_any (is_of_port p)) (behind_found (is_closing_of p) h (e ∷ rest) some)
       ∙ list_any-append (is_of_port p) (behind_first (is_closing_of p) h) (e ∷ rest)
       ∙ or_right (list_any (is_of_port p) (behind_first (is_closing_of p) h))
       (is_of_port p e || list_any (is_of_port p) rest)
       (ap (λ b. b || list_any (is_of_port p) rest) own)) ∙ is.last)
   broken_behind false rest some own is =
-      true_is_not_false (sym some ∙ or_left_none (list_any (is_closing_of p) h)
+      true≢false (sym some ∙ or_left_none (list_any (is_closing_of p) h)
       (list_any (is_closing_of p) (e ∷ rest))
       (sym (list_any-append (is_closing_of p) h (e ∷ rest)) ∙ is))
 
@@ -108,7 +107,7 @@ module _ (p : ℕ) (h : List Entry) (e : Entry) where
   broken_closing : (rest : List Entry) → is_closing_of p e ≡ true →
       IsClosing p false (h ++ e ∷ rest) → ⊥
   broken_closing rest own is =
-      true_is_not_false (sym (list_any-append (is_closing_of p) h (e ∷ rest)
+      true≢false (sym (list_any-append (is_closing_of p) h (e ∷ rest)
       ∙ or_right (list_any (is_closing_of p) h)
       (is_closing_of p e || list_any (is_closing_of p) rest)
       (ap (λ b. b || list_any (is_closing_of p) rest) own)) ∙ is)
@@ -121,12 +120,12 @@ module _ (ports closed shut : List ℕ) where
       breaks ports closed shut event ≡ false → is_by p event ≡ false
   quiet_if p (Arrive card bypass room) is some fits = refl
   quiet_if p (Ask port call request) is some fits = elim (cases_Bool (p == port)) [
-    | inl own ↦ absurd (true_is_not_false (sym (subst (λ n. (is_in ports n && is_in shut n) ≡ true)
+    | inl own ↦ absurd (true≢false (sym (subst (λ n. (is_in ports n && is_in shut n) ≡ true)
         (eqb-true p port own) (ap (λ b. b && is_in shut p) is ∙ some)) ∙ fits))
     | inr other ↦ other
   ]
   quiet_if p (PortClosed port) is some fits = elim (cases_Bool (p == port)) [
-    | inl own ↦ absurd (true_is_not_false (sym (subst (λ n. (is_in ports n
+    | inl own ↦ absurd (true≢false (sym (subst (λ n. (is_in ports n
         && (not (is_in closed n) || is_in shut n)) ≡ true) (eqb-true p port own)
         (ap (λ b. b && (not (is_in closed p) || is_in shut p)) is
         ∙ or_right (not (is_in closed p)) (is_in shut p) some)) ∙ fits))
@@ -139,7 +138,7 @@ module _ (ports closed shut : List ℕ) where
   none_if p (Arrive card bypass room) is open_still fits = refl
   none_if p (Ask port call request) is open_still fits = refl
   none_if p (PortClosed port) is open_still fits = elim (cases_Bool (p == port)) [
-    | inl own ↦ absurd (true_is_not_false (sym (subst (λ n. (is_in ports n
+    | inl own ↦ absurd (true≢false (sym (subst (λ n. (is_in ports n
         && (not (is_in closed n) || is_in shut n)) ≡ true) (eqb-true p port own)
         (ap (λ b. b && (not (is_in closed p) || is_in shut p)) is
         ∙ ap (λ b. not b || is_in shut p) open_still)) ∙ fits))
@@ -152,7 +151,7 @@ module _ (ports closed shut : List ℕ) where
       is_in (cond b (port ∷ []) []) p ≡ (p == port || false)
   one_in p port true in_ is = refl
   one_in p port false in_ is = elim (cases_Bool (p == port)) [
-    | inl own ↦ absurd (true_is_not_false
+    | inl own ↦ absurd (true≢false
         (sym (ap (is_in ports) (sym (eqb-true p port own)) ∙ is) ∙ in_))
     | inr other ↦ sym (ap (λ b. b || false) other)
   ]
@@ -170,7 +169,7 @@ module _ (ports closed shut : List ℕ) where
       (event : Event) → e.event ≡ event → breaks ports closed shut event ≡ true →
       ((p : ℕ) → is_in ports p ≡ true → IsClosing p (is_in closed p) (h ++ e ∷ rest)) → ⊥
   broken h rest e same (Arrive card bypass room) is breaks_ all =
-      true_is_not_false (sym breaks_)
+      true≢false (sym breaks_)
   broken h rest e same (Ask port call request) is breaks_ all =
       let both = and_parts (is_in ports port) (is_in shut port) breaks_ in
       broken_behind port h e (is_in closed port) rest (sym (same port both.0) ∙ both.1)
@@ -187,11 +186,11 @@ module _ (ports closed shut : List ℕ) where
     where
       not_closed : (b : Bool) → is_in closed port ≡ b → (not b || false) ≡ true →
           IsClosing port b (h ++ e ∷ rest) → ⊥
-      not_closed true closes_ wrong all_ = true_is_not_false (sym wrong)
+      not_closed true closes_ wrong all_ = true≢false (sym wrong)
       not_closed false closes_ right all_ =
           broken_closing port h e rest (ap (closes port) is ∙ eq-eqb port port refl) all_
   broken h rest e same (DeviceDown device) is breaks_ all =
-      true_is_not_false (sym breaks_)
+      true≢false (sym breaks_)
 
 -- ---- all histories so far
 
@@ -270,7 +269,7 @@ closing_is p false h fine unbound = fine
 unbound_if : (p : ℕ) (b : Bool) (h : List Entry) → b ≡ true → IsClosing p b h →
     is_bound_to p (replay h) ≡ false
 unbound_if p true h is closing = closing.unbound
-unbound_if p false h is closing = absurd (true_is_not_false (sym is))
+unbound_if p false h is closing = absurd (true≢false (sym is))
 
 module _ (ports closed : List ℕ) (shut : ShutMap) (es : List Entry) (queues : QueueMap)
     (are : AreShutting ports closed shut es) (replayed : AreReplayed es queues) where
@@ -292,17 +291,17 @@ pub ends_well : (ports closed : List ℕ) (q : Option Bound) →
     ends_badly ports closed (port_in q) ≡ false → EndsWell ports closed q
 ends_well ports closed None fits p is closes_ = refl
 ends_well ports closed (Some q) fits p is closes_ = elim (cases_Bool (p == q.port)) [
-  | inl own ↦ absurd (true_is_not_false (sym (subst (λ n. (is_in ports n && is_in closed n) ≡ true)
+  | inl own ↦ absurd (true≢false (sym (subst (λ n. (is_in ports n && is_in closed n) ≡ true)
       (eqb-true p q.port own) (ap (λ b. b && is_in closed p) is ∙ closes_)) ∙ fits))
   | inr other ↦ other
 ]
 
 pub badly_ends : (ports closed : List ℕ) (q : Option Bound) →
     ends_badly ports closed (port_in q) ≡ true → EndsWell ports closed q → ⊥
-badly_ends ports closed None bad well = true_is_not_false (sym bad)
+badly_ends ports closed None bad well = true≢false (sym bad)
 badly_ends ports closed (Some q) bad well =
     let both = and_parts (is_in ports q.port) (is_in closed q.port) bad in
-    true_is_not_false (sym (eq-eqb q.port q.port refl) ∙ well q.port both.0 both.1)
+    true≢false (sym (eq-eqb q.port q.port refl) ∙ well q.port both.0 both.1)
 
 -- ---- what is judged
 
@@ -329,7 +328,7 @@ module _ (script : ScriptValue) (h : Histories) (notes : ℕ → List Note)
           is_in (filter (has_closed h.logs) script.ports) p ≡ has_closed h.logs p
       chosen_is true has = choose (has_closed h.logs) p script.ports is has ∙ sym has
       chosen_is false has = elim (cases_Bool (is_in (filter (has_closed h.logs) script.ports) p)) [
-        | inl some ↦ absurd (true_is_not_false
+        | inl some ↦ absurd (true≢false
             (sym (chosen (has_closed h.logs) p script.ports some).1 ∙ has))
         | inr none ↦ none ∙ sym has
       ]
@@ -346,7 +345,11 @@ module _ (script : ScriptValue) (h : Histories) (notes : ℕ → List Note)
       (holds p is queue short)
 
 -- a queue that isn't kept is bound to no port
+abbrev pub EndsWellIn : List ℕ → List ℕ → Option (Option Bound) → Type 0
+EndsWellIn ports closed None = ⊤
+EndsWellIn ports closed (Some q) = EndsWell ports closed q
+
 pub none_bad : (ports closed : List ℕ) (o : Option (Option Bound)) →
-    HoldsIn (EndsWell ports closed) o → EndsWell ports closed (queue_in o)
+    EndsWellIn ports closed o → EndsWell ports closed (queue_in o)
 none_bad ports closed None holds = λ p is closes_. refl
 none_bad ports closed (Some q) holds = holds

@@ -1,7 +1,7 @@
 -- Arrivals that found no room, and notices that were heard.
 use Rattle.std.proofs.Common.{◌≡◌, ◌≤◌, ℕ, ◌+◌, List, [], ◌∷◌, ◌++◌, Option, Some, None, Bool}
 use Rattle.std.proofs.Common.{true, false, refl, sym, ap, ◌∙◌, subst, inl, inr, append-nil, cond}
-use Rattle.std.proofs.Common.{length, map, arith, suc}
+use Rattle.std.proofs.Common.{length, map, arith, suc, true≢false}
 use Rattle.std.specs.Prelude.{◌==◌, nat_eq, ◌||◌, ◌&&◌, filter}
 use Rattle.std.specs.List.{list_any}
 use Rattle.std.proofs.lemmas.Bool.{cases_Bool, eq-eqb, eqb-true, and_parts, ltb-true}
@@ -24,11 +24,13 @@ use Rattle.run_parts.specs.Notices.{heard}
 use Rattle.run_parts.specs.Ports.{is_port}
 use Rattle.run_parts.specs.Room.{some_lacks}
 use Rattle.run_parts.specs.Run.{RoomHolds}
+use Rattle.queue_replay.specs.declared.found.Found.{Found}
 use Rattle.queue_replay.specs.Replays.{port_in}
+use Rattle.queue_replay.specs.QueueHistories.{each_on, own_within}
+use Rattle.queue_replay.specs.Underway.{IsUnderway, WithFound, there, found_there, found_on}
 use Rattle.port_audit.specs.Hearing.{heard_in, hears_few, NoneLacks, lacks_at}
 use Rattle.port_audit.specs.Makers.{none_left}
 use Rattle.port_audit.specs.Told.{AreTold, dids_of}
-use Rattle.port_audit.proofs.Entries.{each_on, own_within, true_is_not_false}
 
 -- ---- tests of booleans
 
@@ -69,7 +71,7 @@ module _ (few : List ℕ) where
   ]
     where
       by : (b : Bool) → (b && list_any (nat_eq p) few) ≡ false → b ≡ false
-      by true h = absurd (true_is_not_false (sym among ∙ h))
+      by true h = absurd (true≢false (sym among ∙ h))
       by false h = refl
 
   pub room_on : (before : List Entry) (e : Entry) → NoneLacks few before →
@@ -85,7 +87,7 @@ module _ (few : List ℕ) where
 
   lacking : (q : Option Bound) (e : Entry) → lacks_at few (port_in q) e.event ≡ true →
       (p : ℕ) × (list_any (nat_eq p) few ≡ true) × (lacks_under p q e ≡ true)
-  lacking None e lacks = absurd (true_is_not_false (sym lacks))
+  lacking None e lacks = absurd (true≢false (sym lacks))
   lacking (Some q) e lacks =
       let both = and_parts (lacks_room e.event) (list_any (nat_eq q.port) few) lacks in (
         q.port,
@@ -100,12 +102,38 @@ module _ (few : List ℕ) where
       let h = history e.queue before in
       let at = lacking (replay h) e lacks in
       let rest = history e.queue others in
-      true_is_not_false (sym (ap (some_lacks at.0 None)
+      true≢false (sym (ap (some_lacks at.0 None)
       (own_within e.queue before others e (eq-eqb e.queue e.queue refl))
       ∙ lacks_within at.0 None h (e ∷ rest)
       ∙ or_right (some_lacks at.0 None h) (some_lacks at.0 (replay h) (e ∷ rest))
       (ap (λ b. b || some_lacks at.0 (step (replay h) e.event).state rest) at.2))
       ∙ none at.0 at.1 e.queue)
+
+  -- ---- entries that are gone over
+
+  -- none so far lacks room
+  abbrev pub NoneSoFar : List Entry → List Entry → Type 0
+  NoneSoFar before rest = NoneLacks few before
+
+  module _ (found fs : List Found) (entries rest others : List Entry) (e : Entry) (f : Found)
+      (front : rest ≡ e ∷ others) (first : found ≡ f ∷ fs)
+      (u : IsUnderway (WithFound found NoneSoFar) entries rest) where
+    as_found : lacks_at few (port_in (replay (history e.queue u.before))) e.event
+        ≡ lacks_at few f.port e.event
+    as_found = sym (ap (λ (o : Option ℕ). lacks_at few o e.event)
+        (found_there found NoneSoFar entries rest others e front u fs f first).port)
+
+    pub room_here : lacks_at few f.port e.event ≡ false →
+        IsUnderway (WithFound fs NoneSoFar) entries others
+    room_here had =
+        found_on found NoneSoFar entries rest others e front u fs f first NoneSoFar
+        (λ here none. room_on u.before e none (as_found ∙ had))
+
+    pub no_room_here : lacks_at few f.port e.event ≡ true → NoneLacks few entries → ⊥
+    no_room_here lacks none =
+        no_room u.before others e (as_found ∙ lacks)
+        (subst (NoneLacks few) (there (WithFound found NoneSoFar) entries rest others e front u)
+        none)
 
 -- ---- notices that were heard
 
@@ -148,7 +176,7 @@ heard_is port dids ns told =
 pub chosen : (test : ℕ → Bool) (p : ℕ) (ps : List ℕ) →
     list_any (nat_eq p) (filter test ps) ≡ true →
     (list_any (nat_eq p) ps ≡ true) × (test p ≡ true)
-chosen test p [] among = absurd (true_is_not_false (sym among))
+chosen test p [] among = absurd (true≢false (sym among))
 chosen test p (x ∷ ps) among = by (test x) refl (chosen test p ps) among
   where
     Found : List ℕ → Type 0
@@ -205,7 +233,7 @@ module _ (script : ScriptValue) (h : Histories) (notes : ℕ → List Note)
       RoomHolds script h notes none_left
   roomy_if none p is queue lacks =
       elim (cases_Bool (hears_few script.mail h.logs p)) [
-        | inl less ↦ absurd (true_is_not_false (sym lacks ∙ none p
+        | inl less ↦ absurd (true≢false (sym lacks ∙ none p
             (choose (hears_few script.mail h.logs) p script.ports is less) queue))
         | inr enough ↦ subst (λ n. script.mail ≤ n) (sent p is)
             (ltb-false (heard_in (dids_of p h.logs)) script.mail enough)

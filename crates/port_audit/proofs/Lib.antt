@@ -1,11 +1,8 @@
-pub mod Entries
-pub mod NumberWalk
 pub mod Rows
 pub mod RowsOfOnePort
 pub mod RowsOfAllPorts
 pub mod RowMatches
 pub mod Visits
-pub mod EntryWalk
 pub mod RequestEntries
 pub mod ToldRequests
 pub mod RequestAnswers

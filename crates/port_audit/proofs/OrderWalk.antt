@@ -1,6 +1,6 @@
 -- Entries that are gone over, with the order judged so far.
 use Rattle.std.proofs.Common.{◌≡◌, ◌<◌, ℕ, List, [], ◌∷◌, Some, None, refl, sym, ap}
-use Rattle.std.proofs.Common.{◌∙◌, subst, inl, inr, false, ◌↔◌}
+use Rattle.std.proofs.Common.{◌∙◌, subst, inl, inr, false, ◌↔◌, true≢false}
 use Rattle.std.specs.BTreeMap.{get, is_at}
 use Rattle.std.specs.Ordering.{nat_cmp}
 use Rattle.std.proofs.lemmas.Bool.{cases_Bool, eq-eqb}
@@ -22,7 +22,8 @@ use Rattle.port_audit.specs.Kinds.{kind_of, kinds_of_row, kinds_at}
 use Rattle.port_audit.specs.Ranking.{IsOrderedFrom, RankMap, early_in, late_in, early_at, late_at}
 use Rattle.port_audit.specs.Ranking.{ranks_then, KeepsRanks, AreInOrder, NextKind, NoneLeft}
 use Rattle.port_audit.proofs.RequestEntries.{plea_in, own_plea, other_pleas}
-use Rattle.port_audit.proofs.Entries.{at_own, not_of, own_first, other_first, true_is_not_false}
+use Rattle.queue_replay.specs.NumberKeys.{at_own, not_of}
+use Rattle.queue_replay.specs.QueueHistories.{own_first, other_first}
 use Rattle.port_audit.proofs.Ranks.{told_change, none_ordered, IsPlain, plain_on, plain_back}
 use Rattle.port_audit.proofs.Ranks.{arrival_plain, closing_plain, falling_plain, AreNext}
 use Rattle.port_audit.proofs.Ranks.{unasked_none, asked_on, asked_back, ranks_are, ranks_none}
@@ -283,7 +284,7 @@ module _ (ports : List ℕ) (first : RowMap MessageKind) (entries rest others : 
         ↔ IsOrderedFrom ports (early_at next queue) (late_at next queue)
         (λ port. kinds_at new port queue) (history queue others)
     at_other_queue queue short other =
-        let apart : e.queue ≡ queue → ⊥ = λ same. true_is_not_false
+        let apart : e.queue ≡ queue → ⊥ = λ same. true≢false
         (sym (eq-eqb e.queue queue same) ∙ not_of e.queue queue other) in
         let told : (port : ℕ) → kinds_at old port queue ≡ kinds_at new port queue =
         λ port. sym (ap kinds_of_row (rows_keep (side port queue) apart)) in

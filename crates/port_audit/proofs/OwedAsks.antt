@@ -1,21 +1,17 @@
 -- What ports owe are asks of their script and messages that are known by their bytes.
-use Rattle.std.proofs.Common.{◌≡◌, ℕ, zero, suc, List, [], ◌∷◌, ◌++◌, Option, Some, None, Bool}
-use Rattle.std.proofs.Common.{true, false, cond, refl, sym, ap, ◌∙◌, subst, map, length}
-use Rattle.std.specs.Prelude.{All, find, slice_get, IsSome, bytes_eq}
+use Rattle.std.proofs.Common.{◌≡◌, ℕ, List, [], ◌∷◌, ◌++◌, Option, Some, None, Bool}
+use Rattle.std.proofs.Common.{true, false, cond, refl, sym, ap, ◌∙◌, subst, map, length, true≢false}
+use Rattle.std.specs.Prelude.{All, IsSome, bytes_eq}
 use Rattle.std.specs.List.{AllByRecursion}
-use Rattle.std.specs.Option.{option_map_or}
 use Rattle.std.proofs.lemmas.Bool.{le-leb}
 use Rattle.std.proofs.lemmas.List.Elements.{recursion_from_All}
 use Rattle.std.proofs.lemmas.Slice.Eq.{bytes_eq-Decides}
 use Rattle.packet_entry.specs.Numbers.{longest_payload}
 use Rattle.netlink_codec.specs.Messages.{NetlinkMessage}
-use Rattle.nfqa_msgs.specs.declared.notice.Notice.{Notice}
 use Rattle.nfqa_msgs.specs.declared.request.Request.{Request}
 use Rattle.nfqa_msgs.specs.declared.request.Request.TheVariants.{Config, Verdict, Batch}
 use Rattle.nfqa_msgs.specs.declared.request.Decoded.{Decoded}
 use Rattle.nfqa_msgs.specs.declared.request.Decoded.TheVariants.{Nothing, Refused, Asked}
-use Rattle.nfqa_msgs.specs.NoticeMeaning.{notice_of}
-use Rattle.nfqa_msgs.specs.NoticeWriting.{Told}
 use Rattle.nfqa_msgs.specs.RequestReading.{AskedFits, PayloadFits, decoded}
 use Rattle.nfqa_msgs.specs.RequestWriting.{spelling}
 use Rattle.histories.specs.declared.log.AskWords.{AskWords}
@@ -24,96 +20,23 @@ use Rattle.histories.specs.declared.log.Did.{Did}
 use Rattle.histories.specs.declared.histories.Histories.{Histories}
 use Rattle.script_lines.specs.declared.ask.Ask as lines
 use Rattle.script_lines.specs.declared.ask.Ask.TheVariants.{Words, Close}
-use Rattle.script_lines.specs.declared.answering.OnLine.{OnLine}
-use Rattle.script_lines.specs.declared.template.Template.{Template}
-use Rattle.script_lines.specs.declared.template.Template.TheVariants as template
-use Rattle.script_lines.specs.Answering.{asks_of, holds_all}
-use Rattle.script_lines.specs.Asking.{asked}
-use Rattle.script_lines.specs.Limits.{IsAsk, IsWords, IsTemplate, IsOnLine}
-use Rattle.inspector_script.specs.declared.block.Block.{Block}
-use Rattle.inspector_script.specs.Blocks as block
-use Rattle.inspector_script.specs.Scripts.{ScriptValue, IsBlock, IsScript, opening, closing}
+use Rattle.script_lines.specs.Limits.{IsAsk, IsWords}
+use Rattle.inspector_script.specs.Scripts.{ScriptValue, IsScript, opening, closing}
 use Rattle.packet_moves.specs.Messages.{words_of}
 use Rattle.packet_moves.specs.Calls.{next_call}
 use Rattle.run_parts.specs.Datagrams.{AsksWell, messages_in, bytes_of}
 use Rattle.run_parts.specs.Log.{Note, Got, Turned, Begun, Spoke, Shut, Due, Still, Message}
 use Rattle.run_parts.specs.Log.{Standing}
 use Rattle.run_parts.specs.Log.{all_due, start, after, first_due, owed_then, ends_then}
-use Rattle.run_parts.specs.Log.{messages_of, asks_for, IsNext, AreNextFrom, logged}
+use Rattle.run_parts.specs.Log.{messages_of, IsNext, AreNextFrom, logged}
 use Rattle.run_parts.specs.Log.{unanswered}
 use Rattle.run_parts.specs.Ports.{log_of, place_in}
 use Rattle.port_audit.specs.Makers.{HaveLogs}
 use Rattle.port_audit.specs.Pleading.{told_by_words, IsToldByWords, AreToldByWords, message_in}
 use Rattle.port_audit.specs.Pleading.{payload_fits}
 use Rattle.port_audit.specs.Told.{AreTold, dids_in, dids_of}
-use Rattle.port_audit.proofs.Entries.{true_is_not_false}
+use Rattle.port_audit.specs.AskLengths.{AllAsks, opening_asks, closing_asks, answer_good}
 use Rattle.port_audit.proofs.MessageBytes.{IsKnown, all_known}
-
--- ---- what a script asks for
-
-abbrev AllAsks : List lines.Ask → Type 0
-AllAsks asks = AllByRecursion IsAsk asks
-
-answer_asks : (n : Notice) (ts : List Template) → AllByRecursion IsTemplate ts →
-    AllAsks (map (asked n) ts)
-answer_asks n [] each = tt
-answer_asks n (t ∷ ts) each = (by t each.0, answer_asks n ts each.1)
-  where
-    by : (t : Template) → IsTemplate t → IsAsk (asked n t)
-    by (template.Config queue settings) is = tt
-    by (template.Verdict j payload) is = is
-    by (template.Batch j) is = tt
-    by (template.Raw bytes) is = is
-
-either : {X : Type 0} (P : X → Type 0) (b : Bool) (s t : X) → P s → P t → P (cond b s t)
-either P true s t h k = h
-either P false s t h k = k
-
-line_asks : (received : ℕ) (n : Notice) (ls : List OnLine) → AllByRecursion IsOnLine ls →
-    AllAsks (block.answer_by received n ls)
-line_asks received n [] each = tt
-line_asks received n (l ∷ ls) each =
-    either (λ (o : Option OnLine). AllAsks (option_map_or (asks_of n) o []))
-    (holds_all received n l) (Some l) (find (holds_all received n) ls)
-    (answer_asks n l.asks (recursion_from_All IsTemplate l.asks each.0.each))
-    (line_asks received n ls each.1)
-
-words_asks : (all : List AskWords) → AllByRecursion IsWords all → AllAsks (map Words all)
-words_asks [] each = tt
-words_asks (w ∷ ws) each = (each.0, words_asks ws each.1)
-
-and_asks : (one two : List lines.Ask) → AllAsks one → AllAsks two → AllAsks (one ++ two)
-and_asks [] two for_one for_two = for_two
-and_asks (a ∷ more) two for_one for_two = (for_one.0, and_asks more two for_one.1 for_two)
-
-at_block : (bs : List Block) (place : ℕ) (asks : Block → List lines.Ask) →
-    AllByRecursion IsBlock bs → ((b : Block) → IsBlock b → AllAsks (asks b)) →
-    AllAsks (option_map_or asks (slice_get bs place) [])
-at_block [] place asks all each = tt
-at_block (b ∷ bs) zero asks all each = each b all.0
-at_block (b ∷ bs) (suc place) asks all each = at_block bs place asks all.1 each
-
-module _ (script : ScriptValue) (all : AllByRecursion IsBlock script.blocks) where
-  opening_asks : (place : ℕ) → AllAsks (opening script place)
-  opening_asks place = at_block script.blocks place block.opening all
-      (λ b is. words_asks b.opening (recursion_from_All IsWords b.opening is.opening_asks))
-
-  closing_asks : (place : ℕ) → AllAsks (closing script place)
-  closing_asks place = at_block script.blocks place block.closing all
-      (λ b is. and_asks (map Words b.closing) _
-      (words_asks b.closing (recursion_from_All IsWords b.closing is.closing_asks)) (by b.closes))
-    where
-      by : (c : Bool) → AllAsks (cond c (Close ∷ []) [])
-      by true = (tt, tt)
-      by false = tt
-
-  answers_asks : (place received : ℕ) (told : Option Told) →
-      AllAsks (asks_for script place received told)
-  answers_asks place received None = tt
-  answers_asks place received (Some told) =
-      at_block script.blocks place (block.answer received (notice_of told)) all
-      (λ b is. line_asks received (notice_of told) b.lines
-      (recursion_from_All IsOnLine b.lines is.on_lines))
 
 -- ---- what a port owes
 
@@ -166,8 +89,7 @@ abbrev pub WordsFit : Type 0
 WordsFit = (port call : ℕ) (words : AskWords) → IsWords words →
     All AsksWell (messages_in (bytes_of port call words))
 
-module _ (fit : WordsFit) (script : ScriptValue) (all : AllByRecursion IsBlock script.blocks)
-    (place port : ℕ) where
+module _ (fit : WordsFit) (script : ScriptValue) (is : IsScript script) (place port : ℕ) where
   messages_well : (dids : List Did) (o : Option Due) → IsFirstWell o →
       AreWell (messages_of port dids o)
   messages_well dids None well = tt
@@ -180,17 +102,17 @@ module _ (fit : WordsFit) (script : ScriptValue) (all : AllByRecursion IsBlock s
 
   start_well : OwesWell (start script place)
   start_well = record {
-    owed = due_asks (opening script place) (opening_asks script all place);
-    ends = due_asks (closing script place) (closing_asks script all place);
+    owed = due_asks (opening script place) (opening_asks script is place);
+    ends = due_asks (closing script place) (closing_asks script is place);
   }
 
   after_well : (t : Standing) (n : Note) → IsNext 1 t n → OwesWell t →
       OwesWell (after 1 script place port t n)
   after_well t (Got l) next well = record {
-    owed = due_asks _ (answers_asks script all place _ _);
+    owed = due_asks _ (answer_good script is place _ _);
     ends = well.ends;
   }
-  after_well t Turned next well = absurd (true_is_not_false (sym next.0))
+  after_well t Turned next well = absurd (true≢false (sym next.0))
   after_well t Begun next well =
       let first = first_well t.owed t.ends well.owed well.ends in
       let messages = messages_well t.dids (first_due t.owed t.ends) first in
@@ -263,7 +185,7 @@ module _ (script : ScriptValue) (h : Histories) (notes : ℕ → List Note)
     where
       by : (o : Option (List Did)) → log_of port h.logs ≡ o → IsSome (log_of port h.logs) →
           map unanswered (dids_of port h.logs) ≡ map unanswered (logged port (notes port))
-      by None none some = absurd (true_is_not_false (sym (subst IsSome none some)))
+      by None none some = absurd (true≢false (sym (subst IsSome none some)))
       by (Some dids) log some =
           ap (λ (o : Option (List Did)). map unanswered (dids_in o)) log
           ∙ (logs.logs.each port dids is log).noted
@@ -273,8 +195,7 @@ module _ (script : ScriptValue) (h : Histories) (notes : ℕ → List Note)
     where
       by : (o : Option (List Did)) → log_of port h.logs ≡ o → IsSome (log_of port h.logs) →
           AllByRecursion (IsToldByWords port) (notes port)
-      by None none some = absurd (true_is_not_false (sym (subst IsSome none some)))
+      by None none some = absurd (true≢false (sym (subst IsSome none some)))
       by (Some dids) log some =
-          log_told fit script (recursion_from_All IsBlock script.blocks limits.each)
-          (place_in port script.ports) port (notes port)
+          log_told fit script limits (place_in port script.ports) port (notes port)
           (logs.logs.each port dids is log).next

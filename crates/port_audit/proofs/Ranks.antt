@@ -1,7 +1,7 @@
 -- The order of a queue's entries, entry by entry.
 use Rattle.std.proofs.Common.{◌≡◌, ◌≤◌, ◌⊎◌, ℕ, List, [], ◌∷◌, ◌++◌, Option, Some, None, Bool}
 use Rattle.std.proofs.Common.{true, false, refl, sym, ap, ◌∙◌, subst, inl, inr, cond, map}
-use Rattle.std.proofs.Common.{arith, ◌↔◌}
+use Rattle.std.proofs.Common.{arith, ◌↔◌, true≢false}
 use Rattle.std.specs.Prelude.{◌==◌, nat_lt, flat_map}
 use Rattle.std.proofs.lemmas.Bool.{cases_Bool, eq-eqb, eqb-true, ltb-true, ltb-false}
 use Rattle.packet_entry.specs.declared.packet.Card.{Card}
@@ -17,7 +17,6 @@ use Rattle.run_parts.specs.Requests.{Plea, pleas_of, pleas_by}
 use Rattle.run_parts.specs.Underway.{last_of}
 use Rattle.port_audit.specs.declared.order.Ranks.{Ranks}
 use Rattle.port_audit.specs.Ranking.{IsOrderedFrom, ranks_then, ranked, late_then}
-use Rattle.port_audit.proofs.Entries.{true_is_not_false}
 
 -- ---- numbers that ascend
 
@@ -149,44 +148,26 @@ module _ (ports : List ℕ) where
     pub late : (k : Kind) → late_by ports k v ≡ late_by ports Answers v
     pub none : (p : ℕ) (reply : Reply) → pleas_by p v reply ≡ []
 
-  pub arrival_plain : (card : Card) (bypass room : Bool) → IsPlain (Arrive card bypass room)
-  arrival_plain card bypass room = record {
-    early = by;
-    late = λ k. refl;
-    none = λ p reply. refl;
-  }
+  plain_by : (v : Event) → early_by ports Opens v ≡ early_by ports Answers v →
+      early_by ports Ends v ≡ early_by ports Answers v →
+      ((k : Kind) → late_by ports k v ≡ late_by ports Answers v) →
+      ((p : ℕ) (reply : Reply) → pleas_by p v reply ≡ []) → IsPlain v
+  plain_by v opens ends late none = record { early = by; late = late; none = none }
     where
-      by : (k : Kind) → early_by ports k (Arrive card bypass room)
-          ≡ early_by ports Answers (Arrive card bypass room)
-      by Opens = refl
+      by : (k : Kind) → early_by ports k v ≡ early_by ports Answers v
+      by Opens = opens
       by Answers = refl
-      by Ends = refl
+      by Ends = ends
+
+  pub arrival_plain : (card : Card) (bypass room : Bool) → IsPlain (Arrive card bypass room)
+  arrival_plain card bypass room =
+      plain_by (Arrive card bypass room) refl refl (λ k. refl) (λ p reply. refl)
 
   pub closing_plain : (port : ℕ) → IsPlain (PortClosed port)
-  closing_plain port = record {
-    early = by;
-    late = λ k. refl;
-    none = λ p reply. refl;
-  }
-    where
-      by : (k : Kind) → early_by ports k (PortClosed port)
-          ≡ early_by ports Answers (PortClosed port)
-      by Opens = refl
-      by Answers = refl
-      by Ends = refl
+  closing_plain port = plain_by (PortClosed port) refl refl (λ k. refl) (λ p reply. refl)
 
   pub falling_plain : (device : ℕ) → IsPlain (DeviceDown device)
-  falling_plain device = record {
-    early = by;
-    late = λ k. refl;
-    none = λ p reply. refl;
-  }
-    where
-      by : (k : Kind) → early_by ports k (DeviceDown device)
-          ≡ early_by ports Answers (DeviceDown device)
-      by Opens = refl
-      by Answers = refl
-      by Ends = refl
+  falling_plain device = plain_by (DeviceDown device) refl refl (λ k. refl) (λ p reply. refl)
 
   pub plain_on : (low behind : ℕ) (told : ℕ → List Kind) (e : Entry) (es : List Entry) →
       IsPlain e.event → IsOrderedFrom ports low behind told (e ∷ es) →
@@ -257,7 +238,7 @@ module _ (ports : List ℕ) where
             | inl here ↦ subst (λ n. begins.rest n ≡ rest n) (eqb-true port p here)
                 (sym (other_kinds both))
             | inr there ↦ (let differ : port ≡ p → ⊥ =
-                λ at. true_is_not_false (sym (eq-eqb port p at) ∙ there) in
+                λ at. true≢false (sym (eq-eqb port p at) ∙ there) in
                 sym (begins.kinds p
                 ∙ ap (λ ps. map (λ (q : Plea). begins.kind) ps ++ begins.rest p)
                 (others p differ)) ∙ same p differ)
@@ -285,7 +266,7 @@ module _ (ports : List ℕ) where
             | inl here ↦ subst (λ n. kinds_at n k e ++ rest n ≡ told n) (eqb-true port p here)
                 (ap (λ ps. map (λ (q : Plea). k) ps ++ rest port) own ∙ sym first)
             | inr there ↦ (let differ : port ≡ p → ⊥ =
-                λ at. true_is_not_false (sym (eq-eqb port p at) ∙ there) in
+                λ at. true≢false (sym (eq-eqb port p at) ∙ there) in
                 ap (λ ps. map (λ (q : Plea). k) ps ++ rest p) (others p differ)
                 ∙ sym (same p differ))
           ]

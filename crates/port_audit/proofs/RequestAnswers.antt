@@ -1,6 +1,6 @@
 -- Logs whose messages are told in full: their requests and their answers.
 use Rattle.std.proofs.Common.{◌≡◌, ℕ, List, [], ◌∷◌, ◌++◌, Option, Some, None, Bool, true, false}
-use Rattle.std.proofs.Common.{refl, sym, ap, ◌∙◌, subst, inl, inr, cond, map}
+use Rattle.std.proofs.Common.{refl, sym, ap, ◌∙◌, subst, inl, inr, cond, map, true≢false}
 use Rattle.std.specs.Prelude.{◌==◌, ◌&&◌, not, flat_map, is_some, bit_and}
 use Rattle.std.specs.List.{list_all, AllByRecursion}
 use Rattle.std.proofs.lemmas.Bool.{cases_Bool, eq-eqb, eqb-true, and_parts, and_from}
@@ -28,7 +28,6 @@ use Rattle.port_audit.specs.Pleading.{judged}
 use Rattle.port_audit.specs.Pleading.{is_good, AllGood, pleas_by_did, pleas_in_log, pleas_brought}
 use Rattle.port_audit.specs.Pleading.{pleas_judged}
 use Rattle.port_audit.specs.Told.{AreTold, dids_of, dids_in}
-use Rattle.port_audit.proofs.Entries.{true_is_not_false}
 use Rattle.port_audit.proofs.ToldRequests.{pleas_all}
 
 -- ---- a log, told note by note
@@ -117,7 +116,7 @@ is_answered m None is = sym (ap (λ b. cond b None (Some 0)) is)
 is_answered m (Some errno) is = by (is_unanswered m errno) is
   where
     by : (b : Bool) → not b ≡ true → Some errno ≡ cond b None (Some errno)
-    by true h = absurd (true_is_not_false (sym h))
+    by true h = absurd (true≢false (sym h))
     by false h = refl
 
 errno_is : (d : Decoded) (errno : ℕ) → IsErrno d errno → is_errno d errno ≡ true
@@ -145,7 +144,7 @@ well_judged m answer some =
   where
     by : (b : Bool) → is_some (cond b (Some (decoded m)) None) ≡ true → b ≡ true
     by true h = refl
-    by false h = absurd (true_is_not_false (sym h))
+    by false h = absurd (true≢false (sym h))
 
 -- ---- a whole log
 

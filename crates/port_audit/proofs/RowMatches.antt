@@ -2,7 +2,7 @@
 use Rattle.std.proofs.Common.{◌≡◌, ℕ, List, [], ◌∷◌, ◌++◌, Option, None}
 use Rattle.std.proofs.Common.{false, refl, sym, ap, ◌∙◌, subst, inl, inr, append_assoc}
 use Rattle.std.proofs.Common.{append-nil}
-use Rattle.std.proofs.Common.{◌↔◌}
+use Rattle.std.proofs.Common.{◌↔◌, true≢false}
 use Rattle.std.specs.Prelude.{◌==◌}
 use Rattle.std.specs.BTreeMap.{is_at}
 use Rattle.std.specs.Ordering.{nat_cmp}
@@ -16,8 +16,8 @@ use Rattle.port_audit.specs.declared.dealing.Side.{Side}
 use Rattle.port_audit.specs.Dealing.{RowMap, row_at, AreKept, Takes, told_of, AreDealt}
 use Rattle.port_audit.specs.Dealing.{side}
 use Rattle.port_audit.specs.Dealing.{brought_from, AreMet, row_in}
-use Rattle.port_audit.proofs.Entries.{at_own, not_of, true_is_not_false, own_last, own_within}
-use Rattle.port_audit.proofs.Entries.{others_last}
+use Rattle.queue_replay.specs.NumberKeys.{at_own, not_of}
+use Rattle.queue_replay.specs.QueueHistories.{own_last, own_within, others_last}
 use Rattle.port_audit.proofs.Rows.{other_port, other_queue, take_kept}
 
 brought_on : {T : Type 0} (news : ℕ → Option Bound → Entry → List T) (p : ℕ) (q : Option Bound)
@@ -110,7 +110,7 @@ module _ {T : Type 0} (ports : List ℕ) (told : ℕ → ℕ → List T)
               ∙ ap (λ xs. xs ++ row_at old (side p queue)) (sym (other_brought p queue other))
               ∙ ap (λ xs. brought_from news p None (history queue (before ++ e ∷ [])) ++ xs)
               (sym (ap row_in (takes.others (side p queue) (other_queue (side port e.queue)
-              (side p queue) (λ same. true_is_not_false
+              (side p queue) (λ same. true≢false
               (sym (eq-eqb e.queue queue same) ∙ not_of e.queue queue other))))))
         ];
         kept = take_kept (side port e.queue) x old new takes is.kept;
@@ -135,7 +135,7 @@ module _ {T : Type 0} (ports : List ℕ) (told : ℕ → ℕ → List T)
                 ≡ brought_from news n None (history e.queue (before ++ e ∷ []))
                 ++ row_at new (side n e.queue)) (eqb-true port p same) at_port
             | inr other ↦ (let differ : port ≡ p → ⊥ =
-                λ same. true_is_not_false (sym (eq-eqb port p same) ∙ other) in
+                λ same. true≢false (sym (eq-eqb port p same) ∙ other) in
                 is.rest p e.queue
                 ∙ ap (λ xs. xs ++ row_at old (side p e.queue))
                 (sym (own_brought p [] (others p differ)

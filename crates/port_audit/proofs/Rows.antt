@@ -1,6 +1,6 @@
 -- Rows by port and queue.
 use Rattle.std.proofs.Common.{◌≡◌, ℕ, List, [], ◌∷◌, ◌++◌, Option, Some, None, true, false}
-use Rattle.std.proofs.Common.{refl, sym, ap, ◌∙◌, subst, inl, inr, cond}
+use Rattle.std.proofs.Common.{refl, sym, ap, ◌∙◌, subst, inl, inr, cond, true≢false}
 use Rattle.std.specs.BTreeMap.{get, is_at}
 use Rattle.std.specs.Map.{lookup}
 use Rattle.std.specs.Ordering.{nat_cmp, ordering_then, is_eq}
@@ -12,7 +12,6 @@ use Rattle.std.proofs.lemmas.Map.Lookups.{exact_unsigned, exact_pairs}
 use Rattle.port_audit.specs.declared.dealing.Side.{Side}
 use Rattle.port_audit.specs.Dealing.{RowMap, row_in, row_at, IsKept, AreKept, KeepsOthers, Pushes}
 use Rattle.port_audit.specs.Dealing.{Opens, Takes, IsTaken, TakesFirst, is_empty_row, side_cmp}
-use Rattle.port_audit.proofs.Entries.{true_is_not_false}
 
 -- ---- sides
 
@@ -65,13 +64,13 @@ module _ {T : Type 0} where
 
   not_empty : (o : Option (List T)) → is_empty_row o ≡ false → IsKept o
   not_empty None h = tt
-  not_empty (Some []) h = absurd (true_is_not_false h)
+  not_empty (Some []) h = absurd (true≢false h)
   not_empty (Some (x ∷ xs)) h = tt
 
   empty_is : (o : Option (List T)) → is_empty_row o ≡ true → row_in o ≡ []
   empty_is None h = refl
   empty_is (Some []) h = refl
-  empty_is (Some (x ∷ xs)) h = absurd (true_is_not_false (sym h))
+  empty_is (Some (x ∷ xs)) h = absurd (true≢false (sym h))
 
   -- nothing was there
   none_taken : (at : Side) (old new : RowMap T) → TakesFirst at old new None →

@@ -2,7 +2,7 @@
 use Rattle.std.proofs.Common.{◌≡◌, ◌+◌, ℕ, List, [], ◌∷◌, ◌++◌, None, Bool, true}
 use Rattle.std.proofs.Common.{false, refl, sym, ap, ◌∙◌, subst, cond, append_assoc}
 use Rattle.std.proofs.Common.{append-nil}
-use Rattle.std.proofs.Common.{take, drop, take-append-drop}
+use Rattle.std.proofs.Common.{take, drop, take-append-drop, true≢false}
 use Rattle.std.specs.Prelude.{◌≢◌, ◌==◌, nat_eq, ◌||◌, AllPairs}
 use Rattle.std.specs.Bool.{Decides}
 use Rattle.std.specs.List.{list_any, IsDistinct, AllByRecursion}
@@ -14,7 +14,6 @@ use Rattle.port_audit.specs.declared.dealing.Side.{Side}
 use Rattle.port_audit.specs.Dealing.{RowMap, AreKept, GrowsBy, AreDealt}
 use Rattle.port_audit.specs.Dealing.{side}
 use Rattle.port_audit.specs.Dealing.{side_cmp, row_in, IsKept}
-use Rattle.port_audit.proofs.Entries.{true_is_not_false}
 
 decides : (a b : ℕ) → Decides (nat_eq a b) (a ≡ b)
 decides a b = (eqb-true a b, eq-eqb a b)
@@ -24,7 +23,7 @@ none_before : (done rest : List ℕ) (p : ℕ) → IsDistinct nat_eq (done ++ p 
 unfolding IsDistinct
 none_before [] rest p distinct = refl
 none_before (d ∷ done) rest p distinct =
-    ap (λ b. b || list_any (nat_eq p) done) (ne_eqb p d (λ same. true_is_not_false
+    ap (λ b. b || list_any (nat_eq p) done) (ne_eqb p d (λ same. true≢false
     (sym (eq-eqb d p (sym same)) ∙ at (λ y. nat_eq d y ≡ false) done distinct.0)))
     ∙ none_before done rest p distinct.1
   where
@@ -45,7 +44,7 @@ module _ {T : Type 0} (told : ℕ → ℕ → List T) where
       cond c (told p queue) [] ++ cond b (told port queue) []
       ≡ cond (c || (b || false)) (told p queue) []
   one_more done port p queue true true same here apart =
-      absurd (true_is_not_false (apart refl))
+      absurd (true≢false (apart refl))
   one_more done port p queue true false same here apart =
       ap (λ q. told q queue) (sym (eqb-true p port same))
   one_more done port p queue false true same here apart = append-nil (told p queue)

@@ -1,6 +1,6 @@
 -- Requests that are told in logs, and those that entries bring.
 use Rattle.std.proofs.Common.{◌≡◌, ℕ, List, [], ◌∷◌, ◌++◌, Option, Some, None, Bool, true, false}
-use Rattle.std.proofs.Common.{refl, sym, ap, ◌∙◌, subst, inl, inr}
+use Rattle.std.proofs.Common.{refl, sym, ap, ◌∙◌, subst, inl, inr, true≢false}
 use Rattle.std.specs.Prelude.{◌==◌, nat_eq, ◌||◌, ◌↔◌}
 use Rattle.std.specs.List.{list_any}
 use Rattle.std.proofs.lemmas.Bool.{cases_Bool, eqb-true}
@@ -20,7 +20,6 @@ use Rattle.port_audit.specs.Dealing.{AreDealt}
 use Rattle.port_audit.specs.Pleading.{are_good, AllGood, plea}
 use Rattle.port_audit.specs.Pleading.{pleas_brought, MeetsEvent}
 use Rattle.port_audit.proofs.RequestEntries.{plea_in, own_plea, other_pleas}
-use Rattle.port_audit.proofs.Entries.{true_is_not_false}
 use Rattle.port_audit.proofs.RowMatches.{IsTold, told_same, told_next, told_breaks}
 
 -- ---- the first of a row
@@ -40,7 +39,7 @@ plea_met at x old new None false none same =
 plea_met at x old new (Some t) true takes same =
     subst (λ y. Takes at y old new) (inside t x (same.0 refl)) takes
 plea_met at x old new (Some t) false takes same =
-    λ xs row. true_is_not_false (sym (same.1 (ap Some (sym (first_of (sym row ∙ takes.own))))))
+    λ xs row. true≢false (sym (same.1 (ap Some (sym (first_of (sym row ∙ takes.own))))))
 
 -- ---- an entry
 
@@ -87,11 +86,11 @@ module _ (ports : List ℕ) (told : ℕ → ℕ → List Plea) (before : List En
   breaks_by : (rest : List Entry) (event : Event) → e.event ≡ event →
       MeetsEvent e.queue event e.reply old new false →
       AreMet ports told pleas_brought (before ++ e ∷ rest) → ⊥
-  breaks_by rest (Arrive card bypass room) same meets met = true_is_not_false (sym meets.0)
+  breaks_by rest (Arrive card bypass room) same meets met = true≢false (sym meets.0)
   breaks_by rest (Ask port call request) same meets met =
       asked_breaks port call request same rest meets met
-  breaks_by rest (PortClosed port) same meets met = true_is_not_false (sym meets.0)
-  breaks_by rest (DeviceDown device) same meets met = true_is_not_false (sym meets.0)
+  breaks_by rest (PortClosed port) same meets met = true≢false (sym meets.0)
+  breaks_by rest (DeviceDown device) same meets met = true≢false (sym meets.0)
 
   pub plea_on : MeetsEvent e.queue e.event e.reply old new true →
       IsTold ports told pleas_brought new (before ++ e ∷ [])
@@ -109,7 +108,7 @@ pleas_all p s (e ∷ es) = ap (λ xs. pleas_of p e ++ xs) (pleas_all p (step s e
 -- ---- all ports' answers
 
 pub none_good : (logs : List PortLog) → AllGood [] logs
-none_good logs p is = absurd (true_is_not_false (sym is))
+none_good logs p is = absurd (true≢false (sym is))
 
 pub good_on : (done : List ℕ) (port : ℕ) (logs : List PortLog) → AllGood done logs →
     are_good logs port ≡ true → AllGood (done ++ port ∷ []) logs
@@ -117,7 +116,7 @@ good_on done port logs good one p is = elim (cases_Bool (list_any (nat_eq p) don
   | inl before ↦ good p before
   | inr behind ↦ elim (cases_Bool (p == port)) [
     | inl same ↦ subst (λ n. are_good logs n ≡ true) (sym (eqb-true p port same)) one
-    | inr other ↦ absurd (true_is_not_false (sym is
+    | inr other ↦ absurd (true≢false (sym is
         ∙ list_any-append (nat_eq p) done (port ∷ [])
         ∙ ap (λ b. b || (p == port || false)) behind
         ∙ ap (λ b. b || false) other))
@@ -125,6 +124,6 @@ good_on done port logs good one p is = elim (cases_Bool (list_any (nat_eq p) don
 ]
 
 -- whatever the first rows tell, these have what of it isn't brought so far
-abbrev pub Pleading : RowMap Plea → RowMap Plea → List Entry → Type 0
-Pleading first now before = (ports : List ℕ) (told : ℕ → ℕ → List Plea) →
+abbrev pub Pleading : RowMap Plea → RowMap Plea → List Entry → List Entry → Type 0
+Pleading first now before rest = (ports : List ℕ) (told : ℕ → ℕ → List Plea) →
     AreDealt ports told first → IsTold ports told pleas_brought now before

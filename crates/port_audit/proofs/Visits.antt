@@ -202,8 +202,8 @@ module _ (ports : List ℕ) (told : ℕ → ℕ → List Visit) (before : List E
       differs met
 
 -- whatever the first rows tell, these have what of it isn't brought so far
-abbrev pub Taking : List ℕ → RowMap Visit → RowMap Visit → List Entry → Type 0
-Taking ports first now before = (told : ℕ → ℕ → List Visit) → AreDealt ports told first →
+abbrev pub Taking : List ℕ → RowMap Visit → RowMap Visit → List Entry → List Entry → Type 0
+Taking ports first now before rest = (told : ℕ → ℕ → List Visit) → AreDealt ports told first →
     IsTold ports told (visits_under ports) now before
 
 -- ---- notices are known by their visits

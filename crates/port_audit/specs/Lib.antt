@@ -1,5 +1,6 @@
 pub mod Makers
 pub mod Told
+pub mod AskLengths
 pub mod Hearing
 pub mod Closing
 pub mod Dealing

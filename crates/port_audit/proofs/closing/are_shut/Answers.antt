@@ -1,4 +1,4 @@
-use Rattle.std.proofs.Common.{◌≡◌, ℕ, List, [], sym, ap, ◌∙◌, subst, rules}
+use Rattle.std.proofs.Common.{◌≡◌, ℕ, List, [], sym, ap, ◌∙◌, subst, rules, true≢false}
 use Rattle.std.specs.BTreeMap.{is_at}
 use Rattle.std.specs.Map.{lookup}
 use Rattle.std.specs.Ordering.{nat_cmp}
@@ -7,7 +7,6 @@ use Rattle.std.specs.declared.alloc.Global.{Global}
 use Rattle.histories.specs.declared.entry.Entry.{Entry}
 use Rattle.queue_replay.specs.Underway.{begun, there, underway_on, all_gone_over}
 use Rattle.port_audit.specs.Closing.{AllShut}
-use Rattle.port_audit.proofs.Entries.{true_is_not_false}
 use Rattle.port_audit.proofs.ClosedPorts.{AreShutting, none_shut, shutting_on, shutting_breaks}
 use Rattle.port_audit.proofs.ClosedPorts.{all_shut_if, ends_well_if}
 use Rattle.port_audit.proofs.closing.are_shut.Goals as goal
@@ -28,7 +27,7 @@ returns-then-breaks c =
     let u = c.loop-entry.invariant in
     let P : List Entry → List Entry → Type 0 =
     λ before rest. AreShutting ports closed c.loop-entry.shut before in (
-      λ h. absurd (true_is_not_false (sym h)),
+      λ h. absurd (true≢false (sym h)),
       λ all. absurd (shutting_breaks ports closed c.loop-entry.shut c.loop-entry.shut u.before e
           u.kept c.next.new.self c.is_queue_number.ensures
           (sym c.breaks.ensures ∙ c.if-breaks.true)

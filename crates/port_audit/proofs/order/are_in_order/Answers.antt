@@ -1,7 +1,6 @@
-use Rattle.std.proofs.Common.{◌≡◌, [], Some, None, sym, ap, ◌∙◌, rules}
+use Rattle.std.proofs.Common.{◌≡◌, [], Some, None, sym, ap, ◌∙◌, rules, true≢false}
 use Rattle.port_audit.specs.Kinds.{kind_of}
 use Rattle.port_audit.specs.Ranking.{early_at, late_at, ranks_then}
-use Rattle.port_audit.proofs.Entries.{true_is_not_false}
 use Rattle.port_audit.proofs.OrderWalk.{judged, none_cannot, sequenced_breaks, sequenced_on}
 use Rattle.port_audit.proofs.OrderWalk.{sequenced_done}
 use Rattle.port_audit.proofs.order.are_in_order.Goals as goal
@@ -12,7 +11,7 @@ returns-in_default c kept =
     let e = c.in-Some.entry.now in
     let early = early_at c.loop-entry.ranks e.queue in
     let late = late_at c.loop-entry.ranks e.queue in (
-      λ h. absurd (true_is_not_false (sym h)),
+      λ h. absurd (true≢false (sym h)),
       λ all. absurd (sequenced_breaks ports c.args.rows c.args.entries.now
           c.loop-entry.entry-iterator c.next.new.self e c.loop-entry.ranks c.loop-entry.rows
           c.in-Some.ensures.steps (c.loop-entry.invariant kept) c.is_queue_number.ensures
@@ -34,7 +33,7 @@ returns-in_default-ranks_then c kept =
     ∙ sym c.in_default-ranks_then.ensures in
     let is = judged ports early late e c.loop-entry.rows c.kind_of_next.new.rows
     c.in-Some-kind_of_next.kind c.in-Some-kind_of_next.ensures in (
-      λ h. absurd (true_is_not_false (sym h)),
+      λ h. absurd (true≢false (sym h)),
       λ all. absurd (sequenced_breaks ports c.args.rows c.args.entries.now
           c.loop-entry.entry-iterator c.next.new.self e c.loop-entry.ranks c.loop-entry.rows
           c.in-Some.ensures.steps (c.loop-entry.invariant kept) c.is_queue_number.ensures

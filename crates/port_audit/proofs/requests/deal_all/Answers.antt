@@ -1,5 +1,5 @@
 use Rattle.std.proofs.Common.{◌≤◌, ℕ, List, ap, get_or, take_all, subst, arith, length, sym, ◌∙◌}
-use Rattle.std.proofs.Common.{refl}
+use Rattle.std.proofs.Common.{refl, true≢false}
 use Rattle.std.specs.BTreeMap.{is_at}
 use Rattle.std.specs.Map.{lookup}
 use Rattle.std.specs.Prelude.{nat_eq}
@@ -11,7 +11,6 @@ use Rattle.port_audit.specs.declared.dealing.Side.{Side}
 use Rattle.port_audit.specs.Dealing.{side_cmp, AreDealt}
 use Rattle.port_audit.specs.Pleading.{pleas_in_log, AllGood}
 use Rattle.port_audit.proofs.RowsOfAllPorts.{none_dealt, dealt_next}
-use Rattle.port_audit.proofs.Entries.{true_is_not_false}
 use Rattle.port_audit.proofs.ToldRequests.{none_good, good_on}
 use Rattle.port_audit.proofs.requests.deal_all.Goals as goal
 
@@ -28,7 +27,7 @@ returns-then-not-good c all =
     let ports = c.args.ports.now in
     let at = c.loop-port.port-index in
     let port = get_or ports at 0 in
-    true_is_not_false (sym (all port (list_any_at (nat_eq port) ports at 0 c.loop-port-test.true
+    true≢false (sym (all port (list_any_at (nat_eq port) ports at 0 c.loop-port-test.true
     (eq-eqb port port refl))) ∙ sym c.in_ok-good.ensures.good ∙ c.if-not-good.true)
 
 pub loop-port-preserved : goal.loop-port-preserved
