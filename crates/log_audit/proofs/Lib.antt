@@ -4,7 +4,6 @@ pub mod WalkCompleteness
 pub mod Evenness
 pub mod WholeLog
 pub mod MessageBytes
-pub mod AskLengths
 pub mod Witness
 pub mod ToldEntries
 pub mod MessageCuts

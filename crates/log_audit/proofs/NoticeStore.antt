@@ -24,8 +24,10 @@ use Rattle.histories.specs.History.{history, replay}
 use Rattle.nfqa_msgs.specs.NoticeTexts.{told_exactly}
 use Rattle.queue_replay.specs.declared.found.Found.{Found}
 use Rattle.queue_replay.specs.Replays.{IsToldBy, port_in}
+use Rattle.queue_replay.specs.QueueHistories.{others_last, state_last}
 use Rattle.log_audit.specs.PortWalks.{IsTold}
-use Rattle.log_audit.specs.Stays.{AreTold, Keeps, KeepsFirst, NoticeMap, all_letters, at_queue}
+use Rattle.log_audit.specs.Stays.{ArePackets, AreTold, Keeps, KeepsFirst, NoticeMap}
+use Rattle.log_audit.specs.Stays.{all_letters, at_queue}
 use Rattle.log_audit.specs.Stays.{is_visit, known_in, letters_at, or_else, or_this, stay, stay_cmp}
 use Rattle.log_audit.specs.declared.notices.Stay.{Stay}
 
@@ -148,6 +150,10 @@ abbrev pub AreKept : List Entry → List Entry → List Entry → NoticeMap → 
 AreKept entries before rest notices = (queue number visit : ℕ) →
     IsKeptAt entries before rest notices queue number visit
 
+-- and the packets of those are packets
+abbrev pub AreKeptSoFar : List Entry → NoticeMap → List Entry → List Entry → Type 0
+AreKeptSoFar entries notices before rest = AreKept entries before rest notices × ArePackets rest
+
 pub kept_begun : (entries : List Entry) (notices : NoticeMap) →
     ((s : Stay) → get stay_cmp notices s ≡ None) → AreKept entries [] entries notices
 kept_begun entries notices no_notice queue number visit = record {
@@ -199,19 +205,10 @@ module _ (number visit : ℕ) (e : Entry) (behind : List Entry) (was now : Optio
       (sym state)
       ∙ ap (λ b. Found (find test (cond b letters []))) (sym itself)
 
--- what laws say of one entry more
-pub record Laws : Type 0 where
-  pub own : (es : List Entry) (e : Entry) →
-      history e.queue (es ++ e ∷ []) ≡ history e.queue es ++ e ∷ []
-  pub others : (es : List Entry) (e : Entry) (queue : ℕ) → (e.queue == queue) ≡ false →
-      history queue (es ++ e ∷ []) ≡ history queue es
-  pub state : (es : List Entry) (e : Entry) →
-      replay (es ++ e ∷ []) ≡ (step (replay es) e.event).state
-
-pub kept_on : (laws : Laws) (entries before behind : List Entry) (e : Entry) (notices new : NoticeMap) →
+pub kept_on : (entries before behind : List Entry) (e : Entry) (notices new : NoticeMap) →
     Keeps (letters_at (replay (history e.queue before)) e) e.queue notices new →
     AreKept entries before (e ∷ behind) notices → AreKept entries (before ++ e ∷ []) behind new
-kept_on laws entries before behind e notices new keeps are queue number visit =
+kept_on entries before behind e notices new keeps are queue number visit =
     let was = are queue number visit in
     let letters = letters_at (replay (history e.queue before)) e in
     let now : List Entry = before ++ e ∷ [] in
@@ -230,10 +227,10 @@ kept_on laws entries before behind e notices new keeps are queue number visit =
             subst P (eqb-true e.queue queue own)
             (own_on number visit e behind (replay (history e.queue before))
             (replay (history e.queue now)) was.letter
-            (ap replay (laws.own before e) ∙ laws.state (history e.queue before) e))
+            (state_last before e))
         | inr other ↦ other_on number visit e behind (replay (history queue before))
             (replay (history queue now)) was.letter queue letters other
-            (ap replay (laws.others before e queue other))
+            (ap replay (others_last before e queue other))
       ];
     }
 

@@ -159,28 +159,31 @@ judgement tells walks kinds script h is places fit ones {E} (Err e) walked = tt
 
 -- ---- the same, of ports that are the script's
 
+-- the log of the port at this place is walked so
+abbrev pub IsWalkedAt : ScriptValue → Histories → List ℕ → ℕ → Option (Vec KindAt Global) → Type 0
+IsWalkedAt script h ports i kinds =
+    IsLogWalkedWith (known_in h.entries) script i (get_or ports i 0)
+    (log_of (get_or ports i 0) h.logs)
+    (option_map (λ (ks : Vec KindAt Global). ks.items) kinds)
+
 pub stopped_in : (script : ScriptValue) (h : Histories) (ports : List ℕ) (i : ℕ) →
     ports ≡ script.ports → HavePlaces script → i < length ports →
-    IsLogWalkedWith (known_in h.entries) script i (get_or ports i 0)
-    (log_of (get_or ports i 0) h.logs) None → IsWalkedAll script h None
+    IsWalkedAt script h ports i None → IsWalkedAll script h None
 stopped_in script h ports i same places =
-    subst (λ ps. i < length ps →
-    IsLogWalkedWith (known_in h.entries) script i (get_or ps i 0)
-    (log_of (get_or ps i 0) h.logs) None → IsWalkedAll script h None) (sym same)
+    subst (λ ps. i < length ps → IsWalkedAt script h ps i None → IsWalkedAll script h None)
+    (sym same)
     (walked_stopped script h i places)
 
 pub on_in : (script : ScriptValue) (h : Histories) (ports : List ℕ) (i : ℕ)
     (ks new : List PortKinds) (k : PortKinds) → ports ≡ script.ports → HavePlaces script →
     new ≡ ks ++ k ∷ [] →
     i < length ports → k.port ≡ get_or ports i 0 →
-    IsLogWalkedWith (known_in h.entries) script i (get_or ports i 0)
-    (log_of (get_or ports i 0) h.logs) (Some k.kinds.items) →
+    IsWalkedAt script h ports i (Some k.kinds) →
     ArePortsWalked script h (take i script.ports) ks →
     ArePortsWalked script h (take (i + 1) script.ports) new
 on_in script h ports i ks new k same places pushed =
     subst (λ ps. i < length ps → k.port ≡ get_or ps i 0 →
-    IsLogWalkedWith (known_in h.entries) script i (get_or ps i 0)
-    (log_of (get_or ps i 0) h.logs) (Some k.kinds.items) →
+    IsWalkedAt script h ps i (Some k.kinds) →
     ArePortsWalked script h (take i script.ports) ks →
     ArePortsWalked script h (take (i + 1) script.ports) new) (sym same)
     (λ within is walked all. subst (ArePortsWalked script h (take (i + 1) script.ports))

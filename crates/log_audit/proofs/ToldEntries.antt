@@ -17,14 +17,14 @@ use Rattle.inspector_script.specs.Scripts.{IsScript, ScriptValue, opening, closi
 use Rattle.nfqa_msgs.specs.NoticeTexts.{told_exactly}
 use Rattle.run_parts.specs.Log.{Note, Got, Spoke, Shut, Due, Still, Message, all_due, first_due}
 use Rattle.run_parts.specs.Log.{answer_to, received_count, AreNextFrom, start, standing}
-use Rattle.run_parts.specs.Log.{unanswered}
+use Rattle.run_parts.specs.Log.{unanswered, Standing, IsNext, after}
 use Rattle.run_parts.specs.Order.{Ends, kind_by}
 use Rattle.log_audit.specs.Telling.{IsKnown, IsKeyed, IsMessage, IsToldBy, told_errno}
 use Rattle.log_audit.specs.Walking.{Known, Timed, settled, ends_at, timed_by, sent_on}
 use Rattle.log_audit.specs.Walking.{IsLoggedAs, IsWalked, walked, AllGoOn, walked_all, IsDone}
 use Rattle.log_audit.proofs.WalkCompleteness.{stand, walk_at, got_walk, owed_walk, ends_walk}
 use Rattle.log_audit.proofs.WalkCompleteness.{shut_walk}
-use Rattle.log_audit.proofs.AskLengths.{answer_good, opening_asks, closing_asks}
+use Rattle.port_audit.specs.AskLengths.{answer_good, opening_asks, closing_asks}
 use Rattle.log_audit.proofs.Witness.{AskWell, IsFine, fine_asks, fine_settled, close_silent, Rest}
 use Rattle.log_audit.proofs.Witness.{settle_owed, settle_ends, settle_none}
 
@@ -108,12 +108,15 @@ module _ (known : Known) (script : ScriptValue) (place port : ℕ) where
     next_dids = dids ++ Sent call (words_of port call m.whole (decoded m))
         (answered m (told_errno answer)) ∷ []
 
-    spoke_owed : (os ends : List Due) → Told next_dids os pending ends true false rest →
-        Told dids (Message m ∷ os) pending ends true f (Sent call ask answer ∷ rest)
-    spoke_owed os ends more = (
+    -- it is told wherever it is next
+    spoke : (t : Standing) → IsNext 1 t (Spoke call m (told_errno answer)) →
+        Rest known script place port
+        (after 1 script place port t (Spoke call m (told_errno answer))) rest →
+        Rest known script place port t (Sent call ask answer ∷ rest)
+    spoke t next more = (
       Spoke call m (told_errno answer) ∷ more.0,
       record {
-        next = ((refl, refl, number), more.1.next);
+        next = (next, more.1.next);
         noted = ap (λ w. Sent call w None ∷ map unanswered rest) (sym words)
             ∙ ap (λ ds. Sent call (words_of port call m.whole (decoded m)) None ∷ ds)
             more.1.noted;
@@ -125,22 +128,14 @@ module _ (known : Known) (script : ScriptValue) (place port : ℕ) where
       },
     )
 
+    spoke_owed : (os ends : List Due) → Told next_dids os pending ends true false rest →
+        Told dids (Message m ∷ os) pending ends true f (Sent call ask answer ∷ rest)
+    spoke_owed os ends =
+        spoke (stand dids (Message m ∷ os) pending ends true f) (refl, refl, number)
+
     spoke_ends : (es : List Due) → Told next_dids [] pending es true false rest →
         Told dids [] pending (Message m ∷ es) true f (Sent call ask answer ∷ rest)
-    spoke_ends es more = (
-      Spoke call m (told_errno answer) ∷ more.0,
-      record {
-        next = ((refl, refl, number), more.1.next);
-        noted = ap (λ w. Sent call w None ∷ map unanswered rest) (sym words)
-            ∙ ap (λ ds. Sent call (words_of port call m.whole (decoded m)) None ∷ ds)
-            more.1.noted;
-        owed = more.1.owed;
-        ended = more.1.ended;
-        letters = more.1.letters;
-        messages = (is, more.1.messages);
-        errnos = ap (λ ns. told_errno answer ∷ ns) more.1.errnos;
-      },
-    )
+    spoke_ends es = spoke (stand dids [] pending (Message m ∷ es) true f) (refl, refl, number)
 
   module _ (well : AskWell) (dids : List Did) (owed : List Due) (pending : List (List Due))
       (ends : List Due) (timed : List Timed) (call : ℕ) (ask : AskWords) (answer : Option ℕ)

@@ -10,7 +10,7 @@ use Rattle.log_audit.specs.Telling.{AreKnown}
 use Rattle.log_audit.specs.Walking.{Known, Walk, AllGoOn, walked_all, walked, beginning}
 use Rattle.log_audit.specs.Walking.{kinds_at, IsDone}
 use Rattle.std.proofs.Common.{true, false}
-use Rattle.log_audit.proofs.AskLengths.{closing_asks}
+use Rattle.port_audit.specs.AskLengths.{closing_asks}
 use Rattle.log_audit.proofs.WalkCompleteness.{GoesSo, along}
 use Rattle.log_audit.proofs.Evenness.{Laws, all_even}
 

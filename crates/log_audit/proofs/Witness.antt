@@ -25,7 +25,7 @@ use Rattle.log_audit.specs.Telling.{errno_of}
 use Rattle.log_audit.specs.Walking.{Known, begun, settled}
 use Rattle.log_audit.specs.Walking.{messages_for}
 use Rattle.log_audit.proofs.WalkCompleteness.{stand}
-use Rattle.log_audit.proofs.AskLengths.{AllAsks}
+use Rattle.port_audit.specs.AskLengths.{AllAsks}
 use Rattle.log_audit.proofs.MessageBytes.{own_messages}
 
 -- ---- messages that are due

@@ -7,9 +7,7 @@ ghost use Rattle.queue_core.specs.State.{Bound};
 ghost use Rattle.queue_replay.specs.Replays.{AreFound, IsToldBy, port_in};
 ghost use Rattle.log_audit.specs.Stays as stays;
 
-use histories::{
-    Entries, Entry, Event, Reply, a_legal_history_goes_on, an_entry_is_of_its_queue_alone,
-};
+use histories::{Entries, Entry, Event, Reply};
 use nfqa_msgs::{Notice, notice_of_card};
 use packet_entry::{Card, IPV4, IPV6, NoMemory, Sequence};
 use queue_core::Outcome;
@@ -71,8 +69,6 @@ pub(crate) fn notices_in(
     requires found { AreFound [] entries.now found.now }
     ensures { IfOk result (stays.AreTold (stays.known_in entries.now)) }
 {
-    an_entry_is_of_its_queue_alone();
-    a_legal_history_goes_on();
     let mut found = found.iter();
     let mut notices = BTreeMap::new(alloc);
     for entry in entries {
