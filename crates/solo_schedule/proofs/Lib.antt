@@ -1,4 +1,5 @@
 pub mod Logs
+pub mod EachEntry
 pub mod OnwardPackets
 pub mod LaterVisits
 pub mod RunSteps

@@ -2,7 +2,8 @@
 use Rattle.std.proofs.Common.{◌≡◌, ◌≤◌, ◌⊎◌, ◌∙◌, ℕ, List, [], ◌∷◌, ◌++◌, Option, Some, None, Bool}
 use Rattle.std.proofs.Common.{true, false, refl, sym, ap, subst, inl, inr, length}
 use Rattle.std.proofs.Common.{arith, length-append, append-nil}
-use Rattle.std.specs.Prelude.{flat_map, ◌==◌, not, ◌&&◌, ◌||◌, nat_lt, if◌then◌else◌, option_map}
+use Rattle.std.specs.Prelude.{◌==◌, not, ◌&&◌, ◌||◌, nat_lt, if◌then◌else◌, option_map}
+use Rattle.std.specs.List.{AllByRecursion}
 use Rattle.std.proofs.lemmas.Bool.{cases_Bool, eqb-true, or_cases, and_parts, not-true}
 use Rattle.std.proofs.lemmas.Bool.{ltb-false}
 use Rattle.std.proofs.lemmas.List.Elements.{filter-append}
@@ -14,13 +15,14 @@ use Rattle.nfqa_msgs.specs.declared.request.Decoded.TheVariants.{Nothing, Refuse
 use Rattle.nfqa_msgs.specs.RequestReading.{decoded}
 use Rattle.queue_core.specs.State.{Bound}
 use Rattle.queue_core.specs.Step.{Way, step, is_decided_early}
-use Rattle.queue_core.specs.declared.event.Event.TheVariants.{Ask, PortClosed}
+use Rattle.queue_core.specs.declared.event.Event.TheVariants.{Ask}
 use Rattle.histories.specs.declared.entry.Entry.{Entry}
 use Rattle.histories.specs.declared.log.Did.TheVariants.{Sent}
 use Rattle.histories.specs.History.{history, is_of, replay_from}
 use Rattle.histories.specs.Journeys.{Arrival}
-use Rattle.histories.specs.States.{entry_of, entry_in, state_of, every_number}
+use Rattle.histories.specs.States.{entry_of, state_of}
 use Rattle.histories.specs.Happenings as happening
+use Rattle.histories.specs.Holding.{in_history}
 use Rattle.packet_moves.specs.declared.setting.Setting.{Setting}
 use Rattle.packet_moves.specs.World.{World, Port, received, received_from, having_done, closed}
 use Rattle.packet_moves.specs.World.{changed_at, delivered}
@@ -35,6 +37,7 @@ use Rattle.run_parts.specs.Room.{some_lacks}
 use Rattle.solo_schedule.proofs.OnwardPackets.{all_moved_keeps}
 use Rattle.solo_schedule.proofs.RunSteps.{noted}
 use Rattle.solo_schedule.proofs.DueMessages.{Keeps}
+use Rattle.solo_schedule.proofs.EachEntry.{closings_hold, downs_hold}
 
 -- an arrival at this queue found no room
 abbrev pub lacking : ℕ → ℕ → List Entry → Bool
@@ -76,27 +79,11 @@ lacks_push p queue es e =
 
 -- ---- entries that are no arrivals
 
+abbrev IsCalm : Entry → Type 0
+IsCalm e = lacks_room e.event ≡ false
+
 abbrev pub AreCalm : List Entry → Type 0
-AreCalm [] = Unit {0}
-AreCalm (e ∷ es) = (lacks_room e.event ≡ false) × AreCalm es
-
-calm_append : (es fs : List Entry) → AreCalm es → AreCalm fs → AreCalm (es ++ fs)
-calm_append [] fs one two = two
-calm_append (e ∷ es) fs one two = (one.0, calm_append es fs one.1 two)
-
-calm_all : (g : ℕ → List Entry) → ((k : ℕ) → AreCalm (g k)) → (ks : List ℕ) →
-    AreCalm (flat_map g ks)
-calm_all g each [] = tt
-calm_all g each (k ∷ ks) = calm_append (g k) (flat_map g ks) (each k) (calm_all g each ks)
-
-calm_history : (queue : ℕ) (es : List Entry) → AreCalm es → AreCalm (history queue es)
-calm_history queue [] calm = tt
-calm_history queue (e ∷ es) calm = by (is_of queue e) (calm_history queue es calm.1)
-  where
-    by : (c : Bool) → AreCalm (history queue es) →
-        AreCalm (if c then e ∷ history queue es else history queue es)
-    by true more = (calm.0, more)
-    by false more = more
+AreCalm es = AllByRecursion IsCalm es
 
 and_none : (a b : Bool) → b ≡ false → (a && b) ≡ false
 and_none true b is = is
@@ -116,19 +103,7 @@ lacks_stay p queue es fs calm =
     ap (some_lacks p None) (filter-append (is_of queue) es fs)
     ∙ lacks_append p None (history queue es) (history queue fs)
     ∙ or_none (lacking p queue es) (some_lacks p (state_of es queue) (history queue fs))
-    (calm_none p (state_of es queue) (history queue fs) (calm_history queue fs calm))
-
-closing_calm : (port k : ℕ) (o : Option Bound) → AreCalm (happening.closing_of port k o)
-closing_calm port k None = tt
-closing_calm port k (Some b) = by (b.port == port)
-  where
-    by : (c : Bool) → AreCalm (if c then entry_in k (Some b) (PortClosed port) ∷ [] else [])
-    by true = (refl, tt)
-    by false = tt
-
-down_calm : (device k : ℕ) (o : Option Bound) → AreCalm (happening.down_of device k o)
-down_calm device k None = tt
-down_calm device k (Some b) = (refl, tt)
+    (calm_none p (state_of es queue) (history queue fs) (in_history IsCalm queue fs calm))
 
 -- ---- what is kept
 
@@ -349,10 +324,8 @@ roomy_kept s = record {
       w.ports notes port Shut closed
       (λ ns held there. same_length ns Shut held.letters held.letters refl refl)
       (calm_roomy s.mail w.entries (happening.closings port w.entries) w.ports notes
-      (calm_all (λ k. happening.closing_of port k (state_of w.entries k))
-      (λ k. closing_calm port k (state_of w.entries k)) every_number) is);
+      (closings_hold IsCalm port (λ k b. refl) w.entries) is);
   falls = λ w notes device is.
       calm_roomy s.mail w.entries (happening.downs device w.entries) w.ports notes
-      (calm_all (λ k. happening.down_of device k (state_of w.entries k))
-      (λ k. down_calm device k (state_of w.entries k)) every_number) is;
+      (downs_hold IsCalm device (λ k b. refl) w.entries) is;
 }

@@ -2,7 +2,8 @@
 -- arrivals that their queues took.
 use Rattle.std.proofs.Common.{◌≡◌, ◌⊎◌, ◌∙◌, ℕ, List, [], ◌∷◌, ◌++◌, Option, Some, None, Bool}
 use Rattle.std.proofs.Common.{true, false, refl, sym, ap, subst, inl, inr, append-nil, append_assoc}
-use Rattle.std.specs.Prelude.{filter, flat_map, ◌==◌, not, ◌&&◌, if◌then◌else◌, option_map}
+use Rattle.std.specs.Prelude.{filter, ◌==◌, not, ◌&&◌, if◌then◌else◌, option_map}
+use Rattle.std.specs.List.{AllByRecursion}
 use Rattle.std.proofs.lemmas.Bool.{cases_Bool, eqb-true}
 use Rattle.std.proofs.lemmas.List.Elements.{filter-append}
 use Rattle.std.proofs.lemmas.List.Concat.{flat_map-append}
@@ -16,13 +17,14 @@ use Rattle.nfqa_msgs.specs.RequestReading.{decoded}
 use Rattle.queue_core.specs.State.{Bound, fails_open}
 use Rattle.queue_core.specs.Step.{Stepped, Way, step, arrive, is_full, next_id}
 use Rattle.queue_core.specs.WithOffer.{letter_of}
-use Rattle.queue_core.specs.declared.event.Event.TheVariants.{Ask, PortClosed}
+use Rattle.queue_core.specs.declared.event.Event.TheVariants.{Ask}
 use Rattle.histories.specs.declared.entry.Entry.{Entry}
 use Rattle.histories.specs.declared.log.Did.TheVariants.{Sent}
 use Rattle.histories.specs.History.{history, is_of, replay_from}
 use Rattle.histories.specs.Journeys.{Arrival}
-use Rattle.histories.specs.States.{entry_of, entry_in, state_of, every_number}
+use Rattle.histories.specs.States.{entry_of, entry_in, state_of}
 use Rattle.histories.specs.Happenings as happening
+use Rattle.histories.specs.Holding.{in_history}
 use Rattle.packet_moves.specs.declared.setting.Setting.{Setting}
 use Rattle.packet_moves.specs.World.{World, Port, delivered, received}
 use Rattle.packet_moves.specs.World.{received_from, having_done, closed}
@@ -36,6 +38,7 @@ use Rattle.run_parts.specs.Notices.{heard, heard_by, letters_from}
 use Rattle.solo_schedule.proofs.OnwardPackets.{all_moved_keeps}
 use Rattle.solo_schedule.proofs.RunSteps.{noted}
 use Rattle.solo_schedule.proofs.DueMessages.{Keeps}
+use Rattle.solo_schedule.proofs.EachEntry.{closings_hold, downs_hold}
 
 -- the notices of a queue for a port
 abbrev pub letters : ℕ → ℕ → List Entry → List Letter
@@ -69,28 +72,11 @@ letters_push p queue es e =
 
 -- ---- entries that are no arrivals
 
+abbrev IsQuiet : Entry → Type 0
+IsQuiet e = (queue : ℕ) (q : Bound) → letters_of_event queue q e.event e.reply ≡ []
+
 abbrev pub AreQuiet : List Entry → Type 0
-AreQuiet [] = Unit {0}
-AreQuiet (e ∷ es) =
-    ((queue : ℕ) (q : Bound) → letters_of_event queue q e.event e.reply ≡ []) × AreQuiet es
-
-quiet_append : (es fs : List Entry) → AreQuiet es → AreQuiet fs → AreQuiet (es ++ fs)
-quiet_append [] fs one two = two
-quiet_append (e ∷ es) fs one two = (one.0, quiet_append es fs one.1 two)
-
-quiet_all : (g : ℕ → List Entry) → ((k : ℕ) → AreQuiet (g k)) → (ks : List ℕ) →
-    AreQuiet (flat_map g ks)
-quiet_all g each [] = tt
-quiet_all g each (k ∷ ks) = quiet_append (g k) (flat_map g ks) (each k) (quiet_all g each ks)
-
-quiet_history : (queue : ℕ) (es : List Entry) → AreQuiet es → AreQuiet (history queue es)
-quiet_history queue [] quiet = tt
-quiet_history queue (e ∷ es) quiet = by (is_of queue e) (quiet_history queue es quiet.1)
-  where
-    by : (c : Bool) → AreQuiet (history queue es) →
-        AreQuiet (if c then e ∷ history queue es else history queue es)
-    by true more = (quiet.0, more)
-    by false more = more
+AreQuiet es = AllByRecursion IsQuiet es
 
 quiet_none : (p : ℕ) (q : Option Bound) (es : List Entry) → AreQuiet es → letters_from p q es ≡ []
 quiet_none p q [] quiet = refl
@@ -111,20 +97,8 @@ letters_stay p queue es fs quiet =
     ap (letters_from p None) (filter-append (is_of queue) es fs)
     ∙ letters_append p None (history queue es) (history queue fs)
     ∙ ap (λ ls. letters p queue es ++ ls)
-    (quiet_none p (state_of es queue) (history queue fs) (quiet_history queue fs quiet))
+    (quiet_none p (state_of es queue) (history queue fs) (in_history IsQuiet queue fs quiet))
     ∙ append-nil (letters p queue es)
-
-closing_quiet : (port k : ℕ) (o : Option Bound) → AreQuiet (happening.closing_of port k o)
-closing_quiet port k None = tt
-closing_quiet port k (Some b) = by (b.port == port)
-  where
-    by : (c : Bool) → AreQuiet (if c then entry_in k (Some b) (PortClosed port) ∷ [] else [])
-    by true = (λ queue q. refl, tt)
-    by false = tt
-
-down_quiet : (device k : ℕ) (o : Option Bound) → AreQuiet (happening.down_of device k o)
-down_quiet device k None = tt
-down_quiet device k (Some b) = (λ queue q. refl, tt)
 
 -- ---- an arrival
 
@@ -346,10 +320,8 @@ noticed_kept s = record {
       w.ports notes port Shut closed refl
       (λ held. refl)
       (quiet_noticed w.entries (happening.closings port w.entries) w.ports notes
-      (quiet_all (λ k. happening.closing_of port k (state_of w.entries k))
-      (λ k. closing_quiet port k (state_of w.entries k)) every_number) is);
+      (closings_hold IsQuiet port (λ k b queue q. refl) w.entries) is);
   falls = λ w notes device is.
       quiet_noticed w.entries (happening.downs device w.entries) w.ports notes
-      (quiet_all (λ k. happening.down_of device k (state_of w.entries k))
-      (λ k. down_quiet device k (state_of w.entries k)) every_number) is;
+      (downs_hold IsQuiet device (λ k b queue q. refl) w.entries) is;
 }

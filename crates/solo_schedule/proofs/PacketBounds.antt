@@ -1,7 +1,7 @@
 -- The schedule keeps packets and payloads within bounds.
 use Rattle.std.proofs.Common.{◌≤◌, ◌+◌, ℕ, zero, suc, List, [], ◌∷◌, ◌++◌, length, map}
 use Rattle.std.proofs.Common.{Option, Some, None, Bool, true, false, cond, arith}
-use Rattle.std.specs.Prelude.{slice_get, find, flat_map, ◌==◌, option_map}
+use Rattle.std.specs.Prelude.{slice_get, find, option_map}
 use Rattle.std.specs.Option.{option_map_or}
 use Rattle.std.specs.Prelude.{All}
 use Rattle.std.specs.List.{AllByRecursion}
@@ -25,16 +25,11 @@ use Rattle.nfqa_msgs.specs.declared.notice.Notice.{Notice}
 use Rattle.nfqa_msgs.specs.NoticeWriting.{Told}
 use Rattle.nfqa_msgs.specs.NoticeMeaning.{notice_of}
 use Rattle.nfqa_msgs.specs.RequestReading.{AskedFits, decoded}
-use Rattle.queue_core.specs.State.{Bound}
 use Rattle.queue_core.specs.Step.{Way, Gone, Open, Decided}
 use Rattle.queue_core.specs.declared.event.Event.TheVariants.{Ask}
-use Rattle.histories.specs.declared.entry.Entry.{Entry}
 use Rattle.histories.specs.declared.log.AskWords.{AskWords}
 use Rattle.histories.specs.Journeys.{Arrival}
-use Rattle.histories.specs.States.{state_of, every_number}
-use Rattle.histories.specs.Happenings.{all_handed, closing_of, closings, down_of}
-use Rattle.histories.specs.Happenings.{downs, queue_of}
-use Rattle.histories.specs.Happenings.{arrive}
+use Rattle.histories.specs.Happenings.{all_handed, arrive, closings, downs, queue_of}
 use Rattle.script_lines.specs.declared.ask.Ask as lines
 use Rattle.script_lines.specs.declared.ask.Ask.TheVariants.{Words, Close}
 use Rattle.script_lines.specs.declared.line.Down.{Down}
@@ -69,6 +64,7 @@ use Rattle.solo_schedule.specs.Schedule.{is_pause, ended_all, rounds_for}
 use Rattle.histories.specs.Holding.{appended}
 use Rattle.queue_core.specs.Holding.{AllLeave}
 use Rattle.solo_schedule.proofs.PacketProperties.{IsSmall, Fitting, AllFit, leaving_small}
+use Rattle.solo_schedule.proofs.EachEntry.{closings_hold, downs_hold}
 
 abbrev pub Bounded : World → Type 0
 Bounded w = AllFit w.entries
@@ -166,39 +162,17 @@ either : {X : Type 0} (P : X → Type 0) (b : Bool) (s t : X) → P s → P t �
 either P true s t h k = h
 either P false s t h k = k
 
-closed_fits : (port : ℕ) (es : List Entry) (qs : List ℕ) →
-    AllFit (flat_map (λ q. closing_of port q (state_of es q)) qs)
-closed_fits port es [] = tt
-closed_fits port es (q ∷ qs) =
-    appended Fitting (closing_of port q (state_of es q)) _ (one (state_of es q))
-    (closed_fits port es qs)
-  where
-    one : (state : Option Bound) → AllFit (closing_of port q state)
-    one None = tt
-    one (Some b) = either AllFit (b.port == port) _ [] (tt, tt) tt
-
-down_fits : (device : ℕ) (es : List Entry) (qs : List ℕ) →
-    AllFit (flat_map (λ q. down_of device q (state_of es q)) qs)
-down_fits device es [] = tt
-down_fits device es (q ∷ qs) =
-    appended Fitting (down_of device q (state_of es q)) _ (one (state_of es q))
-    (down_fits device es qs)
-  where
-    one : (state : Option Bound) → AllFit (down_of device q state)
-    one None = tt
-    one (Some b) = (tt, tt)
-
 shuts_fit : (port : ℕ) → Stays (λ w. with_closed w port)
 shuts_fit port w fit =
     appended Fitting w.entries (closings port w.entries) fit
-    (closed_fits port w.entries every_number)
+    (closings_hold Fitting port (λ k b. tt) w.entries)
 
 falls_fit : (ds : List Down) → Stays (all_down ds)
 falls_fit [] w fit = fit
 falls_fit (d ∷ ds) w fit =
     falls_fit ds (without_device w d.device)
     (appended Fitting w.entries (downs d.device w.entries) fit
-    (down_fits d.device w.entries every_number))
+    (downs_hold Fitting d.device (λ k b. tt) w.entries))
 
 -- ---- what a script asks for
 
