@@ -1,11 +1,9 @@
 -- The first message of some bytes, once it is sent.
 use Rattle.std.proofs.Common.{◌≡◌, ◌≢◌, ◌<◌, ◌≤◌, ◌∙◌, ℕ, List, [], ◌∷◌, length, Option, Some, None}
-use Rattle.std.proofs.Common.{true, refl, sym, ap, subst, arith, inl, inr, min}
+use Rattle.std.proofs.Common.{true, refl, sym, ap, subst, arith, inl, inr}
 use Rattle.std.specs.Prelude.{slice_index_or}
-use Rattle.std.proofs.lemmas.Bool.{cases_Bool}
 use Rattle.std.proofs.lemmas.Bool.Decides.{eqb_tells, nat_tests}
-use Rattle.netlink_codec.specs.Messages.{NetlinkMessage, first_message, has_message, told_length}
-use Rattle.netlink_codec.specs.Messages.{told_message, pad}
+use Rattle.netlink_codec.specs.Messages.{NetlinkMessage, first_message}
 use Rattle.histories.specs.declared.histories.Lost.{Lost}
 use Rattle.inspector_script.specs.Scripts.{ScriptValue}
 use Rattle.packet_moves.specs.declared.setting.Setting.{Setting}
@@ -19,30 +17,11 @@ use Rattle.solo_run.proofs.RunProgress.{goes_at}
 
 -- ---- what it uses
 
-abbrev uses_of : Option (NetlinkMessage × ℕ) → ℕ
-uses_of None = 0
-uses_of (Some (m, n)) = n
-
-some_bytes : (total bytes n : ℕ) → n ≡ min (pad total) bytes → 16 ≤ total → total ≤ bytes →
-    (0 < n) × (n ≤ bytes)
-some_bytes total bytes n is least most = (omega (arith, is, least, most), omega (arith, is))
-
 -- a message uses a byte at least, and no more than there are
 pub first_uses : (bytes : List ℕ) (m : NetlinkMessage) (n : ℕ) →
     first_message bytes ≡ Some (m, n) → (0 < n) × (n ≤ length bytes)
 unfolding first_message
-first_uses bytes m n is =
-    elim (cases_Bool (has_message bytes)) [
-      | inl has ↦
-          (let both : Some (told_message bytes, min (pad (told_length bytes)) (length bytes))
-          ≡ Some (m, n) = rw has at is in
-          let used : min (pad (told_length bytes)) (length bytes) ≡ n = ap uses_of both in
-          let least : 16 ≤ told_length bytes = grind (arith, nat_tests, has) in
-          let most : told_length bytes ≤ length bytes = grind (arith, nat_tests, has) in
-          some_bytes (told_length bytes) (length bytes) n (sym used) least most)
-      | inr has ↦
-          (let none : None ≡ Some (m, n) = rw has at is in absurd (cc))
-    ]
+first_uses bytes m n is = grind (arith, nat_tests, is)
 
 -- ---- what it leaves
 

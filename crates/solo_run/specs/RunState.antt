@@ -1,13 +1,17 @@
 -- A run between two steps: the plane's world, and an inspector for each port that knows how far its
 -- port is.
 use Rattle.std.specs.Prelude.{◌≡◌, ◌≢◌, ◌<◌, ◌≤◌, ℕ, List, [], ◌∷◌, length, AllPairs, Bool, true}
-use Rattle.std.specs.Prelude.{slice_index, slice_index_or, Option, Some, None}
+use Rattle.std.specs.Prelude.{slice_index, slice_index_or, Option, Some, None, All}
+use Rattle.packet_entry.specs.Numbers.{longest_packet}
 use Rattle.packet_entry.specs.declared.letter.Letter.{Letter}
 use Rattle.netlink_codec.specs.Messages.{NetlinkMessage}
 use Rattle.script_lines.specs.declared.ask.Ask.{Ask}
 use Rattle.script_lines.specs.declared.ask.Ask.TheVariants.{Words, Close}
 use Rattle.inspector_script.specs.Scripts.{ScriptValue, next_count}
+use Rattle.pcap_io.specs.declared.capture.Capture.{Capture}
+use Rattle.pcap_io.specs.declared.capture.Frame.{Frame}
 use Rattle.packet_moves.specs.declared.setting.Setting.{Setting}
+use Rattle.packet_moves.specs.Planes.{beginning}
 use Rattle.packet_moves.specs.World.{World, Port, at_port, received}
 use Rattle.packet_moves.specs.Messages.{call_at}
 use Rattle.packet_moves.specs.Soundness.{IsSound}
@@ -16,6 +20,7 @@ use Rattle.solo_schedule.specs.Sending.{sent}
 use Rattle.solo_schedule.specs.Schedule.{received_in, is_open_port}
 use Rattle.run_parts.specs.Log.{asks_for}
 use Rattle.nfqa_msgs.specs.NoticeTexts.{told_exactly}
+use Rattle.solo_run.specs.Numbers.{most_frames}
 use Rattle.solo_run.specs.declared.inspector.Inspector.{Inspector}
 use Rattle.solo_run.specs.declared.run.Run.{Run}
 
@@ -70,6 +75,13 @@ order_of r = plane.order_of r.plane
 
 abbrev pub Goes : ScriptValue → Run → Type 0
 Goes script r = IsGoing script (setting_of r) (world_of r) r.inspectors.items
+
+-- A run in which nothing has happened yet, and a capture that is short enough for it.
+pub record MayBegin (script : ScriptValue) (capture : Capture) (r : Run) : Type 0 where
+  pub going : Goes script r
+  pub frames : length capture.frames ≤ most_frames
+  pub bytes : All (λ (f : Frame). length f.bytes ≤ longest_packet) capture.frames
+  pub world : world_of r ≡ beginning script.ports
 
 -- a run stays with what it was made with
 pub record IsWith (old new : Run) : Type 0 where

@@ -5,12 +5,11 @@ ghost use Rattle.packet_entry.specs.Numbers.{longest_packet};
 ghost use Rattle.histories.specs.History.{AreLegal};
 ghost use Rattle.histories.specs.Journeys.{AreSound};
 ghost use Rattle.histories.specs.Listing.{listing};
-ghost use Rattle.packet_moves.specs.Planes.{beginning};
 ghost use Rattle.run_parts.specs.Entering.{cards};
 ghost use Rattle.solo_schedule.specs.Schedule.{IsSolo, before_ends, until_end, until_ends};
 ghost use Rattle.solo_schedule.specs.Schedule as schedule;
 ghost use Rattle.solo_run.specs.Numbers.{most_frames};
-ghost use Rattle.solo_run.specs.RunState.{AreOpen, Goes, IsWith, setting_of, world_of};
+ghost use Rattle.solo_run.specs.RunState.{AreOpen, Goes, IsWith, MayBegin, setting_of, world_of};
 
 use crate::parts::{end_all, open_all, pass_all, rounds_for, take_down};
 use crate::rounds::empty;
@@ -76,10 +75,7 @@ fn go_to_ends(
     script: &Script,
     capture: &Capture,
 ) -> Result<(), NoMemory>
-    requires going { Goes script.now run.old }
-    requires frames { length capture.now.frames ≤ most_frames }
-    requires bytes { All (λ f. length f.bytes ≤ longest_packet) capture.now.frames }
-    requires world { world_of run.old ≡ beginning script.now.ports }
+    requires { MayBegin script.now capture.now run.old }
     ensures going { OnOk result (Goes script.now run.new) }
     ensures made_with { OnOk result (IsWith run.old run.new) }
     ensures world { OnOk result (world_of run.new
@@ -96,10 +92,7 @@ fn go_to_ends(
 
 /// All that happens.
 fn go(run: &mut Run, alloc: Global, script: &Script, capture: &Capture) -> Result<(), NoMemory>
-    requires going { Goes script.now run.old }
-    requires frames { length capture.now.frames ≤ most_frames }
-    requires bytes { All (λ f. length f.bytes ≤ longest_packet) capture.now.frames }
-    requires world { world_of run.old ≡ beginning script.now.ports }
+    requires { MayBegin script.now capture.now run.old }
     ensures going { OnOk result (Goes script.now run.new) }
     ensures made_with { OnOk result (IsWith run.old run.new) }
     ensures world { OnOk result (world_of run.new
@@ -118,10 +111,7 @@ fn go_and_list(
     capture: &Capture,
     out: &mut Vec<u8>,
 ) -> Result<(), NoMemory>
-    requires going { Goes script.now run.old }
-    requires frames { length capture.now.frames ≤ most_frames }
-    requires bytes { All (λ f. length f.bytes ≤ longest_packet) capture.now.frames }
-    requires world { world_of run.old ≡ beginning script.now.ports }
+    requires { MayBegin script.now capture.now run.old }
     ensures listed { OnOk result (out.new.items ≡ out.old.items
         ++ listing (until_ends (setting_of run.old) script.now capture.now).entries) }
     ensures err { OnErr result (out.new.items ≡ out.old.items) }

@@ -35,7 +35,7 @@ pub(crate) fn open_all(run: &mut Run, alloc: Global, script: &Script) -> Result<
     ports_close_at_the_end();
     for place in 0..script.ports().len() {
         let place = place as u32;
-        let asks = run.opening(alloc, script, place)?;
+        let asks = run.machine(script, place).opening(alloc, script)?;
         do_all(run, alloc, script, place, asks, &Nothing)?;
     }
     Ok(())
@@ -60,7 +60,7 @@ pub(crate) fn end_all(
     ports_close_at_the_end();
     for place in 0..script.ports().len() {
         let place = place as u32;
-        let asks = run.closing(alloc, script, place)?;
+        let asks = run.machine(script, place).closing(alloc, script)?;
         do_all(run, alloc, script, place, asks, &Emptied { rounds })?;
     }
     Ok(())

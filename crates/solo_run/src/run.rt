@@ -3,7 +3,6 @@
 ghost use Rattle.std.specs.Prelude.{◌≡◌, ◌<◌, ◌^◌, ◌∷◌, ◌++◌, [], ℕ};
 ghost use Rattle.std.specs.Prelude.{length, All, IfOk, OnOk, IfSome, Some, true};
 ghost use Rattle.script_lines.specs.Limits.{IsAsk};
-ghost use Rattle.inspector_script.specs.Scripts.{opening, closing};
 ghost use Rattle.solo_run.specs.Numbers.{most_frames};
 ghost use Rattle.packet_moves.specs.Soundness.{IsSound};
 ghost use Rattle.solo_schedule.specs.Schedule.{is_open_port, letters_at};
@@ -19,7 +18,7 @@ ghost use Rattle.solo_plane.specs.Notices.{has_notice};
 use crate::inspector::{Inspector, asked, count_call, count_closing, inspectors};
 use histories::Histories;
 use hook_chain::Tables;
-use inspector_script::{Asks, Script};
+use inspector_script::{Asks, PortMachine, Script};
 use packet_entry::{NoMemory, Packet};
 use packet_moves::{Refused, histories_stay_sound, what_goes_on_is_in_time};
 use script_lines::Ask;
@@ -194,38 +193,13 @@ impl Run {
         self.plane.has_notice(script.ports()[place as usize])
     }
 
-    /// What the inspector of a port asks for when the port opens.
-    pub(crate) fn opening(
-        &self,
-        alloc: Global,
-        script: &Script,
-        place: u32,
-    ) -> Result<Asks, NoMemory>
+    /// How the inspector of a port answers.
+    pub(crate) fn machine(&self, script: &Script, place: u32) -> &PortMachine
         requires going { Goes script.now self.now }
         requires place { place < length script.now.ports }
-        ensures asks { IfOk result (λ asks. asks ≡ opening script.now place) }
-        ensures fit { IfOk result (All IsAsk) }
+        ensures { result.now.place ≡ place }
     {
-        self.inspectors[place as usize]
-            .machine
-            .opening(alloc, script)
-    }
-
-    /// What the inspector of a port asks for at the end.
-    pub(crate) fn closing(
-        &self,
-        alloc: Global,
-        script: &Script,
-        place: u32,
-    ) -> Result<Asks, NoMemory>
-        requires going { Goes script.now self.now }
-        requires place { place < length script.now.ports }
-        ensures asks { IfOk result (λ asks. asks ≡ closing script.now place) }
-        ensures fit { IfOk result (All IsAsk) }
-    {
-        self.inspectors[place as usize]
-            .machine
-            .closing(alloc, script)
+        &self.inspectors[place as usize].machine
     }
 
     /// A port receives its first notice: what its inspector asks for in answer. `None` exactly

@@ -10,7 +10,7 @@ use Rattle.solo_run.proofs.parts.end_all.Goals as goal
 
 pub do_all-requires-clause-last : goal.do_all-requires-clause-last
 do_all-requires-clause-last c =
-    same_last c.in_ok-asks.asks _ c.in_ok-asks.ensures.asks
+    same_last c.in_ok-asks.asks _ (rw c.machine.ensures at c.in_ok-asks.ensures.asks)
     (c.ports_close_at_the_end.ensures.closing c.args.script.now c.loop-place.place)
 
 pub loop-place-preserved : goal.loop-place-preserved
@@ -31,7 +31,7 @@ loop-place-preserved c =
           c.loop-place.invariant.are_open c.in_ok-do_all.ensures.others;
       on = ended_on c.args.rounds (setting_of c.args.run.now) c.args.script.now
           c.loop-place.place c.in_ok-asks.asks (world_of c.loop-place.run)
-          (world_of c.do_all.new.run) within c.in_ok-asks.ensures.asks
+          (world_of c.do_all.new.run) within (rw c.machine.ensures at c.in_ok-asks.ensures.asks)
           (subst Does c.loop-place.invariant.made_with.setting c.in_ok-do_all.ensures.done)
           ∙ c.loop-place.invariant.on;
     }

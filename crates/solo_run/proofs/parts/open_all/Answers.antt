@@ -10,7 +10,7 @@ use Rattle.solo_run.proofs.parts.open_all.Goals as goal
 pub do_all-requires-clause-last : goal.do_all-requires-clause-last
 do_all-requires-clause-last c =
     last_of_words c.in_ok-asks.asks
-    (same_words c.in_ok-asks.asks _ c.in_ok-asks.ensures.asks
+    (same_words c.in_ok-asks.asks _ (rw c.machine.ensures at c.in_ok-asks.ensures.asks)
     (c.ports_close_at_the_end.ensures.opening c.args.script.now c.loop-place.place))
 
 pub loop-place-preserved : goal.loop-place-preserved
@@ -26,12 +26,12 @@ loop-place-preserved c =
       keeps = keeps_both (world_of c.args.run.now) (world_of c.loop-place.run)
           (world_of c.do_all.new.run) c.loop-place.invariant.keeps
           (c.in_ok-do_all.ensures.keeps
-          (same_words c.in_ok-asks.asks _ c.in_ok-asks.ensures.asks
+          (same_words c.in_ok-asks.asks _ (rw c.machine.ensures at c.in_ok-asks.ensures.asks)
           (c.ports_close_at_the_end.ensures.opening c.args.script.now c.loop-place.place)));
       on = opened_on (setting_of c.args.run.now) c.args.script.now c.loop-place.place
           c.in_ok-asks.asks (world_of c.loop-place.run) (world_of c.do_all.new.run)
           (rw c.ports-place-end.ensures.value at c.loop-place-test.true)
-          c.in_ok-asks.ensures.asks
+          (rw c.machine.ensures at c.in_ok-asks.ensures.asks)
           (subst Does c.loop-place.invariant.made_with.setting c.in_ok-do_all.ensures.done)
           ∙ c.loop-place.invariant.on;
     }
