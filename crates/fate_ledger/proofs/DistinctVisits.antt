@@ -1,11 +1,9 @@
 -- In sound histories no packet arrives twice at one visit.
 use Rattle.std.proofs.Common.{◌≡◌, ℕ, zero, suc, ◌+◌, ◌≤◌, List, [], ◌∷◌, ◌++◌, map}
 use Rattle.std.proofs.Common.{Option, Some, None, Bool, true, false, cond, refl, sym, ap, ◌∙◌}
-use Rattle.std.proofs.Common.{arith}
-use Rattle.std.proofs.Common.{inl, inr, ◌⊎◌, subst}
+use Rattle.std.proofs.Common.{arith, inl, inr, ◌⊎◌, subst, true≢false}
 use Rattle.std.specs.Prelude.{◌==◌, ◌&&◌, count_by, sum_by, flat_map}
 use Rattle.std.proofs.lemmas.Bool.{cases_Bool, eq-eqb, eqb-true, eqb-false, ne_eqb}
-use Rattle.std.proofs.lemmas.List.{append-nil}
 use Rattle.std.proofs.lemmas.List.Sums.{sum_by-append, sum_by-cons}
 use Rattle.packet_entry.specs.declared.packet.Card.{Card}
 use Rattle.hook_chain.specs.Rules.{RuleTables}
@@ -24,8 +22,8 @@ use Rattle.histories.specs.Stays.{arrivals, departures, departures_from}
 use Rattle.histories.specs.Moves.{Move, moves, moves_after, move_after}
 use Rattle.histories.specs.Journeys.{Arrival, asked_by, asked_by_some, entering, going_on, asks}
 use Rattle.histories.specs.Journeys.{arrival_of, came, times_came, AreSound}
+use Rattle.queue_replay.specs.QueueHistories.{own_first, other_first, others_last, state_on}
 use Rattle.fate_ledger.specs.Laws.{step_after, is_visit, AreApart, DifferInNumber}
-use Rattle.fate_ledger.proofs.EntryWalk.{history_on, own_on, other_on, replay_on}
 use Rattle.fate_ledger.proofs.LastArrivals.{once, times_on, times_first, fewer_at}
 
 -- ---- what leaves at one queue, entry by entry
@@ -42,7 +40,8 @@ module _ (test : ℕ → ℕ → Bool) where
   own_departing : (queue : ℕ) (p es : List Entry) (e : Entry) → is_of queue e ≡ true →
       departing_at queue p (e ∷ es) ≡ left_in p e + departing_at queue (p ++ e ∷ []) es
   own_departing queue p es e own =
-      ap (λ gs. times test (departures_from (replay (history queue p)) gs)) (own_on queue e es own)
+      ap (λ gs. times test (departures_from (replay (history queue p)) gs))
+      (own_first queue e es own)
       ∙ times_on test (leaving_in (step (replay (history queue p)) e.event))
       (departures_from (step (replay (history queue p)) e.event).state (history queue es))
       ∙ ap (λ n. n + times test (departures_from (step (replay (history queue p)) e.event).state
@@ -50,18 +49,15 @@ module _ (test : ℕ → ℕ → Bool) where
       (ap (λ q. times test (leaving_in (step (replay (history q p)) e.event)))
       (sym (eqb-true e.queue queue own)))
       ∙ ap (λ s. left_in p e + times test (departures_from s (history queue es)))
-      (sym (ap replay (history_on queue p (e ∷ [])
-      ∙ ap (λ gs. history queue p ++ gs) (own_on queue e [] own))
-      ∙ replay_on None (history queue p) e))
+      (sym (state_on queue p e own))
 
   other_departing : (queue : ℕ) (p es : List Entry) (e : Entry) → is_of queue e ≡ false →
       departing_at queue p (e ∷ es) ≡ departing_at queue (p ++ e ∷ []) es
   other_departing queue p es e other =
       ap (λ gs. times test (departures_from (replay (history queue p)) gs))
-      (other_on queue e es other)
+      (other_first queue e es other)
       ∙ ap (λ gs. times test (departures_from (replay gs) (history queue es)))
-      (sym (history_on queue p (e ∷ []) ∙ ap (λ gs. history queue p ++ gs)
-      (other_on queue e [] other) ∙ append-nil (history queue p)))
+      (sym (others_last p e queue other))
 
   -- how often one leaves at all
   abbrev left_by : List Move → ℕ
@@ -142,46 +138,30 @@ module _ (test : ℕ → ℕ → Bool) where
         ),
       )
 
+  -- a number that is taken in one of two cases at most
+  once_at_most : (a b : Bool) (n : ℕ) → (a ≡ true → b ≡ false) → cond a n 0 + cond b n 0 ≤ n
+  once_at_most true true n apart = absurd (true≢false (apart refl))
+  once_at_most true false n apart = omega arith
+  once_at_most false true n apart = omega arith
+  once_at_most false false n apart = omega arith
+
   two_queues : (queue q : ℕ) (es : List Entry) → (queue == q) ≡ false →
       came_to queue es + came_to q es ≤ times test (arrivals es)
   two_queues queue q [] other = omega arith
   two_queues queue q (e ∷ es) other =
       let rest = two_queues queue q es other in
       let all = times_on test (arriving e.event) (arrivals es) in
-      elim (cases_Bool (is_of queue e)) [
-        | inl own ↦ (let not_ : is_of q e ≡ false = ne_eqb e.queue q (λ same.
+      omega (
+        arith,
+        rest,
+        all,
+        came_on queue e es,
+        came_on q e es,
+        once_at_most (is_of queue e) (is_of q e) (times test (arriving e.event))
+            (λ own. ne_eqb e.queue q (λ same.
             let differ : ¬ (queue ≡ q) = eqb-false queue q other in
-            differ (sym (eqb-true e.queue queue own) ∙ same)) in
-            omega (
-              arith,
-              rest,
-              all,
-              came_on queue e es,
-              came_on q e es,
-              ap (λ b. cond b (times test (arriving e.event)) 0) own,
-              ap (λ b. cond b (times test (arriving e.event)) 0) not_,
-            ))
-        | inr not_ ↦ elim (cases_Bool (is_of q e)) [
-          | inl own ↦ omega (
-            arith,
-            rest,
-            all,
-            came_on queue e es,
-            came_on q e es,
-            ap (λ b. cond b (times test (arriving e.event)) 0) own,
-            ap (λ b. cond b (times test (arriving e.event)) 0) not_,
-          )
-          | inr neither ↦ omega (
-            arith,
-            rest,
-            all,
-            came_on queue e es,
-            came_on q e es,
-            ap (λ b. cond b (times test (arriving e.event)) 0) neither,
-            ap (λ b. cond b (times test (arriving e.event)) 0) not_,
-          )
-        ]
-      ]
+            differ (sym (eqb-true e.queue queue own) ∙ same))),
+      )
 
   module _ (stays : (es : List Entry) (t : ℕ → ℕ → Bool) →
       times t (waiting_in (replay es)) + times t (departures es) ≡ times t (arrivals es)) where

@@ -1,15 +1,13 @@
 -- Histories that are followed entry by entry.
 use Rattle.std.proofs.Common.{◌≡◌, ℕ, ◌+◌, ◌<◌, ◌^◌, List, [], ◌∷◌, ◌++◌, length, Option}
-use Rattle.std.proofs.Common.{None, true, false, cond, refl, sym, ap, ◌∙◌, subst, arith, inl, inr}
+use Rattle.std.proofs.Common.{true, false, cond, sym, ap, ◌∙◌, subst, arith, inl, inr}
 use Rattle.std.proofs.Common.{append_assoc}
 use Rattle.std.specs.Prelude.{◌==◌}
-use Rattle.std.proofs.lemmas.Bool.{cases_Bool, eq-eqb, eqb-true}
+use Rattle.std.proofs.lemmas.Bool.{cases_Bool, eqb-true}
 use Rattle.std.proofs.lemmas.List.{length-append, append-nil}
-use Rattle.queue_core.specs.State.{Bound}
-use Rattle.queue_core.specs.Step.{step}
 use Rattle.histories.specs.declared.entry.Entry.{Entry}
-use Rattle.histories.specs.History.{replay, replay_from, history, is_of, IsStep, IsLegal}
-use Rattle.histories.specs.History.{IsLegalFrom, AreLegal}
+use Rattle.histories.specs.History.{replay, history, is_of, IsStep, AreLegal}
+use Rattle.queue_replay.specs.QueueHistories.{own_last, others_last, state_last, step_at}
 use Rattle.fate_ledger.specs.declared.happening.Happening.{Happening}
 use Rattle.fate_ledger.specs.Fates.{happens_after, happenings_after, happenings}
 use Rattle.fate_ledger.specs.declared.followed_queues.FollowedQueues.{FollowedQueues}
@@ -19,46 +17,6 @@ use Rattle.fate_ledger.specs.Following.{place_after}
 use Rattle.fate_ledger.specs.Following.{told, waiting_after}
 use Rattle.fate_ledger.proofs.Steps.{entry_tells}
 use Rattle.fate_ledger.proofs.LastEventTable.{all_noted}
-
--- ---- histories
-
-pub history_on : (queue : ℕ) (es fs : List Entry) →
-    history queue (es ++ fs) ≡ history queue es ++ history queue fs
-history_on queue [] fs = refl
-history_on queue (e ∷ es) fs =
-    elim (is_of queue e) as (λ b. cond b (e ∷ history queue (es ++ fs)) (history queue (es ++ fs))
-    ≡ cond b (e ∷ history queue es) (history queue es) ++ history queue fs) [
-      | true ↦ ap (λ gs. e ∷ gs) (history_on queue es fs)
-      | false ↦ history_on queue es fs
-    ]
-
--- an entry of a queue goes on with the queue's history
-pub own_on : (queue : ℕ) (e : Entry) (fs : List Entry) → is_of queue e ≡ true →
-    history queue (e ∷ fs) ≡ e ∷ history queue fs
-own_on queue e fs own = ap (λ b. cond b (e ∷ history queue fs) (history queue fs)) own
-
-pub other_on : (queue : ℕ) (e : Entry) (fs : List Entry) → is_of queue e ≡ false →
-    history queue (e ∷ fs) ≡ history queue fs
-other_on queue e fs other = ap (λ b. cond b (e ∷ history queue fs) (history queue fs)) other
-
-step_in : (q : Option Bound) (es fs : List Entry) (e : Entry) → IsLegalFrom q (es ++ e ∷ fs) →
-    IsStep (replay_from q es) e
-step_in q [] fs e legal = legal.0
-step_in q (d ∷ es) fs e legal = step_in (step q d.event).state es fs e legal.1
-
--- each entry of legal histories is a step of its queue
-pub step_at : (before rest : List Entry) (e : Entry) → AreLegal (before ++ e ∷ rest) →
-    IsStep (replay (history e.queue before)) e
-step_at before rest e legal =
-    step_in None (history e.queue before) (history e.queue rest) e
-    (subst IsLegal (history_on e.queue before (e ∷ rest)
-    ∙ ap (λ (gs : List Entry). history e.queue before ++ gs)
-    (own_on e.queue e rest (eq-eqb e.queue e.queue refl))) (legal e.queue))
-
-pub replay_on : (q : Option Bound) (es : List Entry) (e : Entry) →
-    replay_from q (es ++ e ∷ []) ≡ (step (replay_from q es) e.event).state
-replay_on q [] e = refl
-replay_on q (d ∷ es) e = replay_on (step q d.event).state es e
 
 -- ---- the events of entries
 
@@ -103,31 +61,21 @@ followed_on before old new e few are follows is queue =
     elim (cases_Bool (e.queue == queue)) [
       | inl own ↦ (let same : e.queue ≡ queue = eqb-true e.queue queue own in
           subst (λ q. IsFollowed (history q (before ++ e ∷ [])) (followed new q)) same own_is)
-      | inr other ↦ (let here : history queue (before ++ e ∷ []) ≡ history queue before =
-          history_on queue before (e ∷ [])
-          ∙ ap (λ gs. history queue before ++ gs)
-          (other_on queue e [] other) ∙ append-nil (history queue before) in
-          subst (λ gs. IsFollowed gs (followed new queue)) (sym here) (record {
+      | inr other ↦ subst (λ gs. IsFollowed gs (followed new queue))
+          (sym (others_last before e queue other)) (record {
             at = (follows.others queue other).at ∙ (are queue).at;
             waiting = (follows.others queue other).waiting ∙ (are queue).waiting;
-          }))
+          })
     ]
   where
-    one_more : history e.queue (before ++ e ∷ []) ≡ history e.queue before ++ e ∷ []
-    one_more =
-        history_on e.queue before (e ∷ [])
-        ∙ ap (λ gs. history e.queue before ++ gs)
-        (own_on e.queue e [] (eq-eqb e.queue e.queue refl))
-
     own_is : IsFollowed (history e.queue (before ++ e ∷ [])) (followed new e.queue)
     own_is = record {
       at = follows.at ∙ place_is before old e few are
-          ∙ sym (ap length one_more ∙ length-append (history e.queue before) (e ∷ []));
+          ∙ sym (ap length (own_last before e) ∙ length-append (history e.queue before) (e ∷ []));
       waiting = follows.waiting
           ∙ ap (waiting_after e.event e.reply) (are e.queue).waiting
           ∙ (entry_tells 0 (replay (history e.queue before)) e is).1
-          ∙ sym (ap (λ gs. waiting_of (replay gs)) one_more
-          ∙ ap waiting_of (replay_on None (history e.queue before) e));
+          ∙ sym (ap waiting_of (state_last before e));
     }
 
 told_is : (before : List Entry) (queues : FollowedQueues) (e : Entry) →

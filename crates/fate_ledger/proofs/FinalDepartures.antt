@@ -32,7 +32,7 @@ use Rattle.fate_ledger.specs.Fates.{happens_after, happenings, happenings_after,
 use Rattle.fate_ledger.specs.Laws.{step_after, IsLastEvent, LeftForGood, Tells}
 use Rattle.fate_ledger.specs.declared.fate.Fate.TheVariants as fate
 use Rattle.histories.specs.History.{AreLegal}
-use Rattle.fate_ledger.proofs.EntryWalk.{step_at}
+use Rattle.queue_replay.specs.QueueHistories.{step_at}
 use Rattle.fate_ledger.proofs.FateWays.{Laws, leaves_so, is_said}
 use Rattle.fate_ledger.proofs.LastArrivals.{once}
 
@@ -258,14 +258,16 @@ module _ (number : ℕ) (es : List Entry) (h : Happening) (last : IsLastEvent es
       let over = is_done number (h.card.visit + 1) tables key entered es lost sound kept all_low
       last.before last.entry last.after last.split h.card left.way left.leaves last.number_is
       refl in record {
-        before = last.before;
-        entry = last.entry;
-        after = last.after;
-        split = last.split;
-        queue = last.event.queue;
-        at = last.event.at;
-        way = left.way;
-        leaves = left.leaves;
+        there = record {
+          before = last.before;
+          entry = last.entry;
+          after = last.after;
+          split = last.split;
+          queue = last.event.queue;
+          at = last.event.at;
+          way = left.way;
+          leaves = left.leaves;
+        };
         over = over;
         said = is_said tables key h.fate h.card left.way left.agrees over;
       }

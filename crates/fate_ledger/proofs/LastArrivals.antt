@@ -27,15 +27,15 @@ use Rattle.queue_core.specs.Laws.{Tells as CountsLeft}
 use Rattle.histories.specs.declared.entry.Entry.{Entry}
 use Rattle.histories.specs.History.{history, replay, replay_from, is_of, IsStep, AreLegal}
 use Rattle.histories.specs.Stays.{arrivals, departures, departures_from}
+use Rattle.queue_replay.specs.QueueHistories.{own_first, other_first, own_within, others_last}
+use Rattle.queue_replay.specs.QueueHistories.{state_on, state_last, step_at}
 use Rattle.fate_ledger.specs.declared.happening.Happening.{Happening}
 use Rattle.fate_ledger.specs.declared.fate.Fate.{Fate}
 use Rattle.fate_ledger.specs.declared.fate.Fate.TheVariants as fate
 use Rattle.fate_ledger.specs.Fates.{happenings_after, happens_after, departing, fate_at_arrival}
 use Rattle.fate_ledger.specs.Fates.{fate_by_request, fate_by_verdict, happens}
-use Rattle.std.proofs.lemmas.List.{append-nil}
 use Rattle.fate_ledger.specs.Laws.{IsLastEvent, Tells, Leaves, step_after, is_visit}
 use Rattle.fate_ledger.specs.Laws.{AreApart, Waits, LeftThere}
-use Rattle.fate_ledger.proofs.EntryWalk.{history_on, own_on, other_on, step_at, replay_on}
 
 -- ---- an arrival's step
 
@@ -166,7 +166,8 @@ module _ (number visit : ℕ) where
   none_depart queue p [] all none = refl
   none_depart queue p (d ∷ after) all none = elim (cases_Bool (is_of queue d)) [
     | inl own ↦ (let same : d.queue ≡ queue = eqb-true d.queue queue own in
-        let here : history queue (d ∷ after) ≡ d ∷ history queue after = own_on queue d after own in
+        let here : history queue (d ∷ after) ≡ d ∷ history queue after =
+        own_first queue d after own in
         let came : times test (arriving d.event) + times test (arrivals (history queue after)) ≡ 0 =
         sym (times_on test (arriving d.event) (arrivals (history queue after)))
         ∙ ap (λ gs. times test (arrivals gs)) (sym here) ∙ none in
@@ -174,14 +175,10 @@ module _ (number visit : ℕ) where
         subst (λ q. times test (leaving_in (step (replay (history q p)) d.event)) ≡ 0) same
         (none_leaving p d (all_front (happens_after p d)
         (happenings_after (p ++ d ∷ []) after) all) (omega (arith, came))) in
-        let state : replay (history queue (p ++ d ∷ []))
-        ≡ (step (replay (history queue p)) d.event).state =
-        ap replay (history_on queue p (d ∷ [])
-        ∙ ap (λ gs. history queue p ++ gs) (own_on queue d [] own))
-        ∙ replay_on None (history queue p) d in
         let rest : times test (departures_from (step (replay (history queue p)) d.event).state
         (history queue after)) ≡ 0 =
-        subst (λ s. times test (departures_from s (history queue after)) ≡ 0) state
+        subst (λ s. times test (departures_from s (history queue after)) ≡ 0)
+        (state_on queue p d own)
         (none_depart queue (p ++ d ∷ []) after (all_back (happens_after p d)
         (happenings_after (p ++ d ∷ []) after) all) (omega (arith, came))) in
         ap (λ gs. times test (departures_from (replay (history queue p)) gs)) here
@@ -194,12 +191,10 @@ module _ (number visit : ℕ) where
           rest,
         ))
     | inr other ↦ (let here : history queue (d ∷ after) ≡ history queue after =
-        other_on queue d after other in
-        let before : history queue (p ++ d ∷ []) ≡ history queue p =
-        history_on queue p (d ∷ []) ∙ ap (λ gs. history queue p ++ gs)
-        (other_on queue d [] other) ∙ append-nil (history queue p) in
+        other_first queue d after other in
         ap (λ gs. times test (departures_from (replay (history queue p)) gs)) here
-        ∙ subst (λ gs. times test (departures_from (replay gs) (history queue after)) ≡ 0) before
+        ∙ subst (λ gs. times test (departures_from (replay gs) (history queue after)) ≡ 0)
+        (others_last p d queue other)
         (none_depart queue (p ++ d ∷ []) after (all_back (happens_after p d)
         (happenings_after (p ++ d ∷ []) after) all)
         (ap (λ gs. times test (arrivals gs)) (sym here) ∙ none)))
@@ -274,8 +269,8 @@ module _ (counts : (q : Option Bound) (ev : Event) →
 
       whole : history e.queue es ≡ xs ++ e ∷ ys
       whole =
-          ap (history e.queue) last.split ∙ history_on e.queue last.before (e ∷ last.after)
-          ∙ ap (λ gs. xs ++ gs) (own_on e.queue e last.after (eq-eqb e.queue e.queue refl))
+          ap (history e.queue) last.split
+          ∙ own_within e.queue last.before last.after e (eq-eqb e.queue e.queue refl)
 
       few : times mine (arrivals (history e.queue es)) ≤ 1
       few = omega (arith, fewer_at mine e.queue es, apart number h.card.visit)
@@ -315,16 +310,9 @@ module _ (counts : (q : Option Bound) (ev : Event) →
             later,
           )
         where
-          state : replay (history e.queue (last.before ++ e ∷ []))
-              ≡ (step (replay xs) e.event).state
-          state =
-              ap replay (history_on e.queue last.before (e ∷ [])
-              ∙ ap (λ gs. xs ++ gs) (own_on e.queue e [] (eq-eqb e.queue e.queue refl)))
-              ∙ replay_on None xs e
-
           later : times mine (departures_from (step (replay xs) e.event).state ys) ≡ 0
           later =
-              subst (λ s. times mine (departures_from s ys) ≡ 0) state
+              subst (λ s. times mine (departures_from s ys) ≡ 0) (state_last last.before e)
               (none_depart number h.card.visit e.queue (last.before ++ e ∷ []) last.after
               (recursion_from_All _ (happenings_after (last.before ++ e ∷ []) last.after)
               last.latest) rest)

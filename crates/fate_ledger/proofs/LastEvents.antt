@@ -16,6 +16,7 @@ use Rattle.histories.specs.declared.entry.Entry.{Entry}
 use Rattle.histories.specs.declared.histories.Histories.{Histories}
 use Rattle.histories.specs.declared.histories.Lost.{Lost}
 use Rattle.histories.specs.History.{history, replay, IsStep, AreLegal}
+use Rattle.queue_replay.specs.QueueHistories.{step_at}
 use Rattle.queue_core.specs.declared.event.Event.{Event}
 use Rattle.queue_core.specs.declared.event.Event.TheVariants.{Arrive, Ask, PortClosed, DeviceDown}
 use Rattle.queue_core.specs.declared.event.Reply.{Reply}
@@ -29,7 +30,6 @@ use Rattle.fate_ledger.specs.declared.fate.Fate.{Fate}
 use Rattle.fate_ledger.specs.declared.fate.Fate.TheVariants as fate
 use Rattle.fate_ledger.specs.declared.fate.FateLine.{FateLine}
 use Rattle.fate_ledger.specs.Laws.{IsLastEvent, IsEventOf, IsLineOf, Tells, Leaves, step_after}
-use Rattle.fate_ledger.proofs.EntryWalk.{step_at}
 use Rattle.fate_ledger.specs.Fates.{departing, happens, fate_by_request, fate_by_reply}
 use Rattle.fate_ledger.specs.Fates.{last_of, later_of, is_later, happenings, happenings_after}
 use Rattle.fate_ledger.specs.Fates.{happens_after, fates_from, fates, fate_line, is_lost}

@@ -35,8 +35,7 @@ use Rattle.histories.specs.Lengths.{AreShort}
 use Rattle.pcap_io.specs.FramePackets.{AreRead, IsRead}
 use Rattle.fate_ledger.specs.Payloads.{IsPayload}
 use Rattle.fate_ledger.specs.Released as text
-use Rattle.fate_ledger.proofs.Origins.{HoldsOf}
-use Rattle.fate_ledger.proofs.Payloads.{each_right}
+use Rattle.fate_ledger.proofs.Payloads.{PassedBy, each_right}
 use Rattle.fate_ledger.proofs.ReleasedCapture.{equal_bytes, unequal_bytes}
 use Rattle.fate_ledger.proofs.Tables.{either}
 
@@ -126,7 +125,7 @@ module _ (link number : ℕ) (f : Frame) where
   unhooked_only false is = refl
 
   line_payload : (lost : Bool) (o : Option Happening) →
-      IsLast number (HoldsOf line_test short_passes) o →
+      IsLast number (PassedBy line_test short_passes) o →
       IsPayload link f (fate_line lost number f o)
   line_payload lost None is = inl (refl, unhooked_only lost)
   line_payload lost (Some h) is = inr (passed h.card.number h.card.bytes is.0 is.1)
@@ -303,8 +302,8 @@ module _ (tables : RuleTables) (key link : ℕ) (entered : List Card) (h : Histo
       c.number ≡ place + 1 → IsRead link f c.bytes) entered read)) in
       line_payload link number f (is_lost h.lost number)
       (last_of number (happenings h.entries) None)
-      (last_is number (HoldsOf test given) (happenings h.entries) None
-      (each_right tables key entered h.entries h.lost test given all short sound) tt)
+      (last_is number (PassedBy test given) (happenings h.entries) None
+      (each_right test given tables key entered h.entries h.lost all short sound) tt)
 
   all_good : EachFrom (IsGood link (happenings h.entries) h.lost) 1 frames
   all_good = each_from (IsGood link (happenings h.entries) h.lost) 1 frames good_at

@@ -1,44 +1,40 @@
 -- What holds of the packets that arrive, and stays where a verdict edits them, holds of those that
 -- leave.
-use Rattle.std.proofs.Common.{◌≤◌, ℕ, List, length, Option, None}
+use Rattle.std.proofs.Common.{ℕ, List, Option, None}
 use Rattle.std.specs.Prelude.{IfSome}
 use Rattle.std.specs.List.{AllByRecursion}
 use Rattle.packet_entry.specs.declared.packet.Card.{Card}
 use Rattle.packet_entry.specs.Card.{edited}
-use Rattle.packet_entry.specs.Numbers.{longest_payload}
 use Rattle.nfqa_msgs.specs.declared.request.Request.TheVariants.{Config, Verdict, Batch}
-use Rattle.nfqa_msgs.specs.RequestReading.{PayloadFits}
 use Rattle.queue_core.specs.declared.event.Event.{Event}
 use Rattle.queue_core.specs.declared.event.Event.TheVariants.{Arrive, Ask, PortClosed, DeviceDown}
 use Rattle.queue_core.specs.Holding.{Property, Keeps, AllLeave}
 use Rattle.histories.specs.declared.entry.Entry.{Entry}
 use Rattle.histories.specs.States.{step_of}
 use Rattle.histories.specs.Holding.{weaker, leaving_holds}
+use Rattle.fate_ledger.specs.Origins.{GivenIn}
 
--- a request's payload is no longer than one attribute may be
-abbrev pub IsShort : Option (List ℕ) → Type 0
-IsShort payload = IfSome payload (λ bytes. length bytes ≤ longest_payload)
+-- what edits keep, with payloads of which this holds
+abbrev pub Stays : (List ℕ → Type 0) → Property → Type 0
+Stays Given F =
+    (c : Card) (mark : Option ℕ) (payload : Option (List ℕ)) (priority : Option ℕ) → F c →
+    IfSome payload Given → F (edited c mark payload priority)
 
--- what edits keep
-abbrev pub Stays : Property → Type 0
-Stays F = (c : Card) (mark : Option ℕ) (payload : Option (List ℕ)) (priority : Option ℕ) →
-    F c → IsShort payload → F (edited c mark payload priority)
+-- it holds of the packet of an event that is an arrival, and that of a request's payload
+abbrev pub Fits : (List ℕ → Type 0) → Property → Event → Type 0
+Fits Given F (Arrive card bypass room) = F card
+Fits Given F (Ask port call request) = GivenIn Given request
+Fits Given F (PortClosed port) = Unit {0}
+Fits Given F (DeviceDown device) = Unit {0}
 
--- it holds of the packet of an event that is an arrival, and a request's payload fits
-abbrev pub Fits : Property → Event → Type 0
-Fits F (Arrive card bypass room) = F card
-Fits F (Ask port call request) = PayloadFits request
-Fits F (PortClosed port) = Unit {0}
-Fits F (DeviceDown device) = Unit {0}
+abbrev pub Fitting : (List ℕ → Type 0) → Property → Entry → Type 0
+Fitting Given F e = Fits Given F e.event
 
-abbrev pub Fitting : Property → Entry → Type 0
-Fitting F e = Fits F e.event
+abbrev pub AllFit : (List ℕ → Type 0) → Property → List Entry → Type 0
+AllFit Given F es = AllByRecursion (Fitting Given F) es
 
-abbrev pub AllFit : Property → List Entry → Type 0
-AllFit F es = AllByRecursion (Fitting F) es
-
-module _ (F : Property) (stays : Stays F) where
-  keeps : (e : Event) → Fits F e → Keeps F e
+module _ (Given : List ℕ → Type 0) (F : Property) (stays : Stays Given F) where
+  keeps : (e : Event) → Fits Given F e → Keeps F e
   keeps (Arrive card bypass room) fits = fits
   keeps (Ask port call (Config queue command params maximum flags mask)) fits = tt
   keeps (Ask port call (Verdict queue head mark payload priority)) fits =
@@ -48,9 +44,9 @@ module _ (F : Property) (stays : Stays F) where
   keeps (PortClosed port) fits = tt
   keeps (DeviceDown device) fits = tt
 
-  pub leaving_fits : (es : List Entry) (queue : ℕ) (event : Event) → AllFit F es →
-      Fits F event → AllLeave F (step_of es queue event).left
+  pub leaving_fits : (es : List Entry) (queue : ℕ) (event : Event) → AllFit Given F es →
+      Fits Given F event → AllLeave F (step_of es queue event).left
   leaving_fits es queue event fit fits =
       leaving_holds F es queue event
-      (weaker (Fitting F) (λ (e : Entry). Keeps F e.event) (λ e. keeps e.event) es fit)
+      (weaker (Fitting Given F) (λ (e : Entry). Keeps F e.event) (λ e. keeps e.event) es fit)
       (keeps event fits)

@@ -170,13 +170,6 @@ pub record IsSaidBy (f : Fate) (route : Option Next) : Type 0 where
 -- destroyed, as its fate says.
 pub record LeftForGood (tables : RuleTables) (key : ℕ) (es : List Entry) (h : Happening)
     : Type 0 where
-  pub before : List Entry
-  pub entry : Entry
-  pub after : List Entry
-  pub split : es ≡ before ++ entry ∷ after
-  pub queue : h.queue ≡ entry.queue
-  pub at : h.at ≡ length (history entry.queue before) + 1
-  pub way : Way
-  pub leaves : Leaves (step_after before entry) h.card way
-  pub over : is_over tables key (h.card, way) ≡ true
-  pub said : IsSaidBy h.fate (route_by tables key (h.card, way))
+  pub there : LeftThere es h
+  pub over : is_over tables key (h.card, there.way) ≡ true
+  pub said : IsSaidBy h.fate (route_by tables key (h.card, there.way))

@@ -4,6 +4,7 @@ pub mod Following
 pub mod IndexedList
 pub mod Laws
 pub mod Ledger
+pub mod Origins
 pub mod Payloads
 pub mod Released
 pub mod WaitingList

@@ -9,7 +9,7 @@ ghost use Rattle.fate_ledger.specs.Fates.{happenings};
 ghost use Rattle.pcap_io.specs.FramePackets.{AreRead};
 ghost use Rattle.histories.specs.Lengths.{AreShort};
 ghost use Rattle.fate_ledger.specs.Payloads.{IsPayload};
-ghost use Rattle.std.specs.List.{zip};
+ghost use Rattle.std.specs.List.{zip, AllByRecursion};
 ghost use Rattle.packet_entry.specs.declared.packet.Card.{Card as ACard};
 ghost use Rattle.hook_chain.specs.Rules.{RuleTables};
 ghost use Rattle.histories.specs.declared.histories.Lost.{Lost as ALost};
@@ -24,6 +24,7 @@ ghost use Rattle.fate_ledger.specs.Laws.{IsWritten, LeftForGood, LeftThere, Wait
 ghost use Rattle.fate_ledger.specs.Fates.{is_lost};
 ghost use Rattle.std.specs.Prelude.{false};
 ghost use Rattle.fate_ledger.specs.Ledger.{is_release};
+ghost use Rattle.fate_ledger.specs.Origins.{AllArrive, AllAsk, IsKept};
 ghost use Rattle.fate_ledger.specs.Released as released;
 ghost use Rattle.fate_ledger.specs.declared.fate.Fate.TheVariants.{Waiting};
 ghost use Rattle.fate_ledger.specs.declared.fate.FateLine.{FateLine as ALine};
@@ -94,6 +95,18 @@ pub fn what_holds_of_packets_stays_so()
         All (λ (c : ACard). test c.number c.bytes ≡ true) entered → AreShort es →
         AreSound tables key entered es lost →
         All (λ (h : AHappening). test h.card.number h.card.bytes ≡ true) (happenings es) }
+{}
+
+/// What holds of each packet that entered, and is kept by edits and on the way to the next table,
+/// holds of each packet that arrives in sound histories. The payloads that are asked for pass a
+/// test of their own, on which the edits may rest.
+pub fn what_edits_keep_holds_of_each_that_arrives()
+    ensures { (tables : RuleTables) (key : ℕ) (entered : List ACard)
+        (es : List AnEntry) (lost : List ALost) (test : ACard → Bool) (given : List ℕ → Bool) →
+        IsKept test (λ bytes. given bytes ≡ true) →
+        AllByRecursion (λ (c : ACard). test c ≡ true) entered →
+        AllAsk (λ bytes. given bytes ≡ true) es →
+        AreSound tables key entered es lost → AllArrive test es }
 {}
 
 /// Where the packets that entered were read with the capture's frames, the payload of each line in

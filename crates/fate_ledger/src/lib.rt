@@ -30,7 +30,8 @@ pub use journals::journal_text;
 pub use laws::{
     each_line_names_the_last_event, no_visit_arrives_twice, payloads_were_read_or_given,
     released_frames_are_those_let_go, the_last_event_is_where_it_left_or_waits,
-    what_holds_of_packets_stays_so, what_left_last_is_over,
+    what_edits_keep_holds_of_each_that_arrives, what_holds_of_packets_stays_so,
+    what_left_last_is_over,
 };
 pub use ledger::ledger_text;
 pub use released::released_capture;

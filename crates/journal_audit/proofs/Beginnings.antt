@@ -1,16 +1,17 @@
 -- The shortest beginning of a history that isn't legal.
 use Rattle.std.proofs.Common.{◌≡◌, ◌≤◌, ℕ, ◌+◌, List, [], ◌∷◌, ◌++◌, length, take, drop}
-use Rattle.std.proofs.Common.{Option, Some, None, true, refl, sym, subst, arith}
+use Rattle.std.proofs.Common.{Option, Some, None, refl, sym, subst, arith}
 use Rattle.std.proofs.Common.{take_all, take-append-drop, length-append, inl, inr}
-use Rattle.std.proofs.lemmas.Bool.{cases_Bool, eq-eqb, eqb-true, ne_eqb, leb-true, leb-false}
+use Rattle.std.proofs.lemmas.Bool.{cases_Bool, eqb-true, ne_eqb, leb-true, leb-false}
 use Rattle.std.proofs.lemmas.List.{take-append-le}
-use Rattle.std.specs.Prelude.{nat_le, ◌==◌, ◌↔◌}
+use Rattle.std.specs.Prelude.{nat_le, ◌↔◌}
 use Rattle.queue_core.specs.State.{Bound}
 use Rattle.queue_core.specs.Step.{step}
 use Rattle.histories.specs.declared.entry.Entry.{Entry}
 use Rattle.histories.specs.History.{replay, replay_from, history, is_of, IsStep, IsLegal}
 use Rattle.histories.specs.History.{IsLegalFrom, AreLegal}
-use Rattle.histories.proofs.LegalHistories.{front, own_on, others_on}
+use Rattle.histories.proofs.LegalHistories.{front}
+use Rattle.queue_replay.specs.QueueHistories.{own_last, others_last}
 use Rattle.journal_audit.specs.declared.first_illegal.Place1.{Place1}
 use Rattle.journal_audit.specs.Illegal.{IsFirstIllegal, IsFirstOf, sooner}
 use Rattle.journal_audit.specs.Watching.{IsFound}
@@ -63,9 +64,6 @@ module _ (so_far : List Entry) (e : Entry) where
 
 -- ---- the histories of all queues
 
-itself : (queue : ℕ) → (queue == queue) ≡ true
-itself queue = eq-eqb queue queue refl
-
 sooner_none : (first : Option Place1) (queue : ℕ) → sooner first queue None ≡ first
 sooner_none None queue = refl
 sooner_none (Some p) queue = refl
@@ -77,15 +75,15 @@ module _ (es : List Entry) (e : Entry) where
   at_queue P queue was own = elim (cases_Bool (is_of queue e)) [
     | inl here ↦ (let same : e.queue ≡ queue = eqb-true e.queue queue here in
         subst (λ q. P (history q (es ++ e ∷ []))) same
-        (subst P (sym (own_on es e e.queue (itself e.queue)))
+        (subst P (sym (own_last es e))
         (own (subst (λ q. P (history q es)) (sym same) was))))
-    | inr other ↦ subst P (sym (others_on es e queue other)) was
+    | inr other ↦ subst P (sym (others_last es e queue other)) was
   ]
 
   -- other queues keep their histories
   kept : (P : List Entry → Type 0) (queue : ℕ) → (e.queue ≡ queue → ⊥) → P (history queue es) →
       P (history queue (es ++ e ∷ []))
-  kept P queue differ was = subst P (sym (others_on es e queue (ne_eqb e.queue queue differ))) was
+  kept P queue differ was = subst P (sym (others_last es e queue (ne_eqb e.queue queue differ))) was
 
   -- no history ceases to be legal
   none_found : (first : Option Place1) → IsFirstOf es first →
@@ -101,7 +99,7 @@ module _ (es : List Entry) (e : Entry) where
   found_at : (at : ℕ) → IsFirstIllegal (history e.queue es ++ e ∷ []) at →
       IsFirstIllegal (history e.queue (es ++ e ∷ [])) at
   found_at at is =
-      subst (λ h. IsFirstIllegal h at) (sym (own_on es e e.queue (itself e.queue))) is
+      subst (λ h. IsFirstIllegal h at) (sym (own_last es e)) is
 
   -- the history of the entry's queue does, and this is the first place, or comes behind it
   one_found : (first : Option Place1) (at : ℕ) → IsFirstOf es first →

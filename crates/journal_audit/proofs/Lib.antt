@@ -2,8 +2,6 @@ pub mod Beginnings
 pub mod WatchedHistory
 pub mod EntryWalk
 pub mod PacketNumbers
-pub mod PacketProperties
-pub mod Origins
 pub mod Packets
 pub mod FirstWrong
 pub mod PartAnswers

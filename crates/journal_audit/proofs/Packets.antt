@@ -16,13 +16,13 @@ use Rattle.ip_fields.specs.Numbers.{link_raw, vlan_type}
 use Rattle.ip_fields.specs.Packet.{version_of}
 use Rattle.pcap_io.specs.declared.capture.Capture.{Capture}
 use Rattle.pcap_io.specs.declared.capture.Frame.{Frame}
-use Rattle.hook_chain.specs.Rules.{RuleTables}
+use Rattle.nfqa_msgs.specs.declared.request.Request.TheVariants.{Config, Verdict, Batch}
+use Rattle.queue_core.specs.declared.event.Event.{Event}
+use Rattle.queue_core.specs.declared.event.Event.TheVariants.{Arrive, Ask, PortClosed, DeviceDown}
 use Rattle.histories.specs.declared.entry.Entry.{Entry}
-use Rattle.histories.specs.declared.histories.Lost.{Lost}
-use Rattle.histories.specs.Journeys.{AreSound}
-use Rattle.run_parts.specs.Entering.{card_at, cards, cards_from}
-use Rattle.log_audit.specs.Stays.{ArePackets, is_link_length, is_packets, is_protocol}
-use Rattle.journal_audit.proofs.Origins.{all_hold}
+use Rattle.fate_ledger.specs.Origins.{IsKept, Asks, AllAsk, Arrives, AllArrive}
+use Rattle.run_parts.specs.Entering.{card_at, cards_from}
+use Rattle.log_audit.specs.Stays.{ArePackets, IsPackets, is_link_length, is_packets, is_protocol}
 
 -- ---- where a packet starts in its frame
 
@@ -100,7 +100,7 @@ is_one c number f l start =
 abbrev Holds : Card → Type 0
 Holds card = is_packets card ≡ true
 
-are_all : (c : Capture) (number : ℕ) (fs : List Frame) →
+pub are_all : (c : Capture) (number : ℕ) (fs : List Frame) →
     AllByRecursion Holds (cards_from c number fs)
 are_all c number [] = tt
 are_all c number (f ∷ fs) =
@@ -115,7 +115,38 @@ are_all c number (f ∷ fs) =
 
 -- ---- the packets that arrive
 
-pub are_packets : (tables : RuleTables) (key : ℕ) (c : Capture) (es : List Entry)
-    (lost : List Lost) → AreSound tables key (cards c) es lost → ArePackets es
-are_packets tables key c es lost sound =
-    all_hold tables key (cards c) es lost (are_all c 1 c.frames) sound
+-- no edit changes a protocol or a header, whatever its payload
+abbrev pub any_bytes : List ℕ → Bool
+any_bytes bytes = true
+
+pub packets_kept : IsKept is_packets (λ bytes. any_bytes bytes ≡ true)
+packets_kept = record {
+  edits = λ c mark payload priority is given. is;
+  moves = λ c visit table. refl;
+}
+
+any_payload : (payload : Option (List ℕ)) → IfSome payload (λ bytes. any_bytes bytes ≡ true)
+any_payload None = tt
+any_payload (Some bytes) = refl
+
+asks_any : (event : Event) → Asks (λ bytes. any_bytes bytes ≡ true) event
+asks_any (Arrive card bypass room) = tt
+asks_any (Ask port call (Config queue command params maximum flags mask)) = tt
+asks_any (Ask port call (Verdict queue head mark payload priority)) = any_payload payload
+asks_any (Ask port call (Batch queue head mark priority)) = tt
+asks_any (PortClosed port) = tt
+asks_any (DeviceDown device) = tt
+
+pub all_ask_any : (es : List Entry) → AllAsk (λ bytes. any_bytes bytes ≡ true) es
+all_ask_any [] = tt
+all_ask_any (e ∷ es) = (asks_any e.event, all_ask_any es)
+
+pub are_packets : (es : List Entry) → AllArrive is_packets es → ArePackets es
+are_packets [] all = tt
+are_packets (e ∷ es) all = (by e.event all.0, are_packets es all.1)
+  where
+    by : (event : Event) → Arrives is_packets event → IsPackets event
+    by (Arrive card bypass room) is = is
+    by (Ask port call request) is = tt
+    by (PortClosed port) is = tt
+    by (DeviceDown device) is = tt

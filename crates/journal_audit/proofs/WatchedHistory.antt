@@ -1,7 +1,6 @@
 -- One history that is watched, one entry more.
 use Rattle.std.proofs.Common.{◌≡◌, ◌+◌, List, [], ◌∷◌, ◌++◌, length, true, false, sym, ap, ◌∙◌}
-use Rattle.std.proofs.Common.{arith}
-use Rattle.std.proofs.Common.{length-append}
+use Rattle.std.proofs.Common.{arith, length-append, true≢false}
 use Rattle.histories.specs.declared.entry.Entry.{Entry}
 use Rattle.histories.specs.History.{replay, IsStep}
 use Rattle.histories.proofs.LegalHistories.{legal_on}
@@ -9,9 +8,6 @@ use Rattle.journal_audit.specs.declared.watched.Watched.{Watched}
 use Rattle.journal_audit.specs.Illegal.{IsFirstIllegal}
 use Rattle.journal_audit.specs.Watching.{IsWatched}
 use Rattle.journal_audit.proofs.Beginnings.{stays_illegal, ends_here, first_here}
-
-pub true_is_not_false : true ≡ false → ⊥
-true_is_not_false e = cc
 
 module _ (so_far : List Entry) (e : Entry) (w v : Watched) (is : IsWatched so_far w)
     (longer : v.length ≡ w.length + 1) where
@@ -22,7 +18,7 @@ module _ (so_far : List Entry) (e : Entry) (w v : Watched) (is : IsWatched so_fa
   pub still_illegal : w.is_legal ≡ false → v.is_legal ≡ false → IsWatched (so_far ++ e ∷ []) v
   still_illegal was now = record {
     length_is = length_on;
-    legal = λ h. absurd (true_is_not_false (sym h ∙ now));
+    legal = λ h. absurd (true≢false (sym h ∙ now));
     illegal = λ h. stays_illegal so_far e (is.illegal was);
   }
 
@@ -32,14 +28,14 @@ module _ (so_far : List Entry) (e : Entry) (w v : Watched) (is : IsWatched so_fa
   goes_on was now one = record {
     length_is = length_on;
     legal = λ h. legal_on so_far e (is.legal was) one;
-    illegal = λ h. absurd (true_is_not_false (sym now ∙ h));
+    illegal = λ h. absurd (true≢false (sym now ∙ h));
   }
 
   -- the history is legal so far, and ends to be so
   pub ends : v.is_legal ≡ false → (IsStep (replay so_far) e → ⊥) → IsWatched (so_far ++ e ∷ []) v
   ends now no_step = record {
     length_is = length_on;
-    legal = λ h. absurd (true_is_not_false (sym h ∙ now));
+    legal = λ h. absurd (true≢false (sym h ∙ now));
     illegal = λ h. ends_here so_far e no_step;
   }
 

@@ -20,6 +20,7 @@ ghost use Rattle.journal_audit.specs.declared.part.Part.{Part};
 ghost use Rattle.journal_audit.specs.Findings as findings;
 ghost use Rattle.journal_audit.specs.Parts as parts;
 
+use fate_ledger::what_edits_keep_holds_of_each_that_arrives;
 use histories::each_front_of_a_legal_history_is_legal;
 
 /// No two packets of a capture have the same number.
@@ -32,7 +33,9 @@ pub fn packets_of_a_capture_differ()
 pub fn packets_of_a_capture_arrive()
     ensures { (tables : RuleTables) (key : ℕ) (c : Capture) (es : List Entry)
         (lost : List Lost) → AreSound tables key (cards c) es lost → ArePackets es }
-{}
+{
+    what_edits_keep_holds_of_each_that_arrives();
+}
 
 /// Histories are a run of a script exactly where each part holds of what each port did, told in
 /// full. So no answer is given both ways.

@@ -1,7 +1,6 @@
-use Rattle.std.proofs.Common.{false, refl, sym, ◌∙◌}
+use Rattle.std.proofs.Common.{false, refl, sym, ◌∙◌, true≢false}
 use Rattle.histories.proofs.LegalHistories.{legal_on}
 use Rattle.journal_audit.proofs.WatchedHistory.{still_illegal, goes_on, ends, found_here}
-use Rattle.journal_audit.proofs.WatchedHistory.{true_is_not_false}
 use Rattle.journal_audit.proofs.watched.Watched.watch.Goals as goal
 
 pub returns-then-not-self-clause-watched : goal.returns-then-not-self-clause-watched
@@ -21,7 +20,7 @@ returns-then-is_step-clause-found c = λ so_far e one is legal.
 pub returns-clause-watched : goal.returns-clause-watched
 returns-clause-watched c = λ so_far e one is.
     ends so_far e c.args.self.now _ is c.in_ok-length.ensures refl
-    (λ step. true_is_not_false (sym (one.1 step) ∙ c.if-is_step.false))
+    (λ step. true≢false (sym (one.1 step) ∙ c.if-is_step.false))
 
 pub returns-clause-found : goal.returns-clause-found
 returns-clause-found c = λ so_far e one is.
@@ -29,4 +28,4 @@ returns-clause-found c = λ so_far e one is.
       length = c.in_ok-length.length;
       is_legal = false;
     }) is c.in_ok-length.ensures c.if-not-self.false
-    (λ step. true_is_not_false (sym (one.1 step) ∙ c.if-is_step.false))
+    (λ step. true≢false (sym (one.1 step) ∙ c.if-is_step.false))
