@@ -29,7 +29,7 @@ use Rattle.live_work.specs.declared.mind.Mind.{Mind}
 use Rattle.live_work.specs.Minds.{IsMind}
 use Rattle.live_work.proofs.SentAsks.{TakesUpLaw}
 use Rattle.nfq_live.proofs.PortEndStage.{SendsOneLaw, cuts_all, cuts_last, cuts_on, received_same}
-use Rattle.nfq_live.proofs.PortEndStage.{says_of_end, unsent}
+use Rattle.nfq_live.proofs.PortEndStage.{says_of_end}
 use Rattle.nfq_live.proofs.AllPasses.{GoesOnAt, pass_at}
 use Rattle.live_work.proofs.UnchangedPass.{some_place}
 use Rattle.live_work.proofs.PortMinds.{mind_within}
@@ -115,13 +115,13 @@ module _ (plane : Plane) (script : ScriptValue) (place at : ℕ)
       (port_in_script plane script c at d s.crew order s.within) (s.its d) law bytes count look
       rest begun c n used (some_place plane) within none (s.one d) (s.speaks d) so_far
 
-  pub end_received : (c n : Crew) (rest : List ℕ) (used : ℕ) → used ≤ 0 → SpeaksAt c n rest used →
+  pub end_received : (c n : Crew) (rest : List ℕ) (used : ℕ) (s : SpeaksAt c n rest used) →
+      passes_of n (slice_index_or c.ports.items at (a_port c at s.within)).port
+      ≡ passes_of c (slice_index_or c.ports.items at (a_port c at s.within)).port →
       AreReceived script.ports (places_of plane) c → AreReceived script.ports (places_of plane) n
-  end_received c n rest used none s was =
+  end_received c n rest used s same was =
       let d = a_port c at s.within in
       let port = (slice_index_or c.ports.items at d).port in
-      let same = unsent rest (places_of plane) port (passes_of c port) (passes_of n port) used none
-      (s.speaks d) in
       received_same script.ports (places_of plane) c n (s.one d).alone
       (λ p. by_number c n port (s.one d) same p) was
 

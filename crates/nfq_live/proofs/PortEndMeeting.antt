@@ -3,12 +3,14 @@ use Rattle.std.proofs.Common.{◌≡◌, ◌≢◌, ◌<◌, ◌≤◌, ◌⊎�
 use Rattle.std.proofs.Common.{true, false, ap, arith, inl, inr, length, refl, subst, sym}
 use Rattle.std.specs.Prelude.{◌==◌}
 use Rattle.std.proofs.lemmas.Bool.{cases_Bool, cases_lt, eqb-false, eqb-true}
+use Rattle.std.proofs.lemmas.Bool.Decides.{eqb_tells}
 use Rattle.packet_entry.specs.declared.letter.Letter.{Letter}
 use Rattle.script_lines.specs.declared.ask.Ask.TheVariants.{Close}
 use Rattle.inspector_script.specs.Scripts.{ScriptValue, closing}
 use Rattle.run_parts.specs.Feeder.{downs_in_effect}
 use Rattle.run_parts.specs.Log.{Due, Note, Shut, Still, all_due}
 use Rattle.run_parts.specs.Ports.{is_port, place_in}
+use Rattle.live_runs.specs.Laws.{EndsStage}
 use Rattle.live_runs.specs.ClosedPlanes.{sent_at, sent_by_all}
 use Rattle.live_runs.specs.Doing.{HasHeard, IsAnswering, IsDoing}
 use Rattle.live_runs.specs.Meetings.{IsMeeting}
@@ -51,19 +53,6 @@ ClosedLaw = (workers : ℕ) (script : ScriptValue) (places port : ℕ) (was : Li
     (a : IsDoing workers script places (Ending (place_in port script.ports)) port was start
     (side (AtEnd []) (Still Close ∷ [])) mid) → Shuts places port mid new →
     IsPort workers script places port (a.notes ++ Shut ∷ []) shut_stand new
-
-abbrev pub MeetingLaw : Type 0
-MeetingLaw = (workers : ℕ) (script : ScriptValue) (places : ℕ) (before stage : Stage)
-    (old mid new : ℕ → Pass) (was now : ℕ → List Note) (stood stands : ℕ → Stand) →
-    0 < places → Follows script.ports before stage →
-    IsMeeting workers script places before old was stood →
-    ((p : ℕ) → is_port script p ≡ true →
-    IsPort workers script places p (now p) (stands p) (mid p)) →
-    ((p : ℕ) → is_port script p ≡ true →
-    Went workers script stage p (was p) (now p) (old p).shares (mid p).shares) →
-    ((p : ℕ) → is_port script p ≡ false → now p ≡ []) →
-    WentFeeding script stage (old feeder_number).shares (mid feeder_number).shares →
-    AreMet script.ports mid new → IsMeeting workers script places stage new now stands
 
 abbrev pub RestsFeedingLaw : Type 0
 RestsFeedingLaw = (script : ScriptValue) (stage : Stage) (shares : Shares) →
@@ -254,27 +243,34 @@ stopped script places size place met was stood c ended feeder shut each = record
   are_open = λ p is. (each p).is_open is;
 }
 
+-- what holds of the port at a place, of each other one, and of each that the script hasn't
+each_port : (script : ScriptValue) (place : ℕ) (P : ℕ → Type 0) →
+    ((p : ℕ) → is_port script p ≡ false → P p) →
+    ((p : ℕ) → is_port script p ≡ true → place_in p script.ports ≡ place → P p) →
+    ((p : ℕ) → is_port script p ≡ true → place_in p script.ports ≢ place → P p) → (p : ℕ) → P p
+each_port script place P none this others p =
+    by (cases_Bool (is_port script p)) (eqb_tells (place_in p script.ports) place)
+  where
+    by : (is_port script p ≡ true) ⊎ (is_port script p ≡ false) →
+        (((place_in p script.ports == place) ≡ true) × (place_in p script.ports ≡ place))
+        ⊎ (((place_in p script.ports == place) ≡ false) × (place_in p script.ports ≢ place)) → P p
+    by (inr not) there = none p not
+    by (inl is) (inl here) = this p is here.1
+    by (inl is) (inr apart) = others p is apart.1
+
 -- the port is open still
 pub stops_so : GoesLaw → (script : ScriptValue) (places : ℕ) (size : Size) (place : ℕ) (c : Crew) →
     EndsTo script places size place [] c → HasStopped script places size place c
 stops_so law script places size place c e =
     stopped script places size place e.met e.notes e.stands c e.ended e.feeder e.shut
-    (λ p. by p (cases_Bool (is_port script p)) (cases_Bool (place_in p script.ports == place)))
-  where
-    by : (p : ℕ) → (is_port script p ≡ true) ⊎ (is_port script p ≡ false) →
-        ((place_in p script.ports == place) ≡ true)
-        ⊎ ((place_in p script.ports == place) ≡ false) →
-        StopsAs size.workers script places place p (e.notes p) (e.met p) (e.stands p) c
-    by p (inr not) there =
-        stops_none size.workers script places place p (e.notes p) (e.met p) (e.stands p) c not
-    by p (inl is) (inl h) =
-        let here = eqb-true (place_in p script.ports) place h in
-        stops_open law size.workers script places place p (e.notes p) (e.met p) (e.stands p) c
-        is here (e.this p is here) (e.is_open p is here)
-    by p (inl is) (inr h) =
-        let apart = eqb-false (place_in p script.ports) place h in
-        stops_other law size.workers script places place p (e.notes p) (e.met p) (e.stands p) c
-        is apart (e.others p is apart) (e.are_open p is apart)
+    (each_port script place
+    (λ p. StopsAs size.workers script places place p (e.notes p) (e.met p) (e.stands p) c)
+    (λ p not. stops_none size.workers script places place p (e.notes p) (e.met p) (e.stands p) c
+    not)
+    (λ p is here. stops_open law size.workers script places place p (e.notes p) (e.met p)
+    (e.stands p) c is here (e.this p is here) (e.is_open p is here))
+    (λ p is apart. stops_other law size.workers script places place p (e.notes p) (e.met p)
+    (e.stands p) c is apart (e.others p is apart) (e.are_open p is apart)))
 
 -- the port has closed
 pub shuts_so : GoesLaw → ClosesLaw → ClosedLaw → (script : ScriptValue)
@@ -288,7 +284,19 @@ shuts_so goes closes closed script places size place port c m some is_in at_plac
     feeder =
     stopped script places size place e.met e.notes e.stands m e.ended (feeder ∙ e.feeder)
     (λ p is gone. shut.others p (differs p gone) ∙ e.shut p is gone)
-    (λ p. by p (cases_Bool (is_port script p)) (cases_Bool (place_in p script.ports == place)))
+    (each_port script place
+    (λ p. StopsAs size.workers script places place p (e.notes p) (e.met p) (e.stands p) m)
+    (λ p not. stops_none size.workers script places place p (e.notes p) (e.met p) (e.stands p) m
+    not)
+    (λ p is here. let i = its p (same_place p port script.ports is is_in (here ∙ sym at_place)) in
+    stops_shut closes closed size.workers script places place p (e.notes p) (e.met p) (e.stands p)
+    c m some is here (e.this p is here) i.0 i.1 i.2)
+    (λ p is apart. let other : p ≢ port =
+    λ same. apart (ap (λ (q : ℕ). place_in q script.ports) same ∙ at_place) in
+    stops_other goes size.workers script places place p (e.notes p) (e.met p) (e.stands p) m is
+    apart (subst (λ (q : Pass). IsDoing size.workers script places (Ending place) p (e.notes p)
+    (e.met p) (e.stands p) q) (sym (shut.others p other)) (e.others p is apart))
+    (shut.stay p other ∙ e.are_open p is apart)))
   where
     differs : (p : ℕ) → (e.stands p).is_open ≡ false → p ≢ port
     differs p gone =
@@ -304,30 +312,10 @@ shuts_so goes closes closed script places size place port c m some is_in at_plac
         × ((k : ℕ) → places ≤ k → (passes_of m n).shares k ≡ (passes_of c n).shares k)
         × (is_open_in m n ≡ false)) (sym same) (shut.shuts, beyond, shut.gone)
 
-    by : (p : ℕ) → (is_port script p ≡ true) ⊎ (is_port script p ≡ false) →
-        ((place_in p script.ports == place) ≡ true)
-        ⊎ ((place_in p script.ports == place) ≡ false) →
-        StopsAs size.workers script places place p (e.notes p) (e.met p) (e.stands p) m
-    by p (inr not) there =
-        stops_none size.workers script places place p (e.notes p) (e.met p) (e.stands p) m not
-    by p (inl is) (inl h) =
-        let here = eqb-true (place_in p script.ports) place h in
-        let i = its p (same_place p port script.ports is is_in (here ∙ sym at_place)) in
-        stops_shut closes closed size.workers script places place p (e.notes p) (e.met p)
-        (e.stands p) c m some is here (e.this p is here) i.0 i.1 i.2
-    by p (inl is) (inr h) =
-        let apart = eqb-false (place_in p script.ports) place h in
-        let other : p ≢ port =
-        λ same. apart (ap (λ (q : ℕ). place_in q script.ports) same ∙ at_place) in
-        stops_other goes size.workers script places place p (e.notes p) (e.met p) (e.stands p) m
-        is apart (subst (λ (q : Pass). IsDoing size.workers script places (Ending place) p
-        (e.notes p) (e.met p) (e.stands p) q) (sym (shut.others p other)) (e.others p is apart))
-        (shut.stay p other ∙ e.are_open p is apart)
-
 -- ---- the meeting behind an end
 
 pub record MeetingLaws : Type 0 where
-  pub meeting : MeetingLaw
+  pub meeting : EndsStage
   pub rests : RestsFeedingLaw
   pub meets : FedMeetsLaw
   pub closed : ClosedSumLaw

@@ -3,14 +3,12 @@
 use Rattle.std.proofs.Common.{◌≡◌, ◌≢◌, ◌<◌, ◌≤◌, ◌-◌, ◌+◌, ◌⊎◌, ◌∙◌, ◌++◌, ◌∷◌, [], ℕ, suc, List}
 use Rattle.std.proofs.Common.{Bool}
 use Rattle.std.proofs.Common.{Option, Some, None, true, false, ap, arith, drop, inl, inr, length}
-use Rattle.std.proofs.Common.{map, min, refl, subst, sym}
+use Rattle.std.proofs.Common.{map, refl, subst, sym}
 use Rattle.std.specs.Prelude.{◌==◌, All, nat_eq}
 use Rattle.std.specs.List.{list_any}
 use Rattle.std.proofs.lemmas.Bool.{cases_Bool, cases_lt, eqb-true}
 use Rattle.std.proofs.lemmas.List.Elements.{All-head, All-tail}
-use Rattle.std.proofs.lemmas.Bool.Decides.{nat_tests}
-use Rattle.netlink_codec.specs.Messages.{NetlinkMessage, first_message, has_message, pad}
-use Rattle.netlink_codec.specs.Messages.{told_length, told_message}
+use Rattle.netlink_codec.specs.Messages.{NetlinkMessage, first_message}
 use Rattle.histories.specs.declared.log.AskWords.{AskWords}
 use Rattle.packet_moves.specs.Calls.{next_call}
 use Rattle.script_lines.specs.declared.ask.Ask.{Ask}
@@ -293,43 +291,6 @@ ends_look script places size place due c m looks e = record {
         (e.others q is other)
 
 -- ---- message by message
-
-some_bytes : (total bytes n : ℕ) → n ≡ min (pad total) bytes → 16 ≤ total → total ≤ bytes → 0 < n
-some_bytes total bytes n is least most = omega (arith, is, least, most)
-
--- a message uses a byte at least
-uses_some : (bytes : List ℕ) (m : NetlinkMessage) (n : ℕ) → first_message bytes ≡ Some (m, n) →
-    0 < n
-unfolding first_message
-uses_some bytes m n is =
-    elim (cases_Bool (has_message bytes)) [
-      | inl has ↦
-          (let both : Some (told_message bytes, min (pad (told_length bytes)) (length bytes))
-          ≡ Some (m, n) = rw has at is in
-          let used : min (pad (told_length bytes)) (length bytes) ≡ n = ap uses_of both in
-          let least : 16 ≤ told_length bytes = grind (arith, nat_tests, has) in
-          let most : told_length bytes ≤ length bytes = grind (arith, nat_tests, has) in
-          some_bytes (told_length bytes) (length bytes) n (sym used) least most)
-      | inr has ↦
-          (let none : None ≡ Some (m, n) = rw has at is in absurd (cc))
-    ]
-  where
-    uses_of : Option (NetlinkMessage × ℕ) → ℕ
-    uses_of None = 0
-    uses_of (Some (m, n)) = n
-
--- so where none is used none was sent
-unsent_by : (rest : List ℕ) (places port : ℕ) (old new : Pass) (used : ℕ)
-    (front : Option (NetlinkMessage × ℕ)) → first_message rest ≡ front → used ≤ 0 →
-    SpeaksFirst places port front old new used → new ≡ old
-unsent_by rest places port old new used None same none is = is.1
-unsent_by rest places port old new used (Some (m, n)) same none is =
-    absurd (omega (arith, uses_some rest m n same, none, is.0))
-
-pub unsent : (rest : List ℕ) (places port : ℕ) (old new : Pass) (used : ℕ) → used ≤ 0 →
-    SpeaksFirst places port (first_message rest) old new used → new ≡ old
-unsent rest places port old new used none is =
-    unsent_by rest places port old new used (first_message rest) refl none is
 
 -- where no pass went on all is received that was
 pub received_same : (ports : List ℕ) (places : ℕ) (c n : Crew) → PortsAlone c n →

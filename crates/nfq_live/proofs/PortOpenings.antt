@@ -14,6 +14,7 @@ use Rattle.run_parts.specs.Ports.{ArePlaced, is_port, place_in}
 use Rattle.plane.specs.declared.plane.Plane.{Plane}
 use Rattle.plane.specs.Passes.{FeederView, PortView}
 use Rattle.plane.specs.Planes.{board_of}
+use Rattle.live_runs.specs.Laws.{OpensNext}
 use Rattle.live_runs.specs.Doing.{IsDoing}
 use Rattle.live_runs.specs.Meetings.{IsOpenTo}
 use Rattle.live_runs.specs.Owners.{IsFeeding}
@@ -40,18 +41,6 @@ BeginsLaw = (workers : ℕ) (script : ScriptValue) (places port : ℕ) (passes :
     IsOpenTo workers script places (place_in port script.ports) passes notes stands →
     IsDoing workers script places (Opening (place_in port script.ports)) port (notes port)
     (passes port) (unopened script port) (passes port)
-
-abbrev pub NextLaw : Type 0
-NextLaw = (workers : ℕ) (script : ScriptValue) (places port : ℕ) (old new : ℕ → Pass)
-    (notes : ℕ → List Note) (stands : ℕ → Stand) (mine : Pass) → 0 < places →
-    IsScript script → is_port script port ≡ true →
-    IsOpenTo workers script places (place_in port script.ports) old notes stands →
-    (a : IsDoing workers script places (Opening (place_in port script.ports)) port
-    (notes port) (old port) (opened script port) mine) →
-    AreMet script.ports (with_pass port mine old) new →
-    IsOpenTo workers script places (suc (place_in port script.ports)) new
-    (λ p. if p == port then a.notes else notes p)
-    (λ p. if p == port then opened script port else stands p)
 
 abbrev pub MeetsLaw : Type 0
 MeetsLaw = (time : ℕ) (fallen : List Down) (xs : List Seen) (es : List Entry) →
@@ -127,7 +116,7 @@ pub same_feeder : (c m : Crew) → m.feeding ≡ c.feeding →
 same_feeder c m same = ap (λ (f : Feeding). feeder_pass f.pass) same
 
 -- so it has with so many workers
-opened_next : BeginsLaw → NextLaw → (workers : ℕ) (script : ScriptValue) (places place port : ℕ)
+opened_next : BeginsLaw → OpensNext → (workers : ℕ) (script : ScriptValue) (places place port : ℕ)
     (c m n : Crew) → 0 < places → IsScript script → is_port script port ≡ true →
     place_in port script.ports ≡ place → suc (place_in port script.ports) ≡ place + 1 →
     IsOpenedBy workers script places place c →
@@ -153,7 +142,7 @@ opened_next begins next workers script places place port c m n some facts is her
           (passes_of m port) some facts is open_to does moved);
     }
 
-pub opens_next : BeginsLaw → NextLaw → MeetsLaw → (script : ScriptValue) (places place port : ℕ)
+pub opens_next : BeginsLaw → OpensNext → MeetsLaw → (script : ScriptValue) (places place port : ℕ)
     (c m n : Crew) → 0 < places → IsScript script → is_port script port ≡ true →
     place_in port script.ports ≡ place → HaveOpened script places place c →
     OnePass port c m → SaysTo script places port (opening script (place_in port script.ports)) []

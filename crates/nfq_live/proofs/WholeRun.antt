@@ -20,10 +20,8 @@ use Rattle.histories.specs.Journeys.{AreSound, Arrival, asks, entering, times_ca
 use Rattle.histories.specs.Lengths.{AreShort}
 use Rattle.histories.specs.Numbers.{queue_count}
 use Rattle.inspector_script.specs.Scripts.{ScriptValue}
-use Rattle.run_parts.specs.Feeder.{downs_in_effect}
 use Rattle.run_parts.specs.Log.{Note}
 use Rattle.run_parts.specs.Ports.{is_port}
-use Rattle.run_parts.specs.Run.{IsMadeBy}
 use Rattle.packet_moves.specs.declared.setting.Setting.{Setting}
 use Rattle.place_rows.specs.Ending.{all_fed}
 use Rattle.plane.specs.declared.plane.Plane.{Plane}
@@ -32,13 +30,13 @@ use Rattle.plane.specs.Opening.{IsOpened}
 use Rattle.plane.specs.Passes.{FeederView, PortView}
 use Rattle.plane.specs.Planes.{board_of, order_of, places_of, setting_of}
 use Rattle.plane.specs.Remaining.{times_in}
+use Rattle.live_runs.specs.Laws.{MakesHistories}
 use Rattle.live_runs.specs.ClosedPlanes.{IsClosedPlane, sent_by_all}
-use Rattle.live_runs.specs.Meetings.{ArePorts, IsMeeting, IsNew, IsOpenTo}
-use Rattle.live_runs.specs.Owners.{IsFedByAll, IsFeeding}
-use Rattle.live_runs.specs.Passes.{Pass, feeder_number, is_pass, seen_at}
+use Rattle.live_runs.specs.Meetings.{ArePorts, IsNew, IsOpenTo}
+use Rattle.live_runs.specs.Owners.{IsFeeding}
+use Rattle.live_runs.specs.Passes.{Pass, feeder_number, is_pass}
 use Rattle.live_runs.specs.Seen.{Seen}
-use Rattle.live_runs.specs.Stages.{Stage}
-use Rattle.live_runs.specs.Stands.{IsDone, Stand, unopened}
+use Rattle.live_runs.specs.Stands.{Stand, unopened}
 use Rattle.live_runs.specs.Sums.{WasSent}
 use Rattle.live_passes.specs.Numbered.{AreAll, passes_in}
 use Rattle.nfq_live.specs.declared.crew.Crew.{Crew}
@@ -79,18 +77,6 @@ AtLastLaw = (workers : ℕ) (script : ScriptValue) (places mail port sum : ℕ)
     IsClosedPlane script.ports mail places passes h →
     WasSent workers script places port sum passes →
     sent_by_all script.ports places passes port ≡ sum
-
-abbrev pub MadeLaw : Type 0
-MadeLaw = (workers feeders : ℕ) (script : ScriptValue) (places frames : ℕ) (stage : Stage)
-    (passes : ℕ → Pass) (h : Histories) (notes : ℕ → List Note) (stands : ℕ → Stand) →
-    0 < places → IsClosedPlane script.ports script.mail places passes h →
-    IsMeeting workers script places stage passes notes stands →
-    ((port : ℕ) → is_port script port ≡ true → IsDone (stands port)) →
-    ((k : ℕ) → k < places → IsFedByAll feeders (downs_in_effect script frames)
-    (seen_at passes k feeder_number)) →
-    ((port : ℕ) → is_port script port ≡ true →
-    sent_by_all script.ports places passes port ≡ length (passes port).letters) →
-    IsMadeBy workers feeders script frames h notes (λ port. [])
 
 -- ---- the ports' numbers
 
@@ -180,8 +166,8 @@ all_open script places size c m p least less =
 
 -- ---- the plane was closed
 
-pub live_run : AtLastLaw → MadeLaw → (workers feeders : ℕ) (script : ScriptValue) (places : ℕ)
-    (capture : Capture) (c : Crew) (h : Histories) → 0 < places →
+pub live_run : AtLastLaw → MakesHistories → (workers feeders : ℕ) (script : ScriptValue)
+    (places : ℕ) (capture : Capture) (c : Crew) (h : Histories) → 0 < places →
     IsAtMeeting script places (size_of workers feeders capture) (length script.ports) c →
     AreReceived script.ports places c →
     IsClosedPlane script.ports script.mail places (passes_of c) h →

@@ -31,7 +31,7 @@ use Rattle.nfq_live.specs.Feeders.{HaveAllFed}
 use Rattle.nfq_live.specs.Sizes.{size_of}
 use Rattle.nfq_live.specs.Workers.{HaveWorked, WentOn}
 use Rattle.nfq_live.proofs.FedPlaces.{FedMeetsLaw, fed_at_meeting}
-use Rattle.nfq_live.proofs.PortEndMeeting.{MeetingLaw}
+use Rattle.live_runs.specs.Laws.{EndsStage}
 use Rattle.live_work.proofs.FeederCalls.{grows_both}
 use Rattle.live_work.proofs.UnchangedPass.{some_place}
 use Rattle.live_work.proofs.MailboxLooks.{NoLookLaw}
@@ -67,7 +67,7 @@ pub record WorkLaws : Type 0 where
   pub each : EachOpenLaw
   pub no_look : NoLookLaw
   pub looks : LooksLaw
-  pub meeting : MeetingLaw
+  pub meeting : EndsStage
   pub feeder : FeederWentLaw
   pub meets : FedMeetsLaw
 

@@ -1,20 +1,21 @@
 -- Passes that go on, whichever of them act.
 use Rattle.std.proofs.Common.{◌≡◌, ◌≤◌, ◌+◌, ℕ, zero, suc, List, [], ◌∷◌, ◌++◌, refl}
 use Rattle.std.proofs.Common.{sym, ap, ◌∙◌, subst, arith, append-nil, inl, inr}
-use Rattle.std.specs.Prelude.{length, map, slice_get, slice_set, Option, Some, None, nat_eq}
+use Rattle.std.specs.Prelude.{length, map, sum_by, slice_get, slice_set, Option, Some, None, nat_eq}
 use Rattle.std.specs.Prelude.{if◌then◌else◌, Result, Ok, Err, IfOk, IfErr, OnErr}
 use Rattle.std.specs.List.{AllZip}
 use Rattle.std.proofs.lemmas.Bool.{cases_Bool, eqb-true, eqb-false}
 use Rattle.std.proofs.lemmas.List.{length-map, map-append}
 use Rattle.std.proofs.lemmas.List.Sums.{sum_by-cons}
+use Rattle.std.proofs.lemmas.Simd.{map-map}
 use Rattle.mailbox.specs.Roles.{AreDistinct, In}
 use Rattle.packet_entry.specs.declared.letter.Letter.{Letter}
 use Rattle.packet_entry.specs.declared.no_memory.NoMemory.{NoMemory}
-use Rattle.turn_lock.specs.Parts.{Tree, Empty, union}
+use Rattle.turn_lock.specs.Parts.{Tree}
 use Rattle.packet_moves.specs.declared.setting.Setting.{Setting}
 use Rattle.glance.specs.Views.{PassView}
 use Rattle.place_rows.specs.declared.ending.PortReceiver.{PortReceiver}
-use Rattle.place_rows.specs.Joining.{AreWhole, part_in, together_at}
+use Rattle.place_rows.specs.Joining.{AreWhole}
 use Rattle.place_rows.specs.Lists.{Every}
 use Rattle.place_rows.specs.Rows.{Known}
 use Rattle.plane.specs.declared.opened.Opened.{Opened}
@@ -31,12 +32,6 @@ use Rattle.plane_tests.specs.Examples.{AreGoing, IsGoing, Keeps, Stay}
 -- ---- lists
 
 module _ {X : Type 0} where
-  first_same : (x y : X) (xs ys : List X) → x ∷ xs ≡ y ∷ ys → x ≡ y
-  first_same x y xs ys e = cc
-
-  rest_same : (x y : X) (xs ys : List X) → x ∷ xs ≡ y ∷ ys → xs ≡ ys
-  rest_same x y xs ys e = cc
-
   some_same : (x y : X) → Some x ≡ Some y → x ≡ y
   some_same x y e = cc
 
@@ -54,37 +49,21 @@ module _ {X : Type 0} where
 
 -- ---- rows whose parts stay
 
-abbrev part_of : Option Tree → Tree
-part_of None = Empty
-part_of (Some t) = t
-
-part_read : (known : List Known) (k : ℕ) →
-    part_in (slice_get known k) ≡ part_of (slice_get (parts_of known) k)
-part_read [] k = refl
-part_read (v ∷ known) zero = refl
-part_read (v ∷ known) (suc k) = part_read known k
-
-part_same : (olds news : List Known) (k : ℕ) → parts_of news ≡ parts_of olds →
-    part_in (slice_get news k) ≡ part_in (slice_get olds k)
-part_same olds news k same =
-    part_read news k ∙ ap (λ (ts : List Tree). part_of (slice_get ts k)) same
-    ∙ sym (part_read olds k)
-
-together_same : (k : ℕ) (t : Tree) (olds news : List (List Known)) →
-    map parts_of news ≡ map parts_of olds → together_at k t news ≡ together_at k t olds
-together_same k t [] [] same = refl
-together_same k t [] (n ∷ news) same = absurd (cc same)
-together_same k t (o ∷ olds) [] same = absurd (cc same)
-together_same k t (o ∷ olds) (n ∷ news) same =
-    together_same k (union t (part_in (slice_get n k))) olds news
-    (rest_same (parts_of n) (parts_of o) (map parts_of news) (map parts_of olds) same)
-    ∙ ap (λ (p : Tree). together_at k (union t p) olds)
-    (part_same o n k
-    (first_same (parts_of n) (parts_of o) (map parts_of news) (map parts_of olds) same))
-
-whole_same : (places : ℕ) (olds news : List (List Known)) →
+-- what a plane's law says of them
+abbrev pub PartsStay : Type 0
+PartsStay = (places : ℕ) (olds news : List (List Known)) →
     map parts_of news ≡ map parts_of olds → AreWhole places olds → AreWhole places news
-whole_same places olds news same whole = λ k few. together_same k Empty olds news same ∙ whole k few
+
+-- ---- what each port keeps
+
+module _ {Y : Type 0} (f : PortView → Y) (kept : (p q : PortView) → Keeps p q → f q ≡ f p) where
+  kept_by_all : (ps qs : List PortView) → AllZip Keeps ps qs → map f qs ≡ map f ps
+  kept_by_all [] [] zip = refl
+  kept_by_all [] (q ∷ qs) zip = absurd zip
+  kept_by_all (p ∷ ps) [] zip = absurd zip
+  kept_by_all (p ∷ ps) (q ∷ qs) zip =
+      ap (λ (y : Y). y ∷ map f qs) (kept p q zip.0)
+      ∙ ap (λ (l : List Y). f p ∷ l) (kept_by_all ps qs zip.1)
 
 -- ---- no port is there twice
 
@@ -96,22 +75,22 @@ times_more : (port : ℕ) (p : PortView) (ps : List PortView) →
 times_more port p ps =
     sum_by-cons (λ (r : PortReceiver). once port r.port) (receiver_of p) (map receiver_of ps)
 
-times_same : (port : ℕ) (olds news : List PortView) → AllZip Keeps olds news →
-    times_in port news ≡ times_in port olds
-times_same port [] [] zip = refl
-times_same port [] (n ∷ news) zip = absurd zip
-times_same port (o ∷ olds) [] zip = absurd zip
-times_same port (o ∷ olds) (n ∷ news) zip =
-    omega (
-      arith,
-      times_same port olds news zip.1,
-      ap (once port) zip.0.port,
-      times_more port o olds,
-      times_more port n news,
-    )
-
 abbrev ports_in : List PortView → List ℕ
 ports_in ps = map (λ (p : PortView). p.port) ps
+
+counted : (port : ℕ) (ps : List PortView) → times_in port ps ≡ sum_by (once port) (ports_in ps)
+counted port [] = refl
+counted port (p ∷ ps) =
+    times_more port p ps ∙ ap (λ n. once port p.port + n) (counted port ps)
+    ∙ sym (sum_by-cons (once port) p.port (ports_in ps))
+
+times_same : (port : ℕ) (olds news : List PortView) → AllZip Keeps olds news →
+    times_in port news ≡ times_in port olds
+times_same port olds news zip =
+    counted port news
+    ∙ ap (λ (l : List ℕ). sum_by (once port) l)
+    (kept_by_all (λ p. p.port) (λ p q keeps. keeps.port) olds news zip)
+    ∙ sym (counted port olds)
 
 other : (port p : ℕ) → (p ≡ port → ⊥) → once port p ≡ 0
 other port p differ =
@@ -213,12 +192,10 @@ receives_keep old new (Err e) is err = record {
 
 rows_same : (ps qs : List PortView) → AllZip Keeps ps qs →
     map parts_of (map known_in qs) ≡ map parts_of (map known_in ps)
-rows_same [] [] zip = refl
-rows_same [] (q ∷ qs) zip = absurd zip
-rows_same (p ∷ ps) [] zip = absurd zip
-rows_same (p ∷ ps) (q ∷ qs) zip =
-    ap (λ (t : List Tree). t ∷ map parts_of (map known_in qs)) zip.0.parts
-    ∙ ap (λ (l : List (List Tree)). parts_of p.trail.known ∷ l) (rows_same ps qs zip.1)
+rows_same ps qs zip =
+    map-map parts_of known_in qs
+    ∙ kept_by_all (λ p. parts_of p.trail.known) (λ p q keeps. keeps.parts) ps qs zip
+    ∙ sym (map-map parts_of known_in ps)
 
 -- the parts of all passes, where the closed ones stand behind the open ones
 all_same : (f g : FeederView) (ps qs rs : List PortView) →
@@ -233,50 +210,50 @@ all_same f g ps qs rs same zip =
     (sym (append-nil (map known_in ps)))
 
 -- the feeder and ports act
-pub goes_on : (plane : Plane) (f g : FeederView) (ps qs : List PortView) → AreGoing plane f ps →
-    IsFeederOf plane g → parts_of g.trail.known ≡ parts_of f.trail.known → Stay plane ps qs →
-    AreGoing plane g qs
-goes_on plane f g ps qs was feeds same stay = record {
+pub goes_on : PartsStay → (plane : Plane) (f g : FeederView) (ps qs : List PortView) →
+    AreGoing plane f ps → IsFeederOf plane g → parts_of g.trail.known ≡ parts_of f.trail.known →
+    Stay plane ps qs → AreGoing plane g qs
+goes_on law plane f g ps qs was feeds same stay = record {
   feeds = feeds;
   each = stay.each;
   apart = λ port. omega (arith, was.apart port, times_same port ps qs stay.keep);
-  whole = whole_same (places_of plane) (all_rows f ps []) (all_rows g qs [])
+  whole = law (places_of plane) (all_rows f ps []) (all_rows g qs [])
       (all_same f g ps qs [] same
       (subst (λ (l : List PortView). AllZip Keeps ps l) (sym (append-nil qs)) stay.keep))
       was.whole;
 }
 
 -- ports act
-pub ports_act : (plane : Plane) (f : FeederView) (ps qs : List PortView) → AreGoing plane f ps →
-    Stay plane ps qs → AreGoing plane f qs
-ports_act plane f ps qs was stay = goes_on plane f f ps qs was was.feeds refl stay
+pub ports_act : PartsStay → (plane : Plane) (f : FeederView) (ps qs : List PortView) →
+    AreGoing plane f ps → Stay plane ps qs → AreGoing plane f qs
+ports_act law plane f ps qs was stay = goes_on law plane f f ps qs was was.feeds refl stay
 
 -- the feeder acts
-pub feeder_acts : (plane : Plane) (f g : FeederView) (ps : List PortView) → AreGoing plane f ps →
-    IsFeederOf plane g → parts_of g.trail.known ≡ parts_of f.trail.known → AreGoing plane g ps
-feeder_acts plane f g ps was feeds same =
-    goes_on plane f g ps ps was feeds same (none_acts plane ps was.each)
+pub feeder_acts : PartsStay → (plane : Plane) (f g : FeederView) (ps : List PortView) →
+    AreGoing plane f ps → IsFeederOf plane g → parts_of g.trail.known ≡ parts_of f.trail.known →
+    AreGoing plane g ps
+feeder_acts law plane f g ps was feeds same =
+    goes_on law plane f g ps ps was feeds same (none_acts plane ps was.each)
 
 -- all closed
-pub all_close : (plane : Plane) (f g : FeederView) (ps closed : List PortView) →
+pub all_close : PartsStay → (plane : Plane) (f g : FeederView) (ps closed : List PortView) →
     AreGoing plane f ps → parts_of g.trail.known ≡ parts_of f.trail.known → Stay plane ps closed →
     ((port : ℕ) → times_in port closed ≤ 1)
     × AreWhole (places_of plane) (all_rows g [] closed)
-all_close plane f g ps closed was same stay = (
+all_close law plane f g ps closed was same stay = (
   λ port. omega (arith, was.apart port, times_same port ps closed stay.keep),
-  whole_same (places_of plane) (all_rows f ps []) (all_rows g [] closed)
+  law (places_of plane) (all_rows f ps []) (all_rows g [] closed)
       (all_same f g ps [] closed same stay.keep) was.whole,
 )
 
-keep_length : (ps qs : List PortView) → AllZip Keeps ps qs → length qs ≡ length ps
-keep_length [] [] zip = refl
-keep_length [] (q ∷ qs) zip = absurd zip
-keep_length (p ∷ ps) [] zip = absurd zip
-keep_length (p ∷ ps) (q ∷ qs) zip = ap suc (keep_length ps qs zip.1)
-
 pub stay_length : (plane : Plane) (ps qs : List PortView) → Stay plane ps qs →
     length qs ≡ length ps
-stay_length plane ps qs stay = keep_length ps qs stay.keep
+stay_length plane ps qs stay =
+    let number : PortView → ℕ = λ p. p.port in
+    sym (length-map qs number)
+    ∙ ap (λ (l : List ℕ). length l)
+    (kept_by_all number (λ p q keeps. keeps.port) ps qs stay.keep)
+    ∙ length-map ps number
 
 -- what a port's pass is after a call that may have closed it
 abbrev IsStill : Plane → PortView → PortView → Type 0
@@ -301,33 +278,29 @@ closed_before plane old r s t is still at =
     (subst (λ (x : Result PortView PortView). IfErr x (IsStill plane old)) is still)
 
 -- the two that there are closed
-pub two_close : (plane : Plane) (f g : FeederView) (ports left closed : List PortView)
-    (p q s e : PortView) → AreGoing plane f ports → ports ≡ p ∷ q ∷ [] →
+pub two_close : PartsStay → (plane : Plane) (f g : FeederView)
+    (ports left closed : List PortView) (p q s e : PortView) → AreGoing plane f ports →
+    ports ≡ p ∷ q ∷ [] →
     parts_of g.trail.known ≡ parts_of f.trail.known → IsPortOf plane s × Keeps p s →
     IsPortOf plane e × Keeps q e → left ≡ [] → closed ≡ s ∷ e ∷ [] →
     ((port : ℕ) → times_in port (left ++ closed) ≤ 1)
     × AreWhole (places_of plane) (all_rows g left closed)
-two_close plane f g ports left closed p q s e was are same one two none both =
+two_close law plane f g ports left closed p q s e was are same one two none both =
     subst
     (λ (l : List PortView). ((port : ℕ) → times_in port (l ++ closed) ≤ 1)
     × AreWhole (places_of plane) (all_rows g l closed))
     (sym none)
-    (all_close plane f g ports closed was same
+    (all_close law plane f g ports closed was same
     (subst (λ (l : List PortView). Stay plane ports l) (sym both)
     (subst (λ (l : List PortView). Stay plane l (s ∷ e ∷ [])) (sym are)
     (record { each = (one.0, (two.0, tt)); keep = (one.1, (two.1, tt)) }))))
 
 -- ---- an open plane
 
-pub ports_go : (o : Opened) (qs : List PortView) → IsGoing o → Stay o.plane o.ports qs →
-    IsGoing (record o { ports = qs })
-ports_go o qs was stay =
-    record { on = ports_act o.plane o.feeder o.ports qs was.on stay; looks = was.looks }
-
-pub feeder_goes : (o : Opened) (g : FeederView) → IsGoing o → IsFeederOf o.plane g →
+pub feeder_goes : PartsStay → (o : Opened) (g : FeederView) → IsGoing o → IsFeederOf o.plane g →
     parts_of g.trail.known ≡ parts_of o.feeder.trail.known → IsGoing (record o { feeder = g })
-feeder_goes o g was feeds same =
-    record { on = feeder_acts o.plane o.feeder g o.ports was.on feeds same; looks = was.looks }
+feeder_goes law o g was feeds same =
+    record { on = feeder_acts law o.plane o.feeder g o.ports was.on feeds same; looks = was.looks }
 
 -- ---- a plane that opens
 
@@ -356,11 +329,6 @@ closes_keep places p q closes same =
     record { port = ap (λ (v : PortView). v.port) closes.others; parts = same }
 
 -- ---- two feeders
-
--- what is known of parts that stay
-abbrev pub PartsStay : Type 0
-PartsStay = (places : ℕ) (olds news : List (List Known)) →
-    map parts_of news ≡ map parts_of olds → AreWhole places olds → AreWhole places news
 
 -- a pass that was split, and joined again once each of the two fed something
 pub fed_whole : PartsStay → (places : ℕ) (old kept made one two both : List Known)

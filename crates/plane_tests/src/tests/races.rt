@@ -11,7 +11,7 @@ use super::steps::{Row, SETS_UP_0, SETS_UP_1, Step, lines_of, ready};
 use super::{TCP, UDP, close, feed};
 use histories::Histories;
 use packet_entry::Sequence;
-use plane::{ClosedPort, FeederPass, Gate, Opened, Plane, PortPass, PortPasses};
+use plane::{ClosedPort, FeederPass, Gate, Opened, Plane, PortPass, PortPasses, parts_stay_whole};
 use queue_core::{Outcome, Reply};
 use std::alloc::Global;
 use std::sync::Wait;
@@ -310,6 +310,7 @@ fn run<R: Threads + Wait + Sync>(
     requires going { IsGoing opened }
     requires two { length opened.ports ≡ 2 }
 {
+    parts_stay_whole();
     let Ok(mut closed) = Vec::with_capacity(alloc, 2) else {
         let _ = close(alloc, opened);
         return Err(Fail::new("out of memory"));

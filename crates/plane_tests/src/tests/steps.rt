@@ -11,7 +11,7 @@ use super::{TCP, close, feed, open};
 use glance::GlancePass;
 use histories::Entries;
 use packet_entry::{Letter, NoMemory};
-use plane::{Fed, FeederPass, OpenGate, Opened, Plane, PortPasses};
+use plane::{Fed, FeederPass, OpenGate, Opened, Plane, PortPasses, parts_stay_whole};
 use queue_core::{Event, Outcome, Reply};
 use std::alloc::Global;
 use std::sync::Wait;
@@ -103,6 +103,7 @@ pub(super) fn happens<R: Wait>(
     ensures going { AreGoing plane.now feeder.new ports.new }
     ensures ports { length ports.new ≡ length ports.old }
 {
+    parts_stay_whole();
     match step {
         Step::Says(at, bytes) => says(rt, alloc, plane, ports, at, bytes),
         Step::Hears(at, wanted) => hears(rt, plane, ports, at, wanted),
@@ -223,6 +224,7 @@ fn a_packet_waits_and_is_listed(rt: HostRuntime) -> Result<(), Fail> {
         (Step::Says(0, WHOLE), &[(2, 0)]),
         (Step::Feeds(1, TCP), &[(3, 1)]),
     ];
+    parts_stay_whole();
     let mut opened = open(rt.alloc(), 1, &[7], ONE_RULE, 1)?;
     let done = all_happen(&rt, rt.alloc(), &mut opened, &ROWS);
     let mut out = Vec::new(rt.alloc());

@@ -73,11 +73,16 @@ returns-then-used-eq0-clause-sent g c =
 pub returns-then-used-eq0-clause-received : goal.returns-then-used-eq0-clause-received
 returns-then-used-eq0-clause-received g c =
     let says = speaks g (goal.at.returns-then-used-eq0-clause-received g c).In_ok-used in
+    let d = a_port c.loop-look.self c.args.at says.within in
+    let port = (slice_index_or c.loop-look.self.ports.items c.args.at d).port in
+    let same = c.messages_are_sent_one_by_one.ensures.unsent
+    (places_of c.args.stage.now.plane.now) port c.loop-look.rest.now
+    (passes_of c.loop-look.self port) (passes_of c.send_first.new.self port) c.in_ok-used.used
+    (omega (arith, c.if-used-eq0.true)) (c.in_ok-used.ensures.sent d) in
     end_received c.args.stage.now.plane.now c.args.stage.now.script.now c.args.place c.args.at
     c.requires.ends.order
     c.loop-look.self c.send_first.new.self c.loop-look.rest.now c.in_ok-used.used
-    (omega (arith, c.if-used-eq0.true))
-    says c.loop-look.invariant.received
+    says same c.loop-look.invariant.received
 
 pub returns-then-used-eq0-clause-minds : goal.returns-then-used-eq0-clause-minds
 returns-then-used-eq0-clause-minds g c =
