@@ -1,6 +1,5 @@
 pub mod ReleasedFrames
 pub mod FateCounts
-pub mod WaitingPlaces
 pub mod Queues
 pub mod IdIndex
 pub mod Departures

@@ -7,4 +7,3 @@ pub mod Ledger
 pub mod Origins
 pub mod Payloads
 pub mod Released
-pub mod WaitingList

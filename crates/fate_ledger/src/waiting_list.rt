@@ -3,7 +3,7 @@
 ghost use Rattle.std.specs.Prelude.{◌≡◌, ◌++◌, ◌∷◌, [], ℕ, OnOk, MatchOption, None};
 ghost use Rattle.std.specs.Map.{lookup, remove_entry};
 ghost use Rattle.queue_core.specs.Ids.{is_id};
-ghost use Rattle.fate_ledger.specs.WaitingList.{IsPlace};
+ghost use Rattle.queue_core.specs.Few.{IsPlace};
 
 use crate::card_view::CardView;
 use crate::indexed_list::IndexedList;

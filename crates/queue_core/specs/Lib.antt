@@ -1,5 +1,6 @@
 pub mod Numbers
 pub mod Ids
+pub mod Few
 pub mod Decision
 pub mod Range
 pub mod State

@@ -12,6 +12,7 @@ mod ids;
 mod laws;
 mod lines;
 mod linked;
+mod many_waiting;
 mod offers;
 mod queue;
 mod settings;

@@ -1,5 +1,5 @@
 use Rattle.std.proofs.Common.{arith}
-use Rattle.fate_ledger.proofs.WaitingPlaces.{place_found}
+use Rattle.queue_core.specs.Few.{place_found}
 use Rattle.fate_ledger.proofs.waiting_list.place_of.Goals as goal
 
 pub returns-then-w-id : goal.returns-then-w-id

@@ -1,6 +1,6 @@
 use Rattle.std.proofs.Common.{◌++◌, ◌∙◌, sym, ap}
 use Rattle.fate_ledger.specs.Following.{Waiting}
-use Rattle.fate_ledger.proofs.WaitingPlaces.{taken_older, taken_younger}
+use Rattle.queue_core.specs.Few.{taken_older, taken_younger}
 use Rattle.fate_ledger.proofs.waiting_list.WaitingList.take.Goals as goal
 
 pub returns-in-Some-remove-clause-found : goal.returns-in-Some-remove-clause-found

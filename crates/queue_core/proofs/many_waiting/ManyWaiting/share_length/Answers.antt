@@ -2,7 +2,7 @@ use Rattle.std.proofs.Common.{◌≡◌, drop, Some, sym, subst, ◌∙◌, arit
 use Rattle.queue_core.specs.Linked.{oldest_of, IsLinked}
 use Rattle.queue_core.proofs.Shares.{share_goes_on}
 use Rattle.queue_core.proofs.MapChanges.{standing, has_entry, goes_to}
-use Rattle.queue_core.proofs.waiting.Waiting.share_length.Goals as goal
+use Rattle.queue_core.proofs.many_waiting.ManyWaiting.share_length.Goals as goal
 
 pub unreachable-requires-in_default-get : goal.unreachable-requires-in_default-get
 unreachable-requires-in_default-get c =

@@ -4,7 +4,7 @@ use Rattle.packet_entry.specs.declared.packet.Card.{Card}
 use Rattle.queue_core.specs.Ids.{is_among}
 use Rattle.queue_core.proofs.Links.{none_linked, viewed, whole}
 use Rattle.queue_core.proofs.MapChanges.{pushed}
-use Rattle.queue_core.proofs.waiting.Waiting.push.Goals as goal
+use Rattle.queue_core.proofs.many_waiting.ManyWaiting.push.Goals as goal
 
 pub put_youngest-requires : goal.put_youngest-requires
 put_youngest-requires c = record {
