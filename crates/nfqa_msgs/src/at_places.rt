@@ -2,7 +2,7 @@
 //! read is written again and compared, attribute by attribute; a packet's bytes aren't. So what is
 //! found is right. Where nothing is found the bytes may be anything, and are read by kinds.
 
-ghost use Rattle.std.specs.Prelude.{◌≡◌, ◌≤◌, ◌<◌, ◌++◌, length, option_map, IfSome, IsTrue, Some};
+ghost use Rattle.std.specs.Prelude.{◌≡◌, ◌≤◌, ◌<◌, ◌++◌, length, option_map, IfSome, IsTrue, Some, None};
 ghost use Rattle.std.specs.Prelude.{false, take};
 ghost use Rattle.packet_entry.specs.Numbers.{longest_payload};
 ghost use Rattle.netlink_codec.specs.Attributes.{attributes_text};
@@ -15,6 +15,7 @@ ghost use Rattle.nfqa_headers.specs.Numbers.{timestamp_kind};
 ghost use Rattle.nfqa_msgs.specs.NoticeWriting.{FitsTold, nonzero_content, notice_body};
 ghost use Rattle.nfqa_msgs.specs.NoticeWriting.{notice_text, padded_payload, payload_part};
 ghost use Rattle.nfqa_msgs.specs.RequestReading.{has_payload};
+ghost use Rattle.nfqa_msgs.specs.declared.request.Request.TheVariants.{Verdict};
 ghost use Rattle.nfqa_msgs.specs.RequestWriting.{flags_for, number_for, request_body};
 ghost use Rattle.nfqa_msgs.specs.Telling.{telling};
 
@@ -143,6 +144,58 @@ pub(crate) fn plain_verdict(message: &Message<'_>) -> Option<Request>
         payload: None,
         priority,
     })
+}
+
+/// Whether the request is a verdict without payload of which these bytes are the body. Of any other
+/// request nothing is said.
+pub(crate) fn is_plain_body(body: &[u8], request: &Request) -> bool
+    ensures { IsTrue result → body.now ≡ request_body request.now }
+{
+    let Request::Verdict {
+        queue,
+        head: Some(head),
+        mark,
+        payload: None,
+        priority,
+    } = request
+    else {
+        return false;
+    };
+    match behind_verdict(body, *queue, *head, *mark, *priority) {
+        Some(rest) => rest.is_empty(),
+        None => false,
+    }
+}
+
+/// What follows the body of this verdict, where the bytes begin with it.
+#[inline(always)]
+fn behind_verdict(
+    bytes: &[u8],
+    queue: u16,
+    head: Head,
+    mark: Option<u32>,
+    priority: Option<u32>,
+) -> Option<&[u8]>
+    ensures { IfSome result (λ rest.
+        bytes.now ≡ request_body (Verdict queue (Some head) mark None priority) ++ rest.now) }
+{
+    let rest = behind_text(bytes, &queue_header_of(ANY_FAMILY, queue))?;
+    let rest = behind_part(rest, VERDICT_HEADER, &head_of(head))?;
+    let rest = behind_value(rest, MARK, mark)?;
+    behind_value(rest, PRIORITY, priority)
+}
+
+/// What follows the attribute of this kind and number, where there is a number and the bytes begin
+/// with it.
+#[inline(always)]
+fn behind_value(bytes: &[u8], kind: u16, value: Option<u32>) -> Option<&[u8]>
+    ensures { IfSome result (λ rest.
+        bytes.now ≡ attributes_text (value_part kind value) ++ rest.now) }
+{
+    match value {
+        Some(value) => behind_part(bytes, kind, &value_bytes(value)),
+        None => Some(bytes),
+    }
 }
 
 /// What follows the attribute of this kind and content, where the bytes begin with it.

@@ -1,4 +1,4 @@
-use Rattle.std.proofs.Common.{◌≡◌, ℕ, List, ◌++◌, ap, ap₂, subst, sym, ◌∙◌}
+use Rattle.std.proofs.Common.{◌≡◌, ℕ, List, ap, ap₂, subst, sym, ◌∙◌}
 use Rattle.std.proofs.lemmas.Option.{same_Some}
 use Rattle.netlink_codec.specs.Messages.{FitsHeader, message_text, message_with}
 use Rattle.nfqa_headers.specs.Kinds.{queue_kind}
@@ -40,16 +40,12 @@ pub returns-in-Some : goal.returns-in-Some
 unfolding spelling
 returns-in-Some c =
     let request : Request = c.args.request.now in
-    let body : List ℕ = c.in-Some.body.now in
-    let payload : List ℕ = c.pieces_of-pieces.result.payload.now in
-    let whole =
-    ap₂ (λ (a b : List ℕ). a ++ payload ++ b) c.as_slice.ensures.value
-    c.as_slice-in-Some.ensures.value ∙ c.pieces_of-pieces.ensures.text in (
+    let body : List ℕ = c.in-Some.body.now in (
       λ yes. c.in-Some.ensures.found
           ∙ ap₂ (λ (k f : ℕ). message_text k f c.args.call c.args.port body) c.kind_of.ensures
           c.flags_of.ensures
           ∙ ap (message_text (queue_kind (number_for request)) (flags_for request) c.args.call
-          c.args.port) (c.is_in_pieces.ensures.0 yes ∙ whole),
+          c.args.port) (c.is_body_of.ensures.0 yes),
       λ is.
           let fits =
           spelled-fits c.written_attributes_are_walked.ensures.size c.args.port c.args.call request
@@ -57,7 +53,7 @@ returns-in-Some c =
           let it =
           stands c.args.bytes.now c.args.port c.args.call request _ _ c.kind_of.ensures
           c.flags_of.ensures (fits, is) in
-          c.is_in_pieces.ensures.1
+          c.is_body_of.ensures.1
           (same_Some body (request_body request)
-          (c.in-Some.ensures.only (request_body request) it.0 it.1) ∙ sym whole),
+          (c.in-Some.ensures.only (request_body request) it.0 it.1)),
     )
