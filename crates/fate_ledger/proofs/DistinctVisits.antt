@@ -22,7 +22,7 @@ use Rattle.histories.specs.Stays.{arrivals, departures, departures_from}
 use Rattle.histories.specs.Moves.{Move, moves, moves_after, move_after}
 use Rattle.histories.specs.Journeys.{Arrival, asked_by, asked_by_some, entering, going_on, asks}
 use Rattle.histories.specs.Journeys.{arrival_of, came, times_came, AreSound}
-use Rattle.queue_replay.specs.QueueHistories.{own_first, other_first, others_last, state_on}
+use Rattle.histories.specs.QueueHistories.{own_first, other_first, others_last, state_on}
 use Rattle.fate_ledger.specs.Laws.{step_after, is_visit, AreApart, DifferInNumber}
 use Rattle.fate_ledger.proofs.LastArrivals.{once, times_on, times_first, fewer_at}
 

@@ -7,7 +7,7 @@ use Rattle.std.proofs.lemmas.Bool.{cases_Bool, eqb-true}
 use Rattle.std.proofs.lemmas.List.{length-append, append-nil}
 use Rattle.histories.specs.declared.entry.Entry.{Entry}
 use Rattle.histories.specs.History.{replay, history, is_of, IsStep, AreLegal}
-use Rattle.queue_replay.specs.QueueHistories.{own_last, others_last, state_last, step_at}
+use Rattle.histories.specs.QueueHistories.{own_last, others_last, state_last, step_at}
 use Rattle.fate_ledger.specs.declared.happening.Happening.{Happening}
 use Rattle.fate_ledger.specs.Fates.{happens_after, happenings_after, happenings}
 use Rattle.fate_ledger.specs.declared.followed_queues.FollowedQueues.{FollowedQueues}

@@ -32,7 +32,7 @@ use Rattle.fate_ledger.specs.Fates.{happens_after, happenings, happenings_after,
 use Rattle.fate_ledger.specs.Laws.{step_after, IsLastEvent, LeftForGood, Tells}
 use Rattle.fate_ledger.specs.declared.fate.Fate.TheVariants as fate
 use Rattle.histories.specs.History.{AreLegal}
-use Rattle.queue_replay.specs.QueueHistories.{step_at}
+use Rattle.histories.specs.QueueHistories.{step_at}
 use Rattle.fate_ledger.proofs.FateWays.{Laws, leaves_so, is_said}
 use Rattle.fate_ledger.proofs.LastArrivals.{once}
 

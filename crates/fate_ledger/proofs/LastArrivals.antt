@@ -27,8 +27,8 @@ use Rattle.queue_core.specs.Laws.{Tells as CountsLeft}
 use Rattle.histories.specs.declared.entry.Entry.{Entry}
 use Rattle.histories.specs.History.{history, replay, replay_from, is_of, IsStep, AreLegal}
 use Rattle.histories.specs.Stays.{arrivals, departures, departures_from}
-use Rattle.queue_replay.specs.QueueHistories.{own_first, other_first, own_within, others_last}
-use Rattle.queue_replay.specs.QueueHistories.{state_on, state_last, step_at}
+use Rattle.histories.specs.QueueHistories.{own_first, other_first, own_within, others_last}
+use Rattle.histories.specs.QueueHistories.{state_on, state_last, step_at}
 use Rattle.fate_ledger.specs.declared.happening.Happening.{Happening}
 use Rattle.fate_ledger.specs.declared.fate.Fate.{Fate}
 use Rattle.fate_ledger.specs.declared.fate.Fate.TheVariants as fate

@@ -16,7 +16,7 @@ use Rattle.histories.specs.declared.entry.Entry.{Entry}
 use Rattle.histories.specs.declared.histories.Histories.{Histories}
 use Rattle.histories.specs.declared.histories.Lost.{Lost}
 use Rattle.histories.specs.History.{history, replay, IsStep, AreLegal}
-use Rattle.queue_replay.specs.QueueHistories.{step_at}
+use Rattle.histories.specs.QueueHistories.{step_at}
 use Rattle.queue_core.specs.declared.event.Event.{Event}
 use Rattle.queue_core.specs.declared.event.Event.TheVariants.{Arrive, Ask, PortClosed, DeviceDown}
 use Rattle.queue_core.specs.declared.event.Reply.{Reply}

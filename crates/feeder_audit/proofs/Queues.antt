@@ -14,8 +14,8 @@ use Rattle.script_lines.specs.declared.line.Down.{Down}
 use Rattle.inspector_script.specs.Scripts.{ScriptValue}
 use Rattle.run_parts.specs.Feeder.{AreFed, IsFed, IsFedBy, downs_in_effect}
 use Rattle.queue_replay.specs.Replays.{QueueMap, AreReplayed}
-use Rattle.queue_replay.specs.NumberKeys.{not_of, each_number}
-use Rattle.queue_replay.specs.QueueHistories.{own_first, other_first, others_last, state_last}
+use Rattle.histories.specs.NumberKeys.{not_of, each_number}
+use Rattle.histories.specs.QueueHistories.{own_first, other_first, others_last, state_last}
 use Rattle.feeder_audit.specs.declared.fed.Fed.{Fed}
 use Rattle.feeder_audit.specs.Fitting.{FitsBy, Rises}
 use Rattle.feeder_audit.specs.Rows.{all}

@@ -1,6 +1,6 @@
 -- Moves of the same queues in another order between queues: all sums over them are the same.
 use Rattle.std.proofs.Common.{◌≡◌, ◌≤◌, ◌+◌, ℕ, zero, suc, List}
-use Rattle.std.proofs.Common.{[], ◌∷◌, ◌++◌, length, Bool, true, false}
+use Rattle.std.proofs.Common.{[], ◌∷◌, ◌++◌, length, Bool, true}
 use Rattle.std.proofs.Common.{refl, sym, ap, ◌∙◌, arith, inl, inr}
 use Rattle.std.specs.Prelude.{filter, sum_by, count_by, not}
 use Rattle.std.proofs.lemmas.Bool.{eq-eqb, cases_Bool, eqb-true}
@@ -11,6 +11,7 @@ use Rattle.queue_core.specs.Step.{step}
 use Rattle.histories.specs.declared.histories.Lost.{Lost}
 use Rattle.histories.specs.declared.entry.Entry.{Entry}
 use Rattle.histories.specs.History.{history, is_of, replay}
+use Rattle.histories.specs.QueueHistories.{own_within, others_last, history_twice}
 use Rattle.histories.specs.Moves.{Move, moves, moves_after, move_after}
 use Rattle.histories.specs.Journeys.{AreSound, asks, came, visit_of}
 
@@ -21,33 +22,6 @@ is_at queue m = is_of queue m.entry
 
 abbrev pub part : ℕ → List Move → List Move
 part queue ms = filter (is_at queue) ms
-
-history_push : (queue : ℕ) (es : List Entry) (e : Entry) → is_of queue e ≡ true →
-    history queue (es ++ e ∷ []) ≡ history queue es ++ e ∷ []
-history_push queue [] e own = rw own refl
-history_push queue (d ∷ es) e own =
-    elim (cases_Bool (is_of queue d)) [
-      | inl h ↦ rw h (ap (λ (l : List Entry). d ∷ l) (history_push queue es e own))
-      | inr h ↦ rw h (history_push queue es e own)
-    ]
-
-history_pass : (queue : ℕ) (es : List Entry) (e : Entry) → is_of queue e ≡ false →
-    history queue (es ++ e ∷ []) ≡ history queue es
-history_pass queue [] e other = rw other refl
-history_pass queue (d ∷ es) e other =
-    elim (cases_Bool (is_of queue d)) [
-      | inl h ↦ rw h (ap (λ (l : List Entry). d ∷ l) (history_pass queue es e other))
-      | inr h ↦ rw h (history_pass queue es e other)
-    ]
-
-history_twice : (queue : ℕ) (es : List Entry) →
-    history queue (history queue es) ≡ history queue es
-history_twice queue [] = refl
-history_twice queue (d ∷ es) =
-    elim (cases_Bool (is_of queue d)) [
-      | inl h ↦ rw h (rw h (ap (λ (l : List Entry). d ∷ l) (history_twice queue es)))
-      | inr h ↦ rw h (history_twice queue es)
-    ]
 
 -- a queue's move after some entries is its move after that queue's entries among them
 same_move : (before : List Entry) (e : Entry) →
@@ -74,11 +48,11 @@ part_is queue before (e ∷ es) =
           ∙ ap (λ (ms : List Move). move_after (history queue before) e ∷ ms)
           (part_is queue (before ++ e ∷ []) es
           ∙ ap (λ (h : List Entry). moves_after h (history queue es))
-          (history_push queue before e own)))
+          (own_within queue before [] e own)))
       | inr other ↦ rw other
           (part_is queue (before ++ e ∷ []) es
           ∙ ap (λ (h : List Entry). moves_after h (history queue es))
-          (history_pass queue before e other))
+          (others_last before e queue other))
     ]
 
 -- ---- the same parts, the same sums

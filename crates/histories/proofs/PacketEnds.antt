@@ -27,7 +27,7 @@ use Rattle.histories.specs.Journeys.{Arrival, asked_by_some, going_on, asks, cam
 use Rattle.histories.specs.Journeys.{times_came, AreSound}
 use Rattle.histories.specs.Endings.{is_number, is_nothing, is_over, times_over, times_waiting}
 use Rattle.histories.specs.Endings.{times_entered, AreQueuesOf}
-use Rattle.histories.proofs.LegalHistories.{own_on, others_on}
+use Rattle.histories.specs.QueueHistories.{own_within, others_last}
 use Rattle.histories.proofs.MoveSoundness.{once, moves_on}
 
 -- ---- sums over queues
@@ -125,10 +125,10 @@ came_grows : (n : ℕ) (es : List Entry) (e : Entry) →
     (times (is_number n) (arriving e.event))
 came_grows n es e = record {
   own = λ q h.
-      ap (λ hs. times (is_number n) (arrivals hs)) (own_on es e q h)
+      ap (λ hs. times (is_number n) (arrivals hs)) (own_within q es [] e h)
       ∙ ap (times (is_number n)) (arrivals_on (history q es) e)
       ∙ sum_by-append _ (arrivals (history q es)) (arriving e.event);
-  others = λ q h. ap (λ hs. times (is_number n) (arrivals hs)) (others_on es e q h);
+  others = λ q h. ap (λ hs. times (is_number n) (arrivals hs)) (others_last es e q h);
 }
 
 left_grows : (n : ℕ) (es : List Entry) (e : Entry) →
@@ -136,14 +136,14 @@ left_grows : (n : ℕ) (es : List Entry) (e : Entry) →
     (times (is_number n) (leaving_in (step (replay (history e.queue es)) e.event)))
 left_grows n es e = record {
   own = λ q h.
-      ap (λ hs. times (is_number n) (departures hs)) (own_on es e q h)
+      ap (λ hs. times (is_number n) (departures hs)) (own_within q es [] e h)
       ∙ ap (times (is_number n)) (departures_on None (history q es) e)
       ∙ sum_by-append _ (departures (history q es))
       (leaving_in (step (replay (history q es)) e.event))
       ∙ ap (λ x. left_from n es q
       + times (is_number n) (leaving_in (step (replay (history x es)) e.event)))
       (sym (eqb-true e.queue q h));
-  others = λ q h. ap (λ hs. times (is_number n) (departures hs)) (others_on es e q h);
+  others = λ q h. ap (λ hs. times (is_number n) (departures hs)) (others_last es e q h);
 }
 
 -- ---- all entries

@@ -16,3 +16,5 @@ pub mod Letters
 pub mod Logs
 pub mod Priorities
 pub mod Holding
+pub mod NumberKeys
+pub mod QueueHistories

@@ -11,7 +11,7 @@ use Rattle.histories.specs.declared.entry.Entry.{Entry}
 use Rattle.histories.specs.History.{replay, replay_from, history, is_of, IsStep, IsLegal}
 use Rattle.histories.specs.History.{IsLegalFrom, AreLegal}
 use Rattle.histories.proofs.LegalHistories.{front}
-use Rattle.queue_replay.specs.QueueHistories.{own_last, others_last}
+use Rattle.histories.specs.QueueHistories.{own_last, others_last}
 use Rattle.journal_audit.specs.declared.first_illegal.Place1.{Place1}
 use Rattle.journal_audit.specs.Illegal.{IsFirstIllegal, IsFirstOf, sooner}
 use Rattle.journal_audit.specs.Watching.{IsFound}

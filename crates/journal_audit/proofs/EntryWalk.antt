@@ -5,8 +5,8 @@ use Rattle.std.specs.BTreeMap.{get}
 use Rattle.std.specs.Ordering.{nat_cmp}
 use Rattle.histories.specs.declared.entry.Entry.{Entry}
 use Rattle.histories.specs.History.{history, replay, IsStep}
-use Rattle.queue_replay.specs.NumberKeys.{not_of, each_number}
-use Rattle.queue_replay.specs.QueueHistories.{own_last, others_last}
+use Rattle.histories.specs.NumberKeys.{not_of, each_number}
+use Rattle.histories.specs.QueueHistories.{own_last, others_last}
 use Rattle.journal_audit.specs.declared.first_illegal.Place1.{Place1}
 use Rattle.journal_audit.specs.Illegal.{IsFirstOf, sooner}
 use Rattle.journal_audit.specs.Watching.{WatchedQueues, Watches, AreWatched, IsWatchedIn, IsFound}

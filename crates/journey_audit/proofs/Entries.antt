@@ -18,7 +18,7 @@ use Rattle.histories.specs.Journeys.{asks, came, going_on}
 use Rattle.queue_replay.specs.Going.{going, all_going}
 use Rattle.queue_replay.specs.declared.replayed.Replayed.{Replayed}
 use Rattle.queue_replay.specs.Replays.{queue_in, IsReplayOf}
-use Rattle.queue_replay.specs.QueueHistories.{step_at}
+use Rattle.histories.specs.QueueHistories.{step_at}
 use Rattle.journey_audit.specs.Tallying.{TallyMap, Grows}
 use Rattle.journey_audit.specs.Following.{asked_after}
 use Rattle.journey_audit.proofs.Tallies.{grows_by_none, grows_on, grows_as}

@@ -8,7 +8,7 @@ use Rattle.std.proofs.lemmas.Bool.{eq-eqb}
 use Rattle.std.proofs.lemmas.List.Elements.{filter-append}
 use Rattle.std.proofs.lemmas.Grind.{flat_map-append}
 use Rattle.histories.specs.Journeys.{Arrival}
-use Rattle.queue_replay.specs.NumberKeys.{not_of, each_number}
+use Rattle.histories.specs.NumberKeys.{not_of, each_number}
 use Rattle.journey_audit.specs.declared.tally.Tally.{Tally}
 use Rattle.journey_audit.specs.Unmet.{of_number, has_number}
 use Rattle.journey_audit.specs.Tallying.{TallyMap, IsTallied, NotesCame, NotesAsked, Grows}

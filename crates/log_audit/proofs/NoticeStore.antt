@@ -24,7 +24,7 @@ use Rattle.histories.specs.History.{history, replay}
 use Rattle.nfqa_msgs.specs.NoticeTexts.{told_exactly}
 use Rattle.queue_replay.specs.declared.found.Found.{Found}
 use Rattle.queue_replay.specs.Replays.{IsToldBy, port_in}
-use Rattle.queue_replay.specs.QueueHistories.{others_last, state_last}
+use Rattle.histories.specs.QueueHistories.{others_last, state_last}
 use Rattle.log_audit.specs.PortWalks.{IsTold}
 use Rattle.log_audit.specs.Stays.{ArePackets, AreTold, Keeps, KeepsFirst, NoticeMap}
 use Rattle.log_audit.specs.Stays.{all_letters, at_queue}

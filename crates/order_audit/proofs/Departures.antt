@@ -16,7 +16,7 @@ use Rattle.histories.specs.declared.entry.Entry.{Entry}
 use Rattle.histories.specs.History.{history, replay, replay_from}
 use Rattle.histories.specs.Stays.{departures, departures_from}
 use Rattle.queue_replay.specs.Leaving.{visits_of}
-use Rattle.queue_replay.specs.QueueHistories.{own_last, others_last}
+use Rattle.histories.specs.QueueHistories.{own_last, others_last}
 use Rattle.total_order.specs.Steps.{Has, HasLeft, taken, taken_by}
 use Rattle.order_audit.specs.Sets.{is_pair, is_among, notifies, notifies_by}
 

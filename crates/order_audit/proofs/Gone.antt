@@ -14,7 +14,7 @@ use Rattle.histories.specs.declared.log.Did.{Did}
 use Rattle.histories.specs.declared.log.Did.TheVariants.{Received, Sent, Closed}
 use Rattle.histories.specs.declared.log.PortLog.{PortLog}
 use Rattle.histories.specs.History.{history, is_of}
-use Rattle.queue_replay.specs.QueueHistories.{own_last, others_last}
+use Rattle.histories.specs.QueueHistories.{own_last, others_last}
 use Rattle.total_order.specs.Orders.{EachIs}
 use Rattle.total_order.specs.Steps.{Step, Has, AreTaken, IsAsked, IsSent, log_of, taken, IsCausedAs}
 use Rattle.total_order.specs.Steps.{InLogOrderAs}

@@ -10,7 +10,7 @@ use Rattle.total_order.specs.Steps.{log_of}
 use Rattle.order_audit.specs.declared.cursors.Cursor.{Cursor}
 use Rattle.order_audit.specs.Cursors.{CursorMap, Ascend, dids_at, dids_in, at_in, IsCursor, AreNew}
 use Rattle.order_audit.specs.Cursors.{KeepsFirst}
-use Rattle.queue_replay.specs.NumberKeys.{each_number, not_of}
+use Rattle.histories.specs.NumberKeys.{each_number, not_of}
 
 -- ---- cursors as logs are gone over
 

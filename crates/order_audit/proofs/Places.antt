@@ -4,8 +4,8 @@ use Rattle.std.proofs.Common.{subst, ◌∙◌, Some, None, arith, drop, append_
 use Rattle.std.specs.Prelude.{slice_get}
 use Rattle.histories.specs.declared.entry.Entry.{Entry}
 use Rattle.histories.specs.History.{history}
-use Rattle.queue_replay.specs.NumberKeys.{not_of, each_number}
-use Rattle.queue_replay.specs.QueueHistories.{own_last, others_last}
+use Rattle.histories.specs.NumberKeys.{not_of, each_number}
+use Rattle.histories.specs.QueueHistories.{own_last, others_last}
 use Rattle.order_audit.specs.Rows.{RowMap, places_in, places_of, AreAt, first_in, entry_at}
 use Rattle.order_audit.specs.Rows.{Lengthens}
 

@@ -17,8 +17,8 @@ use Rattle.histories.specs.declared.log.Did.{Did}
 use Rattle.histories.specs.declared.log.Did.TheVariants.{Received, Sent, Closed}
 use Rattle.histories.specs.declared.log.PortLog.{PortLog}
 use Rattle.histories.specs.History.{history, is_of, replay, IsStep, AreLegal}
-use Rattle.queue_replay.specs.NumberKeys.{each_number, not_of}
-use Rattle.queue_replay.specs.QueueHistories.{own_last, others_last, step_at}
+use Rattle.histories.specs.NumberKeys.{each_number, not_of}
+use Rattle.histories.specs.QueueHistories.{own_last, others_last, step_at}
 use Rattle.queue_replay.specs.Leaving.{visits_left}
 use Rattle.total_order.specs.Orders.{EachIs}
 use Rattle.total_order.specs.Steps.{Step, Has, HasLeft, HasCome, IsSent, log_of, taken, IsCausedAs}

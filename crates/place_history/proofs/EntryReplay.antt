@@ -6,13 +6,9 @@ use Rattle.std.proofs.lemmas.List.{length_push, length-map}
 use Rattle.std.specs.Prelude.{sum_by, count_by, ◌==◌}
 use Rattle.std.specs.List.{range_with_len}
 use Rattle.std.specs.BTreeMap.{is_at}
-use Rattle.std.specs.Ordering.{nat_cmp, is_eq}
-use Rattle.std.specs.Cmp.{nat_cmp_is}
-use Rattle.std.specs.declared.cmp.Ordering.{Ordering}
-use Rattle.std.specs.declared.cmp.Ordering.TheVariants.{Less, Equal, Greater}
+use Rattle.std.specs.Ordering.{nat_cmp}
 use Rattle.std.proofs.lemmas.Bool.{cases_Bool, eqb-true, eqb-false, ne_eqb}
 use Rattle.std.proofs.lemmas.List.Sums.{sum_by-cons}
-use Rattle.std.proofs.lemmas.Map.Lookups.{exact_unsigned}
 use Rattle.packet_entry.specs.declared.packet.Card.{Card}
 use Rattle.queue_core.specs.declared.event.Event.{Event}
 use Rattle.queue_core.specs.Step.{Way, step}
@@ -32,41 +28,17 @@ use Rattle.histories.specs.States.{every_number, waiting_in_all, taken_by}
 use Rattle.place_history.specs.PlaceInvariant.{IsReplayed, IsAhead, held_as, waiting_after}
 use Rattle.place_history.specs.Changes.{queue_at}
 use Rattle.histories.specs.History.{AreLegal, IsStep}
+use Rattle.histories.specs.NumberKeys.{at_own, not_of}
+use Rattle.histories.specs.QueueHistories.{others_last, state_last}
 
--- the laws of histories that are used here: how a history goes on with an entry more
-pub record GoesOn : Type 0 where
-  pub own : (es : List Entry) (e : Entry) →
-      history e.queue (es ++ e ∷ []) ≡ history e.queue es ++ e ∷ []
-  pub others : (es : List Entry) (e : Entry) (queue : ℕ) → (e.queue == queue) ≡ false →
-      history queue (es ++ e ∷ []) ≡ history queue es
-  pub state : (es : List Entry) (e : Entry) →
-      replay (es ++ e ∷ []) ≡ (step (replay es) e.event).state
-  pub all : (es : List Entry) (e : Entry) → AreLegal es → IsStep (replay (history e.queue es)) e →
-      AreLegal (es ++ e ∷ [])
+-- the law of histories that is used here: legal ones go on by a step of the entry's queue
+abbrev pub GoesOn : Type 0
+GoesOn = (es : List Entry) (e : Entry) → AreLegal es → IsStep (replay (history e.queue es)) e →
+    AreLegal (es ++ e ∷ [])
 
 -- a test as a number
 abbrev once : Bool → ℕ
 once b = cond b 1 0
-
--- ---- numbers
-
--- a number is at itself alone
-pub at_own : (k q : ℕ) → is_at (nat_cmp k) q ≡ true → k ≡ q
-at_own k q h = exact_unsigned k q (equal (nat_cmp k q) h)
-  where
-    equal : (o : Ordering) → is_eq o ≡ true → o ≡ Equal
-    equal Less h = absurd (cc)
-    equal Equal h = refl
-    equal Greater h = absurd (cc)
-
-pub at_itself : (k : ℕ) → is_at (nat_cmp k) k ≡ true
-at_itself k = ap is_eq (sym (nat_cmp_is k k Equal refl))
-
-pub not_of : (k q : ℕ) → is_at (nat_cmp k) q ≡ false → (k == q) ≡ false
-not_of k q h = ne_eqb k q (λ same.
-    let at : is_at (nat_cmp k) q ≡ true =
-    subst (λ n. is_at (nat_cmp k) n ≡ true) same (at_itself k) in
-    let wrong : true ≡ false = sym at ∙ h in cc)
 
 -- ---- sums over numbers
 
@@ -107,48 +79,44 @@ sum_changed f g k a (suc n) others from below = elim (cases_Bool (k == a)) [
 
 -- ---- one entry more
 
-pub state_own : GoesOn → (es : List Entry) (e : Entry) →
-    state_of (es ++ e ∷ []) e.queue ≡ (step_of es e.queue e.event).state
-state_own go es e = ap replay (go.own es e) ∙ go.state (history e.queue es) e
-
-pub state_other : GoesOn → (es : List Entry) (e : Entry) (queue : ℕ) →
+state_other : (es : List Entry) (e : Entry) (queue : ℕ) →
     (e.queue == queue) ≡ false → state_of (es ++ e ∷ []) queue ≡ state_of es queue
-state_other go es e queue other = ap replay (go.others es e queue other)
+state_other es e queue other = ap replay (others_last es e queue other)
 
 -- what is counted of each queue's state changes with one queue
-total_below : GoesOn → (count : Option Bound → ℕ) (es : List Entry) (e : Entry) (n : ℕ) →
+total_below : (count : Option Bound → ℕ) (es : List Entry) (e : Entry) (n : ℕ) →
     e.queue < n →
     sum_by (λ q. count (state_of (es ++ e ∷ []) q)) (range_with_len 0 n)
     + count (state_of es e.queue)
     ≡ sum_by (λ q. count (state_of es q)) (range_with_len 0 n)
     + count (step_of es e.queue e.event).state
-total_below go count es e n number =
+total_below count es e n number =
     let changed = sum_changed (λ q. count (state_of es q))
     (λ q. count (state_of (es ++ e ∷ []) q)) e.queue 0 n
-    (λ q other. ap count (state_other go es e q other)) (omega arith) (omega (arith, number)) in
-    omega (arith, changed, ap count (state_own go es e))
+    (λ q other. ap count (state_other es e q other)) (omega arith) (omega (arith, number)) in
+    omega (arith, changed, ap count (state_last es e))
 
-total_on : GoesOn → (count : Option Bound → ℕ) (es : List Entry) (e : Entry) →
+total_on : (count : Option Bound → ℕ) (es : List Entry) (e : Entry) →
     e.queue < queue_count →
     sum_by (λ q. count (state_of (es ++ e ∷ []) q)) every_number
     + count (state_of es e.queue)
     ≡ sum_by (λ q. count (state_of es q)) every_number
     + count (step_of es e.queue e.event).state
 unfolding every_number
-total_on go count es e number = total_below go count es e queue_count number
+total_on count es e number = total_below count es e queue_count number
 
-states_on : GoesOn → (h : Held) (es : List Entry) (e : Entry) (queue : ℕ) →
+states_on : (h : Held) (es : List Entry) (e : Entry) (queue : ℕ) →
     queue_at h.queues e.queue ≡ held_as None e.queue (step_of es e.queue e.event).state →
     (is_at (nat_cmp e.queue) queue ≡ false →
     queue_at h.queues queue ≡ held_as None queue (state_of es queue)) →
     queue_at h.queues queue ≡ held_as None queue (state_of (es ++ e ∷ []) queue)
-states_on go h es e queue own others = elim (cases_Bool (is_at (nat_cmp e.queue) queue)) [
+states_on h es e queue own others = elim (cases_Bool (is_at (nat_cmp e.queue) queue)) [
   | inl here ↦ subst
       (λ n. queue_at h.queues n ≡ held_as None n (state_of (es ++ e ∷ []) n))
       (at_own e.queue queue here)
-      (own ∙ ap (held_as None e.queue) (sym (state_own go es e)))
+      (own ∙ ap (held_as None e.queue) (sym (state_last es e)))
   | inr other ↦ others other
-      ∙ ap (held_as None queue) (sym (state_other go es e queue (not_of e.queue queue other)))
+      ∙ ap (held_as None queue) (sym (state_other es e queue (not_of e.queue queue other)))
 ]
 
 -- ---- how many wait
@@ -208,14 +176,14 @@ abbrev pub Lawful : Option Bound → Event → Type 0
 Lawful q e = IsConserving q e × Tells e (step q e).reply (length (step q e).left)
 
 -- how many wait once the entry is appended
-waits_then : GoesOn → (h : Held) (e : Entry) → IsAhead e h →
+waits_then : (h : Held) (e : Entry) → IsAhead e h →
     Lawful (state_of h.entries.items e.queue) e.event →
     (waiting_in_all (h.entries.items ++ e ∷ []) ≡ waiting_after h.waiting e.reply)
     × (taken_by e.reply ≤ h.waiting)
-waits_then go h e ahead lawful =
+waits_then h e ahead lawful =
     let es = h.entries.items in
     let so = counted (state_of es e.queue) e.event (waiting_in_all es)
-    (waiting_in_all (es ++ e ∷ [])) lawful.1 (total_on go waiting_at es e ahead.number)
+    (waiting_in_all (es ++ e ∷ [])) lawful.1 (total_on waiting_at es e ahead.number)
     (as_many (state_of es e.queue) e.event lawful.0) in (
       so.0 ∙ ap (waiting_after (waiting_in_all es)) (sym ahead.one.reply)
           ∙ ap (λ n. waiting_after n e.reply) (sym ahead.waiting),
@@ -223,9 +191,9 @@ waits_then go h e ahead lawful =
     )
 
 -- no more leave than wait
-pub enough : GoesOn → (h : Held) (e : Entry) → IsAhead e h →
+pub enough : (h : Held) (e : Entry) → IsAhead e h →
     Lawful (state_of h.entries.items e.queue) e.event → taken_by e.reply ≤ h.waiting
-enough go h e ahead lawful = (waits_then go h e ahead lawful).1
+enough h e ahead lawful = (waits_then h e ahead lawful).1
 
 -- once the entry is appended, the queues are its replay
 pub replayed : GoesOn → (h : Held) (e : Entry) (room : ℕ) → IsAhead e h →
@@ -238,11 +206,11 @@ replayed go h e room ahead lawful =
     let es = h.entries.items in
     record {
       states = λ queue. rw ahead.no_offer
-          (states_on go h es e queue ahead.own (ahead.others queue));
-      legal = go.all es e ahead.legal ahead.one;
+          (states_on h es e queue ahead.own (ahead.others queue));
+      legal = go es e ahead.legal ahead.one;
       offered = rw ahead.no_offer tt;
-      waiting = sym (waits_then go h e ahead lawful).0;
-      bound = omega (arith, total_on go one_if_bound es e ahead.number, ahead.bound);
+      waiting = sym (waits_then h e ahead lawful).0;
+      bound = omega (arith, total_on one_if_bound es e ahead.number, ahead.bound);
       few = omega (arith, ahead.few, length_push es e, at_most h.waiting e.reply);
     }
   where

@@ -13,9 +13,9 @@ use Rattle.place_history.specs.declared.place.held.Held.{Held}
 use Rattle.place_history.specs.declared.place.held.Offer.{Offer}
 use Rattle.histories.specs.History.{IsAllowed}
 use Rattle.histories.specs.States.{state_of}
+use Rattle.histories.specs.NumberKeys.{not_of}
 use Rattle.place_history.specs.PlaceInvariant.{IsReplayed, IsAhead, held_as}
 use Rattle.place_history.specs.Changes.{Queues, queue_at, Changes}
-use Rattle.place_history.proofs.EntryReplay.{not_of}
 
 -- what is held tells the state
 pub state_held : (offer : Option Offer) (queue : ℕ) (s : Option Bound) (w : WithOffer) →

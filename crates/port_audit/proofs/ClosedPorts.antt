@@ -29,8 +29,8 @@ use Rattle.port_audit.specs.Closing.{Notes}
 use Rattle.port_audit.specs.Closing.{EndsWell, ends_badly, has_closed, is_in}
 use Rattle.queue_replay.specs.Replays.{QueueMap, queue_in, port_in, AreReplayed}
 use Rattle.port_audit.specs.Told.{AreTold, dids_of}
-use Rattle.queue_replay.specs.NumberKeys.{at_own, not_of}
-use Rattle.queue_replay.specs.QueueHistories.{each_on, own_within, own_last, others_last}
+use Rattle.histories.specs.NumberKeys.{at_own, not_of}
+use Rattle.histories.specs.QueueHistories.{each_on, own_within, own_last, others_last}
 use Rattle.port_audit.proofs.HeardNotices.{or_right, or_none, or_left_none, choose, chosen}
 
 -- ---- what stands behind the first

@@ -26,7 +26,7 @@ use Rattle.run_parts.specs.Room.{some_lacks}
 use Rattle.run_parts.specs.Run.{RoomHolds}
 use Rattle.queue_replay.specs.declared.found.Found.{Found}
 use Rattle.queue_replay.specs.Replays.{port_in}
-use Rattle.queue_replay.specs.QueueHistories.{each_on, own_within}
+use Rattle.histories.specs.QueueHistories.{each_on, own_within}
 use Rattle.queue_replay.specs.Underway.{IsUnderway, WithFound, there, found_there, found_on}
 use Rattle.port_audit.specs.Hearing.{heard_in, hears_few, NoneLacks, lacks_at}
 use Rattle.port_audit.specs.Makers.{none_left}

@@ -22,8 +22,8 @@ use Rattle.port_audit.specs.Kinds.{kind_of, kinds_of_row, kinds_at}
 use Rattle.port_audit.specs.Ranking.{IsOrderedFrom, RankMap, early_in, late_in, early_at, late_at}
 use Rattle.port_audit.specs.Ranking.{ranks_then, KeepsRanks, AreInOrder, NextKind, NoneLeft}
 use Rattle.port_audit.proofs.RequestEntries.{plea_in, own_plea, other_pleas}
-use Rattle.queue_replay.specs.NumberKeys.{at_own, not_of}
-use Rattle.queue_replay.specs.QueueHistories.{own_first, other_first}
+use Rattle.histories.specs.NumberKeys.{at_own, not_of}
+use Rattle.histories.specs.QueueHistories.{own_first, other_first}
 use Rattle.port_audit.proofs.Ranks.{told_change, none_ordered, IsPlain, plain_on, plain_back}
 use Rattle.port_audit.proofs.Ranks.{arrival_plain, closing_plain, falling_plain, AreNext}
 use Rattle.port_audit.proofs.Ranks.{unasked_none, asked_on, asked_back, ranks_are, ranks_none}

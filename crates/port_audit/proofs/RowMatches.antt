@@ -16,8 +16,8 @@ use Rattle.port_audit.specs.declared.dealing.Side.{Side}
 use Rattle.port_audit.specs.Dealing.{RowMap, row_at, AreKept, Takes, told_of, AreDealt}
 use Rattle.port_audit.specs.Dealing.{side}
 use Rattle.port_audit.specs.Dealing.{brought_from, AreMet, row_in}
-use Rattle.queue_replay.specs.NumberKeys.{at_own, not_of}
-use Rattle.queue_replay.specs.QueueHistories.{own_last, own_within, others_last}
+use Rattle.histories.specs.NumberKeys.{at_own, not_of}
+use Rattle.histories.specs.QueueHistories.{own_last, own_within, others_last}
 use Rattle.port_audit.proofs.Rows.{other_port, other_queue, take_kept}
 
 brought_on : {T : Type 0} (news : ℕ → Option Bound → Entry → List T) (p : ℕ) (q : Option Bound)

@@ -12,8 +12,8 @@ use Rattle.queue_replay.specs.declared.replayed.Replayed.{Replayed}
 use Rattle.queue_replay.specs.Departed.{Adds}
 use Rattle.queue_replay.specs.Replays.{QueueMap, queue_in, Replays, AreReplayed, IsFound, AreFound}
 use Rattle.queue_replay.specs.Replays.{IsReplayOf}
-use Rattle.queue_replay.specs.NumberKeys.{not_of, each_number}
-use Rattle.queue_replay.specs.QueueHistories.{others_last, state_last}
+use Rattle.histories.specs.NumberKeys.{not_of, each_number}
+use Rattle.histories.specs.QueueHistories.{others_last, state_last}
 use Rattle.queue_replay.proofs.Parts.{departed_on}
 
 replayed_on : (before : List Entry) (old new : QueueMap) (e : Entry) →

@@ -5,6 +5,4 @@ pub mod Leaving
 pub mod Departed
 pub mod Replays
 pub mod Underway
-pub mod NumberKeys
 pub mod NumberWalk
-pub mod QueueHistories

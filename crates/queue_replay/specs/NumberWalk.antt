@@ -14,7 +14,7 @@ use Rattle.std.proofs.lemmas.Bool.{cases_Bool}
 use Rattle.std.proofs.lemmas.Map.{lookup-none}
 use Rattle.std.proofs.lemmas.Map.Entries.{none_below_head}
 use Rattle.std.proofs.lemmas.Map.Keys.{sorted_head, sorted_tail}
-use Rattle.queue_replay.specs.NumberKeys.{at_own, at_itself}
+use Rattle.histories.specs.NumberKeys.{at_own, at_itself}
 
 abbrev pub AreOrdered : {W : Type 0} → List (ℕ × W) → Type 0
 AreOrdered {W} es = IsStrictlySortedBy nat_cmp (keys_of es)

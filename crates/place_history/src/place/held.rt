@@ -10,7 +10,7 @@ ghost use Rattle.place_history.specs.PlaceInvariant as replayed;
 ghost use Rattle.place_history.specs.PlaceInvariant.{IsReplayed, IsAhead, HasRoom};
 
 use super::bound::Queues;
-use histories::{Entry, a_legal_history_goes_on, an_entry_is_of_its_queue_alone};
+use histories::{Entry, a_legal_history_goes_on};
 use packet_entry::{Card, NoMemory, Stock};
 use queue_core::{Outcome, Reply, each_packet_stays_or_leaves, replies_tell_how_many_left};
 use std::alloc::Global;
@@ -119,7 +119,6 @@ pub(super) fn append(held: &mut Held, entry: Entry)
     each_packet_stays_or_leaves();
     replies_tell_how_many_left();
     a_legal_history_goes_on();
-    an_entry_is_of_its_queue_alone();
     let reply = entry.reply;
     held.entries.push(entry);
     let count = held.entries.len();

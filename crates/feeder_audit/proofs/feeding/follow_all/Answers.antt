@@ -4,7 +4,7 @@ use Rattle.std.specs.Map.{lookup}
 use Rattle.std.specs.Ordering.{nat_cmp}
 use Rattle.histories.specs.History.{AreLegal, history, replay}
 use Rattle.queue_replay.specs.Replays.{AreFound}
-use Rattle.queue_replay.specs.QueueHistories.{step_at}
+use Rattle.histories.specs.QueueHistories.{step_at}
 use Rattle.queue_replay.specs.Underway.{WithFound, begun, there, found_is_some, found_on}
 use Rattle.queue_replay.specs.Underway.{all_gone_over}
 use Rattle.feeder_audit.specs.declared.fed.Fed.{Fed}

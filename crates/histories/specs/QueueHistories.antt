@@ -1,23 +1,23 @@
 -- For proofs alone: the histories of queues among the entries of all of them.
 use Rattle.std.proofs.Common.{◌≡◌, ℕ, List, [], ◌∷◌, ◌++◌, Option, None, true, false, cond, refl}
-use Rattle.std.proofs.Common.{sym, ap, ◌∙◌, subst, append-nil}
-use Rattle.std.proofs.lemmas.Bool.{eq-eqb}
+use Rattle.std.proofs.Common.{sym, ap, ◌∙◌, subst, append-nil, inl, inr}
+use Rattle.std.proofs.lemmas.Bool.{eq-eqb, cases_Bool}
+use Rattle.std.proofs.lemmas.List.Elements.{filter-append}
 use Rattle.queue_core.specs.State.{Bound}
 use Rattle.queue_core.specs.Step.{step}
 use Rattle.histories.specs.declared.entry.Entry.{Entry}
 use Rattle.histories.specs.History.{history, replay, replay_from, is_of, IsStep, IsLegal, AreLegal}
 use Rattle.histories.specs.History.{IsLegalFrom}
-use Rattle.queue_replay.specs.NumberKeys.{not_of, each_number}
+use Rattle.histories.specs.NumberKeys.{not_of, each_number}
 
-pub history_on : (queue : ℕ) (es fs : List Entry) →
-    history queue (es ++ fs) ≡ history queue es ++ history queue fs
-history_on queue [] fs = refl
-history_on queue (e ∷ es) fs =
-    elim (is_of queue e) as (λ b. cond b (e ∷ history queue (es ++ fs)) (history queue (es ++ fs))
-    ≡ cond b (e ∷ history queue es) (history queue es) ++ history queue fs) [
-      | true ↦ ap (λ gs. e ∷ gs) (history_on queue es fs)
-      | false ↦ history_on queue es fs
-    ]
+-- the history of a queue's history is itself
+pub history_twice : (queue : ℕ) (es : List Entry) →
+    history queue (history queue es) ≡ history queue es
+history_twice queue [] = refl
+history_twice queue (d ∷ es) = elim (cases_Bool (is_of queue d)) [
+  | inl h ↦ rw h (rw h (ap (λ (l : List Entry). d ∷ l) (history_twice queue es)))
+  | inr h ↦ rw h (history_twice queue es)
+]
 
 -- ---- one entry first
 
@@ -35,14 +35,14 @@ other_first queue e fs other = ap (λ b. cond b (e ∷ history queue fs) (histor
 pub own_within : (queue : ℕ) (es fs : List Entry) (e : Entry) → is_of queue e ≡ true →
     history queue (es ++ e ∷ fs) ≡ history queue es ++ e ∷ history queue fs
 own_within queue es fs e own =
-    history_on queue es (e ∷ fs)
+    filter-append (is_of queue) es (e ∷ fs)
     ∙ ap (λ (gs : List Entry). history queue es ++ gs) (own_first queue e fs own)
 
 -- and in no other
 pub others_within : (queue : ℕ) (es fs : List Entry) (e : Entry) → is_of queue e ≡ false →
     history queue (es ++ e ∷ fs) ≡ history queue es ++ history queue fs
 others_within queue es fs e other =
-    history_on queue es (e ∷ fs)
+    filter-append (is_of queue) es (e ∷ fs)
     ∙ ap (λ (gs : List Entry). history queue es ++ gs) (other_first queue e fs other)
 
 -- ---- one entry more
@@ -68,16 +68,16 @@ each_on P es e each own =
 
 -- ---- states
 
-replay_last : (q : Option Bound) (es : List Entry) (e : Entry) →
-    replay_from q (es ++ e ∷ []) ≡ (step (replay_from q es) e.event).state
-replay_last q [] e = refl
-replay_last q (d ∷ es) e = replay_last (step q d.event).state es e
+pub replay_on : (q : Option Bound) (es fs : List Entry) →
+    replay_from q (es ++ fs) ≡ replay_from (replay_from q es) fs
+replay_on q [] fs = refl
+replay_on q (e ∷ es) fs = replay_on (step q e.event).state es fs
 
 -- an entry's step is made of its queue's state
 pub state_on : (queue : ℕ) (es : List Entry) (e : Entry) → is_of queue e ≡ true →
     replay (history queue (es ++ e ∷ [])) ≡ (step (replay (history queue es)) e.event).state
 state_on queue es e own =
-    ap replay (own_within queue es [] e own) ∙ replay_last None (history queue es) e
+    ap replay (own_within queue es [] e own) ∙ replay_on None (history queue es) (e ∷ [])
 
 pub state_last : (es : List Entry) (e : Entry) →
     replay (history e.queue (es ++ e ∷ []))
