@@ -1,27 +1,22 @@
 -- What one queue's entries say of a port's mailbox: their notices, and whether one found no room.
-use Rattle.std.proofs.Common.{◌++◌, ◌<◌, ◌∙◌, ◌∷◌, ◌≡◌, ◌⊎◌, Bool, List, None, Option, [], ap}
+use Rattle.std.proofs.Common.{◌++◌, ◌<◌, ◌∙◌, ◌∷◌, ◌≡◌, ◌⊎◌, Bool, List, None, [], ap}
 use Rattle.std.proofs.Common.{arith, cond}
 use Rattle.std.proofs.Common.{false, inl, inr, refl, true, ℕ}
 use Rattle.std.proofs.lemmas.Bool.{cases_Bool, eq-eqb, eqb-true}
 use Rattle.std.proofs.lemmas.List.Elements.{filter-append}
 use Rattle.std.proofs.lemmas.List.Sums.{sum_by-cons}
 use Rattle.std.specs.Prelude.{count_by, flat_map, if◌then◌else◌, sum_by}
-use Rattle.queue_core.specs.State.{Bound}
 use Rattle.queue_core.specs.Step.{step}
 use Rattle.histories.specs.declared.entry.Entry.{Entry}
 use Rattle.histories.specs.History.{history, is_of, replay, replay_from}
 use Rattle.histories.specs.Letters.{lacks_under, letters_under}
 use Rattle.histories.specs.States.{state_of}
+use Rattle.histories.specs.QueueHistories.{replay_on}
 use Rattle.locked_place.specs.Notices.{lacking, lacks_at, letters_at, letters_to}
 use Rattle.locked_place.specs.Points.{Point, point_after, points_after}
 use Rattle.run_parts.specs.Notices.{letters_from}
 use Rattle.run_parts.specs.Room.{some_lacks}
 use Rattle.live_runs.specs.Seen.{EachIs}
-
-replay_on : (q : Option Bound) (es fs : List Entry) →
-    replay_from q (es ++ fs) ≡ replay_from (replay_from q es) fs
-replay_on q [] fs = refl
-replay_on q (e ∷ es) fs = replay_on (step q e.event).state es fs
 
 -- one entry of the queue more
 state_on : (queue : ℕ) (before : List Entry) (e : Entry) → e.queue ≡ queue →

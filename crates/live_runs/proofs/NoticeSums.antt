@@ -9,7 +9,6 @@ use Rattle.std.proofs.lemmas.List.Sums.{sum_by-cons}
 use Rattle.std.specs.List.{list_any}
 use Rattle.std.specs.Prelude.{◌==◌, ◌||◌, flat_map, if◌then◌else◌, nat_eq, sum_by}
 use Rattle.queue_core.specs.State.{Bound}
-use Rattle.queue_core.specs.Step.{step}
 use Rattle.queue_core.specs.declared.event.Event.TheVariants.{PortClosed}
 use Rattle.histories.specs.Happenings.{closing_of, closings}
 use Rattle.histories.specs.History.{history, is_of, replay, replay_from}
@@ -17,6 +16,7 @@ use Rattle.histories.specs.Letters.{letters_of_event, letters_under}
 use Rattle.histories.specs.Numbers.{queue_count}
 use Rattle.histories.specs.States.{entry_in, every_number, state_of}
 use Rattle.histories.specs.declared.entry.Entry.{Entry}
+use Rattle.histories.specs.QueueHistories.{replay_on}
 use Rattle.run_parts.specs.Closing.{is_bound_to}
 use Rattle.live_runs.specs.Calls.{ShutsAll}
 use Rattle.live_runs.specs.ClosedPlanes.{own_taken, sent_at, sent_by_all}
@@ -35,11 +35,6 @@ AreFree port es = (queue : ℕ) → queue < queue_count →
 -- an entry of a queue that there is, and not the port's
 abbrev pub IsAway : ℕ → Entry → Type 0
 IsAway port e = IsNotBy port e × (e.queue < queue_count)
-
-replay_on : (q : Option Bound) (es fs : List Entry) →
-    replay_from q (es ++ fs) ≡ replay_from (replay_from q es) fs
-replay_on q [] fs = refl
-replay_on q (e ∷ es) fs = replay_on (step q e.event).state es fs
 
 none_under : (port : ℕ) (o : Option Bound) (e : Entry) → is_bound_to port o ≡ false →
     letters_under port o e ≡ []

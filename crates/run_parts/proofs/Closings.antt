@@ -14,6 +14,7 @@ use Rattle.histories.specs.Numbers.{queue_count}
 use Rattle.histories.specs.History.{history, is_of, replay, replay_from}
 use Rattle.histories.specs.States.{entry_in, state_of}
 use Rattle.histories.specs.Happenings as happening
+use Rattle.histories.specs.QueueHistories.{replay_on}
 use Rattle.run_parts.specs.Closing.{is_closing_of, is_of_port, behind_first, is_bound_to}
 use Rattle.run_parts.specs.Closing.{IsClosing}
 use Rattle.run_parts.specs.Underway.{AreOthers}
@@ -29,11 +30,6 @@ pub record Laws : Type 0 where
       ≢ Some port
 
 -- ---- histories that go on
-
-pub replay_on : (q : Option Bound) (es fs : List Entry) →
-    replay_from q (es ++ fs) ≡ replay_from (replay_from q es) fs
-replay_on q [] fs = refl
-replay_on q (e ∷ es) fs = replay_on (step q e.event).state es fs
 
 others_history : (p queue : ℕ) (es : List Entry) → AreOthers p es → AreOthers p (history queue es)
 others_history p queue [] are = tt

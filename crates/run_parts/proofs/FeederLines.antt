@@ -16,7 +16,7 @@ use Rattle.script_lines.specs.declared.line.Down.{Down}
 use Rattle.run_parts.specs.Feeder.{Item, Was, Fell, Passed}
 use Rattle.run_parts.specs.Feeder.{entries_of, lines_of, IsItem, IsNoDown}
 use Rattle.run_parts.specs.Feeder.{AreItemsFrom, times_of, times_of_event}
-use Rattle.run_parts.proofs.Closings.{replay_on}
+use Rattle.histories.specs.QueueHistories.{replay_on}
 use Rattle.run_parts.proofs.AscendingNumbers.{rise_push, rise_later, history_push}
 use Rattle.run_parts.specs.Feeder.{IsFed}
 use Rattle.run_parts.specs.Underway.{Rise, IsNow, Fed, AllFed}

@@ -25,7 +25,8 @@ use Rattle.shared_feeding.specs.Sights.{AreSightsFrom, AscendTo, Own, Saw, Sight
 use Rattle.shared_feeding.specs.Sights.{history_seen, item_of, own_lines, seen_of}
 use Rattle.shared_feeding.proofs.FeederJoin.{if_none}
 use Rattle.shared_feeding.proofs.ShareInvariant.{entries_append, entries_seen}
-use Rattle.shared_feeding.proofs.ShareGrowth.{replay_on, under, under_is}
+use Rattle.shared_feeding.proofs.ShareGrowth.{under, under_is}
+use Rattle.histories.specs.QueueHistories.{replay_on}
 
 -- ---- the guard
 

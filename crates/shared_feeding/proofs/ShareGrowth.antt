@@ -5,13 +5,13 @@ use Rattle.std.proofs.Common.{true, ℕ}
 use Rattle.std.proofs.lemmas.List.Concat.{flat_map-append}
 use Rattle.std.specs.Prelude.{◌==◌, flat_map, if◌then◌else◌}
 use Rattle.queue_core.specs.State.{Bound}
-use Rattle.queue_core.specs.Step.{step}
 use Rattle.queue_core.specs.declared.event.Event.{Event}
 use Rattle.queue_core.specs.declared.event.Event.TheVariants.{Arrive, Ask, DeviceDown, PortClosed}
 use Rattle.histories.specs.Happenings.{down_of}
 use Rattle.histories.specs.History.{is_of, replay_from}
 use Rattle.histories.specs.States.{entry_in}
 use Rattle.histories.specs.declared.entry.Entry.{Entry}
+use Rattle.histories.specs.QueueHistories.{replay_on}
 use Rattle.script_lines.specs.declared.line.Down.{Down}
 use Rattle.run_parts.specs.Ascending.{AscendFrom}
 use Rattle.run_parts.specs.Feeder.{Fell, IsNoDown, Passed, Was, entries_of}
@@ -22,11 +22,6 @@ use Rattle.live_runs.specs.Seen.{Ours, OursAre, Seen, Theirs, all_ours, entries}
 use Rattle.shared_feeding.specs.Sights.{AreSightsFrom, AscendTo, IsEventOf, IsFrameOf, IsShareOf}
 use Rattle.shared_feeding.specs.Sights.{IsSight, IsThis, Own, OwnAreOf, Saw, Sight, front_time}
 use Rattle.shared_feeding.specs.Sights.{history_seen, item_of, own_lines, own_times, seen_of}
-
-pub replay_on : (q : Option Bound) (es fs : List Entry) →
-    replay_from q (es ++ fs) ≡ replay_from (replay_from q es) fs
-replay_on q [] fs = refl
-replay_on q (e ∷ es) fs = replay_on (step q e.event).state es fs
 
 -- ---- the entries under what is seen and done
 

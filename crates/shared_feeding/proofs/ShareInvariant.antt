@@ -27,7 +27,8 @@ use Rattle.live_runs.specs.Seen.{entries, entry}
 use Rattle.shared_feeding.specs.Sights.{AreSharing, IsEventOf, IsFrameOf, IsShareOf, IsSharing}
 use Rattle.shared_feeding.specs.Sights.{IsThis}
 use Rattle.shared_feeding.specs.Sights.{front_time, history_seen, is_seen_of}
-use Rattle.shared_feeding.proofs.ShareGrowth.{down_share, first_share, quiet_share, replay_on}
+use Rattle.shared_feeding.proofs.ShareGrowth.{down_share, first_share, quiet_share}
+use Rattle.histories.specs.QueueHistories.{replay_on}
 use Rattle.shared_feeding.proofs.ShareGrowth.{share_later}
 
 -- ---- lists

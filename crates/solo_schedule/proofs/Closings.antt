@@ -3,13 +3,13 @@ use Rattle.std.proofs.Common.{◌≡◌, ◌<◌, ℕ, List, [], ◌∷◌, ◌+
 use Rattle.std.proofs.Common.{Bool, true, false, refl}
 use Rattle.std.specs.Prelude.{flat_map, ◌==◌, if◌then◌else◌}
 use Rattle.queue_core.specs.State.{Bound}
-use Rattle.queue_core.specs.Step.{step}
 use Rattle.queue_core.specs.declared.event.Event.TheVariants.{PortClosed}
 use Rattle.histories.specs.declared.entry.Entry.{Entry}
 use Rattle.histories.specs.Numbers.{queue_count}
-use Rattle.histories.specs.History.{history, replay_from}
+use Rattle.histories.specs.History.{history}
 use Rattle.histories.specs.States.{entry_in}
 use Rattle.histories.specs.Happenings as happening
+use Rattle.histories.specs.QueueHistories.{replay_on}
 use Rattle.run_parts.specs.Closing.{is_closing_of, IsClosing}
 use Rattle.run_parts.specs.Underway.{AreOthers}
 
@@ -22,12 +22,6 @@ pub record Laws : Type 0 where
   pub closed : (port queue : ℕ) (es : List Entry) → queue < queue_count →
       IsClosing port false (history queue es) →
       IsClosing port true (history queue (es ++ happening.closings port es))
-
--- a history that goes on
-pub replay_on : (q : Option Bound) (es fs : List Entry) →
-    replay_from q (es ++ fs) ≡ replay_from (replay_from q es) fs
-replay_on q [] fs = refl
-replay_on q (e ∷ es) fs = replay_on (step q e.event).state es fs
 
 -- ---- entries that aren't a port's
 

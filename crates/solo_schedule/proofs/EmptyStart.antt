@@ -19,7 +19,7 @@ use Rattle.histories.specs.declared.entry.Entry.{Entry}
 use Rattle.histories.specs.History.{history, is_of, replay, replay_from}
 use Rattle.histories.specs.States.{state_of, entry_in}
 use Rattle.histories.specs.Happenings as happening
-use Rattle.solo_schedule.proofs.Closings.{replay_on}
+use Rattle.histories.specs.QueueHistories.{replay_on}
 use Rattle.solo_schedule.proofs.LaterVisits.{MayGo}
 
 -- how every step conserves packets
