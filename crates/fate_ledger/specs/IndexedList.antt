@@ -1,5 +1,5 @@
--- Many packets that wait, as they are kept: each at its place, where places count up, and beside it the
--- places of each id.
+-- Many packets that wait, as they are kept: each at its place, where places count up, and beside it
+-- the places of each id.
 use Rattle.std.specs.Prelude.{◌≡◌, ◌≤◌, ℕ, Bool, false, true, Option, Some, None}
 use Rattle.std.specs.Map.{lookup, remove_entry, values_of}
 use Rattle.std.specs.Ordering.{nat_cmp, ordering_then, is_gt}

@@ -1,5 +1,5 @@
-//! What happened at queues and at their ports: entries, logs and histories, what a history leads to,
-//! which histories are legal, and how packets go from queue to queue.
+//! What happened at queues and at their ports: entries, logs and histories, what a history leads
+//! to, which histories are legal, and how packets go from queue to queue.
 #![tactic(auto)]
 
 mod entry;

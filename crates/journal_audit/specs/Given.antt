@@ -13,7 +13,8 @@ use Rattle.journal_audit.specs.Parts.{HoldBefore, Holds}
 
 -- A walk over the logs found that they are what the script says, and then it is told what each port
 -- did, with the errnos that its answers tell; or that nothing can be told of them. However they are
--- told, the part on order holds or not as was found. No two arrivals are of one packet at one visit.
+-- told, the part on order holds or not as was found. No two arrivals are of one packet at one
+-- visit.
 pub record AreGiven (script : ScriptValue) (h : Histories) (walked : Walked)
     (notes : ℕ → List Note) : Type 0 where
   pub logs : MatchBool walked.logs (HaveLogs script h notes)
@@ -23,8 +24,8 @@ pub record AreGiven (script : ScriptValue) (h : Histories) (walked : Walked)
       (IsTrue walked.order ↔ OrderHolds 1 script h ns)
   pub once : ArriveOnce h.entries
 
--- What is said of a part, where those before it hold of these notes: it holds of them as well, or it
--- holds of no notes of which those before it hold.
+-- What is said of a part, where those before it hold of these notes: it holds of them as well, or
+-- it holds of no notes of which those before it hold.
 abbrev pub IsSaid : ScriptValue → ℕ → Histories → (ℕ → List Note) → Part → Bool → Type 0
 IsSaid script frames h notes part true = Holds script frames h notes part
 IsSaid script frames h notes part false =

@@ -18,7 +18,8 @@ pub enum Finding {
     Record { number: u32 },
     /// The first part of being made by the script that doesn't hold.
     Makers { part: Part },
-    /// All parts hold, and no order of all events exists in which each comes after what it rests on.
+    /// All parts hold, and no order of all events exists in which each comes after what it rests
+    /// on.
     Order,
 }
 

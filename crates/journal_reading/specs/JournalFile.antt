@@ -19,7 +19,8 @@ use Rattle.journal_reading.specs.declared.fault.JournalFault.{JournalFault}
 use Rattle.journal_reading.specs.declared.fault.JournalFault.TheVariants.{Bad}
 use Rattle.journal_reading.specs.declared.fault.JournalFault.TheVariants as fault
 use Rattle.journal_reading.specs.declared.line.Line.{Line}
-use Rattle.journal_reading.specs.declared.line.Line.TheVariants.{Heading, EntryLine, PortLine, DidLine}
+use Rattle.journal_reading.specs.declared.line.Line.TheVariants.{Heading, EntryLine, PortLine}
+use Rattle.journal_reading.specs.declared.line.Line.TheVariants.{DidLine}
 use Rattle.journal_reading.specs.declared.line.Line.TheVariants.{End}
 use Rattle.journal_reading.specs.declared.reader.Reader.{Reader}
 use Rattle.text_lines.specs.declared.stop.Stop.{Stop}

@@ -1,7 +1,8 @@
 -- The lines of a journal, each without its end.
 use Rattle.std.specs.Prelude.{ℕ, ◌≡◌, ⊤, List, codes}
 use Rattle.journal_reading.specs.declared.line.Line.{Line}
-use Rattle.journal_reading.specs.declared.line.Line.TheVariants.{Heading, EntryLine, PortLine, DidLine}
+use Rattle.journal_reading.specs.declared.line.Line.TheVariants.{Heading, EntryLine, PortLine}
+use Rattle.journal_reading.specs.declared.line.Line.TheVariants.{DidLine}
 use Rattle.journal_reading.specs.declared.line.Line.TheVariants.{End}
 use Rattle.journals.specs.declared.version.Version.{Version}
 use Rattle.journals.specs.Format.{did_line, entry_line, port_line, title}

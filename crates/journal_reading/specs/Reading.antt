@@ -24,7 +24,8 @@ use Rattle.histories.specs.declared.log.Did.TheVariants.{Received, Sent, Closed}
 use Rattle.histories.specs.declared.log.AskWords.{AskWords}
 use Rattle.histories.specs.declared.log.AskWords.TheVariants.{Plain, Raw}
 use Rattle.journal_reading.specs.declared.line.Line.{Line}
-use Rattle.journal_reading.specs.declared.line.Line.TheVariants.{Heading, EntryLine, PortLine, DidLine}
+use Rattle.journal_reading.specs.declared.line.Line.TheVariants.{Heading, EntryLine, PortLine}
+use Rattle.journal_reading.specs.declared.line.Line.TheVariants.{DidLine}
 use Rattle.journal_reading.specs.declared.line.Line.TheVariants.{End}
 use Rattle.histories.specs.Happenings.{queue_of}
 use Rattle.journals.specs.declared.version.Version.{Version}

@@ -6,7 +6,8 @@ ghost use Rattle.text_lines.specs.Refusals.{Moves};
 ghost use Rattle.journal_reading.specs.JournalFile.{FollowsText, HasRead, IsSound, KnowsPorts};
 ghost use Rattle.journal_reading.specs.JournalFile.{after};
 ghost use Rattle.journal_reading.specs.JournalFile.{Follows, closed, start};
-ghost use Rattle.journal_reading.specs.JournalFile.{histories_of, is_closing, is_end, place_of, put};
+ghost use Rattle.journal_reading.specs.JournalFile.{histories_of, is_closing, is_end, place_of};
+ghost use Rattle.journal_reading.specs.JournalFile.{put};
 
 use crate::laws::lines_say_what_is_written;
 use crate::line::Line;

@@ -5,7 +5,8 @@ ghost use Rattle.histories.specs.declared.histories.Histories as value;
 ghost use Rattle.journals.specs.declared.version.Version.TheVariants.{First, Second};
 ghost use Rattle.journals.specs.Format.{heading};
 ghost use Rattle.journal_reading.specs.declared.fault.JournalFault.TheVariants as fault;
-ghost use Rattle.journal_reading.specs.JournalFile.{Answers, Closes, IsAnswer, IsFirstRefused, IsJournal};
+ghost use Rattle.journal_reading.specs.JournalFile.{Answers, Closes, IsAnswer, IsFirstRefused};
+ghost use Rattle.journal_reading.specs.JournalFile.{IsJournal};
 ghost use Rattle.journal_reading.specs.JournalFile.{IsRefusedAt, place_of, version_of};
 
 use crate::fault::JournalFault;

@@ -2,7 +2,8 @@
 
 ghost use Rattle.std.specs.Prelude.{◌≡◌, Option, codes, option_map};
 ghost use Rattle.text_lines.specs.Digits.{decimal};
-ghost use Rattle.journal_reading.specs.Reading.{asked_in, batch_in, both, bytes_in, config_in, field};
+ghost use Rattle.journal_reading.specs.Reading.{asked_in, batch_in, both, bytes_in, config_in};
+ghost use Rattle.journal_reading.specs.Reading.{field};
 ghost use Rattle.journal_reading.specs.Reading.{half, head_in, new_priority_in, params_in, part};
 ghost use Rattle.journal_reading.specs.Reading.{Reads, request_by, request_in, small, verdict_in};
 

@@ -3,7 +3,8 @@ use Rattle.std.proofs.Common.{◌≡◌, ◌+◌, ◌-◌, ◌*◌, ◌%◌, ◌
 use Rattle.std.proofs.Common.{zero, bit_and, List, cond, get_or, w8, take, drop, length, map}
 use Rattle.std.proofs.Common.{slice_index, refl, sym, ap, ◌∙◌, subst, arith}
 use Rattle.std.proofs.lemmas.List.{take-take, take-append-drop, drop-take, take_at, take_all}
-use Rattle.std.proofs.lemmas.List.{take_rest, take-append-le, length-take-le, length-drop, length-map}
+use Rattle.std.proofs.lemmas.List.{take_rest, take-append-le, length-take-le, length-drop}
+use Rattle.std.proofs.lemmas.List.{length-map}
 use Rattle.std.proofs.lemmas.List.{length-replicate}
 use Rattle.std.proofs.lemmas.Nat.{and_mask}
 use Rattle.std.proofs.lemmas.Simd.{swz_l, map-map, zip2_splat, take_more_put_chunk}
@@ -78,7 +79,8 @@ masked n v long =
     ap (map (λ x. digit x)) (zip2_splat bit_and v n 15 long)
     ∙ map-map (λ x. digit x) (λ b. bit_and b 15) v ∙ (λ i. map (λ b. digit (and_mask b 4 i)) v)
 
--- the lanes of the digits, in turn, are the digits of each byte: what a pair of lists of places says
+-- the lanes of the digits, in turn, are the digits of each byte: what a pair of lists of places
+-- says
 abbrev Weave : ℕ → List ℕ → List ℕ → Type 0
 Weave n firsts seconds =
     (v : List ℕ) → length v ≡ n →

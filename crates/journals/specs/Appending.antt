@@ -1,5 +1,6 @@
 -- Bytes that are appended.
-use Rattle.std.specs.Prelude.{◌≡◌, ◌+◌, ◌≤◌, ◌++◌, ℕ, List, length, Result, OnOk, IsOk, Vec, vec_len}
+use Rattle.std.specs.Prelude.{◌≡◌, ◌+◌, ◌≤◌, ◌++◌, ℕ, List, length, Result, OnOk, IsOk, Vec}
+use Rattle.std.specs.Prelude.{vec_len}
 use Rattle.std.specs.Prelude.{vec_capacity}
 use Rattle.std.specs.declared.alloc.Global.{Global}
 

@@ -62,8 +62,8 @@ pub(crate) fn push_journal(
     append_word("end\n", out)
 }
 
-/// Appends a journal's first line. So a journal can be written part by part: this line, each entry's
-/// ([`append_entry`]), and its tail ([`journal_tail`]).
+/// Appends a journal's first line. So a journal can be written part by part: this line, each
+/// entry's ([`append_entry`]), and its tail ([`journal_tail`]).
 pub fn append_heading(out: &mut Vec<u8>) -> Result<(), AllocError>
     ensures { Appends result out.old out.new today.heading }
 {

@@ -1,6 +1,7 @@
 -- Journeys that are judged number by number: whether just the arrivals came that were asked for,
 -- each as often as it was.
-use Rattle.std.specs.Prelude.{◌≡◌, ◌<◌, ℕ, List, ◌++◌, Option, Bool, ◌==◌, count_by, flat_map, filter}
+use Rattle.std.specs.Prelude.{◌≡◌, ◌<◌, ℕ, List, ◌++◌, Option, Bool, ◌==◌, count_by, flat_map}
+use Rattle.std.specs.Prelude.{filter}
 use Rattle.std.specs.Prelude.{[], MatchOption}
 use Rattle.packet_entry.specs.declared.packet.Card.{Card}
 use Rattle.hook_chain.specs.Rules.{RuleTables}

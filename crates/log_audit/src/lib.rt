@@ -1,6 +1,6 @@
 //! The logs of a finished journal, judged: whether each is what a script says of its port, and when
-//! its requests were sent. A log that can be walked from its first entry to its last is one that the
-//! port's script tells, and each such log can be walked.
+//! its requests were sent. A log that can be walked from its first entry to its last is one that
+//! the port's script tells, and each such log can be walked.
 #![tactic(auto)]
 
 mod duties;

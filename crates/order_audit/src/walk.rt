@@ -99,8 +99,8 @@ pub(crate) fn can_pass(walk: &Walk, logs: &Logs, port: u32) -> bool
 }
 
 impl Walk {
-    /// An entry goes, which is the first that is left of its queue's history. These packets leave in
-    /// its step.
+    /// An entry goes, which is the first that is left of its queue's history. These packets leave
+    /// in its step.
     pub(crate) fn go(&mut self, entry: &Entry, visits: &[(u32, u32)]) -> Result<(), NoMemory>
         ensures { OnOk result (walking.Goes self.old self.new entry.now visits.now) }
     {

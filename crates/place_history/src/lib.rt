@@ -1,5 +1,5 @@
-//! The queues of one place by number, each the replay of its stored history. What a history is stands
-//! in `histories`, and is handed on here.
+//! The queues of one place by number, each the replay of its stored history. What a history is
+//! stands in `histories`, and is handed on here.
 #![tactic(auto)]
 
 mod place;

@@ -6,8 +6,8 @@ use Rattle.locked_place.specs.Turns.{LooksOn}
 use Rattle.place_rows.specs.Rows.{Known, TurnedUpTo}
 use Rattle.place_turns.specs.Listings.{state_in}
 
--- Each of so many places was looked at, in a turn of its own, and the text has a line for each queue
--- that was bound then, by ascending number.
+-- Each of so many places was looked at, in a turn of its own, and the text has a line for each
+-- queue that was bound then, by ascending number.
 pub record IsListed (places : ℕ) (olds news : List Known) (before after : List ℕ) : Type 0 where
   pub looked : TurnedUpTo places olds news LooksOn
   pub text : after ≡ before

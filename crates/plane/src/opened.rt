@@ -232,8 +232,8 @@ fn fill_all(
 }
 
 impl Plane {
-    /// A plane of 1 to 64 places with these ports, none of them twice. Packets go through the tables;
-    /// `key` is the flow hash's. Each port's mailbox holds `mail` notices, 1 to 65,536.
+    /// A plane of 1 to 64 places with these ports, none of them twice. Packets go through the
+    /// tables; `key` is the flow hash's. Each port's mailbox holds `mail` notices, 1 to 65,536.
     pub fn new(
         alloc: Global,
         places: u8,

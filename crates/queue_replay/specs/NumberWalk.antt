@@ -1,7 +1,8 @@
 -- For proofs alone: what a map keeps by number is gone over, one number after the other, up to the
 -- first at which something doesn't hold.
 use Rattle.std.proofs.Common.{◌≡◌, ◌<◌, ℕ, List, [], ◌∷◌, ◌++◌, Option, Some, None, Bool, true}
-use Rattle.std.proofs.Common.{false, cond, refl, sym, ap, ◌∙◌, subst, inl, inr, append_assoc, true≢false}
+use Rattle.std.proofs.Common.{false, cond, refl, sym, ap, ◌∙◌, subst, inl, inr, append_assoc}
+use Rattle.std.proofs.Common.{true≢false}
 use Rattle.std.specs.Prelude.{⊤}
 use Rattle.std.specs.BTreeMap.{is_at}
 use Rattle.std.specs.Map.{lookup, keys_of}

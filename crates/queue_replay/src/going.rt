@@ -26,8 +26,8 @@ const QUEUE_NUMBER_PLACE: u32 = 65_536;
 pub type Leavers = Vec<(Card, Decision)>;
 
 /// The packets that go on in the step of an entry at a queue number, in order. What is destroyed
-/// isn't among them; what a queue lets through goes on as if it was accepted. Of an entry that is no
-/// step it is told what its reply tells.
+/// isn't among them; what a queue lets through goes on as if it was accepted. Of an entry that is
+/// no step it is told what its reply tells.
 pub(crate) fn going_on(
     queue: &Option<Standing>,
     alloc: Global,

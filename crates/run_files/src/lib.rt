@@ -5,8 +5,8 @@
 //! end, with its exit status ([`status`]). A [`Refusal`] has the line that is printed of it.
 //! [`read_journal_file`] answers the histories that a journal of either version tells, and
 //! [`read_told_run`] what a run is made from with those of its journal, of version 2.
-//! [`outputs_of`] takes all memory that the writing of the outputs wants, so that none is taken once
-//! a file has been opened.
+//! [`outputs_of`] takes all memory that the writing of the outputs wants, so that none is taken
+//! once a file has been opened.
 #![tactic(auto)]
 
 mod capture_file;

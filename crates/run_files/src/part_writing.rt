@@ -1,6 +1,7 @@
 //! Files that are written part by part: a part is built in memory that was taken before.
 
-ghost use Rattle.std.specs.Prelude.{◌≡◌, ◌+◌, ◌<◌, ◌≤◌, ◌^◌, ℕ, List, [], length, IsTrue, IfOk, OnOk};
+ghost use Rattle.std.specs.Prelude.{◌≡◌, ◌+◌, ◌<◌, ◌≤◌, ◌^◌, ℕ, List, [], length, IsTrue, IfOk};
+ghost use Rattle.std.specs.Prelude.{OnOk};
 ghost use Rattle.std.specs.Prelude.{OnErr, Some, vec_capacity, vec_len};
 ghost use Rattle.host_io.specs.Host.{ChangesOnly, IsLater, MayGoOn, Rises, written};
 ghost use Rattle.run_files.specs.Parts.{Has, IsAhead};

@@ -37,10 +37,10 @@ ghost use Rattle.nfqa_msgs.specs.declared.request.Decoded.TheVariants.{Asked};
 
 /// Examples of what a run has and hasn't. The log of a port that only closes is its closing, and
 /// not empty, and nothing stands behind the closing; no request stands in a history that no message
-/// asked for; and no port closes twice at one queue. Of another port the request and the closing say
-/// nothing, and another port may ask behind the closing; a port that didn't close has no closing.
-/// The histories whose log is its closing are its run. Those whose log is empty are none, whatever is noted of the ports and whatever is left in
-/// their mailboxes.
+/// asked for; and no port closes twice at one queue. Of another port the request and the closing
+/// say nothing, and another port may ask behind the closing; a port that didn't close has no
+/// closing. The histories whose log is its closing are its run. Those whose log is empty are none,
+/// whatever is noted of the ports and whatever is left in their mailboxes.
 pub fn runs_of_one_port()
     ensures log { IsLog 1 closing_script 0 7 (Shut ∷ []) (Closed ∷ []) }
     ensures not_empty { (notes : List Note) → IsLog 1 closing_script 0 7 notes [] → ⊥ }
@@ -82,9 +82,9 @@ pub fn logs_by_hand()
         IsLog 1 ending_script 0 7 (Begun ∷ Got l ∷ notes) dids → ⊥ }
 {}
 
-/// Histories, written out, that the ports or the requests refuse, and the log doesn't. Where the port has no log, its log is no
-/// fault. And where the log has an errno that the message hasn't, the log holds and the requests
-/// don't.
+/// Histories, written out, that the ports or the requests refuse, and the log doesn't. Where the
+/// port has no log, its log is no fault. And where the log has an errno that the message hasn't,
+/// the log holds and the requests don't.
 pub fn parts_by_hand()
     ensures missing { PortsHold closing_script no_logs → ⊥ }
     ensures no_log { LogHolds 1 closing_script no_logs (λ port. []) }
@@ -140,9 +140,9 @@ pub fn hearing_by_hand()
         AreRequests [] 7 (Spoke 1 m 0 ∷ []) → ⊥ }
 {}
 
-/// Histories of one queue that two feeders fed, or can't have fed, written out. Frames of two shares
-/// come in any order, and those of one share in theirs. No device goes down without a line; no line
-/// has effect before its own frame; and one before all frames has none behind a frame.
+/// Histories of one queue that two feeders fed, or can't have fed, written out. Frames of two
+/// shares come in any order, and those of one share in theirs. No device goes down without a line;
+/// no line has effect before its own frame; and one before all frames has none behind a frame.
 pub fn shares_by_hand()
     ensures across { IsFedBy 2 [] (arrives 2 ∷ arrives 1 ∷ []) }
     ensures within { IsFedBy 2 [] (arrives 3 ∷ arrives 1 ∷ []) → ⊥ }
@@ -151,9 +151,9 @@ pub fn shares_by_hand()
     ensures behind { IsFedBy 2 early_5 (arrives 1 ∷ falls 5 ∷ []) → ⊥ }
 {}
 
-/// Logs of a port whose answers a pool works out, written out. Two notices are received one behind the
-/// other, and then answered in their order, each by its message; without a pool the second isn't
-/// received before the first is answered; and the answer to the second isn't sent first.
+/// Logs of a port whose answers a pool works out, written out. Two notices are received one behind
+/// the other, and then answered in their order, each by its message; without a pool the second
+/// isn't received before the first is answered; and the answer to the second isn't sent first.
 pub fn pooled_logs_by_hand()
     ensures pooled { (l m : Letter) (one two : Told) → told_exactly l.bytes ≡ Some one →
         told_exactly m.bytes ≡ Some two → IsLog 2 one_and_two 0 7

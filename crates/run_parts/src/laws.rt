@@ -54,8 +54,8 @@ pub fn one_worker_is_no_pool()
         (standing 1 script place port notes).pending ≡ [] }
 {}
 
-/// Behind a pool the answers to two notices that a port received, one after the other, are two groups
-/// that wait, and the port turns to that of the first notice before that of the second.
+/// Behind a pool the answers to two notices that a port received, one after the other, are two
+/// groups that wait, and the port turns to that of the first notice before that of the second.
 pub fn groups_of_answers_stand_in_the_order_of_notices()
     ensures first { (workers : ℕ) (script : ScriptValue) (place port : ℕ) (t : Standing)
         (one two : Letter) → is_pool workers ≡ true →

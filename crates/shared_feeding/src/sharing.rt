@@ -14,9 +14,9 @@ ghost use Rattle.shared_feeding.specs.Sights.{front_time};
 use histories::a_device_that_packets_pass_leaves_nothing_waiting;
 
 /// A feeder keeps its share at each place: behind what all feeders had seen, where nothing has
-/// happened yet; where its pass meets others; where the packet of a frame of the share is fed, which
-/// is no earlier than all before; and where a line after such a frame takes effect, at each place in
-/// one turn.
+/// happened yet; where its pass meets others; where the packet of a frame of the share is fed,
+/// which is no earlier than all before; and where a line after such a frame takes effect, at each
+/// place in one turn.
 pub fn a_feeder_keeps_its_share()
     ensures begins { (feeders feeder : ℕ) (front : List Seen) →
         IsSharing feeders feeder front_time [] front front }

@@ -37,8 +37,8 @@ fn hand_on(held: &mut Held, alloc: Global, setting: &Setting, handed: &mut Hande
 }
 
 /// Carries out a port's request, and moves on what it let go on: its errno. `NoMemory` leaves all
-/// as it was; a packet whose next arrival finds no memory is lost. The list of what goes on is empty
-/// before and afterwards: its memory is used again.
+/// as it was; a packet whose next arrival finds no memory is lost. The list of what goes on is
+/// empty before and afterwards: its memory is used again.
 pub(crate) fn ask(
     held: &mut Held,
     alloc: Global,

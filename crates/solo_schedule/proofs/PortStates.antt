@@ -1,5 +1,5 @@
--- What is known of each port of a run: the packets of the notices in its mailbox were taken, and its
--- log has no closing while it is open.
+-- What is known of each port of a run: the packets of the notices in its mailbox were taken, and
+-- its log has no closing while it is open.
 use Rattle.std.proofs.Common.{◌≡◌, ◌⊎◌, ◌∙◌, ℕ, List, [], ◌∷◌, ◌++◌, Option, Some, None}
 use Rattle.std.proofs.Common.{Bool, true, false, refl, sym, ap, subst, inl, inr}
 use Rattle.std.specs.Prelude.{map, not, ◌==◌, if◌then◌else◌, option_map}
@@ -49,8 +49,8 @@ open_on (Closed ∷ ds) did one op = absurd (op tt)
 abbrev pub notices : List Letter → List Did
 notices ls = map (λ (l : Letter). Received l.queue l.number l.visit) ls
 
--- The packets of all notices in its mailbox were taken, its log has a closing only once it has closed,
--- and it is one of the script's.
+-- The packets of all notices in its mailbox were taken, its log has a closing only once it has
+-- closed, and it is one of the script's.
 pub record IsPort (es : List Entry) (inside : Bool) (o : Option Port) : Type 0 where
   pub mail : AreTaken (notices (letters_at o)) es
   pub unclosed : is_open_port o ≡ true → IsOpen (dids_of o)

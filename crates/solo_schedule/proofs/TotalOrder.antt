@@ -126,8 +126,8 @@ module _ (laws : StepLaws) (s : Setting) (script : ScriptValue) (place : ℕ →
 
   -- ---- messages
 
-  -- a message is carried out: these are the logs once its port has logged it, and of ports nothing is
-  -- different yet but their mailboxes
+  -- a message is carried out: these are the logs once its port has logged it, and of ports nothing
+  -- is different yet but their mailboxes
   record IsOut (st : Stage) (log : Logs) (before : ℕ → Option Port) (es : List Entry)
       (ports : ℕ → Option Port) : Type 0 where
     so : SoFar st log es ports

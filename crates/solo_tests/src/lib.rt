@@ -1,4 +1,5 @@
-//! Tests alone, of the crates for a run on one thread: a plane by its calls, and a script's whole run.
+//! Tests alone, of the crates for a run on one thread: a plane by its calls, and a script's whole
+//! run.
 #![tactic(auto)]
 
 #[cfg(test)]

@@ -13,8 +13,8 @@ const RULES: &[u8] = b"*filter
 COMMIT
 ";
 
-/// Lines with names: what ports 7 and 8 ask first, and what is said of it; packets of TCP (`tcp1` to
-/// `tcp3`) and of UDP (`udp2`) that come first, and again; a verdict that sends a packet on; and
+/// Lines with names: what ports 7 and 8 ask first, and what is said of it; packets of TCP (`tcp1`
+/// to `tcp3`) and of UDP (`udp2`) that come first, and again; a verdict that sends a packet on; and
 /// what the ports ask of queues 2 and 3, which are absent.
 pub(super) const LINES: [(&str, &str); 16] = [
     ("open4", "M 0 7 1 config 0 cmd 1 params 2 4 = 0 0"),

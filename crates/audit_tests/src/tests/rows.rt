@@ -173,8 +173,8 @@ on id 2 do verdict this drop this/on any do raw 00 ; verdict this accept this/\
 end raw 00/end config 0 unbind/end close";
 
 /// Changes of two packets that come to wait, and a log: the kinds of its messages. The first packet
-/// is one of IPv6; behind an Ethernet header, also one with a tag; has a mark and a priority; and is
-/// reported without its bytes, or with the first of them alone.
+/// is one of IPv6; behind an Ethernet header, also one with a tag; has a mark and a priority; and
+/// is reported without its bytes, or with the first of them alone.
 pub(super) const LOGS: &str = "\
 |P 7/s1/s2/R 0 1 1/t3/R 0 2 1/t4/S 5 config 0 cmd 2 = 0/X => 7ooaae
 |P 7/s1/s2/S 3 config 0 cmd 2 = 0/R 0 2 1/t4/X => 7ooea
@@ -207,9 +207,9 @@ on id 2 do raw 1400000004030100000000000000000000000000 ; batch this accept this
 pub(super) const RUN: &str = "bind/whole/a1/m3/a2/M 0 7 5 batch 0 1 2 = 0 1/C 0 7 0/\
 P 7/s1/s2/R 0 1 1/s3/R 0 2 1/s4/s5/X/P 8";
 
-/// A script (else that of two ports), lines (else its run's), changes and kinds of messages, and the
-/// parts that don't hold: the log (a), requests (b), notices (c), closing (d), feeder (e), ports
-/// (f), order (g) and room (h). Of histories that aren't legal nothing is said of the feeder.
+/// A script (else that of two ports), lines (else its run's), changes and kinds of messages, and
+/// the parts that don't hold: the log (a), requests (b), notices (c), closing (d), feeder (e),
+/// ports (f), order (g) and room (h). Of histories that aren't legal nothing is said of the feeder.
 pub(super) const PARTS: &str = "\
 |||7ooaa => \n\
 ||bind>M 0 7 1 config 0 cmd 1 = 1 0|7ooaa => b

@@ -8,8 +8,8 @@ use generated::capture;
 use pcap_io::write_capture;
 use std::test::Fail;
 
-/// The file of number 0: the word is 0x53175d61_490b23df. Bit 0 is 1: UDP. Bits 24 to 29 of 0x49 are
-/// 9: 9 bytes of payload. The addresses end with 0x23 and 0x0b.
+/// The file of number 0: the word is 0x53175d61_490b23df. Bit 0 is 1: UDP. Bits 24 to 29 of 0x49
+/// are 9: 9 bytes of payload. The addresses end with 0x23 and 0x0b.
 #[rattlefmt::skip]
 const OF_ZERO: [u8; 69] = [
     0xd4, 0xc3, 0xb2, 0xa1, //   0  magic number: little-endian, microseconds

@@ -1,5 +1,5 @@
-//! A plane by its calls. What port 7 sends is in the log of the journal that is wanted, and a row says
-//! in which order it sends, receives and is fed.
+//! A plane by its calls. What port 7 sends is in the log of the journal that is wanted, and a row
+//! says in which order it sends, receives and is fed.
 
 ghost use Rattle.std.specs.Prelude.{◌≡◌, ◌<◌, ◌≤◌, ◌+◌, IfOk, IsTrue};
 ghost use Rattle.nfqa_msgs.specs.RequestReading.{PayloadFits};
@@ -370,9 +370,9 @@ fn a_priority_goes_with_its_packet(rt: HostRuntime) -> Result<(), Fail> {
 }
 
 /// Messages of each kind. Those of 16 and 19 bytes ask nothing: with the flag ACK they are answered
-/// 0, and without it not at all. Then one with an unknown number, a packet message, a verdict that is cut
-/// inside its header and one whose header has 7 bytes; a verdict with the marks 5 and 9, and one
-/// with an attribute of kind 127; a batch; and a port that closes.
+/// 0, and without it not at all. Then one with an unknown number, a packet message, a verdict that
+/// is cut inside its header and one whose header has 7 bytes; a verdict with the marks 5 and 9, and
+/// one with an attribute of kind 127; a batch; and a port that closes.
 const EACH_KIND: Row = Row {
     rules: TWO_TABLES,
     mail: 1024,

@@ -16,8 +16,8 @@ use std::test::Fail;
 /// Link type of raw IP.
 const RAW: u32 = 101;
 
-/// Notices are answered behind the second frame and the last. Port 8 asks for the queue of port 7 by
-/// the bytes of a message, with two more behind it; that of port 9 is bound to the end.
+/// Notices are answered behind the second frame and the last. Port 8 asks for the queue of port 7
+/// by the bytes of a message, with two more behind it; that of port 9 is bound to the end.
 const SCRIPT: &[u8] = b"pace 2
 down 1 after 3
 port 7

@@ -1,4 +1,5 @@
-use Rattle.std.proofs.Common.{◌≡◌, ◌++◌, ℕ, Vec, Global, List, arith, subst, sym, ap, ◌∙◌, [], append-nil}
+use Rattle.std.proofs.Common.{◌≡◌, ◌++◌, ℕ, Vec, Global, List, arith, subst, sym, ap, ◌∙◌, []}
+use Rattle.std.proofs.Common.{append-nil}
 use Rattle.std.specs.Prelude.{flat_map}
 use Rattle.std.specs.List.{range_with_len}
 use Rattle.histories.specs.States.{every_number}
