@@ -1,4 +1,3 @@
-mod Seats
 mod Readings
 mod StepRule
 mod Zeros

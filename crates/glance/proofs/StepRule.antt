@@ -3,11 +3,13 @@ use Rattle.std.proofs.Common.{◌≡◌, ℕ, ◌+◌, ◌<◌, ◌≤◌, true,
 use Rattle.std.proofs.Common.{get_or, set, refl, sym, ap, ◌∙◌, subst, arith, true≢false, le_refl}
 use Rattle.std.proofs.Common.{get_or-set_same, get_or-set_other, length-set}
 use Rattle.std.proofs.lemmas.List.{set-get_or}
-use mathlib.Core.Option.{none, some-ne-none}
+use mathlib.Core.Option.{none}
 use mathlib.Core.Logic.{dite}
 use native.Mathlib.Decide.{ℕ_discrete}
 use Rattle.atomic_table.specs.Table.{State, Me, step, keeps, stepped, opening, Allows, Splits}
 use Rattle.atomic_table.specs.Table.{Joins}
+use Rattle.table_seats.specs.Seats.{each_first, each_set, each_split, each_joined, was_there}
+use Rattle.table_seats.specs.Numbered.{at_number, at_same, at_other}
 use Rattle.glance.specs.declared.totals.Totals.{Totals}
 use Rattle.glance.specs.declared.view.Reading.{Reading}
 use Rattle.glance.specs.declared.view.View.{View}
@@ -17,8 +19,6 @@ use Rattle.glance.specs.Views.{latest, NeverDescend, readings_of, shown_of, AreB
 use Rattle.glance.specs.Rule.{Fits, Shows, first_view, maker_view, writer_view, reader_view}
 use Rattle.glance.specs.Rule.{published_view, read_view, told_view, clear_view}
 use Rattle.glance.specs.Rule.{Publishes, Reads, Compares}
-use Rattle.glance.proofs.Seats.{at_number, at_same, at_other, each_set, each_new, each_joined}
-use Rattle.glance.proofs.Seats.{was_there}
 use Rattle.glance.proofs.Readings.{read_rise, rise_longer, last_longer, one_more, none_more}
 use Rattle.glance.proofs.Readings.{reading}
 use Rattle.glance.proofs.Readings.{grown_longer, grown_more, read_off_beginnings}
@@ -34,8 +34,7 @@ opens places ws sized zeros = record {
   shown = λ k. ap totals_of (zeros k);
   unmade = λ _ _. refl;
   rise = λ _. tt;
-  each = each_new (λ id v. Fits (λ _. []) (λ _. 0) 0 id v) [] first_view
-      (λ i u at. absurd (some-ne-none u (sym at)))
+  each = each_first (λ id v. Fits (λ _. []) (λ _. 0) 0 id v) first_view
       (record {
         makes = λ _. (refl, refl);
         writes = λ h. absurd (true≢false (sym h));
@@ -60,12 +59,20 @@ makes_writer places id v makes writes s r at =
       shown = r.shown;
       unmade = λ k h. r.unmade k (omega arith);
       rise = r.rise;
-      each = each_new F (set s.views id (maker_view v)) (writer_view v.place)
-          (each_set F s.views id (maker_view v)
+      each = each_split F s.views id (maker_view v) (writer_view v.place)
           (record {
             makes = λ _. (here.0, refl);
             writes = λ h. absurd (true≢false (sym h ∙ writes));
             reads = f.reads;
+          })
+          (record {
+            makes = λ h. absurd (true≢false (sym h));
+            writes = λ _. (
+              at_same v.place v.place n r.writer refl,
+              omega arith,
+              sym (r.unmade v.place (omega arith)),
+            );
+            reads = λ j. (r.published j, refl);
           })
           (λ i u ne at_u. let g = r.each i u at_u in record {
             makes = λ h. absurd (ne ((g.makes h).0 ∙ sym here.0));
@@ -76,15 +83,6 @@ makes_writer places id v makes writes s r at =
                   w.2,
                 );
             reads = g.reads;
-          }))
-          (record {
-            makes = λ h. absurd (true≢false (sym h));
-            writes = λ _. (
-              at_same v.place v.place n r.writer refl,
-              omega arith,
-              sym (r.unmade v.place (omega arith)),
-            );
-            reads = λ j. (r.published j, refl);
           });
     }
 
@@ -231,13 +229,13 @@ notes places id v s r at =
       shown = r.shown;
       unmade = r.unmade;
       rise = r.rise;
-      each = each_new F (set s.views id v) (reader_view v.readings)
-          (each_set F s.views id v (r.each id v at) (λ i u ne at_u. r.each i u at_u))
+      each = each_split F s.views id v (reader_view v.readings) (r.each id v at)
           (record {
             makes = λ h. absurd (true≢false (sym h));
             writes = λ h. absurd (true≢false (sym h));
             reads = (r.each id v at).reads;
-          });
+          })
+          (λ i u ne at_u. r.each i u at_u);
     }
 
 -- a note is taken

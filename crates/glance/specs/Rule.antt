@@ -2,9 +2,8 @@
 -- and tells.
 use Rattle.std.specs.Prelude.{◌≡◌, ℕ, ◌+◌, ◌<◌, ◌≤◌, true, false, List, [], ◌∷◌, ◌++◌, length}
 use Rattle.std.specs.Prelude.{slice_index}
-use mathlib.Core.Option.{some}
-use lib.ListN.{get_elem?}
 use Rattle.atomic_table.specs.Table.{State, Me, Step}
+use Rattle.table_seats.specs.Seats.{Each}
 use Rattle.glance.specs.declared.totals.Totals.{Totals}
 use Rattle.glance.specs.declared.view.Reading.{Reading}
 use Rattle.glance.specs.declared.view.View.{View}
@@ -61,10 +60,6 @@ pub record Fits (published : ℕ → List Totals) (writer : ℕ → ℕ) (made i
   pub writes : v.writes ≡ true
       → (writer v.place ≡ id) × (v.place < made) × (v.published ≡ published v.place)
   pub reads : (k : ℕ) → AreBeginnings (shown_of k v.readings) (published k)
-
--- it holds of each seat
-abbrev pub Each : (ℕ → View → Type 0) → List View → Type 0
-Each F views = (id : ℕ) (v : View) → get_elem? views id ≡ some v → F id v
 
 -- each word shows what was published last for its place
 pub record Shows (places : ℕ) (s : State ℕ View) : Type 0 where

@@ -1,4 +1,3 @@
-mod Passes
 mod Occurrences
 mod Steps
 mod NoticeAnswers

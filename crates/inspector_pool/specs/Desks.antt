@@ -4,6 +4,7 @@ use Rattle.nfqa_msgs.specs.declared.notice.Notice.{Notice}
 use Rattle.script_lines.specs.declared.ask.Ask.{Ask}
 use Rattle.script_lines.specs.Limits.{IsAsk}
 use Rattle.inspector_script.specs.Scripts.{ScriptValue, answer, next_count}
+use Rattle.inspector_pool.specs.Numbers.{most_notices}
 use Rattle.inspector_pool.specs.declared.sheet.AnsweringPort.{AnsweringPort}
 use Rattle.inspector_pool.specs.declared.sheet.Sheet.{Sheet}
 
@@ -25,12 +26,8 @@ pub record IsPort (s : ScriptValue) (at : ℕ) (port : AnsweringPort) : Type 0 w
   pub script : port.script.value ≡ s
   pub place : port.place ≡ at
 
--- how many notices a desk has room for
-abbrev pub most_sheets : ℕ
-most_sheets = 64
-
 -- a desk of the script's port at this place, with room for all notices of a batch
-pub record IsFurnished (s : ScriptValue) (place : ℕ) (places : List AnsweringPort) : Type 0 where
+pub record IsFurnished (s : ScriptValue) (place : ℕ) (slots : List AnsweringPort) : Type 0 where
   pub has_port : place < length s.ports
-  pub room : length places ≡ most_sheets
-  pub each : All (IsPort s place) places
+  pub room : length slots ≡ most_notices
+  pub each : All (IsPort s place) slots

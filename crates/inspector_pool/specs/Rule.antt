@@ -1,8 +1,7 @@
 -- The rule of the deque of jobs, what each pass knows of it, and what each kind of step tells.
-use Rattle.std.specs.Prelude.{◌≡◌, ℕ, ◌+◌, ◌-◌, ◌<◌, ◌≤◌, List, [], ◌∷◌, ◌++◌, All}
+use Rattle.std.specs.Prelude.{◌≡◌, ℕ, ◌+◌, ◌-◌, ◌<◌, ◌≤◌, List, [], ◌++◌, All, sum_by}
 use Rattle.std.specs.List.{range_with_len}
-use mathlib.Core.Option.{some}
-use lib.ListN.{get_elem?}
+use Rattle.table_seats.specs.Seats.{Each}
 use Rattle.inspector_pool.specs.declared.deque.Tally.{Tally}
 use Rattle.inspector_pool.specs.Numbers.{most_workers}
 use Rattle.inspector_pool.specs.Answers.{times}
@@ -59,16 +58,6 @@ parts_of v = v.parts
 abbrev pub times_taken : ℕ → Tally → ℕ
 times_taken job v = times job v.taken
 
-module _ {V : Type 0} where
-  -- the sum over all passes
-  abbrev pub total : (V → ℕ) → List V → ℕ
-  total f [] = 0
-  total f (v ∷ vs) = f v + total f vs
-
-  -- each pass is like that
-  abbrev pub Each : (ℕ → V → Type 0) → List V → Type 0
-  Each F views = (id : ℕ) (v : V) → get_elem? views id ≡ some v → F id v
-
 -- a pass with a part knows how many jobs were put; one without has taken none
 pub record Knows (put : ℕ) (v : Tally) : Type 0 where
   pub known : 0 < v.parts → v.put ≡ put
@@ -78,10 +67,10 @@ pub record Knows (put : ℕ) (v : Tally) : Type 0 where
 -- those inside are together those that were put, each once
 pub record EachOnce (items : List ℕ) (views : List Tally) : Type 0 where
   pub put : ℕ
-  pub parts : total parts_of views ≡ all_parts
+  pub parts : sum_by parts_of views ≡ all_parts
   pub each : Each (λ id v. Knows put v) views
   pub once : (job : ℕ) →
-      times job (jobs put) ≡ total (times_taken job) views + times job items
+      times job (jobs put) ≡ sum_by (times_taken job) views + times job items
 
 -- ---- what each step tells
 -- a job was taken: it is one of those that were put

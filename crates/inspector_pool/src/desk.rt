@@ -6,12 +6,12 @@ ghost use Rattle.std.specs.Thread.{IsSync};
 ghost use Rattle.script_lines.specs.Limits.{IsAsk};
 ghost use Rattle.inspector_pool.specs.Answers.{answers};
 ghost use Rattle.inspector_pool.specs.Numbers.{most_notices, most_workers};
-ghost use Rattle.inspector_pool.specs.Desks.{IsAnswerTo, IsFurnished, IsPort, most_sheets};
+ghost use Rattle.inspector_pool.specs.Desks.{IsAnswerTo, IsFurnished, IsPort};
 
 use crate::gate::JobGate;
 use crate::lists::{AsksList, Notices};
 use crate::sheet::{
-    ANSWERED, AnsweringPort, BLANK, LAID, Place, Sheet, TAKEN_UP, are_same, claimed, copied,
+    ANSWERED, AnsweringPort, BLANK, LAID, Sheet, Slot, TAKEN_UP, are_same, claimed, copied,
 };
 use counted_slot::Counted;
 use inspector_script::{PortMachine, Script};
@@ -25,8 +25,8 @@ use std::sync::Wait;
 use std::sync::atomic::{AtomicU64, Ordering};
 use std::thread::{self, Threads, yield_now};
 
-/// How many places a desk has: one for each notice of a batch.
-const PLACES: u64 = 64;
+/// How many slots a desk has: one for each notice of a batch.
+const SLOTS: u64 = 64;
 
 /// A worker that finds nothing looks so often, a few microseconds apart, before it sleeps: longer
 /// than its inspector needs to send the answers of a batch.
@@ -47,7 +47,7 @@ pub struct Desk<'a, J> {
     pub place: u32,
     alloc: Global,
     jobs: &'a J,
-    places: Vec<Place>,
+    slots: Vec<Slot>,
     /// How many notices were laid on it. Workers sleep on this word.
     laid: AtomicU64,
     /// How many of them somebody went for.
@@ -56,19 +56,19 @@ pub struct Desk<'a, J> {
     asleep: AtomicU64,
     /// Not 0 once no notice comes any more.
     closed: AtomicU64,
-    ghost furnished: { IsFurnished script.now place places.items },
+    ghost furnished: { IsFurnished script.now place slots.items },
 }
 
-/// The places of a desk, with nothing on them.
-fn blank_places(alloc: Global, port: &AnsweringPort) -> Result<Vec<Place>, NoMemory>
-    ensures room { IfOk result (λ places. length places.items ≡ most_sheets) }
-    ensures each { IfOk result (λ places. All (λ p. p ≡ port.now) places.items) }
+/// The slots of a desk, with nothing in them.
+fn blank_slots(alloc: Global, port: &AnsweringPort) -> Result<Vec<Slot>, NoMemory>
+    ensures room { IfOk result (λ slots. length slots.items ≡ most_notices) }
+    ensures each { IfOk result (λ slots. All (λ p. p ≡ port.now) slots.items) }
 {
-    let mut places = Vec::new(alloc);
-    for _place in 0..PLACES {
-        places.push(Counted::new(None, port))?;
+    let mut slots = Vec::new(alloc);
+    for _slot in 0..SLOTS {
+        slots.push(Counted::new(None, port))?;
     }
-    Ok(places)
+    Ok(slots)
 }
 
 impl<'a, J: JobGate> Desk<'a, J> {
@@ -88,13 +88,13 @@ impl<'a, J: JobGate> Desk<'a, J> {
             script: Snapshot::of(script),
             place,
         };
-        let places = blank_places(alloc, &port)?;
+        let slots = blank_slots(alloc, &port)?;
         Ok(Desk {
             script,
             place,
             alloc,
             jobs,
-            places,
+            slots,
             laid: AtomicU64::new(0),
             drawn: AtomicU64::new(0),
             asleep: AtomicU64::new(0),
@@ -107,15 +107,15 @@ impl<'a, J: JobGate> Desk<'a, J> {
         self.laid.load(Ordering::SeqCst)
     }
 
-    /// The place of the notice with this number.
-    fn place_of(&self, number: u64) -> &Place
+    /// The slot of the notice with this number.
+    fn slot_of(&self, number: u64) -> &Slot
         ensures { IsPort self.now.script.now self.now.place result.now }
     {
-        &self.places[(number % PLACES) as usize]
+        &self.slots[(number % SLOTS) as usize]
     }
 
     /// Lays a copy of a notice on the desk, before which the port counted so many: job `job` of its
-    /// batch. Where there is no memory for it, or its place isn't free, it is missing there.
+    /// batch. Where there is no memory for it, or its slot isn't free, it is missing there.
     pub fn lay(&self, counted: u32, job: u32, notice: &Notice) {
         let number = self.laid();
         if let Ok(notice) = copied(notice) {
@@ -137,17 +137,17 @@ impl<'a, J: JobGate> Desk<'a, J> {
         }
     }
 
-    /// Puts a sheet in its place, if nothing lies there, or an answer that nobody wants any more.
+    /// Puts a sheet in its slot, if nothing lies there, or an answer that nobody wants any more.
     fn put(&self, number: u64, sheet: Sheet)
         requires { sheet.answer ≡ None }
     {
-        let place = self.place_of(number);
-        let word = if place.load() == ANSWERED {
+        let slot = self.slot_of(number);
+        let word = if slot.load() == ANSWERED {
             ANSWERED
         } else {
             BLANK
         };
-        if let Some(claim) = claimed(place, word) {
+        if let Some(claim) = claimed(slot, word) {
             let _old = claim.put(Some(sheet), LAID);
         }
     }
@@ -171,7 +171,7 @@ impl<'a, J: JobGate> Desk<'a, J> {
 
     /// The number of a notice that was laid and that nobody went for.
     fn draw(&self) -> Option<u64> {
-        for _look in 0..PLACES {
+        for _look in 0..SLOTS {
             let next = self.drawn.load(Ordering::SeqCst);
             if next >= self.laid() {
                 return None;
@@ -189,14 +189,14 @@ impl<'a, J: JobGate> Desk<'a, J> {
         None
     }
 
-    /// Goes for one notice and works out what is asked for in answer, if it lies in its place.
+    /// Goes for one notice and works out what is asked for in answer, if it lies in its slot.
     /// Whether there was one to go for. Where memory runs out, the notice is gone from the desk.
     fn do_one<R: Wait>(&self, rt: &R) -> bool {
         let Some(number) = self.draw() else {
             return false;
         };
-        let place = self.place_of(number);
-        let Some(claim) = claimed(place, LAID) else {
+        let slot = self.slot_of(number);
+        let Some(claim) = claimed(slot, LAID) else {
             return true;
         };
         let Some(sheet) = claim.put(None, TAKEN_UP) else {
@@ -206,7 +206,7 @@ impl<'a, J: JobGate> Desk<'a, J> {
             Ok(sheet) => (Some(sheet), ANSWERED),
             Err(NoMemory) => (None, BLANK),
         };
-        if let Some(claim) = claimed(place, TAKEN_UP) {
+        if let Some(claim) = claimed(slot, TAKEN_UP) {
             let _none = claim.put(sheet, word);
         }
         true
@@ -286,15 +286,15 @@ impl<'a, J: JobGate> Desk<'a, J> {
         self.laid.wake_all();
     }
 
-    /// Takes what lies at a place, if its word is this one: what is asked for in answer to this
+    /// Takes what lies in a slot, if its word is this one: what is asked for in answer to this
     /// notice, if that lies there.
-    fn take(&self, place: &Place, word: u64, counted: u32, notice: &Notice) -> Option<Asks>
-        requires place { IsPort self.now.script.now self.now.place place.now }
+    fn take(&self, slot: &Slot, word: u64, counted: u32, notice: &Notice) -> Option<Asks>
+        requires slot { IsPort self.now.script.now self.now.place slot.now }
         requires word { word % 4 ≡ 0 }
         ensures { IfSome result
             (IsAnswerTo self.now.script.now self.now.place counted notice.now) }
     {
-        let claim = claimed(place, word)?;
+        let claim = claimed(slot, word)?;
         let sheet = claim.put(None, BLANK)?;
         if sheet.counted == counted && are_same(&sheet.notice, notice) {
             sheet.answer
@@ -303,23 +303,23 @@ impl<'a, J: JobGate> Desk<'a, J> {
         }
     }
 
-    /// What is asked for in answer to this notice, if somebody has taken it up from the place with
+    /// What is asked for in answer to this notice, if somebody has taken it up from the slot with
     /// this number; until it is there, other work is done. Nothing of it is left on the desk.
     fn wait_for<R: Wait>(&self, rt: &R, number: u64, counted: u32, notice: &Notice) -> Option<Asks>
         ensures { IfSome result
             (IsAnswerTo self.now.script.now self.now.place counted notice.now) }
     {
-        let place = self.place_of(number);
+        let slot = self.slot_of(number);
         for _ in rt.forever() {
-            let word = place.load();
+            let word = slot.load();
             if word == BLANK {
                 return None;
             }
             if word == LAID {
-                return self.take(place, LAID, counted, notice);
+                return self.take(slot, LAID, counted, notice);
             }
             if word == ANSWERED {
-                return self.take(place, ANSWERED, counted, notice);
+                return self.take(slot, ANSWERED, counted, notice);
             }
             if !self.do_one(rt) {
                 pause();

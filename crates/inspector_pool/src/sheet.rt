@@ -1,4 +1,4 @@
-//! What lies at a place of a desk: a notice, and what is asked for in answer once that is known.
+//! What lies in a slot of a desk: a notice, and what is asked for in answer once that is known.
 ghost use Rattle.std.specs.Prelude.{◌≡◌, ◌%◌, IfOk, IfSome, IsTrue};
 
 use counted_slot::{Claim, Counted, Fits, TAKEN};
@@ -34,8 +34,8 @@ impl Fits for Sheet {
     ghost fits = { IsSheetOf };
 }
 
-/// One place of a desk. The upper half of its word says what lies there.
-pub(crate) type Place = Counted<Option<Sheet>>;
+/// One slot of a desk. The upper half of its word says what lies there.
+pub(crate) type Slot = Counted<Option<Sheet>>;
 
 /// Nothing lies there.
 pub(crate) const BLANK: u64 = 0;
@@ -49,12 +49,12 @@ pub(crate) const TAKEN_UP: u64 = 2 << 32;
 /// The notice lies there with what is asked for in answer.
 pub(crate) const ANSWERED: u64 = 3 << 32;
 
-/// The right to write at a place, if its word is this one.
-pub(crate) fn claimed(place: &Place, word: u64) -> Option<Claim<'_, Option<Sheet>>>
+/// The right to write in a slot, if its word is this one.
+pub(crate) fn claimed(slot: &Slot, word: u64) -> Option<Claim<'_, Option<Sheet>>>
     requires { word % 4 ≡ 0 }
-    ensures { IfSome result (λ claim. (claim.right ≡ 2) × (claim.tag ≡ place.now)) }
+    ensures { IfSome result (λ claim. (claim.right ≡ 2) × (claim.tag ≡ slot.now)) }
 {
-    let (found, claim) = place.turn(word, TAKEN);
+    let (found, claim) = slot.turn(word, TAKEN);
     if found == word {
         Some(claim)
     } else {

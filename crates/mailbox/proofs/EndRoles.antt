@@ -2,7 +2,8 @@
 use Rattle.std.proofs.Common.{◌≡◌, ℕ, ◌+◌, ◌≢◌, ◌⊎◌, inl, inr, ⊎_elim, Bool, true, false}
 use Rattle.std.proofs.Common.{List, [], ◌∷◌, ◌++◌, length, set, refl, sym, ap, ◌∙◌, subst, arith}
 use Rattle.std.proofs.Common.{true≢false}
-use mathlib.Core.Option.{some, some-injective, some-ne-none}
+use Rattle.std.proofs.lemmas.Bool.{false_from_ne_true}
+use mathlib.Core.Option.{some, some-injective}
 use mathlib.Core.Logic.{dite}
 use native.Mathlib.Decide.{ℕ_discrete}
 use lib.ListN.{get_elem?}
@@ -11,9 +12,9 @@ use Rattle.mailbox.specs.Roles.{In, HasAll, AreDistinct, Fits, Manned, IsSenderA
 use Rattle.mailbox.specs.Roles.{sending_role}
 use Rattle.mailbox.specs.Roles.{receiving_role, spent_role, parent_role, child_role, joined_role}
 use Rattle.mailbox.specs.Roles.{made_known}
-use Rattle.mailbox.proofs.Seats.{not_true, at_number, at_same, at_other, each_set, each_new}
-use Rattle.mailbox.proofs.Seats.{each_joined, set_there}
 use Rattle.atomic_table.proofs.Lists.{set_else, at_longer, at_last}
+use Rattle.table_seats.specs.Seats.{each_first, each_set, each_split, each_joined, set_there}
+use Rattle.table_seats.specs.Numbered.{at_number, at_same, at_other}
 
 pub in_append : (k n : ℕ) (xs : List ℕ) → In k (xs ++ n ∷ []) → In k xs ⊎ (k ≡ n)
 in_append k n [] (inl e) = inr e
@@ -98,8 +99,7 @@ module _ {V : Type 0} (role : V → Role) where
       sends = ap (λ (r : Role). r.sends) is;
       numbered = ap (λ (r : Role). r.number) is ∙ omega arith;
     };
-    fits = each_new (λ id u. Fits (λ _. 0) 0 1 (λ _. false) id (role u)) [] v
-        (λ i u at. absurd (some-ne-none u (sym at)))
+    fits = each_first (λ id u. Fits (λ _. 0) 0 1 (λ _. false) id (role u)) v
         (subst (Fits (λ _. 0) 0 1 (λ _. false) 0) (sym is) first_fits);
   }
 
@@ -169,16 +169,15 @@ module _ {V : Type 0} (role : V → Role) where
             (ap (λ (x : Role). x.sends) is_l ∙ ap (λ (x : Role). x.sends) (sym is))
             (ap (λ (x : Role). x.number) is_l ∙ ap (λ (x : Role). x.number) (sym is))
             (m.seated k low still));
-        fits = each_new F (set vs me l) r
-            (each_set F vs me l (subst (Fits m.seat n m.made m.ended me) (sym is_l) left)
+        fits = each_split F vs me l r (subst (Fits m.seat n m.made m.ended me) (sym is_l) left)
+            (subst (Fits m.seat n m.made m.ended n) (sym is_r) right)
             (λ i u ne at_u. let f = m.fits i u at_u in record {
               sender = f.sender;
               zero = f.zero;
               receiver = λ h. absurd (one_gets vs m me i v u at at_u gets_v h ne);
               all_made = λ h _. absurd (one_gets vs m me i v u at at_u gets_v h ne);
               once = f.once;
-            }))
-            (subst (Fits m.seat n m.made m.ended n) (sym is_r) right);
+            });
       }
 
   -- the sender of number 0 makes another
@@ -237,9 +236,9 @@ module _ {V : Type 0} (role : V → Role) where
             (sender_stays (set vs me l) (m.seat k) k r
             (sender_set vs me (m.seat k) k v l at (ap (λ (x : Role). x.sends) is_l)
             (ap (λ (x : Role). x.number) is_l) (m.seated k (omega arith) still))));
-        fits = each_new F (set vs me l) r
-            (each_set F vs me l
+        fits = each_split F vs me l r
             (subst (Fits seat m.reader (made + 1) m.ended me) (sym is_l) left)
+            (subst (Fits seat m.reader (made + 1) m.ended n) (sym is_r) right)
             (λ i u ne at_u. let f = m.fits i u at_u in record {
               sender = λ h. let t = f.sender h in let below = t.1 in (
                 at_other made (role u).number n m.seat (λ e. omega arith) ∙ t.0,
@@ -251,8 +250,7 @@ module _ {V : Type 0} (role : V → Role) where
               receiver = f.receiver;
               all_made = λ _ h. absurd (true≢false (sym h ∙ ap m.ended (sym is_zero) ∙ mine.2));
               once = f.once;
-            }))
-            (subst (Fits seat m.reader (made + 1) m.ended n) (sym is_r) right);
+            });
       }
 
   -- a sender is joined into the receiver
@@ -340,8 +338,8 @@ module _ {V : Type 0} (role : V → Role) where
       let old = m.fits me v at in
       let ends = (old.receiver gets).1 in
       let made : (role v).made ≡ m.made = old.all_made gets (ends 0 zeroth) in (
-        not_true (role u).sends (λ h. let t = (m.fits i u at_u).sender h in
+        false_from_ne_true (role u).sends (λ h. let t = (m.fits i u at_u).sender h in
             let low = t.1 in
             true≢false (sym (ends (role u).number (each (role u).number (omega arith))) ∙ t.2)),
-        not_true (role u).gets (λ h. one_gets vs m me i v u at at_u gets h ne),
+        false_from_ne_true (role u).gets (λ h. one_gets vs m me i v u at at_u gets h ne),
       )

@@ -2,8 +2,8 @@
 use Rattle.std.proofs.Common.{◌≡◌, ℕ, ◌+◌, ◌-◌, ◌<◌, ◌≤◌, ◌⊎◌, inl, inr, ⊎_elim, ◌==◌, true}
 use Rattle.std.proofs.Common.{false}
 use Rattle.std.proofs.Common.{List, [], ◌∷◌, ◌++◌, get_or, set, refl, sym, ap, ◌∙◌}
-use Rattle.std.proofs.Common.{arith, true≢false, le_refl}
-use mathlib.Core.Option.{none, some, some-ne-none}
+use Rattle.std.proofs.Common.{arith, true≢false, le_refl, sum_by}
+use mathlib.Core.Option.{none, some}
 use mathlib.Core.Logic.{dite}
 use native.Mathlib.Decide.{ℕ_discrete, dec_lt}
 use lib.ListN.{get_elem?}
@@ -11,15 +11,15 @@ use prog.Atomic.{either}
 use Rattle.atomic_table.specs.Table.{State, Me, step, keeps, stepped, opening, Allows, Splits}
 use Rattle.atomic_table.specs.Table.{Joins}
 use Rattle.atomic_table.proofs.Lists.{exchanged}
+use Rattle.table_seats.specs.Seats.{each_first, each_set, each_split, each_joined, was_there}
+use Rattle.table_seats.specs.Sums.{sum_set, sum_more, sum_joined, sum_of_one}
 use Rattle.mailbox.specs.declared.view.Role.{Role}
 use Rattle.mailbox.specs.declared.view.Fill.{Fill}
-use Rattle.mailbox.specs.Roles.{HasAll, total}
+use Rattle.mailbox.specs.Roles.{HasAll}
 use Rattle.mailbox.specs.Fills.{Counting, Counts, first_fill, sending_fill, receiving_fill}
 use Rattle.mailbox.specs.Fills.{spent_fill, parent_fill, child_fill, joined_fill, claiming, freeing}
 use Rattle.mailbox.specs.Fills.{full_look, empty_look, LooksForRoom, LooksForLetters, Claims, Frees}
 use Rattle.mailbox.specs.Fills.{Learns}
-use Rattle.mailbox.proofs.Seats.{each_set, each_new, each_joined, was_there, total_set, total_more}
-use Rattle.mailbox.proofs.Seats.{total_joined, only}
 use Rattle.mailbox.proofs.EndRoles.{opens, stays, cuts, splits, joins, alone}
 
 abbrev role_of : Fill → Role
@@ -39,10 +39,10 @@ fill_opens cap = record {
   words = refl;
   bound = omega arith;
   counted = refl;
-  was_full = each_new (λ id (v : Fill). 0 < v.full → cap ≤ total claims_of (first_fill cap ∷ [])) []
-      (first_fill cap) (λ i u at. absurd (some-ne-none u (sym at))) (λ h. absurd (omega arith));
-  each = each_new (λ id v. Counting cap v) [] (first_fill cap)
-      (λ i u at. absurd (some-ne-none u (sym at)))
+  was_full = each_first
+      (λ id (v : Fill). 0 < v.full → cap ≤ sum_by claims_of (first_fill cap ∷ [])) (first_fill cap)
+      (λ h. absurd (omega arith));
+  each = each_first (λ id v. Counting cap v) (first_fill cap)
       (record { sends = λ _. refl; gets = λ _. refl; quiet = λ _. refl; idle = λ _ _. refl });
 }
 
@@ -52,10 +52,10 @@ moved : (cap : ℕ) (s : State ℕ Fill) (r : Counts cap s) (me : ℕ) (cs : Lis
     → n ≤ cap → n + (w.freed + v.claims) ≡ r.word + (v.freed + w.claims) → v.claims ≤ w.claims
     → (0 < w.full → (0 < v.full) ⊎ (cap ≤ r.word)) → Counts cap (stepped s 0 n me cs w keeps)
 moved cap s r me cs v w n at same know low balance more full =
-    let p = total_set claims_of s.views me v w at in
-    let q = total_set freed_of s.views me v w at in
+    let p = sum_set claims_of s.views me v w at in
+    let q = sum_set freed_of s.views me v w at in
     let c = r.counted in
-    let bigger : total claims_of s.views ≤ total claims_of (set s.views me w) = omega arith in
+    let bigger : sum_by claims_of s.views ≤ sum_by claims_of (set s.views me w) = omega arith in
     record {
       ends = stays role_of s.views r.ends me v w at same;
       word = n;
@@ -63,7 +63,7 @@ moved cap s r me cs v w n at same know low balance more full =
       bound = low;
       counted = omega arith;
       was_full =
-          each_set (λ id (u : Fill). 0 < u.full → cap ≤ total claims_of (set s.views me w)) s.views
+          each_set (λ id (u : Fill). 0 < u.full → cap ≤ sum_by claims_of (set s.views me w)) s.views
           me w
           (λ h. ⊎_elim (λ (l : 0 < v.full). let b = r.was_full me v at l in omega arith)
           (λ (l : cap ≤ r.word). omega arith) (full h))
@@ -110,17 +110,17 @@ looks_for_room cap slots id m sends s r _ at _ =
 -- once all senders are joined, the receiver knows all that was claimed and freed
 all_claims : (cap : ℕ) (s : State ℕ Fill) (r : Counts cap s) (me : ℕ) (v : Fill)
     → get_elem? s.views me ≡ some v → v.role.gets ≡ true → HasAll v.role.made v.role.joined
-    → total claims_of s.views ≡ v.claims
+    → sum_by claims_of s.views ≡ v.claims
 all_claims cap s r me v at gets has =
-    only claims_of s.views me v at
+    sum_of_one claims_of s.views me v at
     (λ i u ne at_u. let a = alone role_of s.views r.ends me v at gets has i u ne at_u in
     (r.each i u at_u).idle a.0 a.1)
 
 all_freed : (cap : ℕ) (s : State ℕ Fill) (r : Counts cap s) (me : ℕ) (v : Fill)
     → get_elem? s.views me ≡ some v → v.role.gets ≡ true → HasAll v.role.made v.role.joined
-    → total freed_of s.views ≡ v.freed
+    → sum_by freed_of s.views ≡ v.freed
 all_freed cap s r me v at gets has =
-    only freed_of s.views me v at
+    sum_of_one freed_of s.views me v at
     (λ i u ne at_u. let a = alone role_of s.views r.ends me v at gets has i u ne at_u in
     (r.each i u at_u).quiet a.1)
 
@@ -248,26 +248,23 @@ pub fill_cuts : (cap id : ℕ) (v : Fill) → v ≡ first_fill cap
 fill_cuts cap id v is s r at =
     let l : Fill = sending_fill v.capacity in
     let w : Fill = receiving_fill v.capacity in
-    let p = total_more claims_of s.views id v l w at (sym (ap claims_of is)) refl in
-    let q = total_more freed_of s.views id v l w at (sym (ap freed_of is)) refl in
+    let p = sum_more claims_of s.views id v l w at (sym (ap claims_of is)) refl in
+    let q = sum_more freed_of s.views id v l w at (sym (ap freed_of is)) refl in
     let own : v.capacity ≡ cap = ap (λ (u : Fill). u.capacity) is in
     let c = r.counted in
-    let all : ℕ = total claims_of (set s.views id l ++ w ∷ []) in record {
+    let all : ℕ = sum_by claims_of (set s.views id l ++ w ∷ []) in record {
       ends = cuts role_of s.views r.ends id v l w at (ap role_of is) refl refl;
       word = r.word;
       words = r.words;
       bound = r.bound;
       counted = omega arith;
-      was_full = each_new (λ i (u : Fill). 0 < u.full → cap ≤ all) (set s.views id l) w
-          (each_set (λ i (u : Fill). 0 < u.full → cap ≤ all) s.views id l
-          (λ h. absurd (omega arith))
-          (λ i u ne at_u h. let b = r.was_full i u at_u h in omega arith))
-          (λ h. absurd (omega arith));
-      each = each_new (λ i u. Counting cap u) (set s.views id l) w
-          (each_set (λ i u. Counting cap u) s.views id l
+      was_full = each_split (λ i (u : Fill). 0 < u.full → cap ≤ all) s.views id l w
+          (λ h. absurd (omega arith)) (λ h. absurd (omega arith))
+          (λ i u ne at_u h. let b = r.was_full i u at_u h in omega arith);
+      each = each_split (λ i u. Counting cap u) s.views id l w
           (record { sends = λ _. own; gets = λ _. own; quiet = λ _. refl; idle = λ _ _. refl })
-          (λ i u ne at_u. r.each i u at_u))
-          (record { sends = λ _. own; gets = λ _. own; quiet = λ _. refl; idle = λ _ _. refl });
+          (record { sends = λ _. own; gets = λ _. own; quiet = λ _. refl; idle = λ _ _. refl })
+          (λ i u ne at_u. r.each i u at_u);
     }
 
 pub fill_splits : (cap id : ℕ) (v : Fill) → v.role.sends ≡ true → v.role.gets ≡ false
@@ -275,27 +272,24 @@ pub fill_splits : (cap id : ℕ) (v : Fill) → v.role.sends ≡ true → v.role
 fill_splits cap id v sends gets is_zero s r at =
     let l : Fill = parent_fill v in
     let w : Fill = child_fill v in
-    let p = total_more claims_of s.views id v l w at refl refl in
-    let q = total_more freed_of s.views id v l w at refl refl in
+    let p = sum_more claims_of s.views id v l w at refl refl in
+    let q = sum_more freed_of s.views id v l w at refl refl in
     let k = r.each id v at in
     let own : v.capacity ≡ cap = k.sends sends in
     let c = r.counted in
-    let all : ℕ = total claims_of (set s.views id l ++ w ∷ []) in record {
+    let all : ℕ = sum_by claims_of (set s.views id l ++ w ∷ []) in record {
       ends = splits role_of s.views r.ends id v l w at sends gets is_zero refl refl;
       word = r.word;
       words = r.words;
       bound = r.bound;
       counted = omega arith;
-      was_full = each_new (λ i (u : Fill). 0 < u.full → cap ≤ all) (set s.views id l) w
-          (each_set (λ i (u : Fill). 0 < u.full → cap ≤ all) s.views id l
-          (λ h. let b = r.was_full id v at h in omega arith)
-          (λ i u ne at_u h. let b = r.was_full i u at_u h in omega arith))
-          (λ h. absurd (omega arith));
-      each = each_new (λ i u. Counting cap u) (set s.views id l) w
-          (each_set (λ i u. Counting cap u) s.views id l
+      was_full = each_split (λ i (u : Fill). 0 < u.full → cap ≤ all) s.views id l w
+          (λ h. let b = r.was_full id v at h in omega arith) (λ h. absurd (omega arith))
+          (λ i u ne at_u h. let b = r.was_full i u at_u h in omega arith);
+      each = each_split (λ i u. Counting cap u) s.views id l w
           (record { sends = k.sends; gets = k.gets; quiet = k.quiet; idle = k.idle })
-          (λ i u ne at_u. r.each i u at_u))
-          (record { sends = λ _. own; gets = λ _. own; quiet = λ _. refl; idle = λ _ _. refl });
+          (record { sends = λ _. own; gets = λ _. own; quiet = λ _. refl; idle = λ _ _. refl })
+          (λ i u ne at_u. r.each i u at_u);
     }
 
 pub fill_joins : (cap id other : ℕ) (v w : Fill) → v.role.sends ≡ false → v.role.gets ≡ true
@@ -304,14 +298,14 @@ pub fill_joins : (cap id other : ℕ) (v w : Fill) → v.role.sends ≡ false �
 fill_joins cap id other v w sends gets sends_w gets_w s r at ne at_o =
     let b : Fill = joined_fill v w in
     let at_w = was_there s.views id other b w ne at_o in
-    let p = total_joined claims_of s.views id other v w b spent_fill at at_o in
-    let q = total_joined freed_of s.views id other v w b spent_fill at at_o in
+    let p = sum_joined claims_of s.views id other v w b spent_fill at at_o in
+    let q = sum_joined freed_of s.views id other v w b spent_fill at at_o in
     let k = r.each id v at in
     let k_w = r.each other w at_w in
     let none : w.freed ≡ 0 = k_w.quiet gets_w in
     let c = r.counted in
     let vs : List Fill = set (set s.views id b) other spent_fill in
-    let all : ℕ = total claims_of vs in record {
+    let all : ℕ = sum_by claims_of vs in record {
       ends = joins role_of s.views r.ends id other v w b spent_fill at at_w ne sends gets sends_w
           refl refl;
       word = r.word;

@@ -1,4 +1,3 @@
-mod Seats
 mod EndRoles
 mod LetterCount
 mod BareLetters

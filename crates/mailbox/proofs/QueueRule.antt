@@ -4,10 +4,13 @@ use Rattle.std.proofs.lemmas.Bool.{cases_lt}
 use Rattle.std.proofs.Common.{List, [], ◌∷◌, ◌++◌, length, set, refl, sym, ap, ◌∙◌, subst}
 use Rattle.std.proofs.Common.{arith, true≢false, append_assoc, append-nil, length-append, nat_eq}
 use Rattle.std.proofs.Common.{if◌then◌else◌}
-use mathlib.Core.Option.{some, some-ne-none}
+use mathlib.Core.Option.{some}
 use borrow.Author.Tests.{eq-eqb, ne_eqb}
 use lib.ListN.{get_elem?}
 use Rattle.crossbeam_queue.specs.Fifo.{Pushes, Pops, Forks, Merges, Learns}
+use Rattle.table_seats.specs.Seats.{each_first, each_set, each_split, each_joined, was_there}
+use Rattle.table_seats.specs.Seats.{set_there}
+use Rattle.table_seats.specs.Sums.{sum_set, sum_more, sum_joined, sum_of_one}
 use Rattle.mailbox.specs.declared.view.Mail.{Mail}
 use Rattle.mailbox.specs.declared.view.Role.{Role}
 use Rattle.mailbox.specs.declared.view.Line.{Line}
@@ -18,8 +21,6 @@ use Rattle.mailbox.specs.Lines.{known_numbers, Knows, InOrder, IsTold, weight, f
 use Rattle.mailbox.specs.Lines.{sending_line}
 use Rattle.mailbox.specs.Lines.{receiving_line, spent_line, parent_line, child_line, put_line}
 use Rattle.mailbox.specs.Lines.{got_line, joined_line}
-use Rattle.mailbox.proofs.Seats.{each_set, each_new, each_joined, was_there, total_set}
-use Rattle.mailbox.proofs.Seats.{total_more, total_joined, only, set_there}
 use Rattle.mailbox.proofs.BareLetters.{letters_of_mails, numbers_more, letters_in_more, sent_same}
 use Rattle.mailbox.proofs.BareLetters.{sent_more, timed_prefixes, bare_prefixes, bare_wholes}
 use Rattle.mailbox.proofs.EndRoles.{opens, stays, cuts, splits, joins, alone, one_gets, one_number}
@@ -64,8 +65,7 @@ line_opens = record {
   all = λ k. refl;
   unmade = λ k h. refl;
   counted = refl;
-  each = each_new (λ id v. Knows (λ _. []) [] v) [] first_line
-      (λ i u at. absurd (some-ne-none u (sym at)))
+  each = each_first (λ id v. Knows (λ _. []) [] v) first_line
       (record {
         put = λ _. refl;
         got = λ _. refl;
@@ -175,7 +175,7 @@ tells items views r port v at sends gets =
       whole = λ has same.
           let has' : HasAll v.role.made v.role.joined =
           subst (HasAll v.role.made) (sym (k.names gets)) has in
-          let alone_weighs = only weight views port v at
+          let alone_weighs = sum_of_one weight views port v at
           (λ i u ne at_u. let a = alone role_of views r.ends port v at gets has' i u ne at_u in
           weightless r.sent r.got u (r.each i u at_u) a.0 a.1) in
           let silent : length v.put ≡ 0 = ap length (k.silent sends) in
@@ -198,7 +198,7 @@ puts n port v post sends from gets items views _ r at =
     let mine = r.each port v at in
     let seated = (r.ends.fits port v at).sender sends in
     let low = seated.1 in
-    let p = total_set weight views port v w at in
+    let p = sum_set weight views port v w at in
     let q = length_more v.put (mail_of post) in
     let t = length_more items post in
     let c = r.counted in
@@ -255,7 +255,7 @@ pops port v sends gets post items views r at =
     let w : Line = got_line v post in
     let got : List Post = r.got ++ post ∷ [] in
     let mine = r.each port v at in
-    let p = total_set weight views port v w at in
+    let p = sum_set weight views port v w at in
     let t = length_more r.got post in
     let c = r.counted in
     let K : ℕ → Line → Type 0 = λ id u. Knows r.sent got u in
@@ -301,7 +301,7 @@ line_cuts port v is items views r at =
     let l : Line = sending_line in
     let w : Line = receiving_line in
     let K : ℕ → Line → Type 0 = λ id u. Knows r.sent r.got u in
-    let p = total_more weight views port v l w at (sym (ap weight is)) refl in
+    let p = sum_more weight views port v l w at (sym (ap weight is)) refl in
     let c = r.counted in record {
       ends = cuts role_of views r.ends port v l w at (ap role_of is) refl refl;
       sent = r.sent;
@@ -309,8 +309,7 @@ line_cuts port v is items views r at =
       all = r.all;
       unmade = r.unmade;
       counted = omega arith;
-      each = each_new K (set views port l) w
-          (each_set K views port l
+      each = each_split K views port l w
           (record {
             put = λ _. mine.put refl;
             got = λ h. absurd (true≢false (sym h));
@@ -319,7 +318,6 @@ line_cuts port v is items views r at =
             silent = λ _. refl;
             blind = λ _. refl;
           })
-          (λ i u ne at_u. r.each i u at_u))
           (record {
             put = λ h. absurd (true≢false (sym h));
             got = λ _. mine.got refl;
@@ -327,7 +325,8 @@ line_cuts port v is items views r at =
             names = λ _. refl;
             silent = λ _. refl;
             blind = λ _. refl;
-          });
+          })
+          (λ i u ne at_u. r.each i u at_u);
     }
 
 pub line_splits : (port : ℕ) (v : Line) → v.role.sends ≡ true → v.role.gets ≡ false
@@ -337,7 +336,7 @@ line_splits port v sends gets is_zero items views r at =
     let l : Line = parent_line v in
     let w : Line = child_line v in
     let K : ℕ → Line → Type 0 = λ id u. Knows r.sent r.got u in
-    let p = total_more weight views port v l w at refl refl in
+    let p = sum_more weight views port v l w at refl refl in
     let made : v.role.made ≡ r.ends.made = (r.ends.fits port v at).zero sends is_zero in
     let c = r.counted in record {
       ends = splits role_of views r.ends port v l w at sends gets is_zero refl refl;
@@ -346,8 +345,7 @@ line_splits port v sends gets is_zero items views r at =
       all = r.all;
       unmade = λ k h. r.unmade k (omega arith);
       counted = omega arith;
-      each = each_new K (set views port l) w
-          (each_set K views port l
+      each = each_split K views port l w
           (record {
             put = mine.put;
             got = mine.got;
@@ -356,7 +354,6 @@ line_splits port v sends gets is_zero items views r at =
             silent = mine.silent;
             blind = mine.blind;
           })
-          (λ i u ne at_u. r.each i u at_u))
           (record {
             put = λ _. sym (r.unmade v.role.made (omega arith));
             got = λ h. absurd (true≢false (sym h));
@@ -364,7 +361,8 @@ line_splits port v sends gets is_zero items views r at =
             names = λ h. absurd (true≢false (sym h));
             silent = λ _. refl;
             blind = λ _. refl;
-          });
+          })
+          (λ i u ne at_u. r.each i u at_u);
     }
 
 pub line_joins : (port : ℕ) (v : Line) (other : ℕ) (w : Line) → v.role.sends ≡ false
@@ -377,7 +375,7 @@ line_joins port v other w sends gets sends_w gets_w items views r at ne at_o =
     let mine = r.each port v at in
     let theirs = r.each other w at_w in
     let K : ℕ → Line → Type 0 = λ id u. Knows r.sent r.got u in
-    let p = total_joined weight views port other v w b spent_line at at_o in
+    let p = sum_joined weight views port other v w b spent_line at at_o in
     let q = letters_in_more v.known (n, w.put) in
     let t : letters_in (bare_senders w.known) ≡ 0 =
     ap (λ l. letters_in (bare_senders l)) (theirs.blind gets_w) in

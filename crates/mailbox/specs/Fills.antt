@@ -1,10 +1,11 @@
 -- The word that counts the letters of a mailbox: what each end knows of it, its rule, and what each
 -- step makes of it and tells.
-use Rattle.std.specs.Prelude.{◌≡◌, ◌≢◌, ℕ, ◌+◌, ◌<◌, ◌≤◌, true, false, [], ◌∷◌}
+use Rattle.std.specs.Prelude.{◌≡◌, ◌≢◌, ℕ, ◌+◌, ◌<◌, ◌≤◌, true, false, [], ◌∷◌, sum_by}
 use Rattle.atomic_table.specs.Table.{State, Me, Step}
+use Rattle.table_seats.specs.Seats.{Each}
 use Rattle.mailbox.specs.declared.view.Role.{Role}
 use Rattle.mailbox.specs.declared.view.Fill.{Fill}
-use Rattle.mailbox.specs.Roles.{HasAll, Manned, Each, total, first_role, sending_role}
+use Rattle.mailbox.specs.Roles.{HasAll, Manned, first_role, sending_role}
 use Rattle.mailbox.specs.Roles.{receiving_role, spent_role, parent_role, child_role, joined_role}
 
 -- an end that has claimed and freed nothing
@@ -69,8 +70,8 @@ pub record Counts (capacity : ℕ) (s : State ℕ Fill) : Type 0 where
   pub word : ℕ
   pub words : s.words ≡ word ∷ []
   pub bound : word ≤ capacity
-  pub counted : word + total (λ v. v.freed) s.views ≡ total (λ v. v.claims) s.views
-  pub was_full : Each (λ id v. 0 < v.full → capacity ≤ total (λ u. u.claims) s.views) s.views
+  pub counted : word + sum_by (λ v. v.freed) s.views ≡ sum_by (λ v. v.claims) s.views
+  pub was_full : Each (λ id v. 0 < v.full → capacity ≤ sum_by (λ u. u.claims) s.views) s.views
   pub each : Each (λ id v. Counting capacity v) s.views
 
 -- ---- what each step tells

@@ -1,12 +1,12 @@
 -- The queue of a mailbox: what each end knows of it, its rule, and what each step makes of it.
-use Rattle.std.specs.Prelude.{◌≡◌, ℕ, ◌+◌, ◌≤◌, true, false, List, [], ◌∷◌, ◌++◌, length}
+use Rattle.std.specs.Prelude.{◌≡◌, ℕ, ◌+◌, ◌≤◌, true, false, List, [], ◌∷◌, ◌++◌, length, sum_by}
 use Rattle.packet_entry.specs.declared.letter.Letter.{Letter}
+use Rattle.table_seats.specs.Seats.{Each}
 use Rattle.mailbox.specs.declared.view.Mail.{Mail}
 use Rattle.mailbox.specs.declared.view.Role.{Role}
 use Rattle.mailbox.specs.declared.view.Line.{Line}
 use Rattle.mailbox.specs.declared.view.Post.{Post}
-use Rattle.mailbox.specs.Roles.{In, HasAll, AreDistinct, Manned, Each, total, first_role}
-use Rattle.mailbox.specs.Roles.{sending_role}
+use Rattle.mailbox.specs.Roles.{In, HasAll, AreDistinct, Manned, first_role, sending_role}
 use Rattle.mailbox.specs.Roles.{receiving_role, spent_role, parent_role, child_role, joined_role}
 use Rattle.mailbox.specs.Views.{letters_of, mails_of, bare_senders, numbers, letters_in}
 use Rattle.mailbox.specs.Views.{Prefixes, TimedPrefixes, Wholes, AreOf, AreMade, AccountFor}
@@ -86,7 +86,7 @@ pub record InOrder (items : List Post) (views : List Line) : Type 0 where
   -- of each sender, what was taken out and then what is still inside is what it put in
   pub all : (k : ℕ) → mails_of k (got ++ items) ≡ sent k
   pub unmade : (k : ℕ) → ends.made ≤ k → sent k ≡ []
-  pub counted : total weight views ≡ length got + length items
+  pub counted : sum_by weight views ≡ length got + length items
   pub each : Each (λ id v. Knows sent got v) views
 
 -- what the receiver is told of the senders joined into it

@@ -3,6 +3,7 @@ use Rattle.std.specs.Prelude.{◌≡◌, ℕ, ◌+◌, ◌<◌, ◌≤◌, ◌�
 use Rattle.std.specs.Prelude.{List, [], ◌∷◌, ◌++◌, if◌then◌else◌}
 use mathlib.Core.Option.{some}
 use lib.ListN.{get_elem?}
+use Rattle.table_seats.specs.Seats.{Each}
 use Rattle.mailbox.specs.declared.view.Role.{Role}
 
 -- the number is one of these
@@ -62,16 +63,6 @@ pub record Fits (seat : ℕ → ℕ) (reader made : ℕ) (ended : ℕ → Bool) 
     pub receiver : r.gets ≡ true → (reader ≡ id) × ((k : ℕ) → In k r.joined → ended k ≡ true)
     pub all_made : r.gets ≡ true → ended 0 ≡ true → r.made ≡ made
     pub once : r.gets ≡ true → AreDistinct r.joined
-
-module _ {V : Type 0} where
-  -- each end is like that
-  abbrev pub Each : (ℕ → V → Type 0) → List V → Type 0
-  Each F views = (id : ℕ) (v : V) → get_elem? views id ≡ some v → F id v
-
-  -- the sum over all ends
-  abbrev pub total : (V → ℕ) → List V → ℕ
-  total f [] = 0
-  total f (v ∷ vs) = f v + total f vs
 
 -- this end is the sender of this number
 pub record IsSenderAt {V : Type 0} (role : V → Role) (views : List V) (id number : ℕ) : Type 0
