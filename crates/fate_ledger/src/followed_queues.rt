@@ -62,6 +62,15 @@ impl<'a> FollowedQueues<'a> {
         if self.number == queue {
             return Ok(());
         }
+        self.change(alloc, queue)
+    }
+
+    /// Takes another queue to hand.
+    #[inline(never)]
+    fn change(&mut self, alloc: Global, queue: u16) -> Result<(), NoMemory>
+        requires other { ¬ (self.old.number ≡ queue) }
+        ensures { OnOk result (following.TurnsTo self.old self.new queue) }
+    {
         let next = taken(alloc, queue, &mut self.others);
         let last = mem::replace(&mut self.at_hand, next);
         self.others.insert(self.number, last)?;

@@ -1,22 +1,25 @@
 //! The ledger: what became of each frame, as text.
 
-ghost use Rattle.std.specs.Prelude.{◌≡◌, ◌++◌, OnOk, OnErr};
+ghost use Rattle.std.specs.Prelude.{◌≡◌, ◌+◌, ◌≤◌, ◌++◌, length, OnOk, OnErr, codes, decimal};
+ghost use Rattle.journals.specs.Placing.{Placed};
 ghost use Rattle.fate_ledger.specs.Ledger as text;
 
-use crate::{FateLine, FateLines};
-use journals::{append_number, append_text, append_word};
+use crate::{Fate, FateLine, FateLines};
+use journals::{append_text, append_word, number_is_short, put_number, put_word};
 use packet_entry::NoMemory;
 use std::alloc::{AllocError, Global};
 
 /// About how many bytes a line has.
-const LINE: usize = 32;
+const USUAL: usize = 32;
+/// A line has at most so many.
+const LONGEST: usize = 137;
 
 /// Appends the ledger of these lines. Out of memory nothing has changed.
 pub fn ledger_text(alloc: Global, lines: &FateLines, out: &mut Vec<u8>) -> Result<(), NoMemory>
     ensures ok { OnOk result (out.new.items ≡ out.old.items ++ text.ledger lines.now) }
     ensures err { OnErr result (out.new.items ≡ out.old.items) }
 {
-    let room = lines.len().saturating_add(1).saturating_mul(LINE);
+    let room = lines.len().saturating_add(1).saturating_mul(USUAL);
     let mut ledger = Vec::with_capacity(alloc, room)?;
     push_ledger(lines, &mut ledger)?;
     append_text(ledger, out)
@@ -41,32 +44,87 @@ fn push_lines(lines: &FateLines, out: &mut Vec<u8>) -> Result<(), AllocError>
 fn push_line(line: &FateLine, out: &mut Vec<u8>) -> Result<(), AllocError>
     ensures { OnOk result (out.new.items ≡ out.old.items ++ text.line line.now) }
 {
-    append_number("", line.number as u64, out)?;
-    append_word(" ", out)?;
-    append_word(line.fate.name(), out)?;
-    append_word(" ", out)?;
-    push_place(line.queue, line.at, out)?;
-    push_packet(line, out)
+    line_is_short(line);
+    let mut bytes = [0; LONGEST];
+    let end = put_line(line, &mut bytes, 0);
+    out.extend_from_slice(&bytes[..end])
 }
 
-/// The packet's mark, its priority and the number of its bytes.
-fn push_packet(line: &FateLine, out: &mut Vec<u8>) -> Result<(), AllocError>
-    ensures { OnOk result (out.new.items ≡ out.old.items ++ text.packet line.now) }
+fn put_line(line: &FateLine, to: &mut [u8], at: usize) -> usize
+    requires room { at + length (text.line line.now) ≤ length to.old }
+    ensures { Placed to.old to.new at (text.line line.now) result }
 {
-    append_number(" ", line.mark as u64, out)?;
-    append_number(" ", line.priority as u64, out)?;
-    append_number(" ", line.payload.len() as u64, out)?;
-    append_word("\n", out)
+    let at = put_fate(line, to, at);
+    let at = put_place(line.queue, line.at, to, at);
+    put_packet(line, to, at)
+}
+
+/// The frame's number and what became of it.
+fn put_fate(line: &FateLine, to: &mut [u8], at: usize) -> usize
+    requires room { at + length (decimal line.now.number ++ codes " "
+        ++ text.name line.now.fate ++ codes " ") ≤ length to.old }
+    ensures { Placed to.old to.new at (decimal line.now.number ++ codes " "
+        ++ text.name line.now.fate ++ codes " ") result }
+{
+    let at = put_number("", line.number as u64, to, at);
+    let at = put_word(" ", to, at);
+    let at = put_word(line.fate.name(), to, at);
+    put_word(" ", to, at)
 }
 
 /// Where the last event stands, `- -` where there is none.
-fn push_place(queue: u16, at: u64, out: &mut Vec<u8>) -> Result<(), AllocError>
-    ensures { OnOk result (out.new.items ≡ out.old.items ++ text.place queue at) }
+fn put_place(queue: u16, place: u64, to: &mut [u8], at: usize) -> usize
+    requires room { at + length (text.place queue place) ≤ length to.old }
+    ensures { Placed to.old to.new at (text.place queue place) result }
 {
-    if at == 0 {
-        append_word("- -", out)
+    if place == 0 {
+        put_word("- -", to, at)
     } else {
-        append_number("", queue as u64, out)?;
-        append_number(" ", at, out)
+        let at = put_number("", queue as u64, to, at);
+        put_number(" ", place, to, at)
     }
+}
+
+/// The packet's mark, its priority and the number of its bytes, and the line's end.
+fn put_packet(line: &FateLine, to: &mut [u8], at: usize) -> usize
+    requires room { at + length (text.packet line.now) ≤ length to.old }
+    ensures { Placed to.old to.new at (text.packet line.now) result }
+{
+    let at = put_number(" ", line.mark as u64, to, at);
+    let at = put_number(" ", line.priority as u64, to, at);
+    let at = put_number(" ", line.payload.len() as u64, to, at);
+    put_word("\n", to, at)
+}
+
+fn line_is_short(line: &FateLine)
+    ensures { length (text.line line.now) ≤ 137 }
+{
+    number_is_short(line.number as u64);
+    name_is_short(line.fate);
+    place_is_short(line.queue, line.at);
+    packet_is_short(line);
+}
+
+fn name_is_short(fate: Fate)
+    ensures { length (text.name fate) ≤ 10 }
+{
+    match fate {
+        Fate::Unhooked => (),
+        _ => (),
+    }
+}
+
+fn place_is_short(queue: u16, place: u64)
+    ensures { length (text.place queue place) ≤ 41 }
+{
+    number_is_short(queue as u64);
+    number_is_short(place);
+}
+
+fn packet_is_short(line: &FateLine)
+    ensures { length (text.packet line.now) ≤ 64 }
+{
+    number_is_short(line.mark as u64);
+    number_is_short(line.priority as u64);
+    number_is_short(line.payload.len() as u64);
 }

@@ -1,6 +1,6 @@
 //! What waits at a queue, oldest first, and found by id.
 
-ghost use Rattle.std.specs.Prelude.{◌≡◌, ◌++◌, ◌∷◌, [], ℕ, OnOk, MatchOption, None};
+ghost use Rattle.std.specs.Prelude.{◌≡◌, ◌++◌, ◌∷◌, [], ℕ, OnOk, IsTrue, MatchOption, None};
 ghost use Rattle.std.specs.Map.{lookup, remove_entry};
 ghost use Rattle.queue_core.specs.Ids.{is_id};
 ghost use Rattle.queue_core.specs.Few.{IsPlace};
@@ -78,6 +78,12 @@ impl<'a> WaitingList<'a> {
         ensures found { result ≡ lookup (is_id id) self.old }
         ensures others { self.new ≡ remove_entry (is_id id) self.old }
     {
+        if is_oldest(&self.few, id) {
+            let Some((_, card)) = self.few.pop_front() else {
+                unreachable!()
+            };
+            return Some(card);
+        }
         match place_of(&self.few, id) {
             Some(place) => {
                 let Some((_, card)) = self.few.remove(place) else {
@@ -87,6 +93,16 @@ impl<'a> WaitingList<'a> {
             }
             None => self.many.take(id),
         }
+    }
+}
+
+/// Whether the oldest of all waits under the id, as it mostly does.
+fn is_oldest(few: &Few<'_>, id: u32) -> bool
+    ensures { IsTrue result → IsPlace few.now.items id 0 }
+{
+    match few.front() {
+        Some(w) => w.0 == id,
+        None => false,
     }
 }
 

@@ -1,20 +1,19 @@
 -- Digits that are found lane by lane.
 use Rattle.std.proofs.Common.{◌≡◌, ◌+◌, ◌-◌, ◌*◌, ◌%◌, ◌/◌, ◌^◌, ◌<◌, ◌≤◌, ◌++◌, ◌∷◌, [], ℕ, suc}
-use Rattle.std.proofs.Common.{zero, bit_and, List, cond, get_or, w8, take, drop, length, map}
+use Rattle.std.proofs.Common.{zero, bit_and, List, cond, get_or, take, drop, length, map}
 use Rattle.std.proofs.Common.{slice_index, refl, sym, ap, ◌∙◌, subst, arith}
 use Rattle.std.proofs.lemmas.List.{take-take, take-append-drop, drop-take, take_at, take_all}
 use Rattle.std.proofs.lemmas.List.{take_rest, take-append-le, length-take-le, length-drop}
 use Rattle.std.proofs.lemmas.List.{length-map}
 use Rattle.std.proofs.lemmas.List.{length-replicate}
 use Rattle.std.proofs.lemmas.Nat.{and_mask}
-use Rattle.std.proofs.lemmas.Simd.{swz_l, map-map, zip2_splat, take_more_put_chunk}
+use Rattle.std.proofs.lemmas.Simd.{map-map, zip2_splat, take_more_put_chunk}
 use Rattle.std.proofs.lemmas.Simd.{length-put_chunk, length-zip2, pick_l_whole}
 use lib.Lanes.{Each1, zip2, sel_l, top, put_chunk, pick_l}
 use lib.ListN.{replicate}
 use Rattle.std.specs.List.{range_with_len}
 use Rattle.std.proofs.lemmas.List.FromFn.{get_or-map-range_with_len}
 use lib.Dec.{ltb}
-use mir.Val.{zeroes}
 use borrow.Rule.Slice.PartMut.{put_mid, post_of, same_len_mid, mid_of}
 use Rattle.hex.specs.Hex.{encode_with, encode_lower, lower_digits}
 
@@ -44,21 +43,6 @@ shown zero (x ∷ xs) long small = absurd (omega (arith, long))
 shown (suc n) [] long small = absurd (omega (arith, long))
 shown (suc n) (x ∷ xs) long small =
     λ i. one x small.0 i ∷ shown n xs (omega (arith, long)) small.1 i
-
-looked_at : (i n : ℕ) → i < 16 → n < 16 →
-    cond (zeroes 16 w8 n) 0 (get_or lower_digits (16 * (i / 16) + n) 0) ≡ digit n
-looked_at i n near few =
-    let same : 16 * (i / 16) + n ≡ n = omega (arith, near) in
-    ap (λ m. cond (zeroes 16 w8 n) 0 (get_or lower_digits m 0)) same
-    ∙ agree (λ m. cond (zeroes 16 w8 m) 0 (get_or lower_digits m 0)) (λ m. digit m) refl n few
-
--- the same, as lanes are looked up in a table
-pub looked_up : (i : ℕ) (xs : List ℕ) → i + length xs ≤ 16 → Each1 (λ x. x < 16) xs →
-    swz_l w8 16 lower_digits i xs ≡ map (λ x. digit x) xs
-looked_up i [] long small = refl
-looked_up i (x ∷ xs) long small =
-    λ j. looked_at i x (omega (arith, long)) small.0 j
-    ∷ looked_up (suc i) xs (omega (arith, long)) small.1 j
 
 -- the digits of each byte
 abbrev pub highs : List ℕ → List ℕ

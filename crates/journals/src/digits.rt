@@ -8,8 +8,10 @@ use std::simd::prelude::*;
 
 /// How many digits a byte has.
 pub(crate) const DIGITS: usize = 2;
-/// The sixteen digits.
-const LOWER: [u8; 16] = *b"0123456789abcdef";
+/// What is added to a number below 10 for its digit.
+const DIGIT: u8 = b'0';
+/// What is added to a number from 10 on for its digit, so that 10 is an `a`.
+const LETTER: u8 = b'a' - 10;
 
 /// Writes the digits of the first 16 bytes.
 #[inline(always)]
@@ -33,7 +35,10 @@ fn digits_16(lanes: u8x16) -> u8x16
     requires small { Each1 (λ n. n < 16) lanes }
     ensures { result ≡ map (λ n. slice_index lower_digits n) lanes }
 {
-    u8x16::from_array(LOWER).swizzle_dyn(lanes)
+    lanes
+        + lanes
+            .simd_gt(u8x16::splat(9))
+            .select(u8x16::splat(LETTER), u8x16::splat(DIGIT))
 }
 
 /// Writes the digits of the first 8 bytes.
@@ -62,11 +67,12 @@ fn digits_8(lanes: u8x8) -> u8x8
     lanes
         + lanes
             .simd_gt(u8x8::splat(9))
-            .select(u8x8::splat(87), u8x8::splat(48))
+            .select(u8x8::splat(LETTER), u8x8::splat(DIGIT))
 }
 
 /// Writes the digits of these bytes, of up to 16 at a time. Of a last piece that is shorter, some
 /// are written twice.
+#[inline(never)]
 pub(crate) fn put_digits(bytes: &[u8], to: &mut [u8])
     requires room { length to.old ≡ length bytes.now * 2 }
     ensures digits { to.new ≡ encode_lower bytes.now }

@@ -14,6 +14,7 @@ mod writing;
 
 pub use appending::{append_number, append_text, append_word};
 pub use fits::histories_fit;
-pub use line_room::entry_room;
+pub use line_room::{entry_room, number_is_short};
+pub use placing::{put_number, put_word};
 pub use version::Version;
 pub use writing::{append_entry, append_heading, journal_tail, journal_text};

@@ -178,7 +178,7 @@ pub(crate) fn priority_is_short(version: Version, priority: Option<u32>)
 }
 
 /// A number of 64 bits has at most 20 digits.
-pub(crate) fn number_is_short(_number: u64)
+pub fn number_is_short(_number: u64)
     ensures { length (decimal _number) ≤ 20 }
 {}
 

@@ -1,4 +1,5 @@
-//! Words and numbers put into a slice, one after the other.
+//! Words and numbers put into a slice, one after the other: so the lines of journals and ledgers are
+//! written.
 
 ghost use Rattle.std.specs.Prelude.{◌≡◌, ◌+◌, ◌≤◌, ◌<◌, ◌++◌, length, decimal};
 ghost use Rattle.journals.specs.Format as text;
@@ -8,7 +9,7 @@ use itoa::write_digits;
 
 /// Puts a word, and answers the place after it.
 #[inline(always)]
-pub(crate) fn put_word(word: &str, to: &mut [u8], at: usize) -> usize
+pub fn put_word(word: &str, to: &mut [u8], at: usize) -> usize
     requires room { at + length word.now ≤ length to.old }
     ensures { Placed to.old to.new at word.now result }
 {
@@ -19,7 +20,7 @@ pub(crate) fn put_word(word: &str, to: &mut [u8], at: usize) -> usize
 
 /// Puts a word and a number after it, in decimal.
 #[inline(always)]
-pub(crate) fn put_number(word: &str, number: u64, to: &mut [u8], at: usize) -> usize
+pub fn put_number(word: &str, number: u64, to: &mut [u8], at: usize) -> usize
     requires room { at + length (word.now ++ decimal number) ≤ length to.old }
     ensures { Placed to.old to.new at (word.now ++ decimal number) result }
 {
@@ -51,12 +52,34 @@ fn put_digit(number: u64, to: &mut [u8], at: usize) -> usize
     at + 1
 }
 
-/// Puts a number of any length.
+/// Puts a number of two digits and more. Where the count of digits is a constant, it costs nothing
+/// to have counted them.
 fn put_long(number: u64, to: &mut [u8], at: usize) -> usize
+    requires long { 10 ≤ number }
     requires room { at + length (decimal number) ≤ length to.old }
     ensures { Placed to.old to.new at (decimal number) result }
 {
-    let end = at + count_digits(number);
+    if number < 100 {
+        put_counted(number, 2, to, at)
+    } else if number < 1_000 {
+        put_counted(number, 3, to, at)
+    } else if number < 10_000 {
+        put_counted(number, 4, to, at)
+    } else if number < 100_000 {
+        put_counted(number, 5, to, at)
+    } else {
+        put_counted(number, count_digits(number), to, at)
+    }
+}
+
+/// Puts a number of so many digits.
+#[inline(always)]
+fn put_counted(number: u64, digits: usize, to: &mut [u8], at: usize) -> usize
+    requires counted { digits ≡ length (decimal number) }
+    requires room { at + length (decimal number) ≤ length to.old }
+    ensures { Placed to.old to.new at (decimal number) result }
+{
+    let end = at + digits;
     write_digits(number, to, end);
     end
 }

@@ -287,6 +287,7 @@ fn push_request(
 
 /// Appends the first bytes of a line, and after them the payload and the priority that a request
 /// sets, where it does.
+#[inline(always)]
 fn push_payload(
     version: Version,
     payload: &Option<Bytes>,
@@ -311,6 +312,7 @@ fn push_payload(
 }
 
 /// Appends the first bytes of a line, and after them the priority that a request sets.
+#[inline(always)]
 fn push_new_priority(
     version: Version,
     priority: Option<u32>,
@@ -328,6 +330,7 @@ fn push_new_priority(
 }
 
 /// Bytes in lower-case hexadecimal, `-` for none.
+#[inline(always)]
 fn push_bytes(bytes: &[u8], out: &mut Vec<u8>) -> Result<(), AllocError>
     ensures { Appends result out.old out.new (hexadecimal bytes.now) }
 {

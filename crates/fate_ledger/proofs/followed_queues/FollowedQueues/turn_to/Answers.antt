@@ -1,13 +1,5 @@
-use Rattle.std.proofs.Common.{refl}
-use Rattle.fate_ledger.proofs.Queues.{stays, turned_to}
+use Rattle.fate_ledger.proofs.Queues.{stays}
 use Rattle.fate_ledger.proofs.followed_queues.FollowedQueues.turn_to.Goals as goal
 
 pub returns-then-self-queue : goal.returns-then-self-queue
 returns-then-self-queue c = stays c.args.self.now c.args.queue c.if-self-queue.true
-
-pub returns : goal.returns
-returns c =
-    turned_to c.args.self.now _ c.taken-next.new.queues c.args.queue c.replace-last.result
-    c.taken-next.result c.if-self-queue.false c.replace-last.ensures.value
-    c.replace-last.ensures.after c.taken-next.ensures.queue c.taken-next.ensures.others
-    c.in_ok-insert.ensures.updates.0 refl
