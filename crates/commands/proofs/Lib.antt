@@ -1,4 +1,3 @@
-mod PacketNumbers
 mod Endings
 mod WellFormedHistories
 mod StopCauses

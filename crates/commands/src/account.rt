@@ -32,6 +32,7 @@ use fate_ledger::{
 use histories::{Histories, each_packet_waits_is_lost_or_is_over};
 use hook_chain::Tables;
 use inspector_script::Script;
+use journal_audit::packets_of_a_capture_differ;
 use journals::histories_fit;
 use packet_entry::NoMemory;
 use pcap_io::Capture;
@@ -92,6 +93,7 @@ pub(crate) fn told_histories_are_accounted_for()
         IsMadeBy workers feeders script (length c.frames) h notes (λ port. []) → HasTotalOrder h →
         AreAccounted workers feeders tables script c h }
 {
+    packets_of_a_capture_differ();
     each_line_names_the_last_event();
     the_last_event_is_where_it_left_or_waits();
     what_left_last_is_over();

@@ -1,16 +1,28 @@
-use Rattle.std.proofs.Common.{arith, ap, List}
+use Rattle.std.proofs.Common.{◌≡◌, ◌+◌, ℕ, List, [], ◌∷◌, length, suc, arith, ap, refl}
 use Rattle.std.specs.Prelude.{count_by, ◌==◌}
+use Rattle.pcap_io.specs.declared.capture.Capture.{Capture}
+use Rattle.pcap_io.specs.declared.capture.Frame.{Frame}
+use Rattle.histories.specs.declared.histories.Histories.{Histories}
 use Rattle.histories.specs.declared.histories.Lost.{Lost}
 use Rattle.run_parts.specs.Entering.{cards}
-use Rattle.fate_ledger.specs.Fates.{is_lost}
+use Rattle.fate_ledger.specs.declared.happening.Happening.{Happening}
+use Rattle.fate_ledger.specs.Fates.{fates_from, happenings, is_lost}
 use Rattle.run_files.specs.Outputs.{fates_of}
-use Rattle.commands.proofs.PacketNumbers.{cards_differ, one_line_each}
 use Rattle.commands.proofs.account.told_histories_are_accounted_for.Goals as goal
+
+-- one line for each frame
+lines_from : (hs : List Happening) (lost : List Lost) (number : ℕ) (fs : List Frame) →
+    length fs ≡ length (fates_from hs lost number fs)
+lines_from hs lost number [] = refl
+lines_from hs lost number (f ∷ fs) = ap suc (lines_from hs lost (number + 1) fs)
+
+one_line_each : (c : Capture) (h : Histories) → length c.frames ≡ length (fates_of c h)
+one_line_each c h = lines_from (happenings h.entries) h.lost 1 c.frames
 
 pub returns : goal.returns
 returns c = λ workers feeders tables script capture h notes formed none legal sound made order.
     let apart = c.no_visit_arrives_twice.ensures tables script.key (cards capture) h.entries h.lost
-    (cards_differ capture) sound in
+    (c.packets_of_a_capture_differ.ensures capture) sound in
     record {
       nothing_lost = none;
       legal = legal;
@@ -41,5 +53,5 @@ returns c = λ workers feeders tables script capture h notes formed none legal s
                 apart is_last waiting;
           };
       released = c.released_frames_are_those_let_go.ensures.order capture.link capture.frames
-          (fates_of capture h) (one_line_each h capture.frames);
+          (fates_of capture h) (one_line_each capture h);
     }
