@@ -2,6 +2,5 @@ mod Endings
 mod WellFormedHistories
 mod StopCauses
 mod Commands
-mod ScriptPlane
 mod AuditAnswers
 mod Statuses

@@ -1,42 +1,30 @@
 //! The command `live`: three files are read, the run is made with threads, and three files are
 //! written.
 
-ghost use Rattle.std.specs.Prelude.{◌≡◌, ◌⊎◌, ◌≤◌, ◌≢◌, ◌↔◌, None, Some, length, All};
-ghost use Rattle.std.specs.Prelude.{IsTrue, IfSome, IfOk, IsSomeAnd, OnOk, OnErr, IsErrOf};
+ghost use Rattle.std.specs.Prelude.{◌≡◌, ◌⊎◌, ◌≤◌, ◌≢◌, ◌↔◌, None, Some};
+ghost use Rattle.std.specs.Prelude.{IsTrue, IfSome, IsSomeAnd, OnOk, OnErr, IsErrOf};
 ghost use Rattle.host_io.specs.Host.{IsLater, SameFiles, ChangesOnly};
-ghost use Rattle.packet_entry.specs.Numbers.{longest_packet, most_frames, most_places};
-ghost use Rattle.pcap_io.specs.Text.{IsHeld};
-ghost use Rattle.inspector_script.specs.Scripts.{IsScript};
-ghost use Rattle.fate_ledger.specs.Released.{released};
-ghost use Rattle.command_line.specs.Arguments.{Call, IsLiveAllowed, IsSizeAllowed, inputs};
+ghost use Rattle.command_line.specs.Arguments.{Call, IsLiveAllowed, inputs};
 ghost use Rattle.command_line.specs.Arguments.{live_call_of_words, live_files_of, LiveFiles, Lives};
-ghost use Rattle.command_line.specs.Arguments.{outputs, size_of};
-ghost use Rattle.command_line.specs.Arguments.{play_outputs, ReadFiles, standard_output};
+ghost use Rattle.command_line.specs.Arguments.{outputs, play_outputs, ReadFiles, standard_output};
 ghost use Rattle.run_files.specs.declared.refusal.Refusal.{Refusal as ARefusal};
 ghost use Rattle.run_files.specs.Causes.{AreTaken, IsAnswered, IsRefused, IsTurnedDown, IsUnread};
 ghost use Rattle.run_files.specs.Files.{IsPrinted, IsStopped, OthersStay};
 ghost use Rattle.run_files.specs.Files.{ReadFaultRose, WriteFaultRose};
-ghost use Rattle.run_files.specs.Outputs.{fates_of};
 ghost use Rattle.run_files.specs.Printed.{line_of, usage_line};
 ghost use Rattle.run_files.specs.Statuses.{IfRefused, IsOfRefusal};
-ghost use Rattle.nfq_live.specs.Run.{IsOpenedFor, tables_of};
 ghost use Rattle.commands.specs.Ending.{IsAnswer, IsEnded, span};
-ghost use Rattle.commands.specs.Headline.{IsAccountedOf, IsCut, IsLived};
+ghost use Rattle.commands.specs.Headline.{IsCut, IsLived};
 
 use crate::account::{a_run_is_accounted_for, released_frames_can_be_written};
 use crate::command::print_refusal;
 use crate::play_run::write_run;
 use command_line::{Live, RunSize, live_of};
-use histories::Histories;
-use hook_chain::Tables;
 use host_io::Host;
 use inspector_pool::{JobGate, OpenJobGate};
-use inspector_script::Script;
 use journals::histories_fit;
-use nfq_live::run_pools;
-use packet_entry::NoMemory;
-use pcap_io::Capture;
-use plane::{Gate, Opened, Plane};
+use nfq_live::{open_plane, run_pools};
+use plane::Gate;
 use run_files::status::{DONE, USAGE};
 use run_files::{Made, Stop, print_usage, read_inputs};
 use std::alloc::Global;
@@ -287,20 +275,10 @@ fn live_files<R: Threads + Wait + Sync, H: Host, G: Gate, J: JobGate>(
         workers,
     } = command.size;
     let fanned = tables.with_feeders(feeders);
-    let opened = open(alloc, places, &script, fanned)?;
+    let opened = open_plane(alloc, places, &script, fanned)?;
     let histories = run_pools(
         rt, alloc, opened, &script, &capture, feeders, workers, gate, jobs,
     )?;
     histories_fit(&histories);
     write_run(alloc, &command.files, &capture, histories, host)
-}
-
-/// A plane of so many places for a script.
-fn open(alloc: Global, places: u8, script: &Script, tables: Tables) -> Result<Opened, NoMemory>
-    requires places { (1 ≤ places) × (places ≤ most_places) }
-    ensures opened { IfOk result (IsOpenedFor script.now) }
-    ensures tables { IfOk result (λ o. tables_of o ≡ tables) }
-{
-    let mail = script.mail();
-    Plane::new(alloc, places, script.ports(), mail, tables, script.key())
 }

@@ -17,3 +17,4 @@ pub mod WorkerSeats
 pub mod SamePasses
 pub mod SeatedCrew
 pub mod WorkStage
+mod ScriptPlane

@@ -1,17 +1,12 @@
 //! Runs with threads, over one place and over many. What happened is compared by number, where no
 //! order of threads changes it.
 
-ghost use Rattle.std.specs.Prelude.{◌≤◌, IfOk};
-ghost use Rattle.nfq_live.specs.Run.{IsOpenedFor};
-
 use super::{are_small, capture, script_of};
 use histories::Histories;
 use hook_chain::{Tables, read_tables};
 use inspector_pool::OpenJobGate;
-use inspector_script::Script;
-use nfq_live::{run_feeders, run_pools, run_workers};
-use packet_entry::NoMemory;
-use plane::{OpenGate, Opened, Plane};
+use nfq_live::{open_plane, run_feeders, run_pools, run_workers};
+use plane::OpenGate;
 use std::alloc::Global;
 use std::sync::Wait;
 use std::test::Fail;
@@ -60,15 +55,6 @@ fn tables(alloc: Global, text: &[u8]) -> Result<Tables, Fail> {
     }
 }
 
-/// A plane of so many places for this script.
-fn open(alloc: Global, script: &Script, tables: Tables, places: u8) -> Result<Opened, NoMemory>
-    requires { (1 ≤ places) × (places ≤ 64) }
-    ensures { IfOk result (IsOpenedFor script.now) }
-{
-    let mail = script.mail();
-    Plane::new(alloc, places, script.ports(), mail, tables, script.key())
-}
-
 /// How many entries a run has, and how many things its ports did.
 fn counts_in(histories: &Histories) -> (usize, usize) {
     let mut done: usize = 0;
@@ -98,7 +84,7 @@ fn counts<R: Threads + Wait + Sync>(
         return Err(Fail::new("no such run"));
     }
     let tables = tables(alloc, rules)?.with_feeders(feeders);
-    let opened = open(alloc, &script, tables, places)?;
+    let opened = open_plane(alloc, places, &script, tables)?;
     let (gate, jobs) = (&OpenGate, &OpenJobGate);
     let histories = if pool > 1 {
         run_pools(

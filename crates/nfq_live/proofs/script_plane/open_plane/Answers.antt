@@ -1,5 +1,5 @@
-use Rattle.commands.proofs.ScriptPlane.{opened_for, ports_are_distinct, tables_are}
-use Rattle.commands.proofs.live_run.open.Goals as goal
+use Rattle.nfq_live.proofs.ScriptPlane.{opened_for, ports_are_distinct, tables_are}
+use Rattle.nfq_live.proofs.script_plane.open_plane.Goals as goal
 
 pub new-requires-clause-apart : goal.new-requires-clause-apart
 new-requires-clause-apart c =
