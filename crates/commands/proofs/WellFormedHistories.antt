@@ -76,39 +76,25 @@ both_hold : {X : Type 0} (P Q R : X → Type 0) → ((x : X) → P x → Q x →
 both_hold P Q R on [] ps qs = tt
 both_hold P Q R on (x ∷ xs) ps qs = (on x ps.0 qs.0, both_hold P Q R on xs ps.1 qs.1)
 
--- ---- kinds of replies
+-- ---- replies
 
-abbrev Kind : Event → Reply → Type 0
-Kind (Arrive card bypass room) (Arrived outcome) = Unit {0}
-Kind (Ask port call request) (Answer errno taken) = Unit {0}
-Kind (PortClosed port) (Flushed taken) = Unit {0}
-Kind (DeviceDown device) (Flushed taken) = Unit {0}
-Kind event reply = ⊥
+-- a reply is of its event's kind: it tells how many packets left
+abbrev IsTelling : Event → Reply → Type 0
+IsTelling event reply = (n : ℕ) × Tells event reply n
 
-kind_of : (event : Event) (reply : Reply) (n : ℕ) → Tells event reply n → Kind event reply
-kind_of (Arrive card bypass room) (Arrived outcome) n tells = tt
-kind_of (Arrive card bypass room) (Answer errno taken) n tells = tells
-kind_of (Arrive card bypass room) (Flushed taken) n tells = tells
-kind_of (Ask port call request) (Arrived outcome) n tells = tells
-kind_of (Ask port call request) (Answer errno taken) n tells = tt
-kind_of (Ask port call request) (Flushed taken) n tells = tells
-kind_of (PortClosed port) (Arrived outcome) n tells = tells
-kind_of (PortClosed port) (Answer errno taken) n tells = tells
-kind_of (PortClosed port) (Flushed taken) n tells = tt
-kind_of (DeviceDown device) (Arrived outcome) n tells = tells
-kind_of (DeviceDown device) (Answer errno taken) n tells = tells
-kind_of (DeviceDown device) (Flushed taken) n tells = tt
+abbrev EntryTells : Entry → Type 0
+EntryTells e = IsTelling e.event e.reply
 
-abbrev KindOf : Entry → Type 0
-KindOf e = Kind e.event e.reply
-
-kinds_from : Replies → (q : Option Bound) (es : List Entry) → IsLegalFrom q es →
-    AllByRecursion KindOf es
-kinds_from replies q [] legal = tt
-kinds_from replies q (e ∷ es) legal = (
-  subst (λ r. Kind e.event r) (sym legal.0.reply)
-      (kind_of e.event (step q e.event).reply (length (step q e.event).left) (replies q e.event)),
-  kinds_from replies (step q e.event).state es legal.1,
+tell_from : Replies → (q : Option Bound) (es : List Entry) → IsLegalFrom q es →
+    AllByRecursion EntryTells es
+tell_from replies q [] legal = tt
+tell_from replies q (e ∷ es) legal = (
+  (
+    length (step q e.event).left,
+    subst (λ r. Tells e.event r (length (step q e.event).left)) (sym legal.0.reply)
+        (replies q e.event),
+  ),
+  tell_from replies (step q e.event).state es legal.1,
 )
 
 -- ---- the queues of requests
@@ -240,20 +226,20 @@ event_at queue (Ask port call request) fit own =
 event_at queue (PortClosed port) fit own = fit
 event_at queue (DeviceDown device) fit own = fit
 
-reply_to : (event : Event) (reply : Reply) → FitsReply reply → Kind event reply →
+reply_to : (event : Event) (reply : Reply) → FitsReply reply → IsTelling event reply →
     IsReplyTo event reply
-reply_to (Arrive card bypass room) (Arrived outcome) fit kind = fit
-reply_to (Arrive card bypass room) (Answer errno taken) fit kind = kind
-reply_to (Arrive card bypass room) (Flushed taken) fit kind = kind
-reply_to (Ask port call request) (Arrived outcome) fit kind = kind
-reply_to (Ask port call request) (Answer errno taken) fit kind = fit
-reply_to (Ask port call request) (Flushed taken) fit kind = kind
-reply_to (PortClosed port) (Arrived outcome) fit kind = kind
-reply_to (PortClosed port) (Answer errno taken) fit kind = kind
-reply_to (PortClosed port) (Flushed taken) fit kind = fit
-reply_to (DeviceDown device) (Arrived outcome) fit kind = kind
-reply_to (DeviceDown device) (Answer errno taken) fit kind = kind
-reply_to (DeviceDown device) (Flushed taken) fit kind = fit
+reply_to (Arrive card bypass room) (Arrived outcome) fit tells = fit
+reply_to (Arrive card bypass room) (Answer errno taken) fit tells = tells.1
+reply_to (Arrive card bypass room) (Flushed taken) fit tells = tells.1
+reply_to (Ask port call request) (Arrived outcome) fit tells = tells.1
+reply_to (Ask port call request) (Answer errno taken) fit tells = fit
+reply_to (Ask port call request) (Flushed taken) fit tells = tells.1
+reply_to (PortClosed port) (Arrived outcome) fit tells = tells.1
+reply_to (PortClosed port) (Answer errno taken) fit tells = tells.1
+reply_to (PortClosed port) (Flushed taken) fit tells = fit
+reply_to (DeviceDown device) (Arrived outcome) fit tells = tells.1
+reply_to (DeviceDown device) (Answer errno taken) fit tells = tells.1
+reply_to (DeviceDown device) (Flushed taken) fit tells = fit
 
 -- ---- logs
 
@@ -327,9 +313,9 @@ pub well_formed : Replies → (workers feeders : ℕ) (script : ScriptValue) (fr
     All (IsTold workers script notes) h.logs → IsWellFormed h
 well_formed replies workers feeders script frames h notes left is fit kept ws grouped legal made
     told =
-    let kinds : AllByRecursion KindOf h.entries =
-    from_histories KindOf h.entries
-    (λ queue. kinds_from replies None (history queue h.entries) (legal queue)) in
+    let tell : AllByRecursion EntryTells h.entries =
+    from_histories EntryTells h.entries
+    (λ queue. tell_from replies None (history queue h.entries) (legal queue)) in
     let asks : AllByRecursion (λ (e : Entry). OwnAsk e.queue e.event) h.entries =
     from_histories (λ (e : Entry). OwnAsk e.queue e.event) h.entries
     (λ queue. both_hold (λ (e : Entry). e.queue ≡ queue)
@@ -347,15 +333,15 @@ well_formed replies workers feeders script frames h notes left is fit kept ws gr
     record {
       nothing_lost = kept;
       entries = All-from_recursion IsEntry h.entries
-          (both_hold (λ (e : Entry). FitsEntry e × KindOf e)
+          (both_hold (λ (e : Entry). FitsEntry e × EntryTells e)
           (λ (e : Entry). OwnAsk e.queue e.event) IsEntry
           (λ e two own. record {
             queue = two.0.queue;
             event = event_at e.queue e.event two.0.event own;
             reply = reply_to e.event e.reply two.0.reply two.1;
           }) h.entries
-          (both_hold FitsEntry KindOf (λ (e : Entry). FitsEntry e × KindOf e)
-          (λ e f k. (f, k)) h.entries fits kinds) asks);
+          (both_hold FitsEntry EntryTells (λ (e : Entry). FitsEntry e × EntryTells e)
+          (λ e f t. (f, t)) h.entries fits tell) asks);
       queues_ascend = λ i j d low within. up i j d (omega (arith, low)) within;
       logs = All-from_recursion formed.IsLog h.logs
           (both_hold FitsLog (IsTold workers script notes) formed.IsLog
