@@ -30,17 +30,6 @@ use Rattle.commands.proofs.Endings.{some_is_no_none}
 
 -- ---- runs
 
-pub run_of : (tables : RuleTables) (script : ScriptValue) (c : Capture) (h : Histories) →
-    AreAccounted 1 1 tables script c h → IsRunOf tables script c h
-run_of tables script c h known = record {
-  nothing_lost = known.nothing_lost;
-  legal = known.legal;
-  sound = known.sound;
-  notes = known.notes;
-  made = known.made;
-  order = known.order;
-}
-
 -- what was written is a journal
 journal_says : (file : Option (List ℕ)) (h : Histories) → file ≡ Some (journal h) →
     IsSomeAnd file (λ text. length text ≤ journal_limit) → IsWellFormed h →
@@ -92,7 +81,7 @@ passes Known f old new later known w kept =
             (Ok w.histories)) (sym kept.journal)
             (journal_says (new f.journal) w.histories w.journal_is kept.short run.formed);
       };
-      run = run_of w.tables w.script w.capture w.histories run;
+      run = run.run;
     }
 
 -- ---- answers

@@ -1,19 +1,14 @@
 -- What is known of a run's histories: each packet of the capture is accounted for.
-use Rattle.std.specs.Prelude.{◌≡◌, ◌≢◌, ℕ, ◌+◌, List, [], Some, length, map, filter, slice_get}
+use Rattle.std.specs.Prelude.{◌≡◌, ◌≢◌, ℕ, ◌+◌, List, Some, map, filter, slice_get}
 use Rattle.std.specs.List.{zip}
 use Rattle.pcap_io.specs.declared.capture.Capture.{Capture}
 use Rattle.pcap_io.specs.declared.capture.Frame.{Frame}
 use Rattle.hook_chain.specs.Rules.{RuleTables}
 use Rattle.histories.specs.declared.histories.Histories.{Histories}
-use Rattle.histories.specs.History.{AreLegal}
 use Rattle.histories.specs.Moves.{moves}
-use Rattle.histories.specs.Journeys.{AreSound}
 use Rattle.histories.specs.Endings.{AreQueuesOf, times_waiting, times_over, times_entered}
-use Rattle.total_order.specs.TotalOrder.{HasTotalOrder}
 use Rattle.inspector_script.specs.Scripts.{ScriptValue}
 use Rattle.run_parts.specs.Entering.{cards}
-use Rattle.run_parts.specs.Log.{Note}
-use Rattle.run_parts.specs.Run.{IsMadeBy}
 use Rattle.solo_schedule.specs.Schedule.{IsSolo}
 use Rattle.fate_ledger.specs.declared.fate.Fate.TheVariants.{Waiting}
 use Rattle.fate_ledger.specs.declared.fate.FateLine.{FateLine}
@@ -22,6 +17,7 @@ use Rattle.fate_ledger.specs.Laws.{AreApart, IsLastEvent, IsLineOf, LeftForGood,
 use Rattle.fate_ledger.specs.Ledger.{is_release}
 use Rattle.fate_ledger.specs.Released as released
 use Rattle.journals.specs.WellFormed.{IsWellFormed}
+use Rattle.journal_audit.specs.Findings.{IsRunBy}
 use Rattle.run_files.specs.Outputs.{fates_of}
 
 -- Each frame's line is that of its packet's last event in these histories, or that of a frame whose
@@ -53,22 +49,12 @@ AreReleased c h =
     ≡ map (λ p. released.written c.link p.0 p.1)
     (filter (λ p. is_release p.1.fate) (zip c.frames (fates_of c h)))
 
--- Histories of a run of this script over this capture, under these rules, in which nothing is lost,
--- with so many workers behind each port and so many feeders.
+-- Histories of a run of this script over this capture, under these rules, with so many workers
+-- behind each port and so many feeders: nothing is lost, they are legal and sound, the ports made
+-- them by the script, and all events have one order; and what follows.
 pub record AreAccounted (workers feeders : ℕ) (tables : RuleTables) (script : ScriptValue)
     (c : Capture) (h : Histories) : Type 0 where
-  pub nothing_lost : h.lost ≡ []
-  -- at each queue, each event may happen in the state that the sequential queue reaches by the
-  -- entries before it, and each reply is the one of its step
-  pub legal : AreLegal h.entries
-  -- packets enter, and move from queue to queue, as rules and verdicts say
-  pub sound : AreSound tables script.key (cards c) h.entries h.lost
-  -- each port did what the script says, which is told in full, and received every notice that was
-  -- for it
-  pub notes : ℕ → List Note
-  pub made : IsMadeBy workers feeders script (length c.frames) h notes (λ port. [])
-  -- all events of all queues have one order, in which nothing comes before what it rests on
-  pub order : HasTotalOrder h
+  pub run : IsRunBy workers feeders tables script c h
   -- a journal tells them in full, and is theirs alone: each value fits its field, entries stand by
   -- queue, and a port did nothing behind its closing
   pub formed : IsWellFormed h

@@ -1,6 +1,6 @@
 //! The histories of a run, and what is known of them.
 
-ghost use Rattle.std.specs.Prelude.{◌≡◌, ◌≤◌, ℕ, List, [], length, All, IfOk};
+ghost use Rattle.std.specs.Prelude.{◌≤◌, ℕ, List, length, All, IfOk};
 ghost use Rattle.hook_chain.specs.Rules.{RuleTables};
 ghost use Rattle.inspector_script.specs.Scripts.{ScriptValue, IsScript};
 ghost use Rattle.packet_entry.specs.Numbers.{longest_packet};
@@ -12,16 +12,14 @@ ghost use Rattle.histories.specs.Grouping.{IsGrouped};
 ghost use Rattle.histories.specs.History.{AreLegal};
 ghost use Rattle.histories.specs.Journeys.{AreSound};
 ghost use Rattle.histories.specs.Lengths.{AreShort};
-ghost use Rattle.total_order.specs.TotalOrder.{HasTotalOrder};
 ghost use Rattle.run_parts.specs.Entering.{cards};
-ghost use Rattle.run_parts.specs.Log.{Note};
-ghost use Rattle.run_parts.specs.Run.{IsMadeBy};
 ghost use Rattle.solo_schedule.specs.Schedule.{IsSolo};
 ghost use Rattle.fate_ledger.specs.Released.{released};
 ghost use Rattle.solo_run.specs.Numbers.{most_frames};
 ghost use Rattle.journals.specs.WellFormed.{IsWellFormed};
 ghost use Rattle.commands.specs.Account.{AreAccounted, IsAccounted};
 ghost use Rattle.run_files.specs.Outputs.{fates_of};
+ghost use Rattle.journal_audit.specs.Findings.{IsRunBy};
 ghost use Rattle.journals.specs.WellFormed.{Fit};
 
 use fate_ledger::{
@@ -70,14 +68,11 @@ pub fn histories_of(
 }
 
 /// Each packet of a run is accounted for, over every script, rules and capture, however many
-/// workers and feeders made it: where its histories are legal and sound, have one order of all
-/// events, stand by queue, lose nothing and fit their fields, and every notice was received.
+/// workers and feeders made it: where its histories stand by queue and fit their fields.
 pub(crate) fn a_run_is_accounted_for()
     ensures { (workers feeders : ℕ) (tables : RuleTables) (script : ScriptValue) (c : ACapture)
-        (h : AHistories) (notes : ℕ → List Note) (es : List AnEntry) → IsScript script → Fit h →
-        h.lost ≡ [] → IsGrouped es h.entries → AreLegal h.entries →
-        AreSound tables script.key (cards c) h.entries h.lost →
-        IsMadeBy workers feeders script (length c.frames) h notes (λ port. []) → HasTotalOrder h →
+        (h : AHistories) (es : List AnEntry) → IsScript script → Fit h → IsGrouped es h.entries →
+        IsRunBy workers feeders tables script c h →
         AreAccounted workers feeders tables script c h }
 {
     each_log_is_what_is_told();
@@ -88,9 +83,7 @@ pub(crate) fn a_run_is_accounted_for()
 /// The same of histories that a journal tells, whoever wrote it.
 pub(crate) fn told_histories_are_accounted_for()
     ensures { (workers feeders : ℕ) (tables : RuleTables) (script : ScriptValue) (c : ACapture)
-        (h : AHistories) (notes : ℕ → List Note) → IsWellFormed h → h.lost ≡ [] →
-        AreLegal h.entries → AreSound tables script.key (cards c) h.entries h.lost →
-        IsMadeBy workers feeders script (length c.frames) h notes (λ port. []) → HasTotalOrder h →
+        (h : AHistories) → IsWellFormed h → IsRunBy workers feeders tables script c h →
         AreAccounted workers feeders tables script c h }
 {
     packets_of_a_capture_differ();

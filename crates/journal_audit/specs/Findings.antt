@@ -18,10 +18,10 @@ use Rattle.journal_audit.specs.Parts.{IsFirstWrong}
 use Rattle.journal_audit.specs.declared.finding.Finding.{Finding}
 use Rattle.journal_audit.specs.declared.finding.Finding.TheVariants.{Entry, Record, Makers, Order}
 
--- Histories of a run of this script over this capture, under these rules, in which nothing is lost:
--- with one inspector behind each port and one feeder.
-pub record IsRunOf (tables : RuleTables) (script : ScriptValue) (c : Capture) (h : Histories)
-    : Type 0 where
+-- Histories of a run of this script over this capture, under these rules, in which nothing is lost,
+-- with so many workers behind each port and so many feeders.
+pub record IsRunBy (workers feeders : ℕ) (tables : RuleTables) (script : ScriptValue)
+    (c : Capture) (h : Histories) : Type 0 where
   pub nothing_lost : h.lost ≡ []
   -- at each queue, each event may happen in the state that the sequential queue reaches by the
   -- entries before it, and each reply is the one of its step
@@ -31,9 +31,13 @@ pub record IsRunOf (tables : RuleTables) (script : ScriptValue) (c : Capture) (h
   -- each port did what the script says, which is told in full, and received every notice that was
   -- for it
   pub notes : ℕ → List Note
-  pub made : IsMadeBy 1 1 script (length c.frames) h notes none_left
+  pub made : IsMadeBy workers feeders script (length c.frames) h notes none_left
   -- all events of all queues have one order, in which nothing comes before what it rests on
   pub order : HasTotalOrder h
+
+-- those of a run with one inspector behind each port and one feeder
+abbrev pub IsRunOf : RuleTables → ScriptValue → Capture → Histories → Type 0
+IsRunOf tables script c h = IsRunBy 1 1 tables script c h
 
 -- what is found of histories that aren't those of a run
 abbrev pub IsFound : RuleTables → ScriptValue → Capture → Histories → Finding → Type 0

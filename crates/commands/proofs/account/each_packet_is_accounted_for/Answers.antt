@@ -12,7 +12,13 @@ returns c = λ tables script capture h is solo legal fit sound.
       schedule = solo;
       only = λ g other.
           c.a_schedule_has_one_run.ensures.entries script tables capture g h other solo;
-      run = c.a_run_is_accounted_for.ensures 1 1 tables script capture h made.0 _ is fit solo.lost
-          solo.entries legal sound made.1
-          (c.one_order_of_all_events.ensures script tables capture h is solo);
+      run = c.a_run_is_accounted_for.ensures 1 1 tables script capture h _ is fit solo.entries
+          (record {
+            nothing_lost = solo.lost;
+            legal = legal;
+            sound = sound;
+            notes = made.0;
+            made = made.1;
+            order = c.one_order_of_all_events.ensures script tables capture h is solo;
+          });
     }

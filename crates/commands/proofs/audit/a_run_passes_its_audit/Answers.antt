@@ -1,10 +1,10 @@
 use Rattle.commands.specs.Account.{IsAccounted}
 use Rattle.commands.specs.Headline.{IsAccountedOf}
-use Rattle.commands.proofs.AuditAnswers.{known_alone, passes, run_of}
+use Rattle.commands.proofs.AuditAnswers.{known_alone, passes}
 use Rattle.commands.proofs.audit.a_run_passes_its_audit.Goals as goal
 
 pub returns-clause-run : goal.returns-clause-run
-returns-clause-run c = run_of
+returns-clause-run c = λ tables script capture h known. known.run
 
 pub returns-clause-played : goal.returns-clause-played
 returns-clause-played c = λ f old new later.

@@ -13,10 +13,7 @@ formed (Some text) h said = said.1.well_formed
 pub returns-clause-told : goal.returns-clause-told
 returns-clause-told c = λ a old x.
     c.told_histories_are_accounted_for.ensures 1 1 x.tables x.script x.capture x.histories
-    x.run.notes (formed (old a.journal) x.histories x.told.journal_says) x.run.nothing_lost
-    x.run.legal x.run.sound x.run.made x.run.order
+    (formed (old a.journal) x.histories x.told.journal_says) x.run
 
 pub returns-clause-run : goal.returns-clause-run
-returns-clause-run c = λ tables script capture h formed run.
-    c.told_histories_are_accounted_for.ensures 1 1 tables script capture h run.notes formed
-    run.nothing_lost run.legal run.sound run.made run.order
+returns-clause-run c = c.told_histories_are_accounted_for.ensures 1 1

@@ -38,11 +38,16 @@ account_of g c =
     let size = c.args.command.now.size in
     c.a_run_is_accounted_for.ensures size.workers size.feeders
     (with_feeders size.feeders c.in_ok-made.made.tables) c.in_ok-made.made.script
-    c.in_ok-made.made.capture c.in_ok-histories.histories c.in_ok-histories.ensures.made.notes
-    c.in_ok-histories.ensures.grouped.0 c.in_ok-made.ensures.script c.histories_fit.ensures
-    c.in_ok-histories.ensures.whole c.in_ok-histories.ensures.grouped.1
-    c.in_ok-histories.ensures.legal (sound g c) c.in_ok-histories.ensures.made.made
-    c.in_ok-histories.ensures.order
+    c.in_ok-made.made.capture c.in_ok-histories.histories c.in_ok-histories.ensures.grouped.0
+    c.in_ok-made.ensures.script c.histories_fit.ensures c.in_ok-histories.ensures.grouped.1
+    (record {
+      nothing_lost = c.in_ok-histories.ensures.whole;
+      legal = c.in_ok-histories.ensures.legal;
+      sound = sound g c;
+      notes = c.in_ok-histories.ensures.made.notes;
+      made = c.in_ok-histories.ensures.made.made;
+      order = c.in_ok-histories.ensures.order;
+    })
 
 -- what is released can be written as a capture
 can_be_written : (g : Over) (c : After-histories_fit g) →
