@@ -3,24 +3,12 @@ use Rattle.std.proofs.Common.{◌≡◌, ◌∙◌, ◌<◌, ◌^◌, ℕ, List,
 use Rattle.std.proofs.Common.{Bool, true, false, Option, Some, None, cond}
 use Rattle.std.specs.Prelude.{map, flat_map, nat_eq, ◌==◌, ◌||◌, IsSome, unwrap_or}
 use Rattle.std.specs.Prelude.{if◌then◌else◌}
-use Rattle.std.specs.Str.{bytes_eq}
 use Rattle.std.specs.List.{AllByRecursion, list_any}
-use Rattle.std.proofs.lemmas.Bool.{eqb-true, le-leb}
-use Rattle.std.proofs.lemmas.Slice.Eq.{bytes_eq-Decides}
-use Rattle.packet_entry.specs.Numbers.{longest_payload}
+use Rattle.std.proofs.lemmas.Bool.{eqb-true}
 use Rattle.packet_entry.specs.declared.letter.Letter.{Letter}
-use Rattle.netlink_codec.specs.Messages.{NetlinkMessage}
-use Rattle.nfqa_msgs.specs.declared.request.Request.{Request}
-use Rattle.nfqa_msgs.specs.declared.request.Request.TheVariants.{Config, Verdict, Batch}
-use Rattle.nfqa_msgs.specs.declared.request.Decoded.{Decoded}
-use Rattle.nfqa_msgs.specs.declared.request.Decoded.TheVariants.{Nothing, Refused, Asked}
-use Rattle.nfqa_msgs.specs.RequestReading.{AskedFits, PayloadFits, decoded}
-use Rattle.nfqa_msgs.specs.RequestWriting.{spelling}
 use Rattle.histories.specs.declared.entry.Entry.{Entry}
 use Rattle.histories.specs.declared.histories.Histories.{Histories}
-use Rattle.histories.specs.declared.log.AskWords.TheVariants.{Plain, Raw}
 use Rattle.histories.specs.declared.log.Did.{Did}
-use Rattle.packet_moves.specs.Messages.{words_of}
 use Rattle.inspector_script.specs.Scripts.{IsScript, ScriptValue}
 use Rattle.run_parts.specs.Log.{Note, Got, Turned, Begun, Spoke, Shut, IsLog, start}
 use Rattle.run_parts.specs.Notices.{heard}
@@ -29,11 +17,8 @@ use Rattle.run_parts.specs.Ports.{is_port, log_of, place_in}
 use Rattle.port_audit.specs.Makers.{HaveLogs, IsTaken}
 use Rattle.run_parts.specs.Requests.{answer_in}
 use Rattle.port_audit.specs.Told.{dids_in}
-use Rattle.port_audit.specs.Pleading.{IsToldByWords, errnos_by, message_in, payload_fits}
-use Rattle.port_audit.specs.Pleading.{errno_told, told_by_words}
-use Rattle.log_audit.specs.Telling.{AreKnown, IsKeyed, IsKnown, IsToldBy, IsWell}
-use Rattle.log_audit.specs.Telling.{errno_of}
-use Rattle.log_audit.specs.Telling.{told_errno}
+use Rattle.port_audit.specs.Pleading.{AreToldByWords, errnos_by, errno_told}
+use Rattle.log_audit.specs.Telling.{AreKnown, IsKeyed, IsKnown, IsToldBy, errno_of, told_errno}
 use Rattle.log_audit.specs.Walking.{IsWalked, Known, ended, kinds_at}
 use Rattle.log_audit.specs.Judged.{AllHaveKinds, AllOnlyOnes, AreJudgedByPort, ArePortsWalked}
 use Rattle.log_audit.specs.Judged.{AreTold}
@@ -43,38 +28,7 @@ use Rattle.log_audit.specs.Stays.{known_in}
 use Rattle.log_audit.specs.declared.judging.PortKinds.{PortKinds}
 use Rattle.log_audit.proofs.KnownNotices.{keyed_in, known_taken, taken_known}
 
--- ---- messages, as they were logged
-
-fit_request : (r : Request) → PayloadFits r → payload_fits r ≡ true
-fit_request (Config queue command params maxlen flags mask) fits = refl
-fit_request (Verdict queue head mark None priority) fits = refl
-fit_request (Verdict queue head mark (Some bytes) priority) fits =
-    le-leb _ longest_payload fits
-fit_request (Batch queue head mark priority) fits = refl
-
-words_tell : (port call : ℕ) (m : NetlinkMessage) (d : Decoded) → AskedFits d →
-    message_in m.whole ≡ Some m → told_by_words port call (words_of port call m.whole d) ≡ Some m
-words_tell port call m Nothing fits own = own
-words_tell port call m (Refused errno) fits own = own
-words_tell port call m (Asked request) fits own =
-    by (bytes_eq m.whole (spelling port call request)) refl
-  where
-    by : (b : Bool) → bytes_eq m.whole (spelling port call request) ≡ b →
-        told_by_words port call (cond b (Plain request) (Raw m.whole)) ≡ Some m
-    by true is =
-        ap (λ b. cond b (message_in (spelling port call request)) None) (fit_request request fits)
-        ∙ ap message_in (sym ((bytes_eq-Decides m.whole (spelling port call request)).0 is)) ∙ own
-    by false is = own
-
-told_words : (port : ℕ) (ns : List Note) → AllByRecursion IsWell ns →
-    AllByRecursion (IsToldByWords port) ns
-told_words port [] well = tt
-told_words port (Got l ∷ ns) well = (tt, told_words port ns well.1)
-told_words port (Turned ∷ ns) well = (tt, told_words port ns well.1)
-told_words port (Begun ∷ ns) well = (tt, told_words port ns well.1)
-told_words port (Spoke call m errno ∷ ns) well =
-    (words_tell port call m (decoded m) well.0.asks well.0.own, told_words port ns well.1)
-told_words port (Shut ∷ ns) well = (tt, told_words port ns well.1)
+-- ---- errnos
 
 same_errnos : (ns : List Note) → flat_map errnos_by ns ≡ flat_map errno_of ns
 same_errnos [] = refl
@@ -101,7 +55,12 @@ all_known : (es : List Entry) → AllOnlyOnes es → (ls : List Letter) →
 all_known es ones [] are = tt
 all_known es ones (l ∷ ls) are = (taken_known es ones l are.0, all_known es ones ls are.1)
 
--- ---- what the laws of walks say
+-- ---- what the laws say
+
+-- a log that is what the script says tells each message by its words
+abbrev pub WordsLaw : Type 0
+WordsLaw = (script : ScriptValue) (h : Histories) (notes : ℕ → List Note) → IsScript script →
+    HaveLogs script h notes → AreToldByWords script notes
 
 abbrev pub TellsLaw : Type 0
 TellsLaw = (known : Known) (script : ScriptValue) (place port : ℕ) (dids : List Did) →
@@ -186,25 +145,28 @@ module _ (script : ScriptValue) (h : Histories) (is : IsScript script) where
         },
       )
 
-  chosen_told : (notes : ℕ → List Note) → AreChosen script.ports notes → AreTold script h notes
-  chosen_told notes chosen = record {
-    logs = record {
-      there = λ port among. let one = chosen.each port among in
-          subst (λ (o : Option (List Did)). IsSome o) (sym one.log) refl;
-      logs = record {
-        each = λ port dids among log. let one = chosen.each port among in
-            subst (IsLog 1 script (place_in port script.ports) port (notes port))
-            (same_Some (sym one.log ∙ log)) one.told.log;
-        others = chosen.others;
-      };
-      taken = λ port among.
-          all_taken h.entries (heard (notes port)) (chosen.each port among).told.letters;
-    };
-    words = λ port among. told_words port (notes port) (chosen.each port among).told.messages;
-    errnos = λ port among. let one = chosen.each port among in
-        same_errnos (notes port) ∙ one.told.errnos ∙ same_told (flat_map answer_in one.dids)
-        ∙ ap (λ o. map errno_told (flat_map answer_in (dids_in o))) (sym one.log);
-  }
+  chosen_told : WordsLaw → (notes : ℕ → List Note) → AreChosen script.ports notes →
+      AreTold script h notes
+  chosen_told words notes chosen =
+      let logs : HaveLogs script h notes = record {
+        there = λ port among. let one = chosen.each port among in
+            subst (λ (o : Option (List Did)). IsSome o) (sym one.log) refl;
+        logs = record {
+          each = λ port dids among log. let one = chosen.each port among in
+              subst (IsLog 1 script (place_in port script.ports) port (notes port))
+              (same_Some (sym one.log ∙ log)) one.told.log;
+          others = chosen.others;
+        };
+        taken = λ port among.
+            all_taken h.entries (heard (notes port)) (chosen.each port among).told.letters;
+      } in
+      record {
+        logs = logs;
+        words = words script h notes is logs;
+        errnos = λ port among. let one = chosen.each port among in
+            same_errnos (notes port) ∙ one.told.errnos ∙ same_told (flat_map answer_in one.dids)
+            ∙ ap (λ o. map errno_told (flat_map answer_in (dids_in o))) (sym one.log);
+      }
 
   -- ---- all notes have the same kinds
 
@@ -240,14 +202,14 @@ module _ (script : ScriptValue) (h : Histories) (is : IsScript script) where
       ap (λ x. x ∷ map (λ (k : PortKinds). k.port) ks) walked.0.is
       ∙ ap (λ xs. p ∷ xs) (same_ports ps ks walked.1)
 
-  pub judged : TellsLaw → KindsLaw → AllOnlyOnes h.entries → ArePorts script.ports →
+  pub judged : WordsLaw → TellsLaw → KindsLaw → AllOnlyOnes h.entries → ArePorts script.ports →
       (ks : List PortKinds) → ArePortsWalked script h script.ports ks →
       AreJudgedByPort script h ks
-  judged tells kinds ones are ks walked =
+  judged words tells kinds ones are ks walked =
       let chosen = choose tells script.ports ks walked in
       record {
         notes = chosen.0;
-        told = chosen_told chosen.0 chosen.1;
+        told = chosen_told words chosen.0 chosen.1;
         ports = same_ports script.ports ks walked;
         each = λ ns have. have_kinds kinds ones ns have script.ports are ks walked;
       }

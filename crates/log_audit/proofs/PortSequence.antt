@@ -19,7 +19,7 @@ use Rattle.log_audit.specs.PortWalks.{IsWalkedWith}
 use Rattle.log_audit.specs.Stays.{known_in}
 use Rattle.log_audit.specs.declared.judging.PortKinds.{PortKinds}
 use Rattle.port_audit.specs.declared.kinds.KindAt.{KindAt}
-use Rattle.log_audit.proofs.PortLogs.{KindsLaw, TellsLaw, WalksLaw, judged, walkable}
+use Rattle.log_audit.proofs.PortLogs.{KindsLaw, TellsLaw, WalksLaw, WordsLaw, judged, walkable}
 
 -- ---- places
 
@@ -140,22 +140,22 @@ all_ports script f place [] placed fit = tt
 all_ports script f place (p ∷ ps) placed fit =
     ((placed.1, fit.0), all_ports script f (place + 1) ps placed.2 fit.1)
 
-pub judgement : TellsLaw → WalksLaw → KindsLaw → (script : ScriptValue) (h : Histories) →
-    IsScript script → HavePlaces script → All (λ p. p < 2 ^ 32) script.ports →
+pub judgement : WordsLaw → TellsLaw → WalksLaw → KindsLaw → (script : ScriptValue)
+    (h : Histories) → IsScript script → HavePlaces script → All (λ p. p < 2 ^ 32) script.ports →
     AllOnlyOnes h.entries → {E : Type 0} (r : Result (Option (Vec PortKinds Global)) E) →
     IfOk r (λ kinds. IsWalkedAll script h
     (option_map (λ (ks : Vec PortKinds Global). ks.items) kinds)) →
     IfOk r (λ kinds. AreJudgedAll script h
     (option_map (λ (ks : Vec PortKinds Global). ks.items) kinds))
-judgement tells walks kinds script h is places fit ones {E} (Ok None) stops =
+judgement words tells walks kinds script h is places fit ones {E} (Ok None) stops =
     λ notes have. stops (λ port among. walkable script h is walks ones notes have port
     (port_fits port script.ports (recursion_from_All (λ p. p < 2 ^ 32) script.ports fit) among)
     among)
-judgement tells walks kinds script h is places fit ones {E} (Ok (Some ks)) walked =
-    judged script h is tells kinds ones
+judgement words tells walks kinds script h is places fit ones {E} (Ok (Some ks)) walked =
+    judged script h is words tells kinds ones
     (all_ports script (λ p. place_in p script.ports) 0 script.ports places.placed
     (recursion_from_All (λ p. p < 2 ^ 32) script.ports fit)) ks.items walked
-judgement tells walks kinds script h is places fit ones {E} (Err e) walked = tt
+judgement words tells walks kinds script h is places fit ones {E} (Err e) walked = tt
 
 -- ---- the same, of ports that are the script's
 

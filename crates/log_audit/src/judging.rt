@@ -16,7 +16,7 @@ use crate::port_walk::walk_log;
 use histories::{Histories, Logs};
 use inspector_script::Script;
 use packet_entry::{NoMemory, Sequence};
-use port_audit::{KindAt, MessageKind, Rows, deal_kinds, log_of};
+use port_audit::{KindAt, MessageKind, Rows, deal_kinds, log_of, logs_tell_what_ports_did};
 use queue_replay::{Found, Replayed};
 use run_parts::each_port_has_its_place;
 use std::alloc::Global;
@@ -96,6 +96,7 @@ fn judge_ports(
 {
     a_log_is_walked();
     a_walked_log_is_told();
+    logs_tell_what_ports_did();
     each_port_has_its_place();
     let ports = script.ports();
     ports_fit(ports);

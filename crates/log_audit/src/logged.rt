@@ -1,7 +1,7 @@
 //! How a message was logged.
 
-ghost use Rattle.std.specs.Prelude.{◌≡◌, ◌<◌, ◌≤◌, ◌^◌, ◌↔◌, IsTrue, Some, true};
-ghost use Rattle.netlink_codec.specs.Messages.{first_message, message_of};
+ghost use Rattle.std.specs.Prelude.{◌≡◌, ◌<◌, ◌↔◌, IsTrue};
+ghost use Rattle.netlink_codec.specs.Messages.{message_of};
 ghost use Rattle.nfqa_msgs.specs.RequestReading as reading;
 ghost use Rattle.packet_moves.specs.Messages.{words_of};
 ghost use Rattle.histories.specs.declared.log.AskWords.TheVariants.{Plain};
@@ -11,9 +11,7 @@ ghost use Rattle.log_audit.specs.Dues as dues;
 use histories::AskWords;
 use netlink_codec::{Message, one_message_in_front};
 use nfqa_msgs::{Decoded, Request, is_spelling, numbers_fit, spelling_decodes_to_its_request};
-
-/// The most bytes that a payload has.
-const MAX_PAYLOAD: usize = 65_531;
+use port_audit::payload_fits;
 
 /// Whether a message that is decoded so was logged so.
 pub(crate) fn is_logged_as(
@@ -57,20 +55,6 @@ fn is_logged_in_words(
     spelling_decodes_to_its_request();
     one_message_in_front();
     is_spelling(port, call, request, message.whole)
-}
-
-/// Whether a request's payload has no more bytes than one attribute holds.
-fn payload_fits(request: &Request) -> bool
-    ensures { IsTrue result ↔ reading.PayloadFits request.now }
-{
-    match request {
-        Request::Config { .. } => true,
-        Request::Verdict { payload, .. } => match payload {
-            Some(bytes) => bytes.len() <= MAX_PAYLOAD,
-            None => true,
-        },
-        Request::Batch { .. } => true,
-    }
 }
 
 /// Whether a message is the spelling of what it asks.

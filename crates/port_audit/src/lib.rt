@@ -22,5 +22,5 @@ pub use logs::log_of;
 pub use notices::are_notices;
 pub use order::are_ordered;
 pub use ports::are_ports;
-pub use requests::are_requests;
+pub use requests::{are_requests, payload_fits};
 pub use room::are_roomy;

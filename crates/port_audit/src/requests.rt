@@ -5,6 +5,7 @@ ghost use Rattle.std.specs.Prelude.{◌≡◌, ◌≢◌, ◌↔◌, ℕ, Bool, 
 ghost use Rattle.std.specs.Prelude.{Some, is_some};
 ghost use Rattle.std.specs.List.{list_all};
 ghost use Rattle.netlink_codec.specs.Messages.{message_of};
+ghost use Rattle.nfqa_msgs.specs.RequestReading.{PayloadFits};
 ghost use Rattle.run_parts.specs.Log.{Note};
 ghost use Rattle.run_parts.specs.Requests as requests;
 ghost use Rattle.run_parts.specs.Run.{RequestsHold};
@@ -249,8 +250,9 @@ fn judge(
 }
 
 /// Whether a request's payload has no more bytes than one attribute holds.
-fn payload_fits(request: &Request) -> bool
-    ensures { result ≡ pleading.payload_fits request.now }
+pub fn payload_fits(request: &Request) -> bool
+    ensures value { result ≡ pleading.payload_fits request.now }
+    ensures fits { IsTrue result ↔ PayloadFits request.now }
 {
     match request {
         Request::Config { .. } => true,

@@ -7,8 +7,8 @@ pub returns : goal.returns
 returns c =
     let facts = c.ports-ports.ensures.facts in
     let Fit : List ℕ → Type 0 = λ ps. All (λ p. p < 2 ^ 32) ps in
-    λ ones. judgement c.a_walked_log_is_told.ensures c.a_log_is_walked.ensures.walked
-    c.a_log_is_walked.ensures.kinds c.args.script.now c.args.histories.now facts
+    λ ones. judgement c.logs_tell_what_ports_did.ensures.words c.a_walked_log_is_told.ensures
+    c.a_log_is_walked.ensures.walked c.a_log_is_walked.ensures.kinds c.args.script.now c.args.histories.now facts
     (c.each_port_has_its_place.ensures c.args.script.now facts.ports_differ)
     (subst Fit c.ports-ports.ensures.value c.ports_fit.ensures) ones c.walk_all.result
     c.walk_all.ensures
