@@ -79,7 +79,7 @@ refused_by P (Ok x) s is h = tt
 refused_by P (Err e) s is h = subst (λ (x : Stop). IfStopRefuses x P) (sym is) h
 
 -- a refusal is no other stop
-is_refusal : {T : Type 0} (w : Refusal) (s : Stop) → IfStopRefuses s (λ v. ⊥) →
+pub is_refusal : {T : Type 0} (w : Refusal) (s : Stop) → IfStopRefuses s (λ v. ⊥) →
     ◌≡◌ {A = Result T Stop} (Err (stop.Refused w)) (Err s) → ⊥
 is_refusal {T} w s other is =
     subst (λ (r : Result T Stop). IfRefused r (λ v. ⊥)) (sym is) other
@@ -278,7 +278,7 @@ answered why stop.NoMemory old_count new_count new Unread stops printed unread =
 
 -- ---- over a longer time
 
-rises_since : (before old new : ℕ) → before ≤ old → Rises old new → Rises before new
+pub rises_since : (before old new : ℕ) → before ≤ old → Rises old new → Rises before new
 rises_since before old new early rises = omega arith
 
 stay_since : (ts : List Text) (k0 k1 k2 : Contents) → SameFiles k0 k1 →

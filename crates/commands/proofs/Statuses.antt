@@ -1,8 +1,8 @@
 -- What a status says of a command, from how the command ended; and each fact of it.
 use Rattle.std.proofs.Common.{◌≡◌, ◌≤◌, ◌⊎◌, ℕ, Option, Some, None, Result, Ok, Err, refl}
-use Rattle.std.proofs.Common.{inl, inr, ap, arith, sym, subst}
+use Rattle.std.proofs.Common.{Bool, List, inl, inr, ap, arith, sym, subst, ◌∙◌}
 use Rattle.std.specs.Prelude.{IfErr, IfSome, IsSomeAnd, IsTrue}
-use Rattle.host_io.specs.Host.{ChangesOnly, SameFiles}
+use Rattle.host_io.specs.Host.{ChangesOnly, IsLater, SameFiles}
 use Rattle.command_line.specs.Arguments.{AuditFiles, Audits, Call, Generates, inputs, Lists}
 use Rattle.command_line.specs.Arguments.{LiveFiles, Lives, Migrates, outputs, Plays, ReadFiles}
 use Rattle.command_line.specs.Arguments.{standard_output, ToldRun, Tries}
@@ -11,21 +11,22 @@ use Rattle.run_files.specs.declared.refusal.Refusal.TheVariants as refusal
 use Rattle.run_files.specs.declared.stop.Stop.{Stop}
 use Rattle.run_files.specs.declared.stop.Stop.TheVariants as stop
 use Rattle.run_files.specs.Causes.{IsUnread}
-use Rattle.run_files.specs.Files.{Contents, IsPrinted, OthersStay}
+use Rattle.run_files.specs.Files.{Contents, Counts, IsPrinted, OthersStay}
 use Rattle.run_files.specs.Printed.{line_of, usage_line}
 use Rattle.run_files.specs.Statuses.{IfStopRefuses, IsOfInputs, IsOfRefusal, status_of}
 use Rattle.run_files.specs.Statuses.{status_of_refusal}
 use Rattle.journal_audit.specs.declared.finding.Finding.{Finding}
 use Rattle.journal_audit.specs.Printed as finding
-use Rattle.commands.specs.Ending.{IfAudit, IsAnswer, IsEnded, IsOut, IsStatusOf}
-use Rattle.commands.specs.Ending.{MayEndWith, Span, UnlessJournal}
+use Rattle.commands.specs.Ending.{IfAudit, IsAnswer, IsEnded, IsOut, IsSaid, IsStatusOf}
+use Rattle.commands.specs.Ending.{IsToldFinding, IsToldStop, MayEndWith, Span, span, UnlessJournal}
 use Rattle.commands.specs.Headline.{Finds, IsAtEnd, IsAudited, IsFoundBy, IsOnlyFoundBy}
 use Rattle.commands.specs.Headline.{IsOnlyJudged, MayFind, status_at_end}
 use Rattle.commands.proofs.AuditAnswers.{amiss_at_11, at_end_or, audited_at_0, complete_at_end}
 use Rattle.commands.proofs.AuditAnswers.{finds_at_end, none_at_0, one_of_two}
 use Rattle.commands.proofs.AuditAnswers.{passes_at_end, stops, taken, touched_at_11}
 use Rattle.commands.proofs.Commands.{IsLiveAlone}
-use Rattle.commands.proofs.Endings.{answered, is_write_fault, once_told, some_is_no_none}
+use Rattle.commands.proofs.Endings.{answered, found_still, is_refusal, is_write_fault, once_told}
+use Rattle.commands.proofs.Endings.{refused_still, rises_since, some_is_no_none}
 use Rattle.commands.proofs.Endings.{stops_never_with_11, turned_down}
 use Rattle.commands.proofs.StopCauses.{no_memory_or_a_fault}
 
@@ -191,7 +192,7 @@ only_found (Migrates m) old found only = tt
 only_found (Lives l) old found only = tt
 only_found (Audits a) old found only = only
 
-pub at_its_end : (c : Call) (s : Span) (found : Option Finding) (n : ℕ) →
+end_status : (c : Call) (s : Span) (found : Option Finding) (n : ℕ) →
     n ≡ status_at_end found → MayFind c found → IsEnded {T = Option Finding} c s (Ok found) →
     (IsTrue s.tells → IsFoundBy c s.old found) →
     (IsTrue s.tells → IsOnlyFoundBy c s.old found) →
@@ -199,7 +200,7 @@ pub at_its_end : (c : Call) (s : Span) (found : Option Finding) (n : ℕ) →
     IsPrinted (finding.line_of f) s.old_write_faults s.new_write_faults s.new) →
     IfSome found (λ _. ChangesOnly standard_output s.old s.new) →
     (found ≡ None → OthersStay (outputs c) s.old s.new) → IsStatusOf c s n
-at_its_end c s found n is may ended by only printed touched others =
+end_status c s found n is may ended by only printed touched others =
     let end = one_of_two found n is in
     record {
       statuses = ends_with c found n is may;
@@ -357,19 +358,6 @@ by_its_stop {T} c s e ended printed touched quiet others =
     then_others e others (inl is) = absurd (never_0 e is)
     then_others e others (inr is) = others (ap Err (is_write_fault e is))
 
-pub at_a_stop : {T : Type 0} (c : Call) (s : Span) (e : Stop) (n : ℕ) → n ≡ status_of e →
-    IsEnded {T = T} c s (Err e) → IfStopRefuses e (λ why. IsTrue s.tells →
-    IsPrinted (line_of why) s.old_write_faults s.new_write_faults s.new) →
-    ((◌≡◌ {A = Result T Stop} (Err e) (Err stop.WriteFault) → ⊥) →
-    ChangesOnly standard_output s.old s.new) →
-    (◌≡◌ {A = Result T Stop} (Err e) (Err stop.ReadFault)
-    ⊎ ◌≡◌ {A = Result T Stop} (Err e) (Err stop.NoMemory) → SameFiles s.old s.new) →
-    (◌≡◌ {A = Result T Stop} (Err e) (Err stop.WriteFault) →
-    OthersStay (outputs c) s.old s.new) → IsStatusOf c s n
-at_a_stop {T} c s e n is ended printed touched quiet others =
-    subst (λ (k : ℕ). IsStatusOf c s k) (sym is)
-    (by_its_stop {T = T} c s e ended printed touched quiet others)
-
 -- ---- arguments that are a command, and others
 
 pub of_command : (o : Option Call) (c : Call) (s : Span) (n : ℕ) → o ≡ Some c →
@@ -496,6 +484,114 @@ out_of_memory c s n out =
       quiet = λ which. out.files;
       others = λ ends. no_end_here out.is ends;
     }
+
+-- ---- behind a command, what is printed
+
+abbrev IfWrites : Stop → Type 0
+IfWrites stop.WriteFault = ⊥
+IfWrites other = Unit {0}
+
+quiet_or_written : {T : Type 0} (e : Stop) → ◌≡◌ {A = Result T Stop} (Err e) (Err stop.ReadFault)
+    ⊎ ◌≡◌ {A = Result T Stop} (Err e) (Err stop.NoMemory) →
+    ◌≡◌ {A = Result T Stop} (Err e) (Err stop.WriteFault) → ⊥
+quiet_or_written {T} e (inl is) wrote =
+    subst (λ (r : Result T Stop). IfErr r IfWrites) (sym is ∙ wrote) tt
+quiet_or_written {T} e (inr is) wrote =
+    subst (λ (r : Result T Stop). IfErr r IfWrites) (sym is ∙ wrote) tt
+
+no_quiet : {T : Type 0} {P : Type 0} (w : Refusal) →
+    ◌≡◌ {A = Result T Stop} (Err (stop.Refused w)) (Err stop.ReadFault)
+    ⊎ ◌≡◌ {A = Result T Stop} (Err (stop.Refused w)) (Err stop.NoMemory) → P
+no_quiet w (inl is) = absurd (is_refusal w stop.ReadFault tt is)
+no_quiet w (inr is) = absurd (is_refusal w stop.NoMemory tt is)
+
+module _ {H : Type 0} (tells : H → Bool) (content : H → Contents) (reads writes : H → Counts)
+    (old between new : H) (later : IsLater tells reads writes old between) (c : Call) where
+  abbrev before : Span
+  before = span tells content reads writes old between
+
+  abbrev behind : Span
+  behind = span tells content reads writes between new
+
+  abbrev whole : Span
+  whole = span tells content reads writes old new
+
+  -- a line that was printed then was printed over the whole time
+  printed_since : (line : List ℕ) → IsSaid behind line → IsTrue (tells old) →
+      IsPrinted line (writes old) (writes new) (content new)
+  printed_since line said t = by (said.printed (later.tells_same ∙ t))
+    where
+      by : IsPrinted line (writes between) (writes new) (content new) →
+          IsPrinted line (writes old) (writes new) (content new)
+      by (inl is) = inl is
+      by (inr rises) = inr (rises_since _ _ _ (later.write_faults_stay standard_output) rises)
+
+  changes_since : (line : List ℕ) → SameFiles (content old) (content between) →
+      IsSaid behind line → ChangesOnly standard_output (content old) (content new)
+  changes_since line same said other not_this = said.files other not_this ∙ same other
+
+  out_since : (n : ℕ) → SameFiles (content old) (content between) → IsOut behind n →
+      IsStatusOf c whole n
+  out_since n same out =
+      out_of_memory c whole n
+      (record { is = out.is; files = λ name. out.files name ∙ same name })
+
+  -- where the host is the same, what is known of the time before is known of the whole
+  still : (n : ℕ) → new ≡ between → IsStatusOf c before n → IsStatusOf c whole n
+  still n same status =
+      subst (λ (h : H). IsStatusOf c (span tells content reads writes old h) n) (sym same) status
+
+  pub at_its_end : (found : Option Finding) (n : ℕ) → MayFind c found →
+      IsEnded {T = Option Finding} c before (Ok found) →
+      (IsTrue (tells old) → IsFoundBy c (content old) found) →
+      (IsTrue (tells old) → IsOnlyFoundBy c (content old) found) →
+      IfSome found (λ _. SameFiles (content old) (content between)) →
+      OthersStay (outputs c) (content old) (content between) →
+      IsToldFinding (new ≡ between) behind found n → IsStatusOf c whole n
+  at_its_end None n may ended by only same others told =
+      still n told.1
+      (end_status c before None n told.0 may ended by only tt tt (λ none. others))
+  at_its_end (Some f) n may ended by only same others (inl told) =
+      end_status c whole (Some f) n told.0 may
+      (found_still c before whole f refl refl by ended) by only
+      (printed_since (finding.line_of f) told.1) (changes_since (finding.line_of f) same told.1)
+      (λ none. absurd (some_is_no_none f none))
+  at_its_end (Some f) n may ended by only same others (inr out) = out_since n same out
+
+  -- a stop of which nothing is printed
+  silent_stop : {T : Type 0} (e : Stop) (n : ℕ) → IsEnded {T = T} c before (Err e) →
+      IfStopRefuses e (λ why. IsTrue (tells old) →
+      IsPrinted (line_of why) (writes old) (writes between) (content between)) →
+      ((◌≡◌ {A = Result T Stop} (Err e) (Err stop.WriteFault) → ⊥) →
+      SameFiles (content old) (content between)) →
+      OthersStay (outputs c) (content old) (content between) →
+      (n ≡ status_of e) × (new ≡ between) → IsStatusOf c whole n
+  silent_stop {T} e n ended printed same others told =
+      still n told.1
+      (subst (λ (k : ℕ). IsStatusOf c before k) (sym told.0)
+      (by_its_stop {T = T} c before e ended printed
+      (λ not_written other not_this. same not_written other)
+      (λ which. same (quiet_or_written {T = T} e which)) (λ wrote. others)))
+
+  pub at_a_stop : {T : Type 0} (e : Stop) (n : ℕ) → IsEnded {T = T} c before (Err e) →
+      ((◌≡◌ {A = Result T Stop} (Err e) (Err stop.WriteFault) → ⊥) →
+      SameFiles (content old) (content between)) →
+      OthersStay (outputs c) (content old) (content between) →
+      IsToldStop (new ≡ between) behind e n → IsStatusOf c whole n
+  at_a_stop {T} stop.ReadFault n ended same others told =
+      silent_stop {T = T} stop.ReadFault n ended tt same others told
+  at_a_stop {T} stop.WriteFault n ended same others told =
+      silent_stop {T = T} stop.WriteFault n ended tt same others told
+  at_a_stop {T} stop.NoMemory n ended same others told =
+      silent_stop {T = T} stop.NoMemory n ended tt same others told
+  at_a_stop {T} (stop.Refused w) n ended same others (inl told) =
+      subst (λ (k : ℕ). IsStatusOf c whole k) (sym told.0)
+      (by_its_stop {T = T} c whole (stop.Refused w)
+      (refused_still {T = T} c before whole w refl refl ended) (printed_since (line_of w) told.1)
+      (λ not_written. changes_since (line_of w) (same not_written) told.1)
+      (no_quiet {T = T} w) (λ wrote. absurd (is_refusal w stop.WriteFault tt wrote)))
+  at_a_stop {T} (stop.Refused w) n ended same others (inr out) =
+      out_since n (same (is_refusal {T = T} w stop.WriteFault tt)) out
 
 -- ---- of a program's arguments, which may not be had
 

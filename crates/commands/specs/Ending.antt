@@ -1,5 +1,5 @@
 -- How a command ends, whatever it is: done, or stopped for a cause; and what its status says.
-use Rattle.std.specs.Prelude.{◌≡◌, ◌≢◌, ◌≤◌, ◌⊎◌, ℕ, ⊤, Bool, IsTrue, IfSome, IsSomeAnd, OnOk}
+use Rattle.std.specs.Prelude.{◌≡◌, ◌≢◌, ◌≤◌, ◌⊎◌, ℕ, ⊤, Bool, List, IsTrue, IfSome, IsSomeAnd, OnOk}
 use Rattle.std.specs.Prelude.{IsErrOf, Result, Option, Some, None}
 use Rattle.host_io.specs.Host.{ChangesOnly, SameFiles}
 use Rattle.command_line.specs.Arguments.{AuditFiles, Audits, Call, ReadFiles, inputs, outputs}
@@ -11,10 +11,13 @@ use Rattle.run_files.specs.Causes.{AreTaken, IsAnswered, IsRefused, IsTurnedDown
 use Rattle.run_files.specs.Files.{Contents, Counts, IsPrinted, IsStopped, OthersStay}
 use Rattle.run_files.specs.Files.{ReadFaultRose, WriteFaultRose}
 use Rattle.run_files.specs.Printed.{usage_line}
-use Rattle.run_files.specs.Statuses.{IfRefused, IsOfInputs, IsOfRefusal, StopsFor}
+use Rattle.run_files.specs.Printed.{line_of as refusal_line}
+use Rattle.run_files.specs.Statuses.{IfRefused, IsOfInputs, IsOfRefusal, status_of}
+use Rattle.run_files.specs.Statuses.{status_of_refusal, StopsFor}
 use Rattle.journal_audit.specs.declared.finding.Finding.{Finding}
 use Rattle.journal_audit.specs.Printed.{line_of}
 use Rattle.commands.specs.Headline.{Finds, IsAmiss, IsAtEnd, IsAudited, IsCut, IsDone}
+use Rattle.commands.specs.Headline.{status_at_end}
 
 -- What a host tells before a call and after it: whether it tells what its files hold, what they
 -- held and hold, and the counts of their faults.
@@ -134,12 +137,34 @@ pub record IsNoCommand (s : Span) (status : ℕ) : Type 0 where
       IsPrinted usage_line s.old_write_faults s.new_write_faults s.new
   pub files : ChangesOnly standard_output s.old s.new
 
--- what a status says, whatever the arguments are
-abbrev pub IsAnswer : Option Call → Span → ℕ → Type 0
-IsAnswer None s status = IsNoCommand s status
-IsAnswer (Some c) s status = IsStatusOf c s status
-
 -- memory ran out before anything was done
 pub record IsOut (s : Span) (status : ℕ) : Type 0 where
   pub is : status ≡ 8
   pub files : SameFiles s.old s.new
+
+-- what was printed before a command ended with a status: this line, and nothing else changed
+pub record IsSaid (s : Span) (line : List ℕ) : Type 0 where
+  pub printed : IsTrue s.tells → IsPrinted line s.old_write_faults s.new_write_faults s.new
+  pub files : ChangesOnly standard_output s.old s.new
+
+-- a command ends with this status, and its line is printed; or memory ran out for that
+abbrev pub EndsWithLine : Span → List ℕ → ℕ → ℕ → Type 0
+EndsWithLine s line wanted status = ((status ≡ wanted) × IsSaid s line) ⊎ IsOut s status
+
+-- Why a command stopped is told so, over a time in which nothing else is done: of a refusal a line
+-- is printed, and of no other stop, where the host stays the same.
+abbrev pub IsToldStop : Type 0 → Span → Stop → ℕ → Type 0
+IsToldStop Same s (stop.Refused why) status =
+    EndsWithLine s (refusal_line why) (status_of_refusal why) status
+IsToldStop Same s other status = (status ≡ status_of other) × Same
+
+-- and so is what an audit found
+abbrev pub IsToldFinding : Type 0 → Span → Option Finding → ℕ → Type 0
+IsToldFinding Same s None status = (status ≡ status_at_end None) × Same
+IsToldFinding Same s (Some f) status =
+    EndsWithLine s (line_of f) (status_at_end (Some f)) status
+
+-- what a status says, whatever the arguments are
+abbrev pub IsAnswer : Option Call → Span → ℕ → Type 0
+IsAnswer None s status = IsNoCommand s status
+IsAnswer (Some c) s status = IsStatusOf c s status

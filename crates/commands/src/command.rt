@@ -12,15 +12,15 @@ ghost use Rattle.command_line.specs.Arguments.{ReadFiles, Sample, standard_outpu
 ghost use Rattle.run_files.specs.Causes.{AreTaken, IsAnswered, IsRefused, IsTurnedDown, IsUnread};
 ghost use Rattle.run_files.specs.Files.{IsPrinted, IsStopped, OthersStay};
 ghost use Rattle.run_files.specs.Files.{ReadFaultRose, WriteFaultRose};
-ghost use Rattle.commands.specs.Ending.{IsAnswer, IsEnded, MayEndWith, span};
+ghost use Rattle.commands.specs.Ending.{IsAnswer, IsEnded, IsToldFinding, IsToldStop};
+ghost use Rattle.commands.specs.Ending.{MayEndWith, span};
 ghost use Rattle.journal_audit.specs.declared.finding.Finding.{Finding as AFinding};
 ghost use Rattle.journal_audit.specs.Printed as finding;
-ghost use Rattle.commands.specs.Headline as headline;
 ghost use Rattle.commands.specs.Headline.{Finds, IsAmiss, IsAtEnd, IsAudited, IsCut, IsFoundBy};
 ghost use Rattle.commands.specs.Headline.{IsGenerated, IsListed, IsMigrated, IsOnlyFoundBy};
 ghost use Rattle.commands.specs.Headline.{IsPlayed, IsTried, MayFind};
 ghost use Rattle.run_files.specs.Printed.{line_of, usage_line};
-ghost use Rattle.run_files.specs.Statuses.{IfRefused, IsOfRefusal};
+ghost use Rattle.run_files.specs.Statuses.{IsOfRefusal};
 
 use crate::audit::audit_files;
 use crate::generation::generate;
@@ -32,7 +32,7 @@ use command_line::{Command, command_of};
 use host_io::Host;
 use journal_audit::Finding;
 use packet_entry::NoMemory;
-use run_files::status::{DONE, NO_RUN, USAGE};
+use run_files::status::{DONE, NO_MEMORY, NO_RUN, READ_FAULT, USAGE, WRITE_FAULT};
 use run_files::{Refusal, Stop, print, print_usage};
 use std::alloc::Global;
 
@@ -160,75 +160,48 @@ pub(crate) fn status_of_words<H: Host>(alloc: Global, words: &[String], host: &m
         print_usage(host);
         return USAGE;
     };
-    match carry_out(alloc, &command, host) {
-        Ok(found) => status_at_end(found),
-        Err(stop) => stop.status(),
+    match dispatch(alloc, &command, host) {
+        Ok(found) => status_at_end(alloc, found, host),
+        Err(stop) => status_of_stop(alloc, stop, host),
     }
 }
 
-/// The status of a command that came to its end, with what an audit found.
-fn status_at_end(found: Option<Finding>) -> u8
-    ensures { result ≡ headline.status_at_end found }
+/// The status of a command that came to its end, where what an audit found is printed. Without
+/// memory for its line nothing is, and the status says so.
+fn status_at_end<H: Host>(alloc: Global, found: Option<Finding>, host: &mut H) -> u8
+    ensures told { IsToldFinding (host.new ≡ host.old)
+        (span H.tells H.content H.read_faults H.write_faults host.old host.new) found result }
+    ensures later { IsLater H.tells H.read_faults H.write_faults host.old host.new }
 {
     match found {
         None => DONE,
-        Some(_) => NO_RUN,
+        Some(finding) => match print_finding(alloc, finding, host) {
+            Ok(()) => NO_RUN,
+            Err(_) => NO_MEMORY,
+        },
     }
 }
 
-/// Does the command, and prints why an input is refused, or what an audit found.
-fn carry_out<H: Host>(
-    alloc: Global,
-    command: &Command<'_>,
-    host: &mut H,
-) -> Result<Option<Finding>, Stop>
-    requires allowed { IsAllowed (call_of command.now) }
-    ensures ended { IsEnded (call_of command.now)
-        (span H.tells H.content H.read_faults H.write_faults host.old host.new) result }
-    ensures printed { IfRefused result (λ why. IsTrue (H.tells host.old) → IsPrinted (line_of why)
-        (H.write_faults host.old) (H.write_faults host.new) (H.content host.new)) }
-    ensures untouched { OnErr result (¬ IsErrOf result Stop.WriteFault →
-        ChangesOnly standard_output (H.content host.old) (H.content host.new)) }
-    ensures quiet { IsErrOf result Stop.ReadFault ⊎ IsErrOf result Stop.NoMemory →
-        SameFiles (H.content host.old) (H.content host.new) }
-    ensures found { IfOk result (λ found. IsTrue (H.tells host.old) →
-        IsFoundBy (call_of command.now) (H.content host.old) found) }
-    ensures finds { IfOk result (λ found. IsTrue (H.tells host.old) →
-        IsOnlyFoundBy (call_of command.now) (H.content host.old) found) }
-    ensures finder { IfOk result (λ found. MayFind (call_of command.now) found) }
-    ensures reported { IfOk result (λ found. IfSome found (λ f. IsTrue (H.tells host.old) →
-        IsPrinted (finding.line_of f)
-        (H.write_faults host.old) (H.write_faults host.new) (H.content host.new))) }
-    ensures touched { IfOk result (λ found. IfSome found (λ _.
-        ChangesOnly standard_output (H.content host.old) (H.content host.new))) }
-    ensures others { IfOk result (λ found. found ≡ None →
-        OthersStay (outputs (call_of command.now)) (H.content host.old) (H.content host.new)) }
-    ensures others_stopped { IsErrOf result Stop.WriteFault →
-        OthersStay (outputs (call_of command.now)) (H.content host.old) (H.content host.new) }
+/// The status of a command that was stopped, where it is printed why an input is refused. Without
+/// memory for its line nothing is, and the status says so.
+pub(crate) fn status_of_stop<H: Host>(alloc: Global, stop: Stop, host: &mut H) -> u8
+    ensures told { IsToldStop (host.new ≡ host.old)
+        (span H.tells H.content H.read_faults H.write_faults host.old host.new) stop result }
     ensures later { IsLater H.tells H.read_faults H.write_faults host.old host.new }
 {
-    match dispatch(alloc, command, host) {
-        Err(Stop::Refused { why }) => {
-            print_refusal(alloc, why, host)?;
-            Err(Stop::Refused { why })
-        }
-        Err(Stop::ReadFault) => Err(Stop::ReadFault),
-        Err(Stop::WriteFault) => Err(Stop::WriteFault),
-        Err(Stop::NoMemory) => Err(Stop::NoMemory),
-        Ok(Some(finding)) => {
-            print_finding(alloc, finding, host)?;
-            Ok(Some(finding))
-        }
-        Ok(None) => Ok(None),
+    match stop {
+        Stop::Refused { why } => match print_refusal(alloc, why, host) {
+            Ok(()) => why.status(),
+            Err(_) => NO_MEMORY,
+        },
+        Stop::ReadFault => READ_FAULT,
+        Stop::WriteFault => WRITE_FAULT,
+        Stop::NoMemory => NO_MEMORY,
     }
 }
 
 /// Prints why an input is refused. Without memory for the line nothing is printed.
-pub(crate) fn print_refusal<H: Host>(
-    alloc: Global,
-    why: Refusal,
-    host: &mut H,
-) -> Result<(), NoMemory>
+fn print_refusal<H: Host>(alloc: Global, why: Refusal, host: &mut H) -> Result<(), NoMemory>
     ensures printed { OnOk result (IsTrue (H.tells host.old) → IsPrinted (line_of why)
         (H.write_faults host.old) (H.write_faults host.new) (H.content host.new)) }
     ensures files { ChangesOnly standard_output (H.content host.old) (H.content host.new) }

@@ -2,7 +2,7 @@
 //! written.
 
 ghost use Rattle.std.specs.Prelude.{◌≡◌, ◌⊎◌, ◌≤◌, ◌≢◌, ◌↔◌, None, Some};
-ghost use Rattle.std.specs.Prelude.{IsTrue, IfSome, IsSomeAnd, OnOk, OnErr, IsErrOf};
+ghost use Rattle.std.specs.Prelude.{IsTrue, IfSome, IsSomeAnd, OnErr, IsErrOf};
 ghost use Rattle.host_io.specs.Host.{IsLater, SameFiles, ChangesOnly};
 ghost use Rattle.command_line.specs.Arguments.{Call, IsLiveAllowed, inputs};
 ghost use Rattle.command_line.specs.Arguments.{live_call_of_words, live_files_of, LiveFiles, Lives};
@@ -11,13 +11,13 @@ ghost use Rattle.run_files.specs.declared.refusal.Refusal.{Refusal as ARefusal};
 ghost use Rattle.run_files.specs.Causes.{AreTaken, IsAnswered, IsRefused, IsTurnedDown, IsUnread};
 ghost use Rattle.run_files.specs.Files.{IsPrinted, IsStopped, OthersStay};
 ghost use Rattle.run_files.specs.Files.{ReadFaultRose, WriteFaultRose};
-ghost use Rattle.run_files.specs.Printed.{line_of, usage_line};
-ghost use Rattle.run_files.specs.Statuses.{IfRefused, IsOfRefusal};
+ghost use Rattle.run_files.specs.Printed.{usage_line};
+ghost use Rattle.run_files.specs.Statuses.{IsOfRefusal};
 ghost use Rattle.commands.specs.Ending.{IsAnswer, IsEnded, span};
 ghost use Rattle.commands.specs.Headline.{IsCut, IsLived};
 
 use crate::account::{a_run_is_accounted_for, released_frames_can_be_written};
-use crate::command::print_refusal;
+use crate::command::status_of_stop;
 use crate::play_run::write_run;
 use command_line::{Live, RunSize, live_of};
 use host_io::Host;
@@ -200,46 +200,9 @@ pub(crate) fn live_status<R: Threads + Wait + Sync, H: Host, G: Gate, J: JobGate
         print_usage(host);
         return USAGE;
     };
-    match carry_out(rt, alloc, &command, host, gate, jobs) {
+    match live_files(rt, alloc, &command, host, gate, jobs) {
         Ok(()) => DONE,
-        Err(stop) => stop.status(),
-    }
-}
-
-/// Does the command, and prints why an input is refused.
-fn carry_out<R: Threads + Wait + Sync, H: Host, G: Gate, J: JobGate>(
-    rt: &R,
-    alloc: Global,
-    command: &Live<'_>,
-    host: &mut H,
-    gate: &G,
-    jobs: &J,
-) -> Result<(), Stop>
-    requires allowed { IsLiveAllowed (live_files_of command.now) }
-    ensures ended { IsEnded (Lives (live_files_of command.now))
-        (span H.tells H.content H.read_faults H.write_faults host.old host.new) result }
-    ensures printed { IfRefused result (λ why. IsTrue (H.tells host.old) → IsPrinted (line_of why)
-        (H.write_faults host.old) (H.write_faults host.new) (H.content host.new)) }
-    ensures untouched { OnErr result (¬ IsErrOf result Stop.WriteFault →
-        ChangesOnly standard_output (H.content host.old) (H.content host.new)) }
-    ensures quiet { IsErrOf result Stop.ReadFault ⊎ IsErrOf result Stop.NoMemory →
-        SameFiles (H.content host.old) (H.content host.new) }
-    ensures others { OnOk result (OthersStay (outputs (Lives (live_files_of command.now)))
-        (H.content host.old) (H.content host.new)) }
-    ensures others_stopped { IsErrOf result Stop.WriteFault →
-        OthersStay (outputs (Lives (live_files_of command.now))) (H.content host.old)
-        (H.content host.new) }
-    ensures later { IsLater H.tells H.read_faults H.write_faults host.old host.new }
-{
-    match live_files(rt, alloc, command, host, gate, jobs) {
-        Err(Stop::Refused { why }) => {
-            print_refusal(alloc, why, host)?;
-            Err(Stop::Refused { why })
-        }
-        Err(Stop::ReadFault) => Err(Stop::ReadFault),
-        Err(Stop::WriteFault) => Err(Stop::WriteFault),
-        Err(Stop::NoMemory) => Err(Stop::NoMemory),
-        Ok(()) => Ok(()),
+        Err(stop) => status_of_stop(alloc, stop, host),
     }
 }
 

@@ -15,15 +15,15 @@ returns-in-Ok-clause-answer g c =
     c.in-Some.ensures.call
     (at_its_end_alone (live_files_of c.in-Some.command)
     (span g.H.Host.tells g.H.Host.content g.H.Host.read_faults
-    g.H.Host.write_faults c.args.host.now c.carry_out.new.host)
+    g.H.Host.write_faults c.args.host.now c.live_files.new.host)
     0 refl c.in-Ok.ensures.ended c.in-Ok.ensures.others)
 
 pub returns-in-Err-clause-answer : goal.returns-in-Err-clause-answer
 returns-in-Err-clause-answer g c =
     of_command (live_call_of_words c.args.words.now) (Lives (live_files_of c.in-Some.command)) _ _
     c.in-Some.ensures.call
-    (at_a_stop (Lives (live_files_of c.in-Some.command))
-    (span g.H.Host.tells g.H.Host.content g.H.Host.read_faults
-    g.H.Host.write_faults c.args.host.now c.carry_out.new.host)
-    c.in-Err.stop c.status.result c.status.ensures c.in-Err.ensures.ended c.in-Err.ensures.printed
-    c.in-Err.ensures.untouched c.in-Err.ensures.quiet c.in-Err.ensures.others_stopped)
+    (at_a_stop g.H.Host.tells g.H.Host.content g.H.Host.read_faults g.H.Host.write_faults
+    c.args.host.now c.live_files.new.host c.status_of_stop.new.host c.in-Err.ensures.later
+    (Lives (live_files_of c.in-Some.command)) c.in-Err.stop c.status_of_stop.result
+    c.in-Err.ensures.ended c.in-Err.ensures.untouched c.in-Err.ensures.others
+    c.status_of_stop.ensures.told)
