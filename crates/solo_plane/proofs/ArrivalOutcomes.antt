@@ -3,8 +3,6 @@ use Rattle.std.proofs.Common.{◌≡◌, ℕ, List, [], ◌∷◌, ◌++◌, Opt
 use Rattle.std.proofs.Common.{true, false, refl, sym, ap, ◌∙◌, rules}
 use Rattle.std.specs.Prelude.{option_map, IsSome}
 use Rattle.std.specs.Prelude.{Result, Ok, Err, OnOk, is_err}
-use Rattle.std.specs.BTreeMap.{BTreeMap, get}
-use Rattle.std.specs.Ordering.{nat_cmp}
 use Rattle.packet_entry.specs.declared.packet.Card.{Card}
 use Rattle.packet_entry.specs.declared.letter.Letter.{Letter}
 use Rattle.hook_chain.specs.declared.chain.Next.{Next}
@@ -20,6 +18,7 @@ use Rattle.place_history.specs.Calls.{IsTurnedAway, IsTaken, IsOffered}
 use Rattle.packet_moves.specs.declared.fed.Fed.TheVariants.{Waiting}
 use Rattle.packet_moves.specs.declared.came.Came.TheVariants.{Ended}
 use Rattle.solo_plane.specs.declared.port.PortState.{PortState}
+use Rattle.solo_plane.specs.declared.held.Ports.{Ports}
 use Rattle.packet_moves.specs.declared.setting.Setting.{Setting}
 use Rattle.packet_moves.specs.declared.came.Came.{Came}
 use Rattle.packet_moves.specs.World.{World, Port, changed_at, delivered}
@@ -28,7 +27,7 @@ use Rattle.packet_moves.specs.Moving.{with_notice}
 use Rattle.packet_moves.specs.Moving.{left_at_once, happened}
 use Rattle.packet_moves.specs.Moving.{settled, goes_on, route_after, takes_one}
 use Rattle.packet_moves.specs.OnTheWay.{IsTurned}
-use Rattle.solo_plane.specs.PortView.{port_of, ports_of}
+use Rattle.solo_plane.specs.PortView.{state_in, port_of, ports_of}
 use Rattle.queue_core.specs.Laws.{way_by}
 use Rattle.queue_core.specs.Walk.{HasRoom, walk_arrivals}
 use Rattle.solo_plane.specs.OnTheWay.{CameAs, came_to}
@@ -194,10 +193,10 @@ taken_had_room = walk_arrivals (λ card room s. s.left ≡ [] → room ≡ true)
 
 -- a port whose mailbox takes one more is there
 pub port_is_there : (mail port : ℕ) (room : Bool) (ports : ℕ → Option Port)
-    (held : BTreeMap ℕ PortState) → ports ≡ ports_of held → room ≡ takes_one mail (ports port) →
-    room ≡ true → IsSome (get nat_cmp held port)
+    (held : Ports) → ports ≡ ports_of held → room ≡ takes_one mail (ports port) →
+    room ≡ true → IsSome (state_in held port)
 port_is_there mail port room ports held same is had =
-    there (get nat_cmp held port)
+    there (state_in held port)
     (sym (ap (λ (p : ℕ → Option Port). takes_one mail (p port)) same) ∙ sym is ∙ had)
   where
     there : (o : Option PortState) → takes_one mail (option_map port_of o) ≡ true → IsSome o

@@ -4,7 +4,7 @@ use Rattle.std.specs.Prelude.{nat_eq}
 use Rattle.std.specs.List.{IsDistinct}
 use Rattle.std.proofs.lemmas.Bool.{eq-eqb}
 use Rattle.std.proofs.lemmas.Map.Keys.{apart_from_distinct}
-use Rattle.solo_plane.specs.Closing.{AreApart}
+use Rattle.solo_plane.specs.PortPlaces.{AreApart}
 
 pub apart_so : (order : List ℕ) → IsDistinct nat_eq order → AreApart order
 apart_so order distinct i k before within same =

@@ -1,3 +1,4 @@
+pub mod Places
 pub mod ArrivalOutcomes
 pub mod PacketSteps
 pub mod UnchangedLogs

@@ -1,31 +1,37 @@
--- Ports that are opened one after the other.
-use Rattle.std.proofs.Common.{◌≡◌, ℕ, ◌+◌, ◌<◌, List, length}
-use Rattle.std.proofs.Common.{take, get_or, Option, Some, None, Bool}
-use Rattle.std.proofs.Common.{true, false, refl, sym, ap, ◌∙◌}
+-- Ports that are opened.
+use Rattle.std.proofs.Common.{◌≡◌, ℕ, suc, List, [], ◌∷◌, length, Option, Some, None, inl, inr}
+use Rattle.std.proofs.Common.{refl, ap, ◌∙◌, arith}
+use Rattle.std.specs.Prelude.{All, option_map}
 use Rattle.std.proofs.Math.Path.{fun_ext}
-use Rattle.std.specs.Prelude.{nat_eq, ◌||◌, if◌then◌else◌}
-use Rattle.std.specs.List.{list_any}
-use Rattle.std.proofs.lemmas.List.Folds.{list_any_more}
-use Rattle.packet_moves.specs.World.{Port, opened}
-use Rattle.packet_moves.specs.Planes.{opened_ports, with_opened}
+use Rattle.std.proofs.lemmas.Bool.Decides.{eqb_tells}
+use Rattle.std.proofs.lemmas.List.Elements.{All-head, All-tail}
+use Rattle.packet_moves.specs.World.{opened}
+use Rattle.packet_moves.specs.Planes.{opened_ports}
+use Rattle.solo_plane.specs.declared.port.PortState.{PortState}
+use Rattle.solo_plane.specs.PortPlaces.{place_in, stands_at}
+use Rattle.solo_plane.specs.PortView.{port_of}
 
-pub one_more_opened : (order : List ℕ) (i port : ℕ) (old new : ℕ → Option Port) →
-    i < length order → port ≡ get_or order i 0 → old ≡ opened_ports (take i order) →
-    new ≡ with_opened port old → new ≡ opened_ports (take (i + 1) order)
-one_more_opened order i port old new within is before after =
-    after ∙ ap (with_opened port) before ∙ ap (λ q. with_opened q (opened_ports (take i order))) is
-    ∙ fun_ext (λ p. each p ∙ sym (ap opened_if (list_any_more (nat_eq p) order i 0 within)))
+abbrev IsOpened : PortState → Type 0
+IsOpened s = port_of s ≡ opened
+
+each : (numbers : List ℕ) (states : List PortState) (p : ℕ) → length states ≡ length numbers →
+    All IsOpened states →
+    option_map port_of (stands_at states (place_in numbers p)) ≡ opened_ports numbers p
+each [] states p as_many all = refl
+each (n ∷ numbers) [] p as_many all = absurd (omega (arith, as_many))
+each (n ∷ numbers) (s ∷ states) p as_many all =
+    elim (eqb_tells p n) [
+      | inl (test, same) ↦ rw test (ap (λ x. Some x) (All-head IsOpened s states all))
+      | inr (test, other) ↦ rw test (behind (place_in numbers p)
+          ∙ each numbers states p (omega (arith, as_many)) (All-tail IsOpened s states all))
+    ]
   where
-    opened_if : Bool → Option Port
-    opened_if b = if b then Some opened else None
+    behind : (o : Option ℕ) → option_map port_of (stands_at (s ∷ states) (option_map suc o))
+        ≡ option_map port_of (stands_at states o)
+    behind None = refl
+    behind (Some k) = refl
 
-    either : (a b : Bool) →
-        (if b then Some opened else (if a then Some opened else None)) ≡ opened_if (a || b)
-    either true true = refl
-    either true false = refl
-    either false true = refl
-    either false false = refl
-
-    each : (p : ℕ) → with_opened (get_or order i 0) (opened_ports (take i order)) p
-        ≡ opened_if (list_any (nat_eq p) (take i order) || nat_eq p (get_or order i 0))
-    each p = either (list_any (nat_eq p) (take i order)) (nat_eq p (get_or order i 0))
+pub all_opened : (numbers : List ℕ) (states : List PortState) → length states ≡ length numbers →
+    All (λ s. port_of s ≡ opened) states →
+    (λ p. option_map port_of (stands_at states (place_in numbers p))) ≡ opened_ports numbers
+all_opened numbers states as_many all = fun_ext (λ p. each numbers states p as_many all)

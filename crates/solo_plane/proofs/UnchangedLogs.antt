@@ -3,20 +3,19 @@ use Rattle.std.proofs.Common.{◌≡◌, ◌≤◌, ℕ, List, [], ◌∷◌, Op
 use Rattle.std.proofs.Common.{refl, sym, ap, subst, ◌∙◌}
 use Rattle.std.specs.Prelude.{◌==◌, if◌then◌else◌}
 use Rattle.std.specs.Prelude.{option_map, IsSomeAnd}
-use Rattle.std.specs.BTreeMap.{BTreeMap, get}
-use Rattle.std.specs.Ordering.{nat_cmp}
 use Rattle.solo_plane.specs.declared.port.PortState.{PortState}
+use Rattle.solo_plane.specs.declared.held.Ports.{Ports}
 use Rattle.packet_entry.specs.declared.letter.Letter.{Letter}
 use Rattle.packet_moves.specs.World.{Port, changed_at, received, received_from}
-use Rattle.solo_plane.specs.PortView.{Log, log_in, port_of, ports_of, logs_of, OnPort}
+use Rattle.solo_plane.specs.PortView.{state_in, Log, log_in, port_of, ports_of, logs_of, OnPort}
 use Rattle.packet_moves.specs.Messages.{call_at}
 use Rattle.packet_moves.specs.Calls.{next_call}
 
 -- the room for what a port did
-pub room_stays : (old new : BTreeMap ℕ PortState) (port : ℕ) → logs_of new ≡ logs_of old →
+pub room_stays : (old new : Ports) (port : ℕ) → logs_of new ≡ logs_of old →
     OnPort old port (λ p. 2 ≤ p.dids.room) → OnPort new port (λ p. 2 ≤ p.dids.room)
 room_stays old new port same has =
-    of_one (get nat_cmp old port) (get nat_cmp new port)
+    of_one (state_in old port) (state_in new port)
     (ap (λ (f : ℕ → Option Log). f port) same) has
   where
     of_one : (o n : Option PortState) → option_map log_in n ≡ option_map log_in o →
@@ -28,10 +27,10 @@ room_stays old new port same has =
         subst (λ (l : Log). 2 ≤ l.dids.room) (sym log) has
 
 -- the number of a port's next message
-pub call_stays : (old new : BTreeMap ℕ PortState) (port : ℕ) → logs_of new ≡ logs_of old →
+pub call_stays : (old new : Ports) (port : ℕ) → logs_of new ≡ logs_of old →
     call_at (ports_of new port) ≡ call_at (ports_of old port)
 call_stays old new port same =
-    of_one (get nat_cmp old port) (get nat_cmp new port)
+    of_one (state_in old port) (state_in new port)
     (ap (λ (f : ℕ → Option Log). f port) same)
   where
     of_one : (o n : Option PortState) → option_map log_in n ≡ option_map log_in o →
@@ -50,10 +49,10 @@ some b = Some b
 abbrev pub is_shut : Port → Bool
 is_shut p = p.is_closed
 
-pub open_stays : (old new : BTreeMap ℕ PortState) → logs_of new ≡ logs_of old →
+pub open_stays : (old new : Ports) → logs_of new ≡ logs_of old →
     (p : ℕ) → option_map is_shut (ports_of new p) ≡ option_map is_shut (ports_of old p)
 open_stays old new same p =
-    of_one (get nat_cmp old p) (get nat_cmp new p) (ap (λ (f : ℕ → Option Log). f p) same)
+    of_one (state_in old p) (state_in new p) (ap (λ (f : ℕ → Option Log). f p) same)
   where
     of_one : (o n : Option PortState) → option_map log_in n ≡ option_map log_in o →
         option_map is_shut (option_map port_of n) ≡ option_map is_shut (option_map port_of o)

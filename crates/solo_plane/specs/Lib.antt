@@ -1,4 +1,5 @@
 pub mod Numbers
+pub mod PortPlaces
 pub mod PortView
 pub mod OnTheWay
 pub mod Invariant

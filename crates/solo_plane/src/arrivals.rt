@@ -2,8 +2,6 @@
 
 ghost use Rattle.std.specs.Prelude.{◌≡◌, ◌<◌, ◌≤◌, ◌-◌, ℕ, suc, List};
 ghost use Rattle.std.specs.Prelude.{Some, IfSome, IsSome, IfOk, OnOk, IfErr, OnErr};
-ghost use Rattle.std.specs.BTreeMap.{get};
-ghost use Rattle.std.specs.Ordering.{nat_cmp};
 ghost use Rattle.packet_entry.specs.declared.packet.Card.{Card};
 ghost use Rattle.packet_entry.specs.Numbers.{last_visit};
 ghost use Rattle.histories.specs.States.{state_of};
@@ -12,7 +10,7 @@ ghost use Rattle.packet_moves.specs.Moving.{arrived, turned_away, carry};
 ghost use Rattle.packet_moves.specs.OnTheWay.{IsInTime, HasVisit, arrivals_left, KeepsRoom};
 ghost use Rattle.packet_moves.specs.OnTheWay.{NeedsRoom, SpendsRoom, WasToArrive};
 ghost use Rattle.packet_moves.specs.declared.came.Came.TheVariants.{GoesOn};
-ghost use Rattle.solo_plane.specs.PortView.{world_of, ports_of, logs_of, OnPort, IsReady};
+ghost use Rattle.solo_plane.specs.PortView.{state_in, world_of, ports_of, logs_of, OnPort, IsReady};
 ghost use Rattle.solo_plane.specs.OnTheWay.{CameAs, came_to, StepsTo, IsCarried};
 
 use crate::held::Held;
@@ -32,7 +30,7 @@ fn make_room(held: &mut Held, queue: u16) -> Result<(), NoMemory>
     ensures lost { held.new.lost ≡ held.old.lost }
     ensures fed { held.new.fed ≡ held.old.fed }
     ensures ok { OnOk result (IfSome (state_of held.old.place.entries queue) (λ q.
-        IsSome (get nat_cmp held.old.ports q.port) →
+        IsSome (state_in held.old.ports q.port) →
         OnPort held.new.ports q.port (λ p. 0 < p.mailbox.room))) }
 {
     match held.place.port_of(queue) {

@@ -1,18 +1,16 @@
 //! The end of a plane.
 
 ghost use Rattle.std.specs.Prelude.{◌≡◌, ◌≢◌, ℕ, IfOk, map};
-ghost use Rattle.std.specs.BTreeMap.{get};
-ghost use Rattle.std.specs.Ordering.{nat_cmp};
 ghost use Rattle.histories.specs.History.{AreLegal};
 ghost use Rattle.histories.specs.Journeys.{AreSound};
 ghost use Rattle.packet_moves.specs.declared.setting.Setting.{Setting};
-ghost use Rattle.solo_plane.specs.PortView.{ports_of, IsReady, HasSound};
+ghost use Rattle.solo_plane.specs.PortView.{state_in, ports_of, IsReady, HasSound};
 ghost use Rattle.histories.specs.Grouping.{IsGrouped};
-ghost use Rattle.solo_plane.specs.Closing.{AreApart, log_at};
+ghost use Rattle.solo_plane.specs.Closing.{log_at};
+ghost use Rattle.solo_plane.specs.PortPlaces.{AreApart};
 ghost use Rattle.packet_moves.specs.Logs.{dids_of};
 
-use crate::held::Held;
-use crate::ports::Ports;
+use crate::held::{Held, Ports};
 use histories::{Dids, Histories, Logs, PortLog, grouped, soundness_is_of_each_queue};
 use packet_entry::{NoMemory, Sequence};
 use std::alloc::Global;
@@ -59,13 +57,16 @@ pub(crate) fn logs(alloc: Global, order: &[u32], mut ports: Ports) -> Result<Log
     Ok(Sequence::from_vec(logs))
 }
 
-/// Takes a port out, and gives what it did.
+/// Takes out what a port did.
 fn take_dids(ports: &mut Ports, alloc: Global, port: u32) -> Dids
     ensures dids { result ≡ dids_of (ports_of ports.old port) }
-    ensures others { (q : ℕ) → q ≢ port → get nat_cmp ports.new q ≡ get nat_cmp ports.old q }
+    ensures others { (q : ℕ) → q ≢ port → state_in ports.new q ≡ state_in ports.old q }
 {
-    match ports.remove(&port) {
-        Some(state) => state.dids.into_sequence(),
+    match ports.numbers.place_of(port) {
+        Some(place) => match ports.states.get_mut(place) {
+            Some(state) => state.take_dids(alloc).into_sequence(),
+            None => Sequence::new(alloc),
+        },
         None => Sequence::new(alloc),
     }
 }

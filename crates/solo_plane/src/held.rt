@@ -1,6 +1,7 @@
 //! What a plane holds.
 
-use crate::ports::Ports;
+use crate::numbers::Numbers;
+use crate::port::PortState;
 use histories::Lost;
 use packet_entry::{Card, Stock};
 use place_history::Place;
@@ -15,4 +16,12 @@ pub(crate) struct Held {
     pub(crate) fed: Stock<Card>,
     /// The packets that were lost.
     pub(crate) lost: Stock<Lost>,
+}
+
+/// The ports, in the order in which they opened.
+#[derive(Drop)]
+pub(crate) struct Ports {
+    pub(crate) numbers: Numbers,
+    /// How each of them stands.
+    pub(crate) states: Vec<PortState>,
 }

@@ -10,6 +10,7 @@ mod feeding;
 mod held;
 mod mailbox;
 mod messages;
+mod numbers;
 mod opening;
 mod plane;
 mod port;

@@ -3,13 +3,11 @@
 
 ghost use Rattle.std.specs.Prelude.{◌≡◌, ◌^◌, ◌<◌, ◌++◌, ℕ, List, length, IfOk, OnOk};
 ghost use Rattle.std.specs.Prelude.{[], OnErr, IsSome};
-ghost use Rattle.std.specs.BTreeMap.{get};
-ghost use Rattle.std.specs.Ordering.{nat_cmp};
 ghost use Rattle.netlink_codec.specs.Acknowledgements.{answer};
 ghost use Rattle.netlink_codec.specs.Messages.{message_of, first_message};
 ghost use Rattle.nfqa_msgs.specs.RequestReading.{AskedFits};
 ghost use Rattle.packet_moves.specs.World.{closed_ports};
-ghost use Rattle.solo_plane.specs.PortView.{world_of, logs_of, IsReady};
+ghost use Rattle.solo_plane.specs.PortView.{state_in, world_of, logs_of, IsReady};
 ghost use Rattle.packet_moves.specs.Messages.{CarriesOut, IsSent, Sends, SendsUnread};
 ghost use Rattle.packet_moves.specs.HandedOn.{WaitInTime};
 
@@ -65,7 +63,7 @@ pub(crate) fn message(
 ) -> Result<u32, NoMemory>
     requires short { length datagram.now < 2 ^ 31 }
     requires ready { IsReady held.old.place }
-    requires port { IsSome (get nat_cmp held.old.ports port) }
+    requires port { IsSome (state_in held.old.ports port) }
     requires in_time { WaitInTime held.old.place.entries }
     requires none_handed { handed.old.items ≡ [] }
     ensures ready { IsReady held.new.place }
@@ -97,7 +95,7 @@ pub(crate) fn message_unread(
 ) -> Result<u32, NoMemory>
     requires short { length datagram.now < 2 ^ 31 }
     requires ready { IsReady held.old.place }
-    requires port { IsSome (get nat_cmp held.old.ports port) }
+    requires port { IsSome (state_in held.old.ports port) }
     requires in_time { WaitInTime held.old.place.entries }
     requires none_handed { handed.old.items ≡ [] }
     ensures ready { IsReady held.new.place }
@@ -130,7 +128,7 @@ fn send(
 ) -> Result<(), NoMemory>
     requires short { length message.now.whole.now < 2 ^ 31 }
     requires ready { IsReady held.old.place }
-    requires port { IsSome (get nat_cmp held.old.ports port) }
+    requires port { IsSome (state_in held.old.ports port) }
     requires in_time { WaitInTime held.old.place.entries }
     requires none_handed { handed.old.items ≡ [] }
     ensures ready { IsReady held.new.place }
@@ -158,7 +156,7 @@ fn send_unread(
     handed: &mut Handed,
 ) -> Result<u16, NoMemory>
     requires ready { IsReady held.old.place }
-    requires port { IsSome (get nat_cmp held.old.ports port) }
+    requires port { IsSome (state_in held.old.ports port) }
     requires in_time { WaitInTime held.old.place.entries }
     requires none_handed { handed.old.items ≡ [] }
     ensures ready { IsReady held.new.place }

@@ -1,31 +1,35 @@
 //! Ports that open.
 
-ghost use Rattle.std.specs.Prelude.{◌≡◌, IfOk, OnOk};
-ghost use Rattle.solo_plane.specs.PortView.{ports_of};
-ghost use Rattle.packet_moves.specs.Planes.{opened_ports, with_opened};
+ghost use Rattle.std.specs.Prelude.{◌≡◌, length, All, IfOk};
+ghost use Rattle.packet_moves.specs.World.{opened};
+ghost use Rattle.solo_plane.specs.PortPlaces.{AreApart};
+ghost use Rattle.solo_plane.specs.PortView.{port_of, ports_of};
+ghost use Rattle.packet_moves.specs.Planes.{opened_ports};
 
+use crate::held::Ports;
+use crate::numbers::Numbers;
 use crate::port::PortState;
-use crate::ports::Ports;
 use packet_entry::NoMemory;
 use std::alloc::Global;
-use std::collections::BTreeMap;
 
 /// These ports, of which each did nothing yet.
 pub(crate) fn open_ports(alloc: Global, ports: &[u32]) -> Result<Ports, NoMemory>
+    requires { AreApart ports.now }
     ensures { IfOk result (λ held. ports_of held ≡ opened_ports ports.now) }
 {
-    let mut held = BTreeMap::new(alloc);
-    for port in ports {
-        open_port(&mut held, alloc, *port)?;
-    }
-    Ok(held)
+    let numbers = Numbers::new(alloc, ports)?;
+    let states = open_states(alloc, ports)?;
+    Ok(Ports { numbers, states })
 }
 
-/// Opens a port.
-fn open_port(ports: &mut Ports, alloc: Global, port: u32) -> Result<(), NoMemory>
-    ensures { OnOk result (ports_of ports.new ≡ with_opened port (ports_of ports.old)) }
+/// The state of each of these ports: it did nothing yet.
+fn open_states(alloc: Global, ports: &[u32]) -> Result<Vec<PortState>, NoMemory>
+    ensures as_many { IfOk result (λ states. length states.items ≡ length ports.now) }
+    ensures opened { IfOk result (λ states. All (λ s. port_of s ≡ opened) states.items) }
 {
-    let state = PortState::new(alloc)?;
-    ports.insert(port, state)?;
-    Ok(())
+    let mut states = Vec::new(alloc);
+    for _port in ports {
+        states.push(PortState::new(alloc)?)?;
+    }
+    Ok(states)
 }

@@ -173,6 +173,14 @@ impl SoloPlane {
         ports::has_notice(&self.held.ports, port)
     }
 
+    /// The same, where the port is looked for at this place among the ports first: it is found at
+    /// once where it stands there. Takes no memory.
+    pub fn has_notice_near(&self, port: u32, place: u32) -> bool
+        ensures { result ≡ has_notice ((world_in self.now).ports port) }
+    {
+        ports::has_notice_near(&self.held.ports, port, place as usize)
+    }
+
     /// A port receives its first notice, which its log notes; `None` exactly where its mailbox is
     /// empty. `NoMemory` leaves all as it was.
     pub fn receive(&mut self, port: u32) -> Result<Option<Letter>, NoMemory>

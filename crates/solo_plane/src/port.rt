@@ -1,6 +1,6 @@
 //! One port.
 
-ghost use Rattle.std.specs.Prelude.{◌≡◌, ◌<◌, ◌≤◌, [], IfOk, OnOk, OnErr, false};
+ghost use Rattle.std.specs.Prelude.{◌≡◌, ◌<◌, ◌≤◌, IfOk, OnOk, OnErr, false};
 ghost use Rattle.histories.specs.declared.log.Did.TheVariants.{Sent};
 ghost use Rattle.packet_moves.specs.Calls.{sent_in};
 
@@ -8,6 +8,7 @@ use crate::mailbox::Mailbox;
 use histories::{AskWords, Did};
 use packet_entry::{Letter, NoMemory, Stock};
 use std::alloc::Global;
+use std::mem;
 
 /// A port: its mailbox, and what it did.
 #[derive(Drop)]
@@ -26,14 +27,13 @@ pub(crate) struct PortState {
 
 impl PortState {
     ghost use Rattle.packet_moves.specs.Calls.{next_call};
-    ghost use Rattle.packet_moves.specs.World.{first_of, received, having_done, closed};
-    ghost use Rattle.solo_plane.specs.PortView.{port_of};
+    ghost use Rattle.packet_moves.specs.World.{opened, delivered, first_of, received};
+    ghost use Rattle.packet_moves.specs.World.{having_done, closed};
+    ghost use Rattle.solo_plane.specs.PortView.{port_of, log_in};
 
     /// A port that did nothing yet.
     pub(crate) fn new(alloc: Global) -> Result<PortState, NoMemory>
-        ensures letters { IfOk result (λ port. port.mailbox.items ≡ []) }
-        ensures dids { IfOk result (λ port. port.dids.items ≡ []) }
-        ensures open { IfOk result (λ port. port.is_closed ≡ false) }
+        ensures { IfOk result (λ port. port_of port ≡ opened) }
     {
         let mut dids = Stock::new(alloc);
         dids.make_room(1)?;
@@ -50,6 +50,24 @@ impl PortState {
         ensures { result ≡ next_call self.now.dids.items }
     {
         self.calls.wrapping_add(1)
+    }
+
+    /// Makes room for one notice more.
+    pub(crate) fn make_mail_room(&mut self) -> Result<(), NoMemory>
+        ensures same { port_of self.new ≡ port_of self.old }
+        ensures log { log_in self.new ≡ log_in self.old }
+        ensures ok { OnOk result (0 < self.new.mailbox.room) }
+    {
+        self.mailbox.make_room()
+    }
+
+    /// Puts a notice into the mailbox, for which there is room. Takes no memory.
+    pub(crate) fn deliver(&mut self, letter: Letter)
+        requires { 0 < self.old.mailbox.room }
+        ensures port { port_of self.new ≡ delivered letter (port_of self.old) }
+        ensures log { log_in self.new ≡ log_in self.old }
+    {
+        self.mailbox.put(letter);
     }
 
     /// Makes room for one more of what it did, and for closing. Who closed does nothing more.
@@ -107,5 +125,13 @@ impl PortState {
     {
         self.is_closed = true;
         self.dids.push(Did::Closed);
+    }
+    /// Takes out what it did. It does nothing more.
+    pub(crate) fn take_dids(&mut self, alloc: Global) -> Stock<Did>
+        ensures { result.items ≡ self.old.dids.items }
+    {
+        self.calls = 0;
+        self.is_closed = true;
+        mem::replace(&mut self.dids, Stock::new(alloc))
     }
 }

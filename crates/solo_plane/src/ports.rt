@@ -1,29 +1,48 @@
 //! The ports by number.
 
 ghost use Rattle.std.specs.Prelude.{◌≡◌, ◌<◌, ◌≤◌, IfOk, OnOk, OnErr, IsSome, IsSomeAnd, false};
-ghost use Rattle.std.specs.BTreeMap.{get};
-ghost use Rattle.std.specs.Ordering.{nat_cmp};
+ghost use Rattle.std.specs.Prelude.{length, Some, option_copied};
 ghost use Rattle.histories.specs.declared.log.Did.TheVariants.{Sent};
 ghost use Rattle.packet_moves.specs.World.{changed_at, delivered, first_of, received, having_done};
 ghost use Rattle.packet_moves.specs.World.{closed};
 ghost use Rattle.packet_moves.specs.Moving.{takes_one};
-ghost use Rattle.solo_plane.specs.PortView.{ports_of, logs_of, OnPort};
+ghost use Rattle.solo_plane.specs.PortPlaces.{place_in};
+ghost use Rattle.solo_plane.specs.PortView.{state_in, ports_of, logs_of, OnPort};
 ghost use Rattle.packet_moves.specs.Messages.{call_at};
 ghost use Rattle.solo_plane.specs.Notices.{has_notice};
 
+use crate::held::Ports;
 use crate::port::PortState;
 use histories::AskWords;
 use packet_entry::{Letter, NoMemory};
-use std::collections::BTreeMap;
 
-/// The ports by number.
-pub(crate) type Ports = BTreeMap<u32, PortState>;
+/// How a port stands.
+fn state_of(ports: &Ports, port: u32) -> Option<&PortState>
+    ensures { option_copied result ≡ state_in ports.now port }
+{
+    match ports.numbers.place_of(port) {
+        Some(place) => ports.states.get(place),
+        None => None,
+    }
+}
+
+/// At which place a port that is there stands.
+fn place_of(ports: &Ports, port: u32) -> usize
+    requires { IsSome (state_in ports.now port) }
+    ensures at { place_in ports.now.numbers.all.items port ≡ Some result }
+    ensures within { result < length ports.now.states.items }
+{
+    let Some(place) = ports.numbers.place_of(port) else {
+        unreachable!()
+    };
+    place
+}
 
 /// Whether a port's mailbox takes one notice more, of so many that it holds.
 pub(crate) fn takes_one(ports: &Ports, port: u32, mail: u32) -> bool
     ensures { result ≡ takes_one mail (ports_of ports.now port) }
 {
-    match ports.get(&port) {
+    match state_of(ports, port) {
         Some(state) => state.mailbox.len() < mail as usize,
         None => false,
     }
@@ -33,7 +52,20 @@ pub(crate) fn takes_one(ports: &Ports, port: u32, mail: u32) -> bool
 pub(crate) fn has_notice(ports: &Ports, port: u32) -> bool
     ensures { result ≡ has_notice (ports_of ports.now port) }
 {
-    match ports.get(&port) {
+    match state_of(ports, port) {
+        Some(state) => 0 < state.mailbox.len(),
+        None => false,
+    }
+}
+
+/// The same, where the port is looked for at this place first.
+pub(crate) fn has_notice_near(ports: &Ports, port: u32, place: usize) -> bool
+    ensures { result ≡ has_notice (ports_of ports.now port) }
+{
+    if !ports.numbers.is_at(port, place) {
+        return has_notice(ports, port);
+    }
+    match ports.states.get(place) {
         Some(state) => 0 < state.mailbox.len(),
         None => false,
     }
@@ -43,11 +75,14 @@ pub(crate) fn has_notice(ports: &Ports, port: u32) -> bool
 pub(crate) fn make_room(ports: &mut Ports, port: u32) -> Result<(), NoMemory>
     ensures same { ports_of ports.new ≡ ports_of ports.old }
     ensures logs { logs_of ports.new ≡ logs_of ports.old }
-    ensures ok { OnOk result (IsSome (get nat_cmp ports.old port) →
+    ensures ok { OnOk result (IsSome (state_in ports.old port) →
         OnPort ports.new port (λ p. 0 < p.mailbox.room)) }
 {
-    match ports.get_mut(&port) {
-        Some(state) => state.mailbox.make_room(),
+    match ports.numbers.place_of(port) {
+        Some(place) => match ports.states.get_mut(place) {
+            Some(state) => state.make_mail_room(),
+            None => Ok(()),
+        },
         None => Ok(()),
     }
 }
@@ -58,18 +93,17 @@ pub(crate) fn deliver(ports: &mut Ports, port: u32, letter: Letter)
     ensures ports { ports_of ports.new ≡ changed_at port (delivered letter) (ports_of ports.old) }
     ensures logs { logs_of ports.new ≡ logs_of ports.old }
 {
-    let Some(state) = ports.get_mut(&port) else {
-        unreachable!()
-    };
-    state.mailbox.put(letter);
+    let place = place_of(ports, port);
+    let state = &mut ports.states[place];
+    state.deliver(letter);
 }
 
 /// The number of a port's next message.
 pub(crate) fn next_call(ports: &Ports, port: u32) -> u32
-    requires { IsSome (get nat_cmp ports.now port) }
+    requires { IsSome (state_in ports.now port) }
     ensures { result ≡ call_at (ports_of ports.now port) }
 {
-    let Some(state) = ports.get(&port) else {
+    let Some(state) = state_of(ports, port) else {
         unreachable!()
     };
     state.next_call()
@@ -77,29 +111,27 @@ pub(crate) fn next_call(ports: &Ports, port: u32) -> u32
 
 /// Makes room for one more of what a port did, and for its closing.
 pub(crate) fn make_log_room(ports: &mut Ports, port: u32) -> Result<(), NoMemory>
-    requires { IsSome (get nat_cmp ports.old port) }
+    requires { IsSome (state_in ports.old port) }
     ensures same { ports_of ports.new ≡ ports_of ports.old }
     ensures ok { OnOk result (OnPort ports.new port (λ p. 2 ≤ p.dids.room)) }
 {
-    let Some(state) = ports.get_mut(&port) else {
-        unreachable!()
-    };
+    let place = place_of(ports, port);
+    let state = &mut ports.states[place];
     state.make_room()
 }
 
 /// A port receives its first notice, which is noted; `None` exactly where there is none, and then
 /// no memory is taken.
 pub(crate) fn receive(ports: &mut Ports, port: u32) -> Result<Option<Letter>, NoMemory>
-    requires { IsSome (get nat_cmp ports.old port) }
+    requires { IsSome (state_in ports.old port) }
     ensures ports { OnOk result
         (ports_of ports.new ≡ changed_at port received (ports_of ports.old)) }
     ensures letter { IfOk result (λ letter.
         IsSomeAnd (ports_of ports.old port) (λ p. letter ≡ first_of p.letters)) }
     ensures err { OnErr result (ports_of ports.new ≡ ports_of ports.old) }
 {
-    let Some(state) = ports.get_mut(&port) else {
-        unreachable!()
-    };
+    let place = place_of(ports, port);
+    let state = &mut ports.states[place];
     state.receive()
 }
 
@@ -110,9 +142,8 @@ pub(crate) fn send(ports: &mut Ports, port: u32, ask: AskWords, answer: Option<u
         (having_done (Sent (call_at (ports_of ports.old port)) ask answer))
         (ports_of ports.old) }
 {
-    let Some(state) = ports.get_mut(&port) else {
-        unreachable!()
-    };
+    let place = place_of(ports, port);
+    let state = &mut ports.states[place];
     state.send(ask, answer);
 }
 
@@ -121,8 +152,7 @@ pub(crate) fn close(ports: &mut Ports, port: u32)
     requires { OnPort ports.old port (λ p. p.is_closed ≡ false) }
     ensures { ports_of ports.new ≡ changed_at port closed (ports_of ports.old) }
 {
-    let Some(state) = ports.get_mut(&port) else {
-        unreachable!()
-    };
+    let place = place_of(ports, port);
+    let state = &mut ports.states[place];
     state.close();
 }

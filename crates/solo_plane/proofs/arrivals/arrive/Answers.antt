@@ -1,11 +1,9 @@
 use Rattle.std.proofs.Common.{◌<◌, Option, true, sym, ◌∙◌}
 use Rattle.std.specs.Prelude.{IfSome, IsSome}
-use Rattle.std.specs.BTreeMap.{get}
-use Rattle.std.specs.Ordering.{nat_cmp}
 use Rattle.queue_core.specs.State.{Bound}
 use Rattle.histories.specs.Journeys.{Arrival}
 use Rattle.histories.specs.States.{state_of}
-use Rattle.solo_plane.specs.PortView.{world_of, OnPort}
+use Rattle.solo_plane.specs.PortView.{state_in, world_of, OnPort}
 use Rattle.solo_plane.proofs.ArrivalOutcomes.{came_back, room_early, room_is, world_posted}
 use Rattle.solo_plane.proofs.ArrivalOutcomes.{world_back}
 use Rattle.solo_plane.proofs.ArrivalOutcomes.{came_as_waiting, on_ok, taken_had_room, port_is_there}
@@ -69,7 +67,7 @@ deliver-requires c =
     let there = port_is_there c.args.setting.now.mail c.in-Offered.port _ _ c.args.held.now.ports
     c.make_room.ensures.ports c.takes_one-room.ensures had in
     let Ready : Option Bound → Type 0 =
-    λ q. IfSome q (λ b. IsSome (get nat_cmp c.args.held.now.ports b.port) →
+    λ q. IfSome q (λ b. IsSome (state_in c.args.held.now.ports b.port) →
     OnPort c.make_room.new.held.ports b.port (λ p. 0 < p.mailbox.room)) in
     let ready = rw offered.state at (on_ok c.make_room.result (Ready (state_of w.entries a.queue))
     c.make_room.ensures.ok (sym c.is_err.ensures.value ∙ c.if-is_err.false)) in

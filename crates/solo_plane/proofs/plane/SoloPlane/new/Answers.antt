@@ -1,6 +1,6 @@
 use Rattle.std.proofs.Common.{refl}
 use Rattle.packet_moves.specs.declared.setting.Setting.{Setting}
-use Rattle.solo_plane.specs.Closing.{AreApart}
+use Rattle.solo_plane.specs.PortPlaces.{AreApart}
 use Rattle.solo_plane.proofs.DistinctPorts.{apart_so}
 use Rattle.solo_plane.proofs.plane.SoloPlane.new.Goals as goal
 
@@ -24,3 +24,6 @@ invariant_of-result c =
       };
       none_handed = c.new-4.ensures;
     }
+
+pub open_ports-requires : goal.open_ports-requires
+open_ports-requires c = apart_so c.args.ports.now c.requires.apart
