@@ -23,6 +23,13 @@ pub first_uses : (bytes : List ℕ) (m : NetlinkMessage) (n : ℕ) →
 unfolding first_message
 first_uses bytes m n is = grind (arith, nat_tests, is)
 
+-- where no byte is left, none stands there
+pub none_first : (s : Setting) (port : ℕ) (bytes : List ℕ) (front : Option (NetlinkMessage × ℕ))
+    (w : World) → first_message bytes ≡ front → length bytes ≡ 0 → SendsFirst s port front w w 0
+none_first s port bytes None w is none = (refl, refl)
+none_first s port bytes (Some (m, n)) w is none =
+    let uses = first_uses bytes m n is in absurd (omega (arith, uses.0, uses.1, none))
+
 -- ---- what it leaves
 
 pub sends_keep : (s : Setting) (port : ℕ) (front : Option (NetlinkMessage × ℕ)) (old new : World)

@@ -81,6 +81,27 @@ pub looked_none : (s : Setting) (script : ScriptValue) (place port : ℕ) (w : W
 looked_none s script place port w before none =
     at_none s script place port (w.ports port) w before none
 
+-- a port that received nothing found none
+at_nothing : (s : Setting) (script : ScriptValue) (place port : ℕ) (open_ : Bool)
+    (letters : List Letter) (old new : World) (before : Bool) →
+    ReceivesFirst script place port letters None old new →
+    cond open_ (looked_at s script place port letters (record { world = old; found = before }))
+    (record { world = old; found = before })
+    ≡ record { world = new; found = before }
+at_nothing s script place port true [] old new before is =
+    ap (λ (w : World). record { world = w; found = before }) (sym is.1)
+at_nothing s script place port false [] old new before is =
+    ap (λ (w : World). record { world = w; found = before }) (sym is.1)
+at_nothing s script place port open_ (l ∷ ls) old new before is = let wrong = is.0 in absurd (cc)
+
+pub looked_nothing : (s : Setting) (script : ScriptValue) (place port : ℕ) (old new : World)
+    (before : Bool) → ReceivesFirst script place port (letters_at (old.ports port)) None old new →
+    looked s script place port (record { world = old; found = before })
+    ≡ record { world = new; found = false || before }
+looked_nothing s script place port old new before is =
+    at_nothing s script place port (is_open_port (old.ports port)) (letters_at (old.ports port))
+    old new before is
+
 -- ---- rounds
 
 pub round_on : (s : Setting) (script : ScriptValue) (place : ℕ) (w after : World)

@@ -25,13 +25,29 @@ fn look(run: &mut Run, alloc: Global, script: &Script, place: u32) -> Result<boo
         ≡ record { world = world_of run.new; found = found || before }) }
     ensures keeps { OnOk result (Keeps (world_of run.old) (world_of run.new)) }
 {
-    if !run.is_open(script, place) {
-        return Ok(false);
-    }
     // Mostly a mailbox is empty.
     if !run.has_notice(script, place) {
         return Ok(false);
     }
+    if !run.is_open(script, place) {
+        return Ok(false);
+    }
+    answer(run, alloc, script, place)
+}
+
+/// The first notice of a port that is open is received and answered. Whether there was one.
+fn answer(run: &mut Run, alloc: Global, script: &Script, place: u32) -> Result<bool, NoMemory>
+    requires going { Goes script.now run.old }
+    requires place { place < length script.now.ports }
+    requires open { is_open_at script.now (world_of run.old) place ≡ true }
+    ensures going { OnOk result (Goes script.now run.new) }
+    ensures made_with { OnOk result (IsWith run.old run.new) }
+    ensures looked { IfOk result (λ found. (before : Bool) →
+        looked (setting_of run.old) script.now place (port_at script.now place)
+        (record { world = world_of run.old; found = before })
+        ≡ record { world = world_of run.new; found = found || before }) }
+    ensures keeps { OnOk result (Keeps (world_of run.old) (world_of run.new)) }
+{
     ports_close_at_the_end();
     match run.receive(alloc, script, place)? {
         Some(asks) => {

@@ -79,6 +79,10 @@ impl Run {
             (first_message datagram.now) (world_of self.old) (world_of self.new)) }
         ensures keeps { OnOk result (Keeps (world_of self.old) (world_of self.new)) }
     {
+        // Behind the last message there is nothing.
+        if datagram.is_empty() {
+            return Ok(0);
+        }
         let port = script.ports()[place as usize];
         let used = self.message(alloc, port, datagram)?;
         if used > 0 {
@@ -190,7 +194,8 @@ impl Run {
         requires { place < length script.now.ports }
         ensures { result ≡ has_notice ((world_of self.now).ports (port_at script.now place)) }
     {
-        self.plane.has_notice(script.ports()[place as usize])
+        self.plane
+            .has_notice_near(script.ports()[place as usize], place)
     }
 
     /// How the inspector of a port answers.

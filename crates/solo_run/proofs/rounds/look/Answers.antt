@@ -1,44 +1,10 @@
-use Rattle.std.proofs.Common.{◌≡◌, ◌∙◌, sym, subst}
-use Rattle.packet_moves.specs.declared.setting.Setting.{Setting}
-use Rattle.solo_schedule.specs.Sending.{all_done}
+use Rattle.std.proofs.Common.{◌∙◌, sym}
 use Rattle.solo_run.specs.RunState.{port_at, setting_of, world_of}
-use Rattle.solo_run.proofs.StepSequence.{keeps_both}
-use Rattle.solo_run.proofs.Words.{last_of_words, received_words}
-use Rattle.solo_run.proofs.Looks.{looked_none, looked_one}
+use Rattle.solo_run.proofs.Looks.{looked_none}
 use Rattle.solo_run.proofs.rounds.look.Goals as goal
-
-pub do_all-requires-clause-last : goal.do_all-requires-clause-last
-do_all-requires-clause-last c =
-    last_of_words c.in-Some.asks
-    (received_words c.args.script.now c.args.place (port_at c.args.script.now c.args.place) _
-    c.in-Some.asks (world_of c.args.run.now) (world_of c.receive.new.self)
-    (rw c.in-Some.is at c.in_ok-asks.ensures.received)
-    (c.ports_close_at_the_end.ensures.answer c.args.script.now))
 
 pub returns-then-not-has_notice-clause-looked : goal.returns-then-not-has_notice-clause-looked
 returns-then-not-has_notice-clause-looked c before =
     looked_none (setting_of c.args.run.now) c.args.script.now c.args.place
     (port_at c.args.script.now c.args.place) (world_of c.args.run.now) before
     (sym c.has_notice.ensures ∙ c.if-not-has_notice.true)
-
-pub returns-in_ok-do_all-in-Some-clause-looked : goal.returns-in_ok-do_all-in-Some-clause-looked
-returns-in_ok-do_all-in-Some-clause-looked c before =
-    let port = port_at c.args.script.now c.args.place in
-    let Does : Setting → Type 0 =
-    λ s. world_of c.do_all.new.run
-    ≡ all_done (λ w. w) s port c.in-Some.asks (world_of c.receive.new.self) in
-    looked_one (setting_of c.args.run.now) c.args.script.now c.args.place port c.in-Some.asks
-    (world_of c.args.run.now) (world_of c.receive.new.self) (world_of c.do_all.new.run) before
-    (rw c.is_open.ensures at c.if-not-is_open.false)
-    (rw c.in-Some.is at c.in_ok-asks.ensures.received)
-    (subst Does c.in_ok-asks.ensures.made_with.setting c.in_ok-do_all-in-Some.ensures.done)
-
-pub returns-in_ok-do_all-in-Some-clause-keeps : goal.returns-in_ok-do_all-in-Some-clause-keeps
-returns-in_ok-do_all-in-Some-clause-keeps c =
-    keeps_both (world_of c.args.run.now) (world_of c.receive.new.self) (world_of c.do_all.new.run)
-    c.in_ok-asks.ensures.keeps
-    (c.in_ok-do_all-in-Some.ensures.keeps
-    (received_words c.args.script.now c.args.place (port_at c.args.script.now c.args.place) _
-    c.in-Some.asks (world_of c.args.run.now) (world_of c.receive.new.self)
-    (rw c.in-Some.is at c.in_ok-asks.ensures.received)
-    (c.ports_close_at_the_end.ensures.answer c.args.script.now)))

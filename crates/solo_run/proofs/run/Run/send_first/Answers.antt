@@ -1,8 +1,16 @@
-use Rattle.std.proofs.Common.{refl}
-use Rattle.solo_run.specs.RunState.{setting_of, world_of}
-use Rattle.solo_run.proofs.FirstMessage.{sends_keep, sent_goes, unsent_goes}
+use Rattle.std.proofs.Common.{◌∙◌, refl, sym, length}
+use Rattle.std.proofs.lemmas.Bool.{eqb-true}
+use Rattle.netlink_codec.specs.Messages.{first_message}
+use Rattle.solo_run.specs.RunState.{port_at, setting_of, world_of}
+use Rattle.solo_run.proofs.FirstMessage.{none_first, sends_keep, sent_goes, unsent_goes}
 use Rattle.solo_run.proofs.RunProgress.{goes_as}
 use Rattle.solo_run.proofs.run.Run.send_first.Goals as goal
+
+pub returns-then-is_empty-clause-sent : goal.returns-then-is_empty-clause-sent
+returns-then-is_empty-clause-sent c =
+    none_first (setting_of c.args.self.now) (port_at c.args.script.now c.args.place)
+    c.args.datagram.now (first_message c.args.datagram.now) (world_of c.args.self.now) refl
+    (eqb-true (length c.args.datagram.now) 0 (sym c.is_empty.ensures ∙ c.if-is_empty.true))
 
 pub returns-then-used-gt0-clause-keeps : goal.returns-then-used-gt0-clause-keeps
 returns-then-used-gt0-clause-keeps c =
