@@ -1,10 +1,8 @@
 -- Turns at each place, one after the other, and the packet of a frame.
 use Rattle.std.proofs.Common.{◌≡◌, ◌≢◌, ◌<◌, ◌+◌, ℕ, zero, suc, List, [], ◌∷◌, ◌++◌, length}
 use Rattle.std.proofs.Common.{refl, sym, ap, ◌∙◌, subst, arith, inl, inr}
-use Rattle.std.specs.BTreeMap.{BTreeMap, get}
-use Rattle.std.specs.Ordering.{nat_cmp}
-use Rattle.std.specs.Prelude.{Option, Some, None, Result, Ok, Err, OnOk, All}
-use Rattle.std.specs.Prelude.{slice_get, slice_set, option_map, nat_eq, unwrap_or}
+use Rattle.std.specs.Prelude.{Option, Some, None, All}
+use Rattle.std.specs.Prelude.{slice_get, slice_set, option_map, nat_eq}
 use Rattle.std.proofs.lemmas.Bool.{cases_Bool, eqb-true, eqb-false}
 use Rattle.std.proofs.lemmas.Option.{slice_get_within, get_or_from_slice_get}
 use Rattle.packet_entry.specs.declared.packet.Card.{Card}
@@ -12,11 +10,7 @@ use Rattle.ip_fields.specs.declared.frame.LinkCut.{LinkCut}
 use Rattle.ip_fields.specs.Frame.{cut_of}
 use Rattle.pcap_io.specs.declared.capture.Capture.{Capture}
 use Rattle.pcap_io.specs.declared.capture.Frame.{Frame}
-use Rattle.script_lines.specs.declared.line.Down.{Down}
 use Rattle.run_parts.specs.Entering.{card_at, card_of}
-use Rattle.inspector_script.specs.Scripts.{ScriptValue}
-use Rattle.run_parts.specs.Feeder.{downs_after}
-use Rattle.port_scripts.specs.Downs.{AreDownsOf}
 use Rattle.packet_moves.specs.declared.fed.Fed.{Fed}
 use Rattle.locked_place.specs.Turns.{GoesDownIn}
 use Rattle.place_rows.specs.Rows.{Known, TurnsOne, TurnedUpTo}
@@ -24,7 +18,7 @@ use Rattle.place_turns.specs.Moving.{IsFed}
 use Rattle.plane.specs.declared.plane.Plane.{Plane}
 use Rattle.plane.specs.Passes.{FeederView, IsFeederOf}
 use Rattle.plane.specs.Planes.{places_of, setting_of}
-use Rattle.feeder_set.specs.Steps.{Feeds, FallsAt, AllFall}
+use Rattle.feeder_set.specs.Steps.{Feeds, FallsAt}
 
 -- ---- turns at each place
 
@@ -116,26 +110,6 @@ pub card_fed : (plane : Plane) (o : Option Card) (card : Card) (old new : Feeder
 card_fed plane o card old new became is moved fed of =
     subst (λ (p : Option Card). Feeds plane p old new) is
     (record { became = became; moved = moved; fed = fed; of = of })
-
--- ---- the lines of a frame's number
-
--- the lines that stand by a number are those that are due after its frame
-pub lines_of : (by_frame : BTreeMap ℕ (List Down)) (script : ScriptValue) (number : ℕ)
-    (o : Option (List Down)) → AreDownsOf script by_frame → o ≡ get nat_cmp by_frame number →
-    unwrap_or o [] ≡ downs_after script number
-lines_of by_frame script number o are is =
-    ap (λ (p : Option (List Down)). unwrap_or p []) is ∙ are number
-
-pub fall_of : {X E : Type 0} (r : Result X E) (plane : Plane) (due ds : List Down)
-    (old new : FeederView) → due ≡ ds → OnOk r (AllFall plane due old new) →
-    OnOk r (AllFall plane ds old new)
-fall_of (Ok x) plane due ds old new same all =
-    subst (λ (l : List Down). AllFall plane l old new) same all
-fall_of (Err e) plane due ds old new same all = tt
-
-pub no_line : (plane : Plane) (ds : List Down) (pass : FeederView) → [] ≡ ds →
-    AllFall plane ds pass pass
-no_line plane ds pass none = subst (λ (l : List Down). AllFall plane l pass pass) none refl
 
 -- ---- a frame of a list
 

@@ -9,6 +9,7 @@ mod laws;
 mod share;
 mod stage;
 
+pub use falling::fall_after;
 pub use feeder::Feeder;
 pub use laws::each_frame_is_one_shares;
 pub use share::Share;

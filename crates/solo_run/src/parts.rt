@@ -16,10 +16,10 @@ use crate::between::Nothing;
 use crate::rounds::{Emptied, empty};
 use crate::run::Run;
 use crate::sending::do_all;
-use inspector_script::{Downs, Script};
+use inspector_script::Script;
 use packet_entry::NoMemory;
 use pcap_io::{Capture, Frame};
-use port_scripts::{DownsByFrame, packet_of, ports_close_at_the_end};
+use port_scripts::{DownsByFrame, lines_after, packet_of, ports_close_at_the_end};
 use std::alloc::Global;
 
 /// The ports open, in the script's order: each sends its opening messages.
@@ -81,21 +81,7 @@ pub(crate) fn take_down(
         ≡ all_down (downs_after script.now number) (world_of run.old)) }
     ensures keeps { OnOk result (Keeps (world_of run.old) (world_of run.new)) }
 {
-    match downs.get(&number) {
-        Some(due) => all_down(run, script, due),
-        None => Ok(()),
-    }
-}
-
-/// The devices of these lines go down, in their order.
-fn all_down(run: &mut Run, script: &Script, downs: &Downs) -> Result<(), NoMemory>
-    requires going { Goes script.now run.old }
-    ensures going { OnOk result (Goes script.now run.new) }
-    ensures made_with { OnOk result (IsWith run.old run.new) }
-    ensures down { OnOk result (world_of run.new ≡ all_down downs.now (world_of run.old)) }
-    ensures keeps { OnOk result (Keeps (world_of run.old) (world_of run.new)) }
-{
-    for down in downs {
+    for down in lines_after(downs, number) {
         run.device_down(script, down.device)?;
     }
     Ok(())

@@ -1,16 +1,20 @@
-use Rattle.std.proofs.Common.{None, Some}
-use Rattle.feeder_set.proofs.FramePackets.{fall_of, lines_of, no_line}
+use Rattle.std.proofs.Common.{◌∙◌, List, refl, subst, sym}
+use Rattle.script_lines.specs.declared.line.Down.{Down}
+use Rattle.feeder_set.specs.Steps.{AllFall}
 use Rattle.feeder_set.proofs.falling.fall_after.Goals as goal
 
-pub returns-in-Some-clause-fall : goal.returns-in-Some-clause-fall
-returns-in-Some-clause-fall g c =
-    fall_of c.fall_all.result c.args.stage.now.plane.now c.in-Some.due.now _ c.args.pass.now
-    c.fall_all.new.pass
-    (lines_of c.args.downs.now c.args.stage.now.script.now c.args.number (Some c.in-Some.due.now)
-    c.requires.downs c.in-Some.ensures.value) c.fall_all.ensures.fall
+pub loop-down-preserved : goal.loop-down-preserved
+loop-down-preserved g c = record {
+  pass = c.fall.ensures.pass;
+  parts = c.fall.ensures.parts ∙ c.loop-down.invariant.parts;
+  none = c.fall.ensures.none ∙ c.loop-down.invariant.none;
+  on = λ new all. c.loop-down.invariant.on new
+      (subst (λ (l : List Down). AllFall c.args.stage.now.plane.now l c.loop-down.pass new)
+      (sym c.in-Some.ensures.steps) (c.fall.new.pass, (c.in_ok-fall.ensures.falls, all)));
+}
 
-pub returns-in-None-clause-fall : goal.returns-in-None-clause-fall
-returns-in-None-clause-fall g c =
-    no_line c.args.stage.now.plane.now _ c.args.pass.now
-    (lines_of c.args.downs.now c.args.stage.now.script.now c.args.number None c.requires.downs
-    c.in-None.ensures.value)
+pub returns-clause-fall : goal.returns-clause-fall
+returns-clause-fall g c =
+    c.loop-down.invariant.on c.loop-down.pass
+    (subst (λ (l : List Down). AllFall c.args.stage.now.plane.now l c.loop-down.pass
+    c.loop-down.pass) (sym c.in-None.ensures.steps.0) refl)
