@@ -1,10 +1,8 @@
 -- What the feeder does, call by call: frames that are fed and lines that take effect.
-use Rattle.std.proofs.Common.{◌≡◌, ◌≤◌, ◌+◌, ◌*◌, ◌∙◌, ◌++◌, ◌∷◌, [], ℕ, List}
+use Rattle.std.proofs.Common.{◌≡◌, ◌≤◌, ◌∙◌, ◌++◌, ◌∷◌, [], ℕ, List}
 use Rattle.std.proofs.Common.{Option, Some, None, ap, append-nil, append_assoc, arith}
 use Rattle.std.proofs.Common.{subst, sym}
-use Rattle.std.specs.BTreeMap.{BTreeMap, get}
-use Rattle.std.specs.Ordering.{nat_cmp}
-use Rattle.std.specs.Prelude.{All, filter, option_map, unwrap_or}
+use Rattle.std.specs.Prelude.{All, filter, option_map}
 use Rattle.std.proofs.lemmas.Bool.{eqb-true}
 use Rattle.std.proofs.lemmas.List.Elements.{filter_passes}
 use Rattle.ip_fields.specs.Frame.{cut_of}
@@ -14,12 +12,9 @@ use Rattle.pcap_io.specs.declared.capture.Capture.{Capture}
 use Rattle.pcap_io.specs.declared.capture.Frame.{Frame}
 use Rattle.hook_chain.specs.declared.chain.Next.{Next}
 use Rattle.script_lines.specs.declared.line.Down.{Down}
-use Rattle.inspector_script.specs.Scripts.{ScriptValue}
 use Rattle.run_parts.specs.Entering.{card_at, card_of}
-use Rattle.run_parts.specs.Feeder.{downs_after, falling_time, is_after}
-use Rattle.port_scripts.specs.Downs.{AreDownsOf}
+use Rattle.run_parts.specs.Feeder.{is_after}
 use Rattle.live_runs.specs.Calls.{Feeds}
-use Rattle.live_runs.specs.Feeding.{TakesDown}
 use Rattle.live_runs.specs.Owners.{IsFeeders, IsFeeding}
 use Rattle.live_runs.specs.Seen.{Grows, Ours, OursAre, Seen, Shares, Theirs}
 use Rattle.live_work.specs.Feeding.{FedOn}
@@ -75,29 +70,12 @@ fed_both places a b c d ds es old mid new sooner one two = record {
   grows = λ k. grows_both IsFeeders (old k) (mid k) (new k) (one.grows k) (two.grows k);
 }
 
--- a line took effect
-pub taken_down : (places : ℕ) (d : Down) (number : ℕ) (old new : Shares) → d.after ≡ number →
-    TakesDown places d old new →
-    FedOn places (falling_time number) (falling_time number) (d ∷ []) old new
-taken_down places d number old new after down = record {
-  on = λ time fallen within were k here.
-      subst (λ (n : ℕ). IsFeeding (2 * n + 1) (fallen ++ d ∷ []) (new k)) after
-      (down.done time fallen (omega (arith, within, after)) k here here (were k here));
-  grows = down.grows;
-}
-
 -- ---- lines of a frame
 
 pub lines_after_one : (number : ℕ) (ds : List Down) →
     All (λ (d : Down). d.after ≡ number) (filter (is_after number) ds)
 lines_after_one number ds i d within =
     eqb-true _ _ (filter_passes (is_after number) ds i d within)
-
-pub lines_due : (number : ℕ) (ds due : List Down) → due ≡ filter (is_after number) ds →
-    All (λ (d : Down). d.after ≡ number) due
-lines_due number ds due are =
-    subst (λ (l : List Down). All (λ (d : Down). d.after ≡ number) l) (sym are)
-    (lines_after_one number ds)
 
 -- ---- the packet of a frame
 
@@ -113,16 +91,3 @@ pub card_is : (capture : Capture) (number : ℕ) (frame : Frame) (card : Card) �
     Some card ≡ card_of capture number frame → (card.visit ≡ 0) × (card.number ≡ number)
 card_is capture number frame card is =
     some_card capture number frame (cut_of capture.link frame.bytes) card is
-
--- ---- the lines of a frame's number
-
-pub due_are : (by_frame : BTreeMap ℕ (List Down)) (script : ScriptValue) (number : ℕ)
-    (o : Option (List Down)) → AreDownsOf script by_frame → o ≡ get nat_cmp by_frame number →
-    unwrap_or o [] ≡ downs_after script number
-due_are by_frame script number o are is =
-    ap (λ (p : Option (List Down)). unwrap_or p []) is ∙ are number
-
-pub fed_due : (places time : ℕ) (old new : Shares) (due ds : List Down) → due ≡ ds →
-    FedOn places time time due old new → FedOn places time time ds old new
-fed_due places time old new due ds is on =
-    subst (λ (l : List Down). FedOn places time time l old new) is on

@@ -4,6 +4,7 @@ pub mod SentAsks
 pub mod PortMinds
 pub mod MailboxLooks
 pub mod FeederCalls
+pub mod FallenDevices
 pub mod ShareWalk
 pub mod SharePackets
 pub mod FirstMinds

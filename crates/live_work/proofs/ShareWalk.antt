@@ -1,16 +1,10 @@
 -- A feeder goes through its share: a frame is fed, and then the devices go down that do so after
 -- it.
 use Rattle.std.proofs.Common.{◌≡◌, ◌<◌, ◌≤◌, ◌+◌, ◌∙◌, ◌++◌, ◌∷◌, [], ℕ, List, Option, Some}
-use Rattle.std.proofs.Common.{None, ap, append-nil, append_assoc, arith, inl, inr, length, refl}
-use Rattle.std.proofs.Common.{subst, sym, zero, suc}
-use Rattle.std.specs.Prelude.{◌⊎◌, All, slice_get}
-use Rattle.std.proofs.lemmas.Bool.{cases_lt}
+use Rattle.std.proofs.Common.{None, ap, append-nil, append_assoc, arith, refl}
+use Rattle.std.proofs.Common.{subst, sym}
+use Rattle.std.specs.Prelude.{All}
 use Rattle.std.proofs.lemmas.List.Elements.{All-head, All-tail}
-use Rattle.atomic_table.specs.Seated.{TableId}
-use Rattle.std.proofs.lemmas.List.{length-map}
-use Rattle.place_rows.specs.Rows.{Known, TurnsOne, id_of}
-use Rattle.turn_lock.specs.Views.{HasSeenOwn}
-use Rattle.histories.specs.History.{AreLegal}
 use Rattle.packet_entry.specs.declared.packet.Card.{Card}
 use Rattle.pcap_io.specs.declared.capture.Capture.{Capture}
 use Rattle.pcap_io.specs.declared.capture.Frame.{Frame}
@@ -18,7 +12,6 @@ use Rattle.hook_chain.specs.Route.{next}
 use Rattle.hook_chain.specs.declared.chain.Next.{Next}
 use Rattle.packet_moves.specs.declared.fed.Fed.{Fed}
 use Rattle.packet_moves.specs.declared.setting.Setting.{Setting}
-use Rattle.locked_place.specs.Turns.{GoesDownIn}
 use Rattle.place_turns.specs.Moving.{IsFed}
 use Rattle.place_turns.specs.Trails.{Trail}
 use Rattle.script_lines.specs.declared.line.Down.{Down}
@@ -28,12 +21,11 @@ use Rattle.run_parts.specs.Feeder.{downs_after, falling_time, feeding_time}
 use Rattle.plane.specs.declared.plane.Plane.{Plane}
 use Rattle.plane.specs.Passes.{FeederView, IsFeederOf}
 use Rattle.plane.specs.Planes.{places_of, setting_of}
-use Rattle.live_runs.specs.Calls.{Falls, Feeds}
+use Rattle.live_runs.specs.Calls.{Feeds}
 use Rattle.live_runs.specs.Calls as run
-use Rattle.live_runs.specs.Feeding.{TakesDownTo}
 use Rattle.live_runs.specs.Owners.{IsFeeders}
 use Rattle.live_runs.specs.Seen.{Grows, Seen, Shares}
-use Rattle.live_passes.specs.Views.{HaveSeenOwn, seen_of, shares_of}
+use Rattle.live_passes.specs.Views.{HaveSeenOwn, shares_of}
 use Rattle.shared_feeding.specs.Lines.{share_downs}
 use Rattle.shared_feeding.specs.Sights.{AreSharing, IsFrameOf, IsSharing, IsThis, front_time}
 use Rattle.feeder_set.specs.declared.share.Share.{Share}
@@ -42,6 +34,7 @@ use Rattle.feeder_set.specs.Steps as step
 use Rattle.feeder_set.specs.Steps.{AllFall, IsCardFed, PassesNext}
 use Rattle.live_work.specs.Feeding.{shares_in}
 use Rattle.live_work.specs.Sharing.{SharePasses}
+use Rattle.live_work.proofs.FallenDevices.{DownLaws, falls_grow, falls_here}
 use Rattle.live_work.proofs.FeederCalls.{GrowsLaw, card_is, grows_both, grows_none, lines_after_one}
 use Rattle.live_work.proofs.UnchangedPass.{feeder_owns, some_place}
 
@@ -76,19 +69,6 @@ FedLaw = (places : ℕ) (s : Setting) (old new : Trail) (card : Card) (f : Fed) 
     card.visit ≡ 0 → HaveSeenOwn old.known → IsFed places s old card new f →
     Feeds places (next s.tables s.key card 1) card (shares_of old.known) (shares_of new.known)
 
-abbrev pub FellLaw : Type 0
-FellLaw = (device place count : ℕ) (olds news : List Known) → HaveSeenOwn olds →
-    TurnsOne place olds news (λ v w. GoesDownIn device v w count) →
-    Falls device place (shares_of olds) (shares_of news)
-
-abbrev pub NoPlaceLaw : Type 0
-NoPlaceLaw = (places : ℕ) (d : Down) (shares : Shares) → TakesDownTo 0 places d shares shares
-
-abbrev pub NextPlaceLaw : Type 0
-NextPlaceLaw = (place places : ℕ) (d : Down) (old mid new : Shares) →
-    TakesDownTo place places d old mid → Falls d.device place mid new →
-    TakesDownTo (place + 1) places d old new
-
 abbrev pub FirstLaw : Type 0
 FirstLaw = (feeders feeder : ℕ) → feeder < feeders →
     IsFrameOf feeders (IsThis feeder) (feeder + 1)
@@ -118,90 +98,13 @@ pub record ShareLaws : Type 0 where
   pub feeds : FeedsLaw
   pub falls : FallsLaw
   pub fed : FedLaw
-  pub fell : FellLaw
+  pub down : DownLaws
   pub grows : GrowsLaw
-  pub no_place : NoPlaceLaw
-  pub next_place : NextPlaceLaw
   pub first : FirstLaw
   pub on : OnLaw
   pub none : NoneLaw
   pub more : MoreLaw
   pub all : AllLaw
-
--- ---- a device goes down at a place
-
--- what is known of one place alone
-one_owns : (known : List Known) (k : ℕ) (v : Known) → slice_get known k ≡ Some v →
-    HaveSeenOwn known → HaveSeenOwn (v ∷ [])
-one_owns known k v there own = record {
-  placed = λ i w at. by_placed i w at;
-  legal = λ i w at. by_legal i w at;
-}
-  where
-    by_placed : (i : ℕ) (w : Known) → slice_get (v ∷ []) i ≡ Some w → HasSeenOwn w
-    by_placed zero w at =
-        let same : w ≡ v = cc in own.placed k w (there ∙ ap (λ (x : Known). Some x) (sym same))
-    by_placed (suc i) w at = absurd (cc)
-
-    by_legal : (i : ℕ) (w : Known) → slice_get (v ∷ []) i ≡ Some w → AreLegal w.seen
-    by_legal zero w at =
-        let same : w ≡ v = cc in own.legal k w (there ∙ ap (λ (x : Known). Some x) (sym same))
-    by_legal (suc i) w at = absurd (cc)
-
--- what a fall does at a place
-record FallsThere (device : ℕ) (old new : List Seen) : Type 0 where
-  pub falls : run.FallsAt device old new
-  pub grows : Grows IsFeeders old new
-
-fell_there : ShareLaws → (d : Down) (count : ℕ) (v w : Known) → HaveSeenOwn (v ∷ []) →
-    GoesDownIn d.device v w count → FallsThere d.device (seen_of (Some v)) (seen_of (Some w))
-fell_there laws d count v w own down =
-    let one = laws.fell d.device 0 count (v ∷ []) (w ∷ []) own
-    (record { before = v; after = w; had = refl; has = refl; turns = down }) in
-    let all = laws.next_place 0 1 d (shares_of (v ∷ [])) (shares_of (v ∷ [])) (shares_of (w ∷ []))
-    (laws.no_place 1 d (shares_of (v ∷ []))) one in
-    record { falls = all.turned 0 (omega arith); grows = all.grows 0 }
-
--- there is something of each place
-pub feeder_long : (plane : Plane) (p : FeederView) → IsFeederOf plane p →
-    length p.trail.known ≡ places_of plane
-feeder_long plane p of =
-    of.of.as_many ∙ ap (λ (l : List TableId). length l) of.of.locks_are
-    ∙ length-map plane.shared.locks.items id_of ∙ plane.shared.sized
-
-there_is : (known : List Known) (k : ℕ) → k < length known →
-    (v : Known) × (slice_get known k ≡ Some v)
-there_is [] k less = absurd (omega (arith, less))
-there_is (v ∷ known) zero less = (v, refl)
-there_is (v ∷ known) (suc k) less =
-    let more : suc k < suc (length known) = less in there_is known k (omega (arith, more))
-
--- at each place of a plane
-module _ (laws : ShareLaws) (plane : Plane) where
-  falls_here : (d : Down) (old new : FeederView) → IsFeederOf plane old →
-      step.Falls plane d.device old new → (k : ℕ) → k < places_of plane →
-      FallsThere d.device (shares_in old k) (shares_in new k)
-  falls_here d old new of falls k less =
-      let there = there_is old.trail.known k (omega (arith, less, feeder_long plane old of)) in
-      let turned = falls.turned.done k there.0 less there.1 in
-      subst (λ (o : Option Known). FallsThere d.device (seen_of o) (shares_in new k))
-      (sym there.1)
-      (subst (λ (o : Option Known). FallsThere d.device (seen_of (Some there.0)) (seen_of o))
-      (sym turned.at)
-      (fell_there laws d turned.turns.0 there.0 turned.after
-      (one_owns old.trail.known k there.0 there.1 (feeder_owns plane old of)) turned.turns.1))
-
-  falls_grow : (d : Down) (old new : FeederView) → IsFeederOf plane old →
-      step.Falls plane d.device old new → (k : ℕ) →
-      Grows IsFeeders (shares_in old k) (shares_in new k)
-  falls_grow d old new of falls k = by (cases_lt k (places_of plane))
-    where
-      by : (k < places_of plane) ⊎ (places_of plane ≤ k) →
-          Grows IsFeeders (shares_in old k) (shares_in new k)
-      by (inl less) = (falls_here d old new of falls k less).grows
-      by (inr most) =
-          subst (λ (o : Option Known). Grows IsFeeders (shares_in old k) (seen_of o))
-          (sym (falls.turned.rest k most)) (grows_none IsFeeders (shares_in old k))
 
 -- ---- what a feeder keeps
 
@@ -283,10 +186,10 @@ module _ (laws : ShareLaws) (plane : Plane) (s : Share) (number : ℕ)
             (laws.falls places s.feeders s.number (falling_time number) fallen d front
             (shares_in old) (shares_in mid) (omega (arith, named))
             (subst (λ (n : ℕ). IsFrameOf s.feeders (IsThis s.number) n) (sym named) frame)
-            (λ k less. (falls_here laws plane d old mid of fall.1.0 k less).falls)
+            (λ k less. (falls_here laws.down plane d old mid of fall.1.0 k less).falls)
             keeps.sharing);
         grows = λ k. grows_both IsFeeders (front k) (shares_in old k) (shares_in mid k)
-            (keeps.grows k) (falls_grow laws plane d old mid of fall.1.0 k);
+            (keeps.grows k) (falls_grow laws.down plane d old mid of fall.1.0 k);
       } in
       subst (λ (l : List Down). Keeps places s (falling_time number) l front (shares_in new))
       (append_assoc fallen (d ∷ []) ds)

@@ -42,7 +42,3 @@ feeder_here plane p of = record { of = of; parts = refl }
 pub feeder_stays : (plane : Plane) (a b c : FeederView) → StaysFeeder plane a b →
     IsFeederOf plane c → parts_of c.trail.known ≡ parts_of b.trail.known → StaysFeeder plane a c
 feeder_stays plane a b c was of parts = record { of = of; parts = parts ∙ was.parts }
-
-pub feeder_both : (plane : Plane) (a b c : FeederView) → StaysFeeder plane a b →
-    StaysFeeder plane b c → StaysFeeder plane a c
-feeder_both plane a b c one two = record { of = two.of; parts = two.parts ∙ one.parts }

@@ -7,7 +7,6 @@ ghost use Rattle.run_parts.specs.Feeder.{downs_after, falling_time};
 ghost use Rattle.glance.specs.Views.{PassView};
 ghost use Rattle.plane.specs.Passes.{IsFeederOf};
 ghost use Rattle.plane.specs.Planes.{board_of, places_of};
-ghost use Rattle.live_runs.specs.Feeding.{TakesDown};
 ghost use Rattle.port_scripts.specs.Downs.{AreDownsOf};
 ghost use Rattle.live_work.specs.Feeding.{FedOn, HasFed, IsFeedingOf, shares_in};
 ghost use Rattle.live_work.specs.Sharing.{SharePasses, share_cards};
@@ -15,16 +14,14 @@ ghost use Rattle.live_work.specs.Numbers.{most_frames};
 ghost use Rattle.live_passes.specs.Numbered.{StaysFeeder};
 
 use crate::activity::Activity;
-use feeder_set::{Feeder, Share, Stage, each_frame_is_one_shares};
+use feeder_set::{Feeder, Share, Stage, each_frame_is_one_shares, fall_after};
 use glance::GlancePass;
-use inspector_script::Downs;
 use live_passes::feeders_feed_their_passes;
 use live_runs::the_feeder_keeps_its_time;
 use packet_entry::NoMemory;
 use pcap_io::Capture;
 use plane::{FeederPass, Gate, Plane};
 use port_scripts::{DownsByFrame, downs_by_frame};
-use script_lines::Down;
 use shared_feeding::{a_feeder_keeps_its_share, lines_of_a_share_add_up};
 use std::sync::Wait;
 
@@ -82,49 +79,6 @@ fn hold_back<R: Wait>(
     }
 }
 
-/// A device goes down at each place, from place 0 on.
-fn take_down<R: Wait>(
-    rt: &R,
-    plane: &Plane,
-    pass: &mut FeederPass,
-    down: Down,
-) -> Result<(), NoMemory>
-    requires pass { IsFeederOf plane.now pass.old }
-    ensures stays { StaysFeeder plane.now pass.old pass.new }
-    ensures none { pass.new.fed ≡ pass.old.fed }
-    ensures down { OnOk result
-        (TakesDown (places_of plane.now) down (shares_in pass.old) (shares_in pass.new)) }
-{
-    feeders_feed_their_passes();
-    the_feeder_keeps_its_time();
-    for place in 0..plane.places() {
-        plane.device_down(rt, pass, down.device, place)?;
-    }
-    Ok(())
-}
-
-/// The devices of these lines go down, in their order.
-fn take_all_down<R: Wait>(
-    rt: &R,
-    plane: &Plane,
-    pass: &mut FeederPass,
-    downs: &Downs,
-    number: u32,
-) -> Result<(), NoMemory>
-    requires pass { IsFeederOf plane.now pass.old }
-    requires number { All (λ d. d.after ≡ number) downs.now }
-    ensures stays { StaysFeeder plane.now pass.old pass.new }
-    ensures none { pass.new.fed ≡ pass.old.fed }
-    ensures down { OnOk result (FedOn (places_of plane.now) (falling_time number)
-        (falling_time number) downs.now (shares_in pass.old) (shares_in pass.new)) }
-{
-    the_feeder_keeps_its_time();
-    for down in downs {
-        take_down(rt, plane, pass, *down)?;
-    }
-    Ok(())
-}
-
 /// The devices go down that do so after the frame with this number, or before the first frame for
 /// 0. `NoMemory` leaves a part of them down.
 pub fn take_down_after<R: Wait, G: Gate>(
@@ -141,11 +95,9 @@ pub fn take_down_after<R: Wait, G: Gate>(
         (falling_time number) (downs_after stage.now.script.now number) (shares_in pass.old)
         (shares_in pass.new)) }
 {
+    feeders_feed_their_passes();
     the_feeder_keeps_its_time();
-    match downs.get(&number) {
-        Some(due) => take_all_down(stage.rt, stage.plane, pass, due, number),
-        None => Ok(()),
-    }
+    fall_after(stage, pass, downs, number)
 }
 
 /// The frames of a share pass, one after the other, each once not too many packets wait: its packet

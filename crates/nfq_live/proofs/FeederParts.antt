@@ -24,7 +24,7 @@ use Rattle.shared_feeding.specs.Joining.{IsJoinedOf}
 use Rattle.live_work.specs.declared.feeding.Feeding.{Feeding}
 use Rattle.live_work.specs.Feeding.{HasFed, IsFeedingOf, shares_in}
 use Rattle.live_work.proofs.UnchangedPass.{feeder_owns}
-use Rattle.live_work.proofs.ShareWalk.{feeder_long}
+use Rattle.live_work.proofs.FallenDevices.{feeder_long}
 use Rattle.nfq_live.specs.Feeders.{AllFeed, AllJoin, HaveItsParts, IsFresh, IsHelper, fed_by}
 use Rattle.nfq_live.specs.Feeders.{rows_of, share_of}
 use Rattle.nfq_live.proofs.JoinedShares.{EachWell}

@@ -24,10 +24,12 @@ laws g c = record {
   feeds = c.a_feeder_keeps_its_share.ensures.feeds;
   falls = c.a_feeder_keeps_its_share.ensures.falls;
   fed = c.feeders_feed_their_passes.ensures.feeds;
-  fell = c.feeders_feed_their_passes.ensures.falls;
+  down = record {
+    fell = c.feeders_feed_their_passes.ensures.falls;
+    no_place = c.the_feeder_keeps_its_time.ensures.no_place;
+    next_place = c.the_feeder_keeps_its_time.ensures.next_place;
+  };
   grows = c.the_feeder_keeps_its_time.ensures.fed;
-  no_place = c.the_feeder_keeps_its_time.ensures.no_place;
-  next_place = c.the_feeder_keeps_its_time.ensures.next_place;
   first = c.lines_of_a_share_add_up.ensures.first;
   on = c.lines_of_a_share_add_up.ensures.on;
   none = c.lines_of_a_share_add_up.ensures.none;
