@@ -6,9 +6,9 @@ ghost use Rattle.port_scripts.specs.Downs.{lines_after};
 ghost use Rattle.feeder_audit.specs.Fitting as fitting;
 ghost use Rattle.feeder_audit.specs.Rows as rows;
 
-use inspector_script::{Downs, Script};
+use inspector_script::Script;
 use packet_entry::NoMemory;
-use port_scripts::{DownsByFrame, downs_by_frame};
+use port_scripts::{DownsByFrame, downs_by_frame, lines_after};
 use script_lines::Down;
 use std::alloc::Global;
 
@@ -54,17 +54,7 @@ fn number_is_short(number: u32)
 fn push_after(by_frame: &DownsByFrame, number: u32, downs: &mut Vec<Down>) -> Result<(), NoMemory>
     ensures { OnOk result (downs.new.items ≡ downs.old.items ++ lines_after by_frame.now number) }
 {
-    match by_frame.get(&number) {
-        Some(due) => push_all(due, downs),
-        None => Ok(()),
-    }
-}
-
-/// Appends these lines.
-fn push_all(due: &Downs, downs: &mut Vec<Down>) -> Result<(), NoMemory>
-    ensures { OnOk result (downs.new.items ≡ downs.old.items ++ due.now) }
-{
-    for down in due {
+    for down in lines_after(by_frame, number) {
         downs.push(*down)?;
     }
     Ok(())

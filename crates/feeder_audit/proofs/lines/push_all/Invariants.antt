@@ -1,6 +1,0 @@
-use Rattle.std.proofs.Common.{◌≡◌, ◌++◌}
-use Rattle.feeder_audit.proofs.lines.push_all.Given as goal
-
--- with those that are still to come, all are appended
-abbrev pub invariant-loop-down : goal.invariant-loop-down
-invariant-loop-down l = l.downs.items ++ l.down-iterator ≡ l.fn.downs.items ++ l.due
