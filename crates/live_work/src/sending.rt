@@ -1,8 +1,7 @@
 //! What a port sends by its own pass, where nothing happens between its messages.
 
 ghost use Rattle.std.specs.Prelude.{◌≡◌, ◌<◌, ◌^◌, [], length, All, OnOk};
-ghost use Rattle.script_lines.specs.Limits.{IsAsk, IsWords};
-ghost use Rattle.run_parts.specs.Datagrams.{bytes_of};
+ghost use Rattle.script_lines.specs.Limits.{IsAsk};
 ghost use Rattle.plane.specs.Passes.{IsPortOf};
 ghost use Rattle.plane.specs.Planes.{places_of};
 ghost use Rattle.live_passes.specs.Views.{port_pass};
@@ -13,13 +12,12 @@ ghost use Rattle.port_scripts.specs.Words.{AreWords};
 
 use crate::mind::Mind;
 use feeder_set::Stage;
-use histories::AskWords;
 use inspector_script::Asks;
 use live_passes::ports_speak_by_their_passes;
 use live_runs::{a_port_does_what_is_next, messages_are_sent_one_by_one, what_a_port_does_adds_up};
 use packet_entry::NoMemory;
 use plane::{Gate, PortPass};
-use port_scripts::{behind, put_text};
+use port_scripts::{behind, put_words};
 use script_lines::Ask;
 use std::sync::Wait;
 
@@ -52,23 +50,6 @@ fn send_all<R: Wait, G: Gate>(
         rest = behind(rest, used as usize);
     }
     Ok(())
-}
-
-/// The bytes of an ask, sent as the port's message with this number, in place of what the buffer
-/// held.
-fn put_words(text: &mut Vec<u8>, port: u32, call: u32, words: AskWords) -> Result<(), NoMemory>
-    requires { IsWords words }
-    ensures text { OnOk result (text.new.items ≡ bytes_of port call words) }
-    ensures short { OnOk result (length text.new.items < 2 ^ 31) }
-{
-    match words {
-        AskWords::Plain { request } => put_text(text, port, call, &request),
-        AskWords::Raw { bytes } => {
-            text.clear();
-            text.extend_from_slice(bytes.as_slice())?;
-            Ok(())
-        }
-    }
 }
 
 /// A port sends all that an answer or an opening asks for, in its order. `NoMemory` leaves a part

@@ -12,4 +12,4 @@ pub use answers::{answered, notice_in};
 pub use closings::ports_close_at_the_end;
 pub use downs::{DownsByFrame, LinesAfter, downs_by_frame, lines_after};
 pub use packet::packet_of;
-pub use texts::{behind, put_text};
+pub use texts::{behind, put_text, put_words};
