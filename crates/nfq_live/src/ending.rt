@@ -27,7 +27,7 @@ use live_runs::{
 use live_work::Stage;
 use packet_entry::NoMemory;
 use plane::{Gate, parts_stay_whole};
-use port_scripts::{behind, ports_close_at_the_end, put_text};
+use port_scripts::{behind, ports_close_at_the_end, put_words};
 use run_parts::{datagrams_are_short, each_port_has_its_place};
 use script_lines::Ask;
 use std::sync::Wait;
@@ -120,21 +120,12 @@ impl Crew {
     {
         a_port_does_what_is_next();
         datagrams_are_short();
-        match words {
-            AskWords::Plain { request } => {
-                let pass = &self.ports[at];
-                let port = pass.port();
-                let call = pass.calls().wrapping_add(1);
-                let mut text = Vec::new(stage.alloc);
-                put_text(&mut text, port, call, &request)?;
-                let bytes = text.as_slice();
-                self.send_and_empty(stage, place, at, bytes)
-            }
-            AskWords::Raw { bytes } => {
-                let bytes = bytes.as_slice();
-                self.send_and_empty(stage, place, at, bytes)
-            }
-        }
+        let pass = &self.ports[at];
+        let port = pass.port();
+        let call = pass.calls().wrapping_add(1);
+        let mut text = Vec::new(stage.alloc);
+        put_words(&mut text, port, call, words)?;
+        self.send_and_empty(stage, place, at, text.as_slice())
     }
 
     /// It sends the messages of its end, and after each of them the mailboxes are emptied. Whether
