@@ -1,10 +1,8 @@
 //! What ports send.
 
 ghost use Rattle.std.specs.Prelude.{◌≡◌, ◌<◌, ◌^◌, length, All, OnOk, true};
-ghost use Rattle.nfqa_msgs.specs.RequestWriting.{spelling};
-ghost use Rattle.script_lines.specs.Limits.{IsAsk, IsRequest, IsWords};
+ghost use Rattle.script_lines.specs.Limits.{IsAsk, IsWords};
 ghost use Rattle.script_lines.specs.declared.ask.Ask.TheVariants.{Words};
-ghost use Rattle.packet_moves.specs.Messages.{call_at};
 ghost use Rattle.solo_schedule.specs.Sending.{all_done, all_sent, done};
 ghost use Rattle.run_parts.specs.Datagrams.{messages_in};
 ghost use Rattle.port_scripts.specs.Words.{AreWords, ClosesLast};
@@ -15,9 +13,8 @@ use crate::between::Between;
 use crate::run::Run;
 use histories::AskWords;
 use inspector_script::Script;
-use nfqa_msgs::Request;
 use packet_entry::NoMemory;
-use port_scripts::{behind, put_text};
+use port_scripts::{behind, put_words};
 use script_lines::{Ask, Asks};
 use std::alloc::Global;
 use std::mem;
@@ -55,39 +52,7 @@ pub(crate) fn send_all<B: Between>(
     Ok(())
 }
 
-/// A port sends a request, as its message with the next number.
-fn send_request<B: Between>(
-    run: &mut Run,
-    alloc: Global,
-    script: &Script,
-    place: u32,
-    request: &Request,
-    between: &B,
-) -> Result<(), NoMemory>
-    requires going { Goes script.now run.old }
-    requires place { place < length script.now.ports }
-    requires open { is_open_at script.now (world_of run.old) place ≡ true }
-    requires fits { IsRequest request.now }
-    ensures going { OnOk result (Goes script.now run.new) }
-    ensures made_with { OnOk result (IsWith run.old run.new) }
-    ensures sent { OnOk result (world_of run.new
-        ≡ all_sent (B.then between.now (setting_of run.old) script.now) (setting_of run.old)
-        (port_at script.now place) (messages_in (spelling (port_at script.now place)
-        (call_at ((world_of run.old).ports (port_at script.now place))) request.now))
-        (world_of run.old)) }
-    ensures keeps { OnOk result (Keeps (world_of run.old) (world_of run.new)) }
-{
-    let port = script.ports()[place as usize];
-    let call = run.inspectors[place as usize].call;
-    let mut text = mem::replace(&mut run.text, Vec::new(alloc));
-    put_text(&mut text, port, call, request)?;
-    send_all(run, alloc, script, place, text.as_slice(), between)?;
-    // What was sent between the messages took a buffer of its own.
-    run.text = text;
-    Ok(())
-}
-
-/// A port sends the bytes of an ask.
+/// A port sends the bytes of an ask, a request as its message with the next number.
 fn send_words<B: Between>(
     run: &mut Run,
     alloc: Global,
@@ -107,14 +72,14 @@ fn send_words<B: Between>(
         (port_at script.now place) (Words words) (world_of run.old)) }
     ensures keeps { OnOk result (Keeps (world_of run.old) (world_of run.new)) }
 {
-    match words {
-        AskWords::Plain { request } => {
-            send_request(run, alloc, script, place, &request, between)
-        }
-        AskWords::Raw { bytes } => {
-            send_all(run, alloc, script, place, bytes.as_slice(), between)
-        }
-    }
+    let port = script.ports()[place as usize];
+    let call = run.inspectors[place as usize].call;
+    let mut text = mem::replace(&mut run.text, Vec::new(alloc));
+    put_words(&mut text, port, call, words)?;
+    send_all(run, alloc, script, place, text.as_slice(), between)?;
+    // What was sent between the messages took a buffer of its own.
+    run.text = text;
+    Ok(())
 }
 
 /// What an ask asks for is done.
