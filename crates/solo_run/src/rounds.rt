@@ -1,8 +1,9 @@
 //! Mailboxes that are emptied, round by round.
 
-ghost use Rattle.std.specs.Prelude.{◌≡◌, ◌<◌, ◌||◌, Bool, length, IfOk, OnOk, false};
+ghost use Rattle.std.specs.Prelude.{◌≡◌, ◌<◌, ◌||◌, Bool, length, IfOk, OnOk, false, true};
 ghost use Rattle.solo_schedule.specs.Schedule.{Looked, emptied_in, looked, round};
-ghost use Rattle.solo_run.specs.RunState.{Goes, IsWith, Keeps, port_at, setting_of, world_of};
+ghost use Rattle.solo_run.specs.RunState.{Goes, IsWith, Keeps, is_open_at, port_at, setting_of};
+ghost use Rattle.solo_run.specs.RunState.{world_of};
 
 use crate::between::{Between, Nothing};
 use crate::run::Run;
