@@ -1,20 +1,19 @@
 -- What bytes are that share a buffer.
-use Rattle.std.specs.Prelude.{◌≡◌, ℕ, ◌≤◌, List, [], length, slice_range, Option, Some, None}
+use Rattle.std.specs.Prelude.{ℕ, ◌+◌, ◌≤◌, List, [], length, slice_range, ⊤}
 use Rattle.std.specs.Arc.{arc_value}
-use Rattle.std.specs.declared.sync.Arc.{Arc}
-use Rattle.std.specs.declared.alloc.Global.{Global}
-use Rattle.std.specs.declared.vec.Vec.{Vec}
+use Rattle.packet_entry.specs.declared.bytes.Form.{Form}
+use Rattle.packet_entry.specs.declared.bytes.Form.TheVariants.{Empty, Whole, Part}
 
--- a buffer with the number of its owners
-abbrev pub Buffer : Type 0
-Buffer = Option (Arc (Vec ℕ Global) Global)
+-- the bytes: none, all of the buffer, or so many of it from `start` on
+abbrev pub bytes_of : Form → List ℕ
+bytes_of Empty = []
+bytes_of (Whole buffer) = (arc_value buffer).items
+bytes_of (Part count start buffer) = slice_range (arc_value buffer).items start (start + count)
 
--- the part of the buffer from `start` to before `end`
-abbrev pub bytes_of : Buffer → ℕ → ℕ → List ℕ
-bytes_of None start end = []
-bytes_of (Some buffer) start end = slice_range (arc_value buffer).items start end
-
--- the part lies within the buffer; without a buffer there is none
-abbrev pub IsWithin : Buffer → ℕ → ℕ → Type 0
-IsWithin None start end = (start ≡ 0) × (end ≡ 0)
-IsWithin (Some buffer) start end = (start ≤ end) × (end ≤ length (arc_value buffer).items)
+-- a part lies within its buffer, whose places are numbers of 32 bits
+abbrev pub IsWithin : Form → Type 0
+IsWithin Empty = ⊤
+IsWithin (Whole buffer) = length (arc_value buffer).items ≤ 4294967295
+IsWithin (Part count start buffer) =
+    (start + count ≤ length (arc_value buffer).items)
+    × (length (arc_value buffer).items ≤ 4294967295)

@@ -4,6 +4,7 @@
 //! bytes can be shared: then several hold one buffer, which nothing can change.
 #![tactic(auto)]
 
+mod buffer;
 mod bytes;
 mod laws;
 mod letter;
@@ -13,6 +14,7 @@ mod same;
 mod sequence;
 mod stock;
 
+pub use buffer::{Buffer, BufferPool};
 pub use bytes::Bytes;
 pub use laws::public_numbers;
 pub use letter::Letter;

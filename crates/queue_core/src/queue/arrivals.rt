@@ -1,6 +1,6 @@
 //! Arrivals: the lines of the table from the copy mode on, in its order.
 
-ghost use Rattle.std.specs.Prelude.{◌≡◌, ◌≢◌, None, false, IfOk, IfErr, OnOk, OnErr, IfSome};
+ghost use Rattle.std.specs.Prelude.{◌≡◌, ◌≢◌, [], None, false, IfOk, IfErr, OnOk, OnErr, IfSome};
 ghost use Rattle.nfqa_msgs.specs.NoticeWriting.{FitsTold, told_of};
 ghost use Rattle.queue_core.specs.State as state;
 ghost use Rattle.queue_core.specs.Step as queue_step;
@@ -10,7 +10,7 @@ ghost use Rattle.queue_core.specs.Calls.{BeginsArrival, SettlesArrival};
 use super::Queue;
 use crate::{Begun, NoRoom, Outcome, Settled, ids};
 use nfqa_msgs::{NONE, encode_notice};
-use packet_entry::{Bytes, Letter, NoMemory, Packet};
+use packet_entry::{Buffer, BufferPool, Letter, NoMemory, Packet};
 use std::alloc::Global;
 
 impl Queue {
@@ -19,6 +19,22 @@ impl Queue {
     /// queue's number; the memory for settling it is taken too. Where there is none, the packet
     /// comes back, and nothing has changed.
     pub fn begin(&mut self, alloc: Global, queue: u16, packet: Packet) -> Result<Begun, NoRoom>
+        requires no_offer { self.old.offer ≡ None }
+        ensures begun { IfOk result (λ begun. BeginsArrival begun queue packet self.old self.new) }
+        ensures returned { IfErr result (λ back. back.packet ≡ packet) }
+        ensures err { OnErr result (self.new ≡ self.old) }
+    {
+        self.begin_in(alloc, queue, packet, &mut BufferPool::new(alloc))
+    }
+
+    /// The same, where the notice is written into a buffer of the pool.
+    pub fn begin_in(
+        &mut self,
+        alloc: Global,
+        queue: u16,
+        packet: Packet,
+        pool: &mut BufferPool,
+    ) -> Result<Begun, NoRoom>
         requires no_offer { self.old.offer ≡ None }
         ensures begun { IfOk result (λ begun. BeginsArrival begun queue packet self.old self.new) }
         ensures returned { IfErr result (λ back. back.packet ≡ packet) }
@@ -40,11 +56,17 @@ impl Queue {
             let outcome = Outcome::Overflow;
             return Ok(Begun::Back { outcome, packet });
         }
-        self.offered(alloc, queue, packet)
+        self.offered(alloc, queue, packet, pool)
     }
 
     /// Offers a packet that the queue doesn't turn away.
-    fn offered(&mut self, alloc: Global, queue: u16, packet: Packet) -> Result<Begun, NoRoom>
+    fn offered(
+        &mut self,
+        alloc: Global,
+        queue: u16,
+        packet: Packet,
+        pool: &mut BufferPool,
+    ) -> Result<Begun, NoRoom>
         requires no_offer { self.old.offer ≡ None }
         requires undecided { queue_step.turns_away self.old.state ≡ false }
         ensures begun { IfOk result (λ begun. BeginsArrival begun queue packet self.old self.new) }
@@ -52,7 +74,7 @@ impl Queue {
         ensures err { OnErr result (self.new ≡ self.old) }
     {
         let id = ids::fresh_id(self.last, &self.waiting);
-        let Ok(letter) = self.letter(alloc, queue, id, &packet) else {
+        let Ok(letter) = self.letter(queue, id, &packet, pool.take(alloc)) else {
             return Err(NoRoom { packet });
         };
         if let Err(packet) = self.waiting.push(id, packet) {
@@ -65,34 +87,35 @@ impl Queue {
         })
     }
 
-    /// The notice of a packet, on its way to the queue's port.
+    /// The notice of a packet, on its way to the queue's port. It is written into the buffer, which
+    /// is empty.
     fn letter(
         &self,
-        alloc: Global,
         queue: u16,
         id: u32,
         packet: &Packet,
+        mut buffer: Buffer,
     ) -> Result<Letter, NoMemory>
+        requires empty { buffer.items.items ≡ [] }
         requires undecided { queue_step.turns_away self.now.state ≡ false }
         ensures letter { IfOk result (λ letter.
             letter ≡ letter_of queue self.now.state id packet.now) }
         ensures fits { OnOk result
             (FitsTold (told_of queue self.now.state.mode self.now.state.range id packet.now)) }
     {
-        let mut bytes = Vec::new(alloc);
         encode_notice(
             queue,
             id,
             self.settings.mode,
             self.settings.range,
             packet,
-            &mut bytes,
+            &mut buffer.items,
         )?;
         Ok(Letter {
             queue,
             number: packet.number(),
             visit: packet.visit(),
-            bytes: Bytes::from_vec(bytes)?,
+            bytes: buffer.into_bytes()?,
         })
     }
 
