@@ -7,3 +7,5 @@ pub mod SweepResult
 pub mod QueueOrder
 pub mod MoveSums
 pub mod NoPriority
+pub mod PlaceSwaps
+pub mod PlaceOrder

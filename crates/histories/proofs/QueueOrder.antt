@@ -1,9 +1,7 @@
 -- Entries that are sorted by their queue's number: each queue's stay in their order.
-use Rattle.std.proofs.Common.{◌≡◌, ℕ, ◌+◌, List, length, Bool, true, false, Some, refl, sym, ap}
-use Rattle.std.proofs.Common.{◌∙◌, arith}
-use Rattle.std.proofs.Math.Path.{fun_ext}
-use Rattle.std.specs.Prelude.{filter, ◌==◌, not, ◌&&◌}
-use Rattle.std.specs.List.Sorted.{IsStableByKey, IsSortedByKey}
+use Rattle.std.proofs.Common.{◌≡◌, ℕ, ◌+◌, List, length, true, false, Some, refl}
+use Rattle.std.proofs.Common.{arith}
+use Rattle.std.specs.Prelude.{◌==◌, not, ◌&&◌}
 use Rattle.std.specs.Ordering.{nat_cmp, is_lt, is_le, is_some_and}
 use Rattle.std.proofs.lemmas.Bool.Decides.{nat_tests}
 use Rattle.queue_core.specs.declared.event.Event.TheVariants.{DeviceDown}
@@ -17,22 +15,11 @@ use Rattle.histories.specs.Grouping.{IsGrouped}
 abbrev pub entry_at : ℕ → Entry
 entry_at queue = record { queue = queue; event = DeviceDown 0; reply = Flushed 0 }
 
-same_number : (a b : ℕ) → (not (is_lt (nat_cmp a b)) && not (is_lt (nat_cmp b a))) ≡ (b == a)
+pub same_number : (a b : ℕ) → (not (is_lt (nat_cmp a b)) && not (is_lt (nat_cmp b a))) ≡ (b == a)
 same_number a b = grind (arith, nat_tests)
 
 abbrev pub number_of : Entry → ℕ
 number_of e = e.queue
-
-pub grouped_so : (es gs : List Entry) → IsSortedByKey number_of nat_cmp gs →
-    IsStableByKey number_of nat_cmp es gs → IsGrouped es gs
-grouped_so es gs sorted stable =
-    record {
-      ascend = sorted;
-      same = λ queue.
-          ap (λ (t : Entry → Bool). filter t gs) (fun_ext (λ e. sym (same_number queue e.queue)))
-          ∙ stable (entry_at queue)
-          ∙ ap (λ (t : Entry → Bool). filter t es) (fun_ext (λ e. same_number queue e.queue));
-    }
 
 -- no entry has a lower number than the one before it, as a test of each and the next found
 abbrev pub Ascends : List Entry → Type 0

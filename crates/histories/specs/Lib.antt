@@ -18,3 +18,4 @@ pub mod Priorities
 pub mod Holding
 pub mod NumberKeys
 pub mod QueueHistories
+pub mod Rearrangement

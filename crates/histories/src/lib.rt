@@ -8,6 +8,7 @@ mod histories;
 mod journeys;
 mod laws;
 mod log;
+mod rearranging;
 mod requests;
 
 pub use entry::{Entries, Entry};

@@ -2,7 +2,7 @@ use Rattle.std.proofs.Common.{rules, List, subst, sym}
 use Rattle.std.proofs.lemmas.List.Sorted.{answers_always}
 use Rattle.histories.specs.declared.entry.Entry.{Entry}
 use Rattle.histories.specs.Grouping.{IsGrouped}
-use Rattle.histories.proofs.QueueOrder.{Ascends, grouped_so, grouped_already, number_of}
+use Rattle.histories.proofs.QueueOrder.{Ascends, grouped_already, number_of}
 use Rattle.histories.proofs.grouping.grouped.Goals as goal
 
 -- where the numbers don't descend already
@@ -15,12 +15,3 @@ returns-then-is_sorted_by_key c =
     (subst (λ (es : List Entry). Ascends es) c.deref.ensures.value
     (c.if-is_sorted_by_key.ensures.cases number_of
     (answers_always _ _ _ (λ f a r g called. search rules))))))
-
-pub returns : goal.returns
-returns c =
-    rw (← c.into_vec-list.ensures, c.from_vec-2.ensures)
-    (grouped_so _ _
-    (c.in_ok-sort_by_cached_key.ensures.sorted number_of
-    (answers_always _ _ _ (λ f a r g called. search rules)))
-    (c.in_ok-sort_by_cached_key.ensures.stable number_of
-    (answers_always _ _ _ (λ f a r g called. search rules))))
