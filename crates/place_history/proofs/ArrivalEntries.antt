@@ -2,15 +2,16 @@
 use Rattle.std.proofs.Common.{◌≡◌, ◌≢◌, ◌≤◌, ℕ, List, [], ◌∷◌, Option, None, Some, Bool}
 use Rattle.std.proofs.Common.{true, false}
 use Rattle.std.proofs.Common.{refl, sym, ap, ◌∙◌, ◌<◌, subst}
-use Rattle.std.specs.Prelude.{◌==◌, ◌||◌, IfSome}
-use Rattle.std.proofs.lemmas.Bool.{eq-eqb}
+use Rattle.std.specs.Prelude.{◌==◌, ◌||◌, IfSome, option_map}
+use Rattle.std.proofs.lemmas.Bool.{eq-eqb, ne_eqb}
 use Rattle.packet_entry.specs.declared.packet.Card.{Card}
 use Rattle.packet_entry.specs.Numbers.{last_visit}
 use Rattle.queue_core.specs.declared.event.Event.TheVariants.{Arrive}
 use Rattle.queue_core.specs.declared.event.Reply.TheVariants.{Arrived}
 use Rattle.queue_core.specs.declared.offers.Outcome.{Outcome}
 use Rattle.queue_core.specs.declared.offers.Begun.TheVariants as begun
-use Rattle.queue_core.specs.Step.{Stepped, Way, step, is_decided_early, next_id}
+use Rattle.queue_core.specs.Step.{Stepped, Way, step, arrive_in_time}
+use Rattle.queue_core.specs.Step.{is_decided_early, next_id}
 use Rattle.queue_core.specs.State.{Bound}
 use Rattle.queue_core.specs.Calls.{BeginsArrival, ArrivesAs}
 use Rattle.queue_core.specs.WithOffer.{WithOffer}
@@ -19,10 +20,10 @@ use Rattle.place_history.specs.declared.place.held.Held.{Held}
 use Rattle.place_history.specs.declared.place.held.Offer.{Offer}
 use Rattle.histories.specs.Numbers.{queue_count}
 use Rattle.place_history.specs.Changes.{Queues, queue_at, Changes}
-use Rattle.histories.specs.States.{state_of, entry_of}
+use Rattle.histories.specs.States.{state_of, step_of, entry_of}
 use Rattle.place_history.specs.Calls.{IsTurnedAway}
 use Rattle.place_history.specs.PlaceInvariant.{IsReplayed, IsOffer, as_arrival, held_as}
-use Rattle.place_history.proofs.QueueStep.{Makes, state_before}
+use Rattle.place_history.proofs.QueueStep.{Makes, state_before, states_alike}
 
 abbrev pub arrival_entry : Offer → Bool → Outcome → Entry
 arrival_entry o room outcome =
@@ -88,6 +89,25 @@ tells_back h new o packet outcome back replayed same in_time c =
     or_true : (b : Bool) → (b || true) ≡ true
     or_true true = refl
     or_true false = refl
+
+-- an arrival in time at an absent queue
+pub at_absent : (h : Held) (o : Offer) (outcome : Outcome) → IsReplayed h →
+    queue_at h.queues o.queue ≡ None → o.card.visit ≢ last_visit →
+    ((card : Card) → (way : Way) × (arrive_in_time None card o.bypass true ≡ record {
+      state = None;
+      reply = Arrived outcome;
+      left = (card, way) ∷ [];
+    })) →
+    (way : Way) × (step_of h.entries.items o.queue (Arrive o.card o.bypass true) ≡ record {
+      state = state_of h.entries.items o.queue;
+      reply = Arrived outcome;
+      left = (o.card, way) ∷ [];
+    })
+at_absent h o outcome is absent in_time arrives =
+    let state : state_of h.entries.items o.queue ≡ None =
+    sym (states_alike h o.queue is)
+    ∙ ap (option_map (λ (w : WithOffer). w.state)) absent in
+    rw (state, ne_eqb o.card.visit last_visit in_time) (arrives o.card)
 
 -- ---- settling
 

@@ -1,19 +1,23 @@
 -- Requests, as the entries that they are.
 use Rattle.std.proofs.Common.{◌≡◌, ℕ, List, [], ◌∷◌, ◌++◌, length, Option, None, Some, refl, sym}
 use Rattle.std.proofs.Common.{ap, ◌∙◌, subst}
-use Rattle.std.specs.Prelude.{IsSomeAnd, nat_eq, if◌then◌else◌}
+use Rattle.std.specs.Prelude.{IsSomeAnd, nat_eq, if◌then◌else◌, IfOk, IfErr, IfNone, ok_or}
+use Rattle.std.specs.Prelude.{option_to_list, option_map}
 use Rattle.std.proofs.Math.Dec.{eqb-suc-zero}
 use Rattle.packet_entry.specs.declared.packet.Card.{Card}
 use Rattle.hook_chain.specs.declared.chain.Decision.{Decision}
 use Rattle.std.proofs.lemmas.List.{length-map}
 use Rattle.nfqa_msgs.specs.Numbers.{enoent}
+use Rattle.nfqa_headers.specs.declared.verdict_header.Head.{Head}
 use Rattle.nfqa_msgs.specs.declared.request.Request.{Request}
+use Rattle.nfqa_msgs.specs.declared.request.Request.TheVariants.{Verdict}
 use Rattle.queue_core.specs.declared.event.Event.{Event}
 use Rattle.queue_core.specs.declared.event.Event.TheVariants.{Ask}
 use Rattle.queue_core.specs.declared.event.Reply.{Reply}
 use Rattle.queue_core.specs.declared.event.Reply.TheVariants.{Answer}
 use Rattle.queue_core.specs.State.{Bound}
-use Rattle.queue_core.specs.Step.{Stepped, step, way_of}
+use Rattle.queue_core.specs.Step.{Stepped, step, way_of, unchanged}
+use Rattle.queue_core.specs.Lines.{IsAllowed, IsRefused}
 use Rattle.queue_core.specs.Calls.{hands_out, ways_of}
 use Rattle.queue_core.specs.WithOffer.{WithOffer}
 use Rattle.histories.specs.declared.entry.Entry.{Entry}
@@ -23,7 +27,7 @@ use Rattle.histories.specs.States.{step_of, state_of}
 use Rattle.place_history.specs.Changes.{queue_at}
 use Rattle.histories.specs.Happenings.{all_handed}
 use Rattle.place_history.specs.PlaceInvariant.{IsReplayed, Enters}
-use Rattle.place_history.proofs.QueueStep.{Makes, state_before}
+use Rattle.place_history.proofs.QueueStep.{Makes, state_before, states_alike}
 
 -- an answer that the step gives has its entry
 pub enters : (old new : Held) (queue : ℕ) (event : Event) (errno taken : ℕ)
@@ -58,16 +62,16 @@ waiting_held h queue b taken is none state count =
 
 -- ---- verdicts and batches that aren't refused
 
+abbrev port_in : Option Bound → ℕ
+port_in None = 0
+port_in (Some q) = q.port
+
 -- the port of a queue that is held
 pub port_held : (h : Held) (queue : ℕ) (w : WithOffer) (b : Bound) (port : ℕ) → IsReplayed h →
     queue_at h.queues queue ≡ Some w → state_of h.entries.items queue ≡ Some b →
     b.port ≡ port → w.state.port ≡ port
 port_held h queue w b port is was state same =
     ap port_in (sym (state_before h queue w is was) ∙ state) ∙ same
-  where
-    port_in : Option Bound → ℕ
-    port_in None = 0
-    port_in (Some q) = q.port
 
 -- a request that the queue's own call serves
 pub asked_step : (h : Held) (asker : Asker) (before : WithOffer) (b : Bound) (request : Request)
@@ -134,3 +138,65 @@ served_enters old new before after asker request hs is was step_is appended =
     (sym (length-map hs (λ (h : Card × Decision). (h.0, way_of h.1)))
     ∙ ap length (sym (hands_left after.state hs)))
     (ap all_handed (sym (hands_left after.state hs)))
+
+-- ---- a verdict of a port at a bound queue
+
+-- one that is refused changes nothing
+pub verdict_refused : (s : Option Bound) (port errno : ℕ) (head : Option Head)
+    (mark : Option ℕ) (payload : Option (List ℕ)) (priority : Option ℕ) →
+    IsRefused s port head errno → (queue call : ℕ) →
+    step s (Ask port call (Verdict queue head mark payload priority)) ≡ unchanged s errno
+verdict_refused s port errno head mark payload priority is queue call = rw is refl
+
+-- that it is refused is the step of its queue
+pub refused_step : (h : Held) (queue : ℕ) (event : Event) (errno : ℕ) → IsReplayed h →
+    step (option_map (λ (w : WithOffer). w.state) (queue_at h.queues queue)) event
+    ≡ unchanged (option_map (λ (w : WithOffer). w.state) (queue_at h.queues queue)) errno →
+    step_of h.entries.items queue event ≡ unchanged (state_of h.entries.items queue) errno
+refused_step h queue event errno is refused =
+    subst (λ s. step s event ≡ unchanged s errno) (states_alike h queue is) refused
+
+-- one that is allowed is carried out as that of the queue's port
+verdict_allowed : (q : Bound) (port : ℕ) (head : Option Head) (allowed : Head) (mark : Option ℕ)
+    (payload : Option (List ℕ)) (priority : Option ℕ) (s : Stepped) →
+    IsAllowed (Some q) port head allowed → (queue call : ℕ) →
+    step (Some q) (Ask q.port call (Verdict queue (Some allowed) mark payload priority)) ≡ s →
+    step (Some q) (Ask port call (Verdict queue head mark payload priority)) ≡ s
+verdict_allowed q port head allowed mark payload priority s is queue call served =
+    subst (λ h. step (Some q) (Ask port call (Verdict queue h mark payload priority)) ≡ s)
+    (sym is.3)
+    (subst
+    (λ p. step (Some q) (Ask p call (Verdict queue (Some allowed) mark payload priority)) ≡ s)
+    (ap port_in is.1 ∙ is.2) served)
+
+-- what leaves by it
+pub verdict_leaves : (q new : Bound) (port : ℕ) (head : Option Head) (allowed : Head)
+    (mark : Option ℕ) (payload : Option (List ℕ)) (priority : Option ℕ)
+    (out : Option (Card × Decision)) → IsAllowed (Some q) port head allowed →
+    ((queue call : ℕ) →
+    step (Some q) (Ask q.port call (Verdict queue (Some allowed) mark payload priority))
+    ≡ hands_out new (option_to_list out)) →
+    IfOk (ok_or out enoent) (λ o. (queue call : ℕ) →
+    step (Some q) (Ask port call (Verdict queue head mark payload priority))
+    ≡ hands_out new (o ∷ []))
+verdict_leaves q new port head allowed mark payload priority None is served = tt
+verdict_leaves q new port head allowed mark payload priority (Some o) is served =
+    λ queue call. verdict_allowed q port head allowed mark payload priority
+    (hands_out new (o ∷ [])) is queue call (served queue call)
+
+-- or the errno where nothing waits under its id
+pub verdict_finds_none : (q new : Bound) (port : ℕ) (head : Option Head) (allowed : Head)
+    (mark : Option ℕ) (payload : Option (List ℕ)) (priority : Option ℕ)
+    (out : Option (Card × Decision)) → IsAllowed (Some q) port head allowed →
+    IfNone out (new ≡ q) →
+    ((queue call : ℕ) →
+    step (Some q) (Ask q.port call (Verdict queue (Some allowed) mark payload priority))
+    ≡ hands_out new (option_to_list out)) →
+    IfErr (ok_or out enoent) (λ errno. (queue call : ℕ) →
+    step (Some q) (Ask port call (Verdict queue head mark payload priority))
+    ≡ unchanged (Some q) errno)
+verdict_finds_none q new port head allowed mark payload priority None is same served =
+    λ queue call. verdict_allowed q port head allowed mark payload priority
+    (unchanged (Some q) enoent) is queue call
+    (served queue call ∙ ap (λ b. unchanged (Some b) enoent) same)
+verdict_finds_none q new port head allowed mark payload priority (Some o) is same served = tt

@@ -29,7 +29,7 @@ pub use self::listing::Lines;
 use self::requests::{Asker, ConfigRequest};
 use histories::{Entries, Entry};
 use nfqa_msgs::Request;
-use packet_entry::{NoMemory, Packet};
+use packet_entry::{BufferPool, Bytes, NoMemory, Packet};
 use queue_core::{Begun, Handed, NoRoom, Settled};
 use std::alloc::Global;
 use std::marker::Model;
@@ -47,6 +47,8 @@ pub struct Place {
     held: Held,
     /// Whether the waiting packets were given up.
     is_left: bool,
+    /// Buffers for notices.
+    pool: BufferPool,
 }
 
 impl Model for Place {
@@ -85,6 +87,7 @@ impl Place {
             places,
             held: Held::new(alloc),
             is_left: false,
+            pool: BufferPool::new(alloc),
         }
     }
 
@@ -123,7 +126,7 @@ impl Place {
             card,
             bypass,
         };
-        arrivals::begin(&mut self.held, alloc, arrival, packet)
+        arrivals::begin(&mut self.held, alloc, arrival, packet, &mut self.pool)
     }
 
     /// Settles what was begun: its entry is appended. `room` says whether the port's mailbox took
@@ -137,6 +140,13 @@ impl Place {
             self.new ≡ after_event self.old a.queue (arrive a room)) }
     {
         arrivals::settle(&mut self.held, room)
+    }
+
+    /// Keeps the memory of a notice's bytes, which end, for another notice.
+    pub fn give_back(&mut self, alloc: Global, bytes: Bytes)
+        ensures { self.new ≡ self.old }
+    {
+        self.pool.give(alloc, bytes);
     }
 
     /// A port asks something of a queue, by the message with the number `call` among its messages:
@@ -321,6 +331,7 @@ impl Place {
             places: _,
             held,
             is_left: _,
+            pool: _,
         } = self;
         let Held {
             mut queues,

@@ -1,57 +1,22 @@
 //! Arrivals: the lines of the table that a bound queue doesn't decide, and the entries of all.
 
 ghost use Rattle.std.specs.Prelude.{◌≡◌, ◌≢◌, ◌≤◌, ◌++◌, ◌∷◌, [], true, None};
-ghost use Rattle.std.specs.Prelude.{IfSome, IfNone, IfOk, IfErr, OnErr, IsSomeAnd};
+ghost use Rattle.std.specs.Prelude.{IfSome, IfOk, IfErr, OnErr};
 ghost use Rattle.packet_entry.specs.Numbers.{last_visit};
+ghost use Rattle.packet_entry.specs.declared.packet.Card.{Card};
 ghost use Rattle.queue_core.specs.declared.event.Event.TheVariants.{Arrive};
 ghost use Rattle.queue_core.specs.declared.event.Reply.TheVariants.{Arrived};
-ghost use Rattle.queue_core.specs.Step.{Way, is_decided_early};
+ghost use Rattle.queue_core.specs.Step.{Way, arrive_in_time, is_decided_early};
 ghost use Rattle.histories.specs.States.{state_of, step_of, entry_of};
-ghost use Rattle.place_history.specs.Changes.{queue_at};
 ghost use Rattle.place_history.specs.Calls.{BeginsAs, SettlesAs};
 ghost use Rattle.place_history.specs.PlaceInvariant.{IsReplayed, HasRoom, as_arrival, IsBegun};
 
 use super::bound;
 use super::held::{Held, Offer, append, note};
 use histories::Entry;
-use packet_entry::{MAX_VISITS, Packet};
+use packet_entry::{BufferPool, MAX_VISITS, Packet};
 use queue_core::{Begun, Event, NoRoom, Outcome, Reply, Settled};
 use std::alloc::Global;
-
-/// What becomes of an arrival whose queue isn't asked.
-fn decided_outside(held: &Held, arrival: &Offer) -> Option<Outcome>
-    requires replayed { IsReplayed held.now }
-    requires no_offer { held.now.offer ≡ None }
-    ensures outside { IfSome result (λ outcome. (way : Way)
-        × (step_of held.now.entries.items arrival.now.queue
-        (Arrive arrival.now.card arrival.now.bypass true)
-        ≡ record {
-          state = state_of held.now.entries.items arrival.now.queue;
-          reply = Arrived outcome;
-          left = (arrival.now.card, way) ∷ [];
-        })) }
-    ensures early { IfSome result (λ _.
-        is_decided_early (state_of held.now.entries.items arrival.now.queue) arrival.now.card
-        ≡ true) }
-    ensures bound { IfNone result
-        (IsSomeAnd (queue_at held.now.queues arrival.now.queue) (λ q. q.offer ≡ None)) }
-    ensures in_time { IfNone result (arrival.now.card.visit ≢ last_visit) }
-{
-    // It is the packet's 33rd visit: destroyed.
-    if arrival.card.visit == MAX_VISITS {
-        return Some(Outcome::Loop);
-    }
-    // The queue is bound, and decides.
-    if held.queues.contains_key(&arrival.queue) {
-        return None;
-    }
-    // The queue is absent: with the bypass it goes on, without it is destroyed.
-    Some(if arrival.bypass {
-        Outcome::Bypassed
-    } else {
-        Outcome::NoQueue
-    })
-}
 
 /// The entry of an arrival.
 fn arrived(arrival: Offer, room: bool, outcome: Outcome) -> Entry
@@ -72,13 +37,56 @@ fn arrived(arrival: Offer, room: bool, outcome: Outcome) -> Entry
     }
 }
 
+/// What becomes of a packet at an absent queue: with the bypass it goes on, without it is destroyed.
+fn at_no_queue(bypass: bool) -> Outcome
+    ensures { (card : Card) → (way : Way) × (arrive_in_time None card bypass true ≡ record {
+      state = None;
+      reply = Arrived result;
+      left = (card, way) ∷ [];
+    }) }
+{
+    if bypass {
+        Outcome::Bypassed
+    } else {
+        Outcome::NoQueue
+    }
+}
+
+/// An arrival whose queue isn't asked: it has happened, and its packet comes back.
+fn turn_away(held: &mut Held, arrival: Offer, outcome: Outcome, packet: Packet) -> Begun
+    requires replayed { IsReplayed held.old }
+    requires no_offer { held.old.offer ≡ None }
+    requires same { arrival.card ≡ packet }
+    requires visited { 1 ≤ packet.visit }
+    requires in_time { packet.visit ≤ last_visit }
+    requires room { HasRoom held.old 1 }
+    requires outside { (way : Way)
+        × (step_of held.old.entries.items arrival.queue (Arrive arrival.card arrival.bypass true)
+        ≡ record {
+          state = state_of held.old.entries.items arrival.queue;
+          reply = Arrived outcome;
+          left = (arrival.card, way) ∷ [];
+        }) }
+    requires early { is_decided_early (state_of held.old.entries.items arrival.queue)
+        arrival.card ≡ true }
+    ensures replayed { IsReplayed held.new }
+    ensures room { HasRoom held.new 0 }
+    ensures begun { BeginsAs result (as_arrival arrival) held.old.entries.items }
+    ensures after { IsBegun result arrival held.old held.new }
+{
+    note(held, arrived(arrival, true, outcome));
+    Begun::Back { outcome, packet }
+}
+
 /// Begins an arrival, for whose entry there is room: either it has happened then, or its notice is
-/// offered. When memory runs out the packet comes back, and nothing has happened.
+/// offered, in a buffer of the pool. When memory runs out the packet comes back, and nothing has
+/// happened.
 pub(super) fn begin(
     held: &mut Held,
     alloc: Global,
     arrival: Offer,
     packet: Packet,
+    pool: &mut BufferPool,
 ) -> Result<Begun, NoRoom>
     requires replayed { IsReplayed held.old }
     requires no_offer { held.old.offer ≡ None }
@@ -95,11 +103,18 @@ pub(super) fn begin(
     ensures entries { OnErr result (held.new.entries.items ≡ held.old.entries.items) }
     ensures no_offer { OnErr result (held.new.offer ≡ None) }
 {
-    if let Some(outcome) = decided_outside(held, &arrival) {
-        note(held, arrived(arrival, true, outcome));
-        return Ok(Begun::Back { outcome, packet });
+    // It is the packet's 33rd visit: destroyed.
+    if arrival.card.visit == MAX_VISITS {
+        return Ok(turn_away(held, arrival, Outcome::Loop, packet));
     }
-    match bound::begin(&mut held.queues, alloc, arrival.queue, packet) {
+    let asked = match bound::begin(&mut held.queues, alloc, arrival.queue, packet, pool) {
+        Ok(asked) => asked,
+        Err(packet) => {
+            let outcome = at_no_queue(arrival.bypass);
+            return Ok(turn_away(held, arrival, outcome, packet));
+        }
+    };
+    match asked {
         Ok(Begun::Offered { port, letter }) => {
             held.offer = Some(arrival);
             Ok(Begun::Offered { port, letter })

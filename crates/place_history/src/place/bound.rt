@@ -1,7 +1,7 @@
 //! The queues that are bound, by number, and one call at one of them.
 
 ghost use Rattle.std.specs.Prelude.{◌≡◌, ◌≢◌, ◌≤◌, ◌+◌, ◌++◌, ℕ, [], length, Some, None, false};
-ghost use Rattle.std.specs.Prelude.{IsSomeAnd, IfSome, IfOk, OnOk, IfErr, OnErr, option_to_list};
+ghost use Rattle.std.specs.Prelude.{◌∷◌, IsSomeAnd, IfSome, IfOk, OnOk, IfErr, OnErr, option_map};
 ghost use Rattle.std.specs.BTreeMap.{btree_map_len};
 ghost use Rattle.packet_entry.specs.Numbers.{longest_payload};
 ghost use Rattle.nfqa_msgs.specs.declared.request.Request.TheVariants.{Verdict, Batch};
@@ -10,36 +10,42 @@ ghost use Rattle.queue_core.specs.declared.event.Reply.TheVariants.{Flushed};
 ghost use Rattle.queue_core.specs.Calls.{BeginsArrival, SettlesArrival, hands_out, batch_handed};
 ghost use Rattle.queue_core.specs.Decision.{IsVerdict};
 ghost use Rattle.queue_core.specs.State.{configured};
-ghost use Rattle.queue_core.specs.Step.{are_flags_refused, all_gone, step};
+ghost use Rattle.queue_core.specs.Step.{are_flags_refused, all_gone, step, unchanged};
 ghost use Rattle.place_history.specs.Changes.{queue_at, OthersStay, Changes, AreSame};
 
 use hook_chain::Decision;
 use nfqa_msgs::{Head, Params};
-use packet_entry::{Bytes, NoMemory, Packet};
-use queue_core::{Begun, Handed, NoRoom, Queue, Settled};
+use packet_entry::{BufferPool, Bytes, NoMemory, Packet};
+use queue_core::{Begun, ENODEV, ENOENT, Handed, NoRoom, Queue, Settled, ruling};
 use std::alloc::Global;
 use std::collections::BTreeMap;
 
 /// The bound queues, by ascending number.
 pub(super) type Queues = BTreeMap<u16, Queue>;
 
-/// Begins an arrival at a bound queue.
+/// Begins an arrival at a queue, whose notice is written into a buffer of the pool. Where the queue
+/// is absent, the packet comes back.
 pub(super) fn begin(
     queues: &mut Queues,
     alloc: Global,
     number: u16,
     packet: Packet,
-) -> Result<Begun, NoRoom>
-    requires bound { IsSomeAnd (queue_at queues.old number) (λ q. q.offer ≡ None) }
-    ensures begun { IfOk result (λ begun. Changes queues.old queues.new number
-        (λ old new. BeginsArrival begun number packet old new)) }
-    ensures returned { IfErr result (λ back. back.packet ≡ packet) }
+    pool: &mut BufferPool,
+) -> Result<Result<Begun, NoRoom>, Packet>
+    requires no_offer { IfSome (queue_at queues.old number) (λ q. q.offer ≡ None) }
+    ensures begun { IfOk result (λ asked. IfOk asked (λ begun.
+        Changes queues.old queues.new number
+        (λ old new. BeginsArrival begun number packet old new))) }
+    ensures no_room { IfOk result (λ asked. IfErr asked (λ back. back.packet ≡ packet)) }
+    ensures unchanged { IfOk result (λ asked. OnErr asked (AreSame queues.old queues.new)) }
+    ensures absent { OnErr result (queue_at queues.old number ≡ None) }
+    ensures returned { IfErr result (λ back. back ≡ packet) }
     ensures err { OnErr result (AreSame queues.old queues.new) }
 {
     let Some(queue) = queues.get_mut(&number) else {
-        unreachable!()
+        return Err(packet);
     };
-    queue.begin(alloc, number, packet)
+    Ok(queue.begin_in(alloc, number, packet, pool))
 }
 
 /// Settles the arrival that was begun at a bound queue. Takes no memory.
@@ -54,28 +60,60 @@ pub(super) fn settle(queues: &mut Queues, number: u16, room: bool) -> Settled
     queue.settle(room)
 }
 
-/// Carries out a verdict at a bound queue. Takes no memory.
+/// Carries out a verdict of a port at a queue: what leaves, or the errno where nothing does. Takes
+/// no memory.
 pub(super) fn verdict(
     queues: &mut Queues,
     number: u16,
-    head: Head,
+    port: u32,
+    head: Option<Head>,
     mark: Option<u32>,
     payload: Option<Bytes>,
     priority: Option<u32>,
-) -> Option<(Packet, Decision)>
-    requires known { IsVerdict head.verdict }
+) -> Result<(Packet, Decision), u16>
     requires payload { IfSome payload (λ bytes. length bytes ≤ longest_payload) }
-    requires bound { IsSomeAnd (queue_at queues.old number) (λ q. q.offer ≡ None) }
-    ensures { Changes queues.old queues.new number (λ old new. (new.offer ≡ None)
-        × ((queue call : ℕ) →
-        step (Some old.state)
-        (Ask old.state.port call (Verdict queue (Some head) mark payload priority))
-        ≡ hands_out new.state (option_to_list result))) }
+    requires no_offer { IfSome (queue_at queues.old number) (λ q. q.offer ≡ None) }
+    ensures leaves { IfOk result (λ out. Changes queues.old queues.new number (λ old new.
+        (new.offer ≡ None) × ((queue call : ℕ) →
+        step (Some old.state) (Ask port call (Verdict queue head mark payload priority))
+        ≡ hands_out new.state (out ∷ [])))) }
+    ensures refused { IfErr result (λ errno. (queue call : ℕ) →
+        step (option_map (λ q. q.state) (queue_at queues.old number))
+        (Ask port call (Verdict queue head mark payload priority))
+        ≡ unchanged (option_map (λ q. q.state) (queue_at queues.old number)) errno) }
+    ensures err { OnErr result (AreSame queues.old queues.new) }
 {
     let Some(queue) = queues.get_mut(&number) else {
-        unreachable!()
+        return Err(ENODEV);
     };
-    queue.verdict(head, mark, payload, priority)
+    verdict_at(queue, port, head, mark, payload, priority)
+}
+
+/// Carries out a verdict of a port at a bound queue: what leaves, or the errno where nothing does.
+/// Takes no memory.
+fn verdict_at(
+    queue: &mut Queue,
+    port: u32,
+    head: Option<Head>,
+    mark: Option<u32>,
+    payload: Option<Bytes>,
+    priority: Option<u32>,
+) -> Result<(Packet, Decision), u16>
+    requires payload { IfSome payload (λ bytes. length bytes ≤ longest_payload) }
+    requires no_offer { queue.old.offer ≡ None }
+    ensures leaves { IfOk result (λ out. (number call : ℕ) →
+        step (Some queue.old.state) (Ask port call (Verdict number head mark payload priority))
+        ≡ hands_out queue.new.state (out ∷ [])) }
+    ensures no_offer { OnOk result (queue.new.offer ≡ None) }
+    ensures refused { IfErr result (λ errno. (number call : ℕ) →
+        step (Some queue.old.state) (Ask port call (Verdict number head mark payload priority))
+        ≡ unchanged (Some queue.old.state) errno) }
+    ensures err { OnErr result (queue.new ≡ queue.old) }
+{
+    match ruling(Some(queue.port()), port, head) {
+        Ok(head) => queue.verdict(head, mark, payload, priority).ok_or(ENOENT),
+        Err(errno) => Err(errno),
+    }
 }
 
 /// Carries out a batch at a bound queue, and appends what it hands out.

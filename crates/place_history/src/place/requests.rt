@@ -215,49 +215,23 @@ pub(super) fn verdict(
         priority,
     };
     handed.make_room(1)?;
-    match ruling(port_of(held, asker.queue), asker.port, head) {
+    match bound::verdict(
+        &mut held.queues,
+        asker.queue,
+        asker.port,
+        head,
+        mark,
+        payload,
+        priority,
+    ) {
+        Ok((packet, decision)) => {
+            append(held, answered(asker, request, 0, 1));
+            hand_on(handed, packet, decision);
+            Ok(0)
+        }
         Err(errno) => {
             note(held, answered(asker, request, errno, 0));
             Ok(errno)
-        }
-        Ok(head) => Ok(carry_out(held, asker, head, mark, payload, priority, request, handed)),
-    }
-}
-
-/// Carries out a verdict that isn't refused. Takes no memory.
-fn carry_out(
-    held: &mut Held,
-    asker: Asker,
-    head: Head,
-    mark: Option<u32>,
-    payload: Option<Bytes>,
-    priority: Option<u32>,
-    request: Request,
-    handed: &mut Handed,
-) -> u16
-    requires replayed { IsReplayed held.old }
-    requires no_offer { held.old.offer ≡ None }
-    requires room { HasRoom held.old 1 }
-    requires payload { IfSome payload (λ bytes. length bytes ≤ longest_payload) }
-    requires allowed { IsAllowed (state_of held.old.entries.items asker.queue) asker.port
-        (Some head) head }
-    requires request { request ≡ Verdict asker.queue (Some head) mark payload priority }
-    requires handed_room { 0 < handed.old.room }
-    ensures replayed { IsReplayed held.new }
-    ensures no_offer { held.new.offer ≡ None }
-    ensures room { HasRoom held.new 0 }
-    ensures entered { HandsOut held.old held.new asker.queue
-        (Ask asker.port asker.call request) result handed.old.items handed.new.items }
-{
-    match bound::verdict(&mut held.queues, asker.queue, head, mark, payload, priority) {
-        None => {
-            append(held, answered(asker, request, ENOENT, 0));
-            ENOENT
-        }
-        Some((packet, decision)) => {
-            append(held, answered(asker, request, 0, 1));
-            hand_on(handed, packet, decision);
-            0
         }
     }
 }
@@ -299,13 +273,13 @@ pub(super) fn batch(
 {
     match ruling(port_of(held, asker.queue), asker.port, head) {
         Err(errno) => {
-            let request = Request::Batch {
+            let refused = Request::Batch {
                 queue: asker.queue,
                 head,
                 mark,
                 priority,
             };
-            note(held, answered(asker, request, errno, 0));
+            note(held, answered(asker, refused, errno, 0));
             Ok(errno)
         }
         Ok(head) => share_out(held, alloc, asker, head, mark, priority, handed),
