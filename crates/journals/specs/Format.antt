@@ -172,9 +172,9 @@ title v = codes "nfq-journal " ++ version_number v
 abbrev pub heading : Version → List ℕ
 heading v = title v ++ codes "\n"
 
-abbrev pub journal_in : Version → Histories → List ℕ
-journal_in v h = heading v ++ histories v h ++ codes "end\n"
+-- the last line, with its end
+abbrev pub ending : List ℕ
+ending = codes "end\n"
 
--- what stands behind the entries
-abbrev pub tail : Version → List PortLog → List ℕ
-tail v ls = logs v ls ++ codes "end\n"
+abbrev pub journal_in : Version → Histories → List ℕ
+journal_in v h = heading v ++ histories v h ++ ending

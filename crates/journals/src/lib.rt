@@ -14,7 +14,9 @@ mod writing;
 
 pub use appending::{append_number, append_text, append_word};
 pub use fits::histories_fit;
-pub use line_room::{entry_room, number_is_short};
+pub use line_room::{did_room, entry_room, number_is_short, port_room};
 pub use placing::{put_number, put_word};
 pub use version::Version;
-pub use writing::{append_entry, append_heading, journal_tail, journal_text};
+pub use writing::{
+    append_did, append_ending, append_entry, append_heading, append_port, journal_text,
+};

@@ -1,4 +1,4 @@
-//! How many bytes the line of an entry has at most.
+//! How many bytes the lines of a journal have at most.
 
 ghost use Rattle.std.specs.Prelude.{◌≡◌, ◌+◌, ◌≤◌, ◌++◌, length, IfSome, decimal, codes};
 ghost use Rattle.text_lines.specs.Hexadecimal.{hexadecimal};
@@ -10,7 +10,7 @@ ghost use Rattle.journals.specs.Journal as today;
 use crate::digits::DIGITS;
 use crate::fits::{half, head_fits, request_fits, some_wide};
 use crate::version::Version;
-use histories::{Entry, Event, Reply};
+use histories::{AskWords, Did, Entry, Event, Reply};
 use nfqa_msgs::{Head, Request};
 use packet_entry::{Bytes, Card};
 use queue_core::Outcome;
@@ -23,6 +23,12 @@ const REQUEST: usize = 200;
 const EVENT: usize = 70;
 /// What an entry's line says of its reply has at most so many bytes, with the line's end.
 const REPLY: usize = 50;
+/// The line that a port's log begins with has at most so many bytes.
+const PORT: usize = 25;
+/// The line of what a port did has at most so many bytes beside what was sent.
+const DID: usize = 70;
+/// The word of a message that isn't in words, and the blank after it.
+const RAW: usize = 4;
 
 /// So many bytes hold the line of an entry with its end; `None` where they are too many to be
 /// counted.
@@ -31,6 +37,46 @@ pub fn entry_room(entry: &Entry) -> Option<usize>
 {
     reply_is_short(&entry.reply);
     event_room(entry.queue, &entry.event)?.checked_add(REPLY)
+}
+
+/// So many bytes hold the line that a port's log begins with, with its end.
+pub fn port_room(port: u32) -> usize
+    ensures { length (today.port port) ≤ result }
+{
+    number_is_short(port as u64);
+    PORT
+}
+
+/// So many bytes hold the line of what a port did with its end; `None` where they are too many to be
+/// counted.
+pub fn did_room(did: &Did) -> Option<usize>
+    ensures { IfSome result (λ room. length (today.did did.now) ≤ room) }
+{
+    match did {
+        Did::Received {
+            queue,
+            number,
+            visit,
+        } => {
+            three_are_short("R ", *queue, *number, *visit);
+            Some(DID)
+        }
+        Did::Sent { call, ask, answer } => {
+            number_is_short(*call as u64);
+            answer_is_short(*answer);
+            ask_room(ask)?.checked_add(DID)
+        }
+        Did::Closed => Some(DID),
+    }
+}
+
+fn ask_room(ask: &AskWords) -> Option<usize>
+    ensures { IfSome result (λ room. length (text.ask Second ask.now) ≤ room) }
+{
+    match ask {
+        AskWords::Plain { request } => request_room(request),
+        AskWords::Raw { bytes } => bytes_room(bytes)?.checked_add(RAW),
+    }
 }
 
 fn event_room(queue: u16, event: &Event) -> Option<usize>

@@ -1,7 +1,7 @@
 //! How much memory a journal takes, so that it is taken at once.
 
 use crate::digits::DIGITS;
-use histories::{AskWords, Did, Entry, Event, Histories, Logs, PortLog};
+use histories::{AskWords, Did, Entry, Event, Histories, PortLog};
 use nfqa_msgs::Request;
 use packet_entry::Bytes;
 
@@ -15,13 +15,7 @@ pub fn room_for(histories: &Histories) -> usize {
     for entry in &histories.entries {
         room = room.saturating_add(of_entry(entry));
     }
-    room.saturating_add(room_for_logs(&histories.logs))
-}
-
-/// The same for what stands behind the entries.
-pub fn room_for_logs(logs: &Logs) -> usize {
-    let mut room = LINE;
-    for log in logs {
+    for log in &histories.logs {
         room = room.saturating_add(of_log(log));
     }
     room

@@ -1,6 +1,6 @@
 //! From histories to a journal's text.
 
-ghost use Rattle.std.specs.Prelude.{◌≡◌, ◌+◌, ◌≤◌, ◌++◌, OnOk, OnErr, IfOk, codes, length, take};
+ghost use Rattle.std.specs.Prelude.{◌≡◌, ◌+◌, ◌≤◌, ◌++◌, OnOk, OnErr, codes, length, take};
 ghost use Rattle.std.specs.Prelude.{decimal};
 ghost use Rattle.text_lines.specs.Hexadecimal.{hexadecimal};
 ghost use Rattle.journals.specs.Appending.{Appends};
@@ -17,7 +17,7 @@ use crate::parts::{
     put_answer, put_arrival, put_config, put_new_priority, put_reply, put_three, put_verdict,
 };
 use crate::placing::{put_number, put_word};
-use crate::room::{room_for, room_for_logs};
+use crate::room::room_for;
 use crate::version::Version;
 use histories::{
     AskWords, Did, Dids, Entries, Entry, Event, Histories, Logs, PortLog, Reply, queue_of,
@@ -59,11 +59,12 @@ pub(crate) fn push_journal(
 {
     push_heading(version, out)?;
     push_histories(version, histories, out)?;
-    append_word("end\n", out)
+    append_ending(out)
 }
 
-/// Appends a journal's first line. So a journal can be written part by part: this line, each
-/// entry's ([`append_entry`]), and its tail ([`journal_tail`]).
+/// Appends a journal's first line. So a journal can be written line by line: this one, each entry's
+/// ([`append_entry`]), for each log the port's ([`append_port`]) and those of what it did
+/// ([`append_did`]), and the last one ([`append_ending`]).
 pub fn append_heading(out: &mut Vec<u8>) -> Result<(), AllocError>
     ensures { Appends result out.old out.new today.heading }
 {
@@ -79,14 +80,11 @@ fn push_heading(version: Version, out: &mut Vec<u8>) -> Result<(), AllocError>
     }
 }
 
-/// What stands behind the entries of a journal: the ports' logs, and the last line.
-pub fn journal_tail(alloc: Global, logs: &Logs) -> Result<Vec<u8>, NoMemory>
-    ensures { IfOk result (λ tail. tail.items ≡ today.tail logs.now) }
+/// Appends a journal's last line.
+pub fn append_ending(out: &mut Vec<u8>) -> Result<(), AllocError>
+    ensures { Appends result out.old out.new today.ending }
 {
-    let mut tail = Vec::with_capacity(alloc, room_for_logs(logs))?;
-    push_logs(WRITTEN, logs, &mut tail)?;
-    append_word("end\n", &mut tail)?;
-    Ok(tail)
+    append_word("end\n", out)
 }
 
 fn push_histories(
@@ -123,9 +121,17 @@ fn push_logs(version: Version, logs: &Logs, out: &mut Vec<u8>) -> Result<(), All
 fn push_log(version: Version, log: &PortLog, out: &mut Vec<u8>) -> Result<(), AllocError>
     ensures { OnOk result (out.new.items ≡ out.old.items ++ text.log version log.now) }
 {
-    append_number("P ", log.port as u64, out)?;
-    append_word("\n", out)?;
+    append_port(log.port, out)?;
     push_dids(version, &log.dids, out)
+}
+
+/// Appends the line that a port's log begins with, with its end. Takes no memory where there is
+/// room for the line, as [`port_room`](crate::port_room) bytes are.
+pub fn append_port(port: u32, out: &mut Vec<u8>) -> Result<(), AllocError>
+    ensures { Appends result out.old out.new (today.port port) }
+{
+    append_number("P ", port as u64, out)?;
+    append_word("\n", out)
 }
 
 fn push_dids(version: Version, dids: &Dids, out: &mut Vec<u8>) -> Result<(), AllocError>
@@ -356,6 +362,15 @@ fn push_reply(reply: &Reply, out: &mut Vec<u8>) -> Result<(), AllocError>
     let at = put_reply(reply, &mut line, 0);
     let end = put_word("\n", &mut line, at);
     out.extend_from_slice(&line[..end])
+}
+
+/// Appends the line of what a port did, with its end. Takes no memory where there is room for the
+/// line, as [`did_room`](crate::did_room) bytes are. Out of memory a part of the line may stand
+/// there.
+pub fn append_did(did: &Did, out: &mut Vec<u8>) -> Result<(), AllocError>
+    ensures { Appends result out.old out.new (today.did did.now) }
+{
+    push_did(WRITTEN, did, out)
 }
 
 fn push_did(version: Version, did: &Did, out: &mut Vec<u8>) -> Result<(), AllocError>

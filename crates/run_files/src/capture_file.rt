@@ -5,8 +5,8 @@ ghost use Rattle.host_io.specs.Host.{ChangesOnly, IsLater, Rises};
 ghost use Rattle.pcap_io.specs.Text.{IsHeld, capture_text};
 ghost use Rattle.run_files.specs.Parts.{IsCaptureReady};
 
-use crate::part_writing::{PART, make_room};
-use host_io::{Host, WriteFault, write_on};
+use crate::part_writing::Part;
+use host_io::{Host, WriteFault};
 use packet_entry::{MAX_FRAME, NoMemory};
 use pcap_io::{Capture, file_size, put_header, put_record};
 use std::alloc::Global;
@@ -21,7 +21,7 @@ const RECORD: usize = 16 + MAX_FRAME;
 pub struct CaptureFile {
     capture: Capture,
     /// Where a part is built.
-    part: Vec<u8>,
+    part: Part,
 }
 
 impl Model for CaptureFile {
@@ -33,7 +33,7 @@ impl Model for CaptureFile {
 
     ghost view = { λ f. capture_text f.capture };
 
-    ghost invariant = { λ f. IsCaptureReady f.capture f.part };
+    ghost invariant = { λ f. IsCaptureReady f.capture f.part.at f.part.bytes };
 }
 
 impl CaptureFile {
@@ -48,7 +48,7 @@ impl CaptureFile {
         };
         Ok(CaptureFile {
             capture,
-            part: Vec::with_capacity(alloc, PART + RECORD)?,
+            part: Part::new(alloc, RECORD)?,
         })
     }
 
@@ -71,9 +71,9 @@ fn write_parts<H: Host>(
     host: &mut H,
     name: &str,
     capture: &Capture,
-    part: &mut Vec<u8>,
+    part: &mut Part,
 ) -> Result<(), WriteFault>
-    requires { IsCaptureReady capture.now part.old }
+    requires { IsCaptureReady capture.now part.old.at part.old.bytes }
     ensures bytes { OnOk result (IsTrue (H.tells host.old) →
         H.content host.new name.now ≡ Some (capture_text capture.now)) }
     ensures write_fault { OnErr result
@@ -81,11 +81,10 @@ fn write_parts<H: Host>(
     ensures files { ChangesOnly name.now (H.content host.old) (H.content host.new) }
     ensures later { IsLater H.tells H.read_faults H.write_faults host.old host.new }
 {
-    put_header(capture, part);
-    let mut at = 0;
+    put_header(capture, &mut part.bytes);
     for frame in &capture.frames {
-        at = make_room(host, name, at, part, RECORD)?;
-        put_record(capture.big, frame, part);
+        part.make_room(host, name, RECORD)?;
+        put_record(capture.big, frame, &mut part.bytes);
     }
-    write_on(host, name, at, part)
+    part.write(host, name)
 }

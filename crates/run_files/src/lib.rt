@@ -12,6 +12,8 @@
 mod capture_file;
 mod inputs;
 mod journal_file;
+mod journal_lines;
+mod journal_room;
 mod old_journal;
 mod outputs;
 mod part_writing;

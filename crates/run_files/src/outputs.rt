@@ -11,8 +11,7 @@ ghost use Rattle.run_files.specs.Outputs as text;
 use crate::capture_file::CaptureFile;
 use crate::journal_file::JournalFile;
 use fate_ledger::{FateLines, fates, ledger_text, released_capture};
-use histories::{Histories, Logs};
-use journals::journal_tail;
+use histories::Histories;
 use packet_entry::NoMemory;
 use pcap_io::Capture;
 use std::alloc::Global;
@@ -43,26 +42,13 @@ pub fn outputs_of(
         ≡ text.ledger_text capture.now histories) }
     ensures journal { IfOk result (λ o. o.journal ≡ text.journal_text histories) }
 {
-    // The logs are spelled and end first, so that what the other files take comes in their place.
-    let Histories {
-        entries,
-        logs,
-        lost,
-    } = histories;
-    let tail = journal_tail(alloc, &logs)?;
-    drop(logs);
-    let ended = Histories {
-        entries,
-        logs: Logs::new(alloc),
-        lost,
-    };
-    let lines = fates(alloc, capture, &ended)?;
+    let lines = fates(alloc, capture, &histories)?;
     let mut ledger = Vec::new(alloc);
     ledger_text(alloc, &lines, &mut ledger)?;
     Ok(Outputs {
         capture: released_file(alloc, capture, &lines)?,
         ledger,
-        journal: JournalFile::of_entries(alloc, ended.entries, tail)?,
+        journal: JournalFile::new(alloc, histories)?,
     })
 }
 

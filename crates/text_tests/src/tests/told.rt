@@ -2,7 +2,10 @@
 
 use histories::Histories;
 use journal_reading::{JournalFault, read_either_journal, read_journal, read_old_journal};
-use journals::{append_entry, append_heading, entry_room, journal_tail, journal_text};
+use journals::{
+    append_did, append_ending, append_entry, append_heading, append_port, did_room, entry_room,
+    journal_text, port_room,
+};
 use packet_entry::NoMemory;
 use std::alloc::Global;
 use std::test::Fail;
@@ -108,30 +111,38 @@ fn read(alloc: Global, reading: Reading, text: &[u8]) -> Result<Histories, Journ
     }
 }
 
-/// The journal of histories, part by part.
-fn push_parts(alloc: Global, histories: &Histories, out: &mut Vec<u8>) -> Result<(), NoMemory> {
+/// The journal of histories, line by line.
+fn push_lines(histories: &Histories, out: &mut Vec<u8>) -> Result<(), NoMemory> {
     append_heading(out)?;
     for entry in &histories.entries {
         out.reserve(entry_room(entry).ok_or(NoMemory)?)?;
         append_entry(entry, out)?;
     }
-    out.append(&mut journal_tail(alloc, &histories.logs)?)?;
+    for log in &histories.logs {
+        out.reserve(port_room(log.port))?;
+        append_port(log.port, out)?;
+        for did in &log.dids {
+            out.reserve(did_room(did).ok_or(NoMemory)?)?;
+            append_did(did, out)?;
+        }
+    }
+    append_ending(out)?;
     Ok(())
 }
 
-/// What is written of what a text is read as: whole, behind a byte that was there, and once more in
-/// parts.
+/// What is written of what a text is read as: whole, behind a byte that was there, and once more
+/// line by line.
 fn told_again(alloc: Global, reading: Reading, text: &str) -> Result<(Vec<u8>, Vec<u8>), Fail> {
-    let (mut whole, mut parts) = (Vec::new(alloc), Vec::new(alloc));
+    let (mut whole, mut lines) = (Vec::new(alloc), Vec::new(alloc));
     whole.push(b'>')?;
     match read(alloc, reading, text.as_bytes()) {
         Ok(histories) => {
             journal_text(alloc, &histories, &mut whole)?;
-            push_parts(alloc, &histories, &mut parts)?;
+            push_lines(&histories, &mut lines)?;
         }
         Err(fault) => return Err(Fail::new(fault)),
     }
-    Ok((whole, parts))
+    Ok((whole, lines))
 }
 
 /// The journal of a port that sent 150 messages of 4,096 bytes each: more than 1 MiB.
@@ -162,9 +173,9 @@ fn journals_are_read_and_written_again(rt: HostRuntime) -> Result<(), Fail> {
         (Reading::Either, EACH_KIND, EACH_KIND),
     ];
     for (reading, text, wanted) in &rows {
-        let (whole, parts) = told_again(alloc, *reading, text)?;
+        let (whole, lines) = told_again(alloc, *reading, text)?;
         assert!(rt; whole.as_slice().strip_prefix(b">") == Some(wanted.as_bytes()));
-        assert!(rt; parts.as_slice() == wanted.as_bytes());
+        assert!(rt; lines.as_slice() == wanted.as_bytes());
     }
     Ok(())
 }
