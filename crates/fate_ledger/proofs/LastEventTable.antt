@@ -4,14 +4,16 @@ use Rattle.std.proofs.Common.{length}
 use Rattle.std.proofs.Common.{Option, Some, None, Bool, true, false, cond, refl, sym, ap, ◌∙◌}
 use Rattle.std.proofs.Common.{arith}
 use Rattle.std.proofs.Common.{inl, inr, append_assoc}
-use Rattle.std.proofs.lemmas.List.{append-nil}
-use Rattle.std.specs.Prelude.{◌==◌, slice_get, slice_set, ◌&&◌, ◌||◌}
+use Rattle.std.proofs.lemmas.List.{append-nil, reverse-append}
+use Rattle.std.proofs.lemmas.Option.{none-some, same_Some}
+use Rattle.std.specs.Prelude.{reverse, ◌==◌, slice_get, slice_set, ◌&&◌, ◌||◌}
 use Rattle.std.specs.Ordering.{nat_cmp}
 use Rattle.std.specs.Cmp.{unsigned_ties}
 use Rattle.std.specs.BTreeMap.{is_at}
 use Rattle.std.specs.BTreeSet.{BTreeSet, contains}
 use Rattle.std.proofs.lemmas.Bool.{eq-eqb, ne_eqb, cases_lt}
 use Rattle.fate_ledger.specs.declared.happening.Happening.{Happening}
+use Rattle.fate_ledger.specs.declared.fate.FateLine.{FateLine}
 use Rattle.pcap_io.specs.declared.capture.Frame.{Frame}
 use Rattle.histories.specs.declared.histories.Lost.{Lost}
 use Rattle.fate_ledger.specs.Fates.{last_of, later_of, is_later, fate_line, is_lost, fates_from}
@@ -162,6 +164,47 @@ length-lines test k [] ls same = refl
 length-lines test k (f ∷ fs) [] same = absurd (omega (arith, same))
 length-lines test k (f ∷ fs) (l ∷ ls) same =
     ap suc (length-lines test (k + 1) fs ls (omega (arith, same)))
+
+-- no last events, no lines
+pub no_lines : (test : ℕ → Bool) (k : ℕ) (fs : List Frame) → lines_with test k fs [] ≡ []
+no_lines test k [] = refl
+no_lines test k (f ∷ fs) = refl
+
+-- one last event more, and one line
+line_more : (test : ℕ → Bool) (k : ℕ) (fs : List Frame) (ls : List (Option Happening))
+    (f : Frame) (l : Option Happening) (number : ℕ) → slice_get fs (length ls) ≡ Some f →
+    number ≡ k + length ls → lines_with test k fs (ls ++ l ∷ [])
+    ≡ lines_with test k fs ls ++ fate_line (test number) number f l ∷ []
+line_more test k [] ls f l number is at = absurd (none-some f is)
+line_more test k (g ∷ fs) [] f l number is at =
+    ap (λ h. fate_line (test k) k h l ∷ lines_with test (k + 1) fs []) (same_Some g f is)
+    ∙ ap (λ xs. fate_line (test k) k f l ∷ xs) (no_lines test (k + 1) fs)
+    ∙ ap (λ n. fate_line (test n) n f l ∷ []) here
+  where
+    here : k ≡ number
+    here = omega (arith, at)
+line_more test k (g ∷ fs) (m ∷ ls) f l number is at =
+    ap (λ xs. fate_line (test k) k g m ∷ xs)
+    (line_more test (k + 1) fs ls f l number is (omega (arith, at)))
+
+-- lines are made from the back: one frame fewer is left
+pub from_the_back : (test : ℕ → Bool) (fs : List Frame) (old left : List (Option Happening))
+    (l : Option Happening) (done more whole : List FateLine) (f : Frame) (number : ℕ) →
+    old ≡ left ++ l ∷ [] → slice_get fs (length left) ≡ Some f → number ≡ length left + 1 →
+    more ≡ done ++ fate_line (test number) number f l ∷ [] →
+    lines_with test 1 fs old ++ reverse done ≡ whole →
+    lines_with test 1 fs left ++ reverse more ≡ whole
+from_the_back test fs old left l done more whole f number popped is at grown before =
+    ap (λ (xs : List FateLine). lines_with test 1 fs left ++ reverse xs) grown
+    ∙ ap (λ (xs : List FateLine). lines_with test 1 fs left ++ xs)
+    (reverse-append done (fate_line (test number) number f l ∷ []))
+    ∙ sym (append_assoc (lines_with test 1 fs left) (fate_line (test number) number f l ∷ [])
+    (reverse done))
+    ∙ ap (λ (xs : List FateLine). xs ++ reverse done)
+    (sym (line_more test 1 fs left f l number is (omega (arith, at))))
+    ∙ ap (λ (ls : List (Option Happening)). lines_with test 1 fs ls ++ reverse done)
+    (sym popped)
+    ∙ before
 
 -- ---- lost packets
 

@@ -20,6 +20,9 @@ use std::collections::BTreeSet;
 /// Numbers of packets.
 type Numbers = BTreeSet<u32>;
 
+/// After so many lines the memory of their last events is given back.
+const GIVEN_BACK: usize = 8_192;
+
 /// What became of each frame, in the order of the capture: the line of its packet's last event.
 ///
 /// The histories are those of the capture's packets, which are numbered as their frames, from 1.
@@ -79,7 +82,7 @@ fn lost_numbers(alloc: Global, losts: &Losts) -> Result<Numbers, NoMemory>
 fn lines_with(
     alloc: Global,
     frames: &Frames,
-    lasts: Lasts<'_>,
+    mut lasts: Lasts<'_>,
     lost: &Numbers,
 ) -> Result<FateLines, NoMemory>
     requires few { length frames.now + 1 < 2 ^ 32 }
@@ -88,16 +91,26 @@ fn lines_with(
         lines ≡ following.lines_with (contains nat_cmp lost.now) 1 frames.now lasts.entry.items) }
 {
     let mut lines = Vec::with_capacity(alloc, frames.len())?;
-    let mut rest = frames.iter();
-    let mut number = 1;
-    for last in lasts {
-        let Some(frame) = rest.next() else {
+    // From the back, so that last events give their memory back as the lines grow.
+    while let Some(last) = lasts.pop() {
+        let left = lasts.len();
+        let Some(frame) = frames.get(left) else {
             unreachable!()
         };
-        lines.push(line(lost, number, frame, last)?)?;
-        number += 1;
+        lines.push(line(lost, left as u32 + 1, frame, last)?)?;
+        give_back(&mut lasts);
     }
+    lines.reverse();
     Ok(FateLines::from_vec(lines))
+}
+
+/// Gives back the memory that the last events don't need any more, now and then.
+fn give_back(lasts: &mut Lasts<'_>)
+    ensures { lasts.new.items ≡ lasts.old.items }
+{
+    if lasts.len() % GIVEN_BACK == 0 {
+        lasts.shrink_to_fit();
+    }
 }
 
 /// The line of the frame with this number, whose packet has this last event.

@@ -6,19 +6,22 @@ ghost use Rattle.fate_ledger.specs.Following as following;
 
 use crate::Fate;
 use crate::card_view::CardView;
+use std::mem::size_of;
 
 /// An event of a packet.
 #[derive(Debug, Drop)]
 pub struct Happening<'a> {
-    /// The queue where it happened.
-    pub queue: u16,
     /// The place of its entry in the queue's history, counted from 1.
     pub at: u64,
-    /// What became of the packet, if this is its last event and it wasn't lost.
-    pub fate: Fate,
     /// The packet there, after its edits.
     pub card: CardView<'a>,
+    /// The queue where it happened.
+    pub queue: u16,
+    /// What became of the packet, if this is its last event and it wasn't lost.
+    pub fate: Fate,
 }
+
+const _: () = prove!(size_of::<Option<Happening<'static>>>() == 48);
 
 /// The last event of each packet so far; that of the packet with number 1 stands first.
 pub(crate) type Lasts<'a> = Vec<Option<Happening<'a>>>;
