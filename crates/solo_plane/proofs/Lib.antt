@@ -5,3 +5,5 @@ pub mod UnchangedLogs
 pub mod SentMessage
 pub mod OpenPorts
 pub mod DistinctPorts
+pub mod QuietPorts
+pub mod OneVerdict

@@ -6,3 +6,4 @@ pub mod Invariant
 pub mod PlaneView
 pub mod Closing
 pub mod Notices
+pub mod Requests

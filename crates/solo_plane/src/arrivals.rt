@@ -1,6 +1,6 @@
 //! Arrivals, and packets that move on, each to its rest or its end.
 
-ghost use Rattle.std.specs.Prelude.{◌≡◌, ◌<◌, ◌≤◌, ◌-◌, ℕ, suc, List};
+ghost use Rattle.std.specs.Prelude.{◌≡◌, ◌<◌, ◌≤◌, ◌+◌, ◌-◌, ℕ, suc, List};
 ghost use Rattle.std.specs.Prelude.{Some, IfSome, IsSome, IfOk, OnOk, IfErr, OnErr};
 ghost use Rattle.packet_entry.specs.declared.packet.Card.{Card};
 ghost use Rattle.packet_entry.specs.Numbers.{last_visit};
@@ -176,6 +176,30 @@ fn step(
     }
 }
 
+/// Moves a packet on by a route, or destroys it where there is none: to its rest or its end.
+pub(crate) fn carry_on(
+    held: &mut Held,
+    alloc: Global,
+    setting: &Setting,
+    packet: Packet,
+    route: Option<Next>,
+) -> Fed
+    requires ready { IsReady held.old.place }
+    requires in_time { packet.visit < last_visit }
+    requires room { 0 < held.old.lost.room }
+    ensures ready { IsReady held.new.place }
+    ensures carried { IsCarried setting.now (world_of held.old) (GoesOn packet route)
+        (world_of held.new) result }
+    ensures room { held.old.lost.room ≤ held.new.lost.room + 1 }
+    ensures fed { held.new.fed ≡ held.old.fed }
+    ensures logs { logs_of held.new.ports ≡ logs_of held.old.ports }
+{
+    match step(held, alloc, setting, packet, route) {
+        Came::Ended { fed } => fed,
+        Came::GoesOn { packet, route } => carry_on(held, alloc, setting, packet, route),
+    }
+}
+
 /// Moves a packet on to its rest or its end.
 pub(crate) fn carry(held: &mut Held, alloc: Global, setting: &Setting, came: Came) -> Fed
     requires ready { IsReady held.old.place }
@@ -189,9 +213,6 @@ pub(crate) fn carry(held: &mut Held, alloc: Global, setting: &Setting, came: Cam
 {
     match came {
         Came::Ended { fed } => fed,
-        Came::GoesOn { packet, route } => {
-            let came = step(held, alloc, setting, packet, route);
-            carry(held, alloc, setting, came)
-        }
+        Came::GoesOn { packet, route } => carry_on(held, alloc, setting, packet, route),
     }
 }

@@ -1,20 +1,23 @@
 //! Requests, and the packets that they let go on.
 
-ghost use Rattle.std.specs.Prelude.{◌≡◌, ◌≤◌, [], length, IfOk, OnOk, OnErr};
+ghost use Rattle.std.specs.Prelude.{◌≡◌, ◌≤◌, ℕ, [], length, IfOk, OnErr};
 ghost use Rattle.nfqa_msgs.specs.RequestReading.{PayloadFits};
-ghost use Rattle.histories.specs.Happenings.{all_handed};
+ghost use Rattle.queue_core.specs.declared.event.Event.TheVariants.{Ask};
+ghost use Rattle.histories.specs.States.{step_of};
+ghost use Rattle.histories.specs.Happenings.{queue_of, all_handed};
 ghost use Rattle.packet_moves.specs.Moving.{CarriesAll};
 ghost use Rattle.solo_plane.specs.PortView.{world_of, logs_of, IsReady};
 ghost use Rattle.packet_moves.specs.Messages.{IsAsked, asking};
 ghost use Rattle.packet_moves.specs.HandedOn.{AreInTime, WaitInTime};
 
-use crate::arrivals::carry;
+use crate::arrivals::carry_on;
 use crate::held::Held;
 use histories::queue_of;
 use hook_chain::onward;
 use nfqa_msgs::Request;
 use packet_entry::NoMemory;
-use packet_moves::{Came, Setting, what_goes_on_is_in_time};
+use packet_moves::{Setting, what_goes_on_is_in_time};
+use place_history::Place;
 use queue_core::Handed;
 use std::alloc::Global;
 
@@ -32,7 +35,22 @@ fn hand_on(held: &mut Held, alloc: Global, setting: &Setting, handed: &mut Hande
 {
     while let Some((packet, decision)) = handed.take() {
         let route = onward(&setting.tables, setting.key, &packet, &decision);
-        carry(held, alloc, setting, Came::GoesOn { packet, route });
+        carry_on(held, alloc, setting, packet, route);
+    }
+}
+
+/// How many packets a request lets go on at most.
+fn most_handed(place: &Place, request: &Request) -> u32
+    requires { IsReady place.now }
+    ensures { (port call : ℕ) →
+        length (all_handed (step_of place.now.entries (queue_of request.now)
+        (Ask port call request.now)).left) ≤ result }
+{
+    // No more go on than wait.
+    what_goes_on_is_in_time();
+    match request {
+        Request::Verdict { .. } => 1,
+        _ => place.waiting_in(queue_of(request)),
     }
 }
 
@@ -59,10 +77,10 @@ pub(crate) fn ask(
     ensures logs { logs_of held.new.ports ≡ logs_of held.old.ports }
     ensures err { OnErr result (world_of held.new ≡ world_of held.old) }
 {
-    let waiting = held.place.waiting_in(queue_of(&request));
-    held.lost.make_room(waiting as usize)?;
+    let most = most_handed(&held.place, &request);
+    held.lost.make_room(most as usize)?;
     let errno = held.place.ask(alloc, port, call, request, handed)?;
-    // No more packets leave than waited, and each has the visit with which it waited.
+    // Each packet that goes on has the visit with which it waited.
     what_goes_on_is_in_time();
     hand_on(held, alloc, setting, handed);
     Ok(errno)

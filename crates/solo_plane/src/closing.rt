@@ -30,13 +30,16 @@ pub(crate) fn histories(alloc: Global, order: &[u32], held: Held) -> Result<Hist
     let Held {
         mut place,
         ports,
-        fed: _fed,
+        fed,
         lost,
     } = held;
     soundness_is_of_each_queue();
     place.leave_waiting();
-    let entries = grouped(place.into_entries())?;
+    let entries = place.into_entries();
+    // To group the entries takes memory: what nobody needs any more gives its own back before.
+    drop(fed);
     let logs = logs(alloc, order, ports)?;
+    let entries = grouped(entries)?;
     Ok(Histories {
         entries,
         logs,

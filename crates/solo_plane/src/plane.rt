@@ -1,9 +1,11 @@
 //! A plane on one thread.
 
 ghost use Rattle.std.specs.Prelude.{◌≡◌, ◌≢◌, ◌<◌, ◌≤◌, ◌^◌, ◌++◌, ℕ, length, IfOk, OnOk, IfErr};
-ghost use Rattle.std.specs.Prelude.{[], OnErr, IsSomeAnd, All, nat_eq, false};
+ghost use Rattle.std.specs.Prelude.{[], ◌↔◌, OnErr, IsSomeAnd, IsTrue, All, nat_eq, false};
 ghost use Rattle.std.specs.List.{IsDistinct};
 ghost use Rattle.netlink_codec.specs.Messages.{first_message};
+ghost use Rattle.nfqa_msgs.specs.RequestReading.{PayloadFits};
+ghost use Rattle.nfqa_msgs.specs.RequestWriting.{FitsRequest};
 ghost use Rattle.hook_chain.specs.Route.{next};
 ghost use Rattle.histories.specs.History.{AreLegal};
 ghost use Rattle.histories.specs.Journeys.{AreSound};
@@ -19,6 +21,7 @@ use crate::opening::open_ports;
 use crate::{closing, endings, feeding, messages, ports};
 use histories::Histories;
 use hook_chain::Tables;
+use nfqa_msgs::Request;
 use packet_entry::{Letter, NoMemory, Packet, Stock};
 use packet_moves::{Fed, Refused, Setting, histories_stay_sound};
 use place_history::Place;
@@ -44,7 +47,8 @@ impl SoloPlane {
     ghost use Rattle.packet_moves.specs.Messages.{Sends, SendsUnread};
     ghost use Rattle.packet_moves.specs.Planes.{IsFed, beginning, with_closed, without_device};
     ghost use Rattle.histories.specs.Grouping.{IsGrouped};
-    ghost use Rattle.solo_plane.specs.Notices.{has_notice};
+    ghost use Rattle.solo_plane.specs.Notices.{has_notice, AreQuiet};
+    ghost use Rattle.solo_plane.specs.Requests.{SendsRequest};
     ghost use Rattle.packet_moves.specs.Logs.{logs_in};
     ghost use Rattle.packet_moves.specs.Soundness.{IsSound};
     ghost use Rattle.solo_plane.specs.PlaneView.{setting_of, order_of, world_in, IsWith};
@@ -166,6 +170,37 @@ impl SoloPlane {
         )
     }
 
+    /// As [`message_unread`](SoloPlane::message_unread) does with the spelling of a request, under
+    /// the port's next number: nothing is spelled, cut or decoded.
+    pub fn request_unread(
+        &mut self,
+        alloc: Global,
+        port: u32,
+        request: Request,
+    ) -> Result<(), NoMemory>
+        requires payload { PayloadFits request }
+        requires port { IsSomeAnd ((world_in self.old).ports port) (λ p. p.is_closed ≡ false) }
+        ensures sent { OnOk result (SendsRequest (setting_of self.old) port request
+            (world_in self.old) (world_in self.new)) }
+        ensures made_with { IsWith self.old self.new }
+        ensures ports { (p : ℕ) → closed_ports (world_in self.new) p
+            ≡ closed_ports (world_in self.old) p }
+        ensures err { OnErr result (world_in self.new ≡ world_in self.old) }
+        // The request is one that its spelling decodes to.
+        ensures fits { FitsRequest request }
+    {
+        legal_at(&self.held.place);
+        histories_stay_sound();
+        messages::request_unread(
+            &mut self.held,
+            alloc,
+            &self.setting,
+            port,
+            request,
+            &mut self.handed,
+        )
+    }
+
     /// Whether a port has a notice to receive. Takes no memory.
     pub fn has_notice(&self, port: u32) -> bool
         ensures { result ≡ has_notice ((world_in self.now).ports port) }
@@ -179,6 +214,13 @@ impl SoloPlane {
         ensures { result ≡ has_notice ((world_in self.now).ports port) }
     {
         ports::has_notice_near(&self.held.ports, port, place as usize)
+    }
+
+    /// Whether no port has a notice to receive. Takes no memory.
+    pub fn is_quiet(&self) -> bool
+        ensures { IsTrue result ↔ AreQuiet (world_in self.now).ports }
+    {
+        ports::are_quiet(&self.held.ports)
     }
 
     /// A port receives its first notice, which its log notes; `None` exactly where its mailbox is
@@ -195,6 +237,14 @@ impl SoloPlane {
         ensures err { OnErr result (world_in self.new ≡ world_in self.old) }
     {
         ports::receive(&mut self.held.ports, port)
+    }
+
+    /// Keeps the memory of a notice, which ends, for another one.
+    pub fn give_back(&mut self, alloc: Global, letter: Letter)
+        ensures world { world_in self.new ≡ world_in self.old }
+        ensures made_with { IsWith self.old self.new }
+    {
+        self.held.place.give_back(alloc, letter.bytes);
     }
 
     /// A port closes: each queue that is bound to it ends, with all that waits in it destroyed.
@@ -254,11 +304,12 @@ impl SoloPlane {
             (world_in self).fed h.entries h.lost) }
     {
         let SoloPlane {
-            setting: _setting,
+            setting,
             order,
             held,
             handed,
         } = self;
+        drop(setting);
         handed.finish();
         closing::histories(alloc, &order, held)
     }

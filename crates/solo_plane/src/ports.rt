@@ -1,15 +1,16 @@
 //! The ports by number.
 
-ghost use Rattle.std.specs.Prelude.{◌≡◌, ◌<◌, ◌≤◌, IfOk, OnOk, OnErr, IsSome, IsSomeAnd, false};
-ghost use Rattle.std.specs.Prelude.{length, Some, option_copied};
+ghost use Rattle.std.specs.Prelude.{◌≡◌, ◌<◌, ◌≤◌, ◌↔◌, IfOk, OnOk, OnErr, IsSome, IsSomeAnd};
+ghost use Rattle.std.specs.Prelude.{length, Some, option_copied, option_map, slice_get};
+ghost use Rattle.std.specs.Prelude.{IsTrue, false};
 ghost use Rattle.histories.specs.declared.log.Did.TheVariants.{Sent};
 ghost use Rattle.packet_moves.specs.World.{changed_at, delivered, first_of, received, having_done};
 ghost use Rattle.packet_moves.specs.World.{closed};
 ghost use Rattle.packet_moves.specs.Moving.{takes_one};
 ghost use Rattle.solo_plane.specs.PortPlaces.{place_in};
-ghost use Rattle.solo_plane.specs.PortView.{state_in, ports_of, logs_of, OnPort};
+ghost use Rattle.solo_plane.specs.PortView.{state_in, port_of, ports_of, logs_of, OnPort};
 ghost use Rattle.packet_moves.specs.Messages.{call_at};
-ghost use Rattle.solo_plane.specs.Notices.{has_notice};
+ghost use Rattle.solo_plane.specs.Notices.{has_notice, AreQuiet};
 
 use crate::held::Ports;
 use crate::port::PortState;
@@ -65,10 +66,29 @@ pub(crate) fn has_notice_near(ports: &Ports, port: u32, place: usize) -> bool
     if !ports.numbers.is_at(port, place) {
         return has_notice(ports, port);
     }
+    has_notice_at(ports, place)
+}
+
+/// Whether the port at a place has a notice.
+fn has_notice_at(ports: &Ports, place: usize) -> bool
+    ensures { result ≡ has_notice (option_map port_of (slice_get ports.now.states.items place)) }
+{
     match ports.states.get(place) {
         Some(state) => 0 < state.mailbox.len(),
         None => false,
     }
+}
+
+/// Whether no port has a notice.
+pub(crate) fn are_quiet(ports: &Ports) -> bool
+    ensures { IsTrue result ↔ AreQuiet (ports_of ports.now) }
+{
+    for place in 0..ports.numbers.all.len() {
+        if has_notice_at(ports, place) {
+            return false;
+        }
+    }
+    true
 }
 
 /// Makes room for one notice more in a port's mailbox, where there is such a port.

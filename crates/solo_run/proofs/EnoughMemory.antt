@@ -14,6 +14,7 @@ use Rattle.hook_chain.specs.Route.{onward_of}
 use Rattle.nfqa_msgs.specs.declared.request.Decoded.{Decoded}
 use Rattle.nfqa_msgs.specs.declared.request.Decoded.TheVariants.{Nothing, Refused, Asked}
 use Rattle.nfqa_msgs.specs.RequestReading.{decoded}
+use Rattle.nfqa_msgs.specs.RequestWriting.{spelled}
 use Rattle.queue_core.specs.State.{Bound}
 use Rattle.nfqa_msgs.specs.declared.request.Request.{Request}
 use Rattle.queue_core.specs.declared.event.Event.TheVariants.{Arrive, Ask}
@@ -33,7 +34,8 @@ use Rattle.packet_moves.specs.HandedOn.{is_out_of_time, AreInTime, LeavesAlone, 
 use Rattle.solo_schedule.specs.Numbers.{enough_arrivals}
 use Rattle.solo_schedule.specs.Sending.{all_moved, carried_out, errno_of, sent}
 use Rattle.run_parts.specs.Requests.{errno_in}
-use Rattle.solo_run.specs.RunState.{SendsFirst}
+use Rattle.solo_plane.specs.Requests.{SendsRequest}
+use Rattle.solo_run.specs.RunState.{SendsFirst, request_sent}
 
 -- ---- what is lost stays lost
 
@@ -209,3 +211,10 @@ pub sends_enough : (s : Setting) (port : ℕ) (front : Option (NetlinkMessage ×
 sends_enough s port None old new before after used laws wait is whole = (is.0, is.1)
 sends_enough s port (Some (m, n)) old new before after used laws wait is whole =
     (is.0, sent_enough s port m old new before after laws wait is.1 whole)
+
+pub request_enough : (s : Setting) (port : ℕ) (request : Request) (old new : World)
+    (before : List ℕ) → GoesOnInTime → WaitInTime old.entries →
+    SendsRequest s port request old new → new.lost ≡ [] → new ≡ request_sent s port request old
+request_enough s port request old new before laws wait is whole =
+    sent_enough s port (spelled port (call_at (old.ports port)) request) old new before
+    (is before).0 laws wait (is before).1 whole

@@ -1,6 +1,7 @@
 -- Looks, rounds and emptied mailboxes.
-use Rattle.std.proofs.Common.{◌≡◌, ◌<◌, ◌+◌, ◌-◌, ◌∙◌, ℕ, suc, List, [], ◌∷◌, length, drop}
+use Rattle.std.proofs.Common.{◌≡◌, ◌<◌, ◌+◌, ◌-◌, ◌∙◌, ℕ, zero, suc, List, [], ◌∷◌, length}
 use Rattle.std.proofs.Common.{Option, Some, None, Bool, true, false, cond, refl, sym, ap, arith}
+use Rattle.std.proofs.Common.{drop}
 use Rattle.std.specs.Prelude.{◌||◌, nat_lt}
 use Rattle.std.proofs.lemmas.Bool.{ltb-false}
 use Rattle.std.proofs.lemmas.List.{drop_more}
@@ -9,7 +10,7 @@ use Rattle.script_lines.specs.declared.ask.Ask.{Ask}
 use Rattle.inspector_script.specs.Scripts.{ScriptValue}
 use Rattle.packet_moves.specs.declared.setting.Setting.{Setting}
 use Rattle.packet_moves.specs.World.{World, Port}
-use Rattle.solo_plane.specs.Notices.{has_notice}
+use Rattle.solo_plane.specs.Notices.{has_notice, AreQuiet}
 use Rattle.run_parts.specs.Log.{asks_for}
 use Rattle.nfqa_msgs.specs.NoticeTexts.{told_exactly}
 use Rattle.solo_schedule.specs.Schedule.{Looked, looked, looked_at, letters_at, is_open_port}
@@ -116,22 +117,51 @@ round_on s script place w after found before within is =
     ∙ sym (ap (λ (ps : List ℕ). round s script place ps (record { world = w; found = before }))
     (drop_more script.ports place 0 within))
 
+-- ports of which none has a notice find none
+pub round_quiet : (s : Setting) (script : ScriptValue) (place : ℕ) (ports : List ℕ) (w : World)
+    (before : Bool) → AreQuiet w.ports →
+    round s script place ports (record { world = w; found = before })
+    ≡ record { world = w; found = before }
+round_quiet s script place [] w before quiet = refl
+round_quiet s script place (p ∷ ps) w before quiet =
+    ap (round s script (place + 1) ps) (looked_none s script place p w before (quiet p))
+    ∙ round_quiet s script (place + 1) ps w before quiet
+
 -- ---- emptied
 
-pub emptied_on : (s : Setting) (script : ScriptValue) (n look : ℕ) (w after : World) → look < n →
-    round s script 0 script.ports (record { world = w; found = false })
+-- nothing is left to be emptied
+emptied_quiet : (rounds : ℕ) (s : Setting) (script : ScriptValue) (w : World) → AreQuiet w.ports →
+    emptied_in rounds s script w ≡ w
+emptied_quiet zero s script w quiet = refl
+emptied_quiet (suc rounds) s script w quiet =
+    ap (go_on_while (emptied_in rounds s script))
+    (round_quiet s script 0 script.ports w false quiet)
+
+-- a round that ends early, as no port has a notice any more
+pub round_ended_early : (s : Setting) (script : ScriptValue) (place : ℕ) (old w after : World)
+    (found : Bool) → place < length script.ports →
+    looked s script place (port_at script place) (record { world = w; found = found })
     ≡ record { world = after; found = true } →
+    round s script place (drop place script.ports) (record { world = w; found = found })
+    ≡ round s script 0 script.ports (record { world = old; found = false }) →
+    AreQuiet after.ports → (rounds : ℕ) → emptied_in (suc rounds) s script old ≡ after
+round_ended_early s script place old w after found within is on quiet rounds =
+    ap (go_on_while (emptied_in rounds s script))
+    (sym on ∙ sym (round_on s script place w after true found within is)
+    ∙ round_quiet s script (place + 1) (drop (place + 1) script.ports) after true quiet)
+    ∙ emptied_quiet rounds s script after quiet
+
+one_more : (n look : ℕ) → look < n → suc (n - (look + 1)) ≡ n - look
+one_more n look more = omega (arith, more)
+
+pub emptied_on : (s : Setting) (script : ScriptValue) (n look : ℕ) (w after : World) → look < n →
+    emptied_in (suc (n - (look + 1))) s script w ≡ emptied_in (n - (look + 1)) s script after →
     emptied_in (n - (look + 1)) s script after ≡ emptied_in (n - look) s script w
 emptied_on s script n look w after more is =
-    let one : n - look ≡ suc (n - (look + 1)) = omega (arith, more) in
-    ap (go_on_while (emptied_in (n - (look + 1)) s script)) (sym is)
-    ∙ sym (ap (λ (k : ℕ). emptied_in k s script w) one)
+    sym is ∙ ap (λ (k : ℕ). emptied_in k s script w) (one_more n look more)
 
 pub emptied_all : (s : Setting) (script : ScriptValue) (n look : ℕ) (w after : World) → look < n →
-    round s script 0 script.ports (record { world = w; found = false })
-    ≡ record { world = after; found = false } →
+    emptied_in (suc (n - (look + 1))) s script w ≡ after →
     after ≡ emptied_in (n - look) s script w
 emptied_all s script n look w after more is =
-    let one : n - look ≡ suc (n - (look + 1)) = omega (arith, more) in
-    ap (go_on_while (emptied_in (n - (look + 1)) s script)) (sym is)
-    ∙ sym (ap (λ (k : ℕ). emptied_in k s script w) one)
+    sym is ∙ ap (λ (k : ℕ). emptied_in k s script w) (one_more n look more)

@@ -1,9 +1,8 @@
 -- What each step of a plane leaves as it is: the packets that were fed, and, but for the port that
 -- does something, how far each port is.
-use Rattle.std.proofs.Common.{◌≡◌, ◌≢◌, ◌∙◌, ℕ, zero, suc, List, [], ◌∷◌, ◌++◌, Option, Some}
-use Rattle.std.proofs.Common.{None, Bool, true, false, refl, ap, inl, inr, arith, cond, min}
+use Rattle.std.proofs.Common.{◌≡◌, ◌∙◌, ℕ, zero, suc, List, [], ◌∷◌, ◌++◌, Option, Some}
+use Rattle.std.proofs.Common.{None, Bool, true, false, refl, arith, cond, min}
 use Rattle.std.specs.Prelude.{count_by, ◌==◌, if◌then◌else◌, option_map}
-use Rattle.std.proofs.lemmas.Bool.{cases_Bool, eqb-true, eq-eqb}
 use Rattle.std.proofs.lemmas.List.Sums.{sum_by-append}
 use Rattle.packet_entry.specs.declared.packet.Card.{Card}
 use Rattle.packet_entry.specs.declared.letter.Letter.{Letter}
@@ -28,13 +27,11 @@ use Rattle.histories.specs.Happenings.{all_handed}
 use Rattle.histories.specs.Logs.{is_received}
 use Rattle.packet_moves.specs.declared.setting.Setting.{Setting}
 use Rattle.packet_moves.specs.World.{World, Port, delivered, having_done}
-use Rattle.packet_moves.specs.Calls.{is_sent, after_this, next_call}
 use Rattle.packet_moves.specs.Moving.{Carried, carry, carry_on, settled, goes_on, route_after}
 use Rattle.packet_moves.specs.Moving.{arrival_to, arrived, turned_away, left_at_once, room_for}
 use Rattle.packet_moves.specs.Moving.{with_notice}
 use Rattle.packet_moves.specs.Messages.{asking, with_ask, call_at}
 use Rattle.solo_schedule.specs.Numbers.{enough_arrivals}
-use Rattle.solo_schedule.specs.Schedule.{is_open_port}
 use Rattle.solo_schedule.specs.Sending.{all_moved, carried_out, sent}
 use Rattle.solo_run.specs.RunState.{mind_of}
 use Rattle.solo_run.specs.declared.inspector.Inspector.{Inspector}
@@ -126,16 +123,7 @@ out_leaves s port call (Asked request) w =
     (record { fed = refl; minds = λ place p. refl })
     (all_leave s (all_handed (asking w port call request).left) (with_ask w port call request))
 
--- one message more
-abbrev pub one_call : Inspector → Inspector
-one_call m = record m { call = after_this m.call }
-
-next_after : (c : ℕ) (dids : List Did) (words : AskWords) (answer : Option ℕ) →
-    next_call (dids ++ Sent c words answer ∷ []) ≡ after_this (next_call dids)
-next_after c dids words answer =
-    let more = sum_by-append (λ (d : Did). cond (is_sent d) 1 0) dids (Sent c words answer ∷ []) in
-    omega (arith, more)
-
+-- a message that a port sends leaves what its inspector knows
 received_so : (c : ℕ) (dids : List Did) (words : AskWords) (answer : Option ℕ) →
     min (count_by is_received (dids ++ Sent c words answer ∷ [])) largest_count
     ≡ min (count_by is_received dids) largest_count
@@ -144,38 +132,18 @@ received_so c dids words answer =
     dids (Sent c words answer ∷ []) in
     omega (arith, more)
 
-inspector : ℕ → ℕ → ℕ → Bool → Inspector
-inspector place received call is_open =
-    record {
-      machine = record { place = place; received = received };
-      call = call;
-      is_open = is_open;
-    }
-
 sent_mind : (place c : ℕ) (words : AskWords) (answer : Option ℕ) (o : Option Port) →
-    is_open_port o ≡ true →
-    mind_of place (option_map (having_done (Sent c words answer)) o) ≡ one_call (mind_of place o)
-sent_mind place c words answer None is = absurd (cc)
-sent_mind place c words answer (Some p) is =
-    rw (next_after c p.dids words answer, received_so c p.dids words answer) refl
+    mind_of place (option_map (having_done (Sent c words answer)) o) ≡ mind_of place o
+sent_mind place c words answer None = refl
+sent_mind place c words answer (Some p) = rw (received_so c p.dids words answer) refl
 
-pub sent_fed : (s : Setting) (port : ℕ) (m : NetlinkMessage) (w : World) →
-    (sent s port m w).fed ≡ w.fed
-sent_fed s port m w = (out_leaves s port (call_at (w.ports port)) (decoded m) w).fed
-
-pub sent_others : (s : Setting) (port : ℕ) (m : NetlinkMessage) (w : World) (place p : ℕ) →
-    p ≢ port → mind_of place ((sent s port m w).ports p) ≡ mind_of place (w.ports p)
-sent_others s port m w place p other =
-    let same = (out_leaves s port (call_at (w.ports port)) (decoded m) w).minds place p in
-    elim (cases_Bool (p == port)) [
-      | inl is ↦ absurd (other (eqb-true p port is))
-      | inr is ↦ rw is same
-    ]
-
-pub sent_this : (s : Setting) (port : ℕ) (m : NetlinkMessage) (w : World) (place : ℕ) →
-    is_open_port (w.ports port) ≡ true →
-    mind_of place ((sent s port m w).ports port) ≡ one_call (mind_of place (w.ports port))
-sent_this s port m w place is_open =
-    let same = (out_leaves s port (call_at (w.ports port)) (decoded m) w).minds place port in
-    let still = ap (λ (i : Inspector). i.is_open) same ∙ is_open in
-    rw (eq-eqb port port refl) (sent_mind place _ _ _ _ still ∙ ap one_call same)
+pub sent_leaves : (s : Setting) (port : ℕ) (m : NetlinkMessage) (w : World) →
+    Leaves w (sent s port m w)
+sent_leaves s port m w =
+    let out = out_leaves s port (call_at (w.ports port)) (decoded m) w in
+    record {
+      fed = out.fed;
+      minds = λ place p.
+          at_either place (mind_of place (w.ports p)) (p == port) _ _
+          (sent_mind place _ _ _ _ ∙ out.minds place p) (out.minds place p);
+    }

@@ -16,7 +16,6 @@ use Rattle.inspector_script.specs.Scripts.{ScriptValue, next_count}
 use Rattle.packet_moves.specs.declared.setting.Setting.{Setting}
 use Rattle.packet_moves.specs.World.{World, Port, at_port, changed_at}
 use Rattle.packet_moves.specs.World.{received, received_from, first_of}
-use Rattle.packet_moves.specs.Calls.{is_sent, next_call}
 use Rattle.packet_moves.specs.Soundness.{IsSound}
 use Rattle.run_parts.specs.Log.{asks_for}
 use Rattle.nfqa_msgs.specs.NoticeTexts.{told_exactly}
@@ -104,20 +103,12 @@ count_so dids queue number visit =
           (Received queue number visit ∷ []),
     )
 
-next_so : (dids : List Did) (queue number visit : ℕ) →
-    next_call (dids ++ Received queue number visit ∷ []) ≡ next_call dids
-next_so dids queue number visit =
-    omega (
-      arith,
-      sum_by-append (λ (d : Did). cond (is_sent d) 1 0) dids (Received queue number visit ∷ []),
-    )
-
 some_mind : (place : ℕ) (p : Port) (letters : List Letter) (letter : Letter) →
     Some letter ≡ first_of letters →
     mind_of place (Some (received_from letters p)) ≡ one_notice (mind_of place (Some p))
 some_mind place p [] letter is = absurd (cc)
 some_mind place p (l ∷ ls) letter is =
-    rw (count_so p.dids l.queue l.number l.visit, next_so p.dids l.queue l.number l.visit) refl
+    rw (count_so p.dids l.queue l.number l.visit) refl
 
 one_mind : (place : ℕ) (letter : Letter) (o : Option Port) →
     IsSomeAnd o (λ p. Some letter ≡ first_of p.letters) →

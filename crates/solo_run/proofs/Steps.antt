@@ -14,7 +14,6 @@ use Rattle.inspector_script.specs.Scripts.{ScriptValue}
 use Rattle.packet_moves.specs.declared.fed.Fed.{Fed}
 use Rattle.packet_moves.specs.declared.setting.Setting.{Setting}
 use Rattle.packet_moves.specs.World.{World, Port, closed}
-use Rattle.packet_moves.specs.Calls.{is_sent, next_call}
 use Rattle.packet_moves.specs.Moving.{Carried}
 use Rattle.packet_moves.specs.Planes.{IsFed, entered, with_closed, without_device}
 use Rattle.packet_moves.specs.Soundness.{IsSound}
@@ -40,14 +39,10 @@ received_so dids =
       sum_by-append (λ (d : Did). cond (is_received d) 1 0) dids (Closed ∷ []),
     )
 
-next_so : (dids : List Did) → next_call (dids ++ Closed ∷ []) ≡ next_call dids
-next_so dids =
-    omega (arith, sum_by-append (λ (d : Did). cond (is_sent d) 1 0) dids (Closed ∷ []))
-
 closed_mind : (place : ℕ) (o : Option Port) →
     mind_of place (option_map closed o) ≡ shut (mind_of place o)
 closed_mind place None = refl
-closed_mind place (Some p) = rw (received_so p.dids, next_so p.dids) refl
+closed_mind place (Some p) = rw (received_so p.dids) refl
 
 closed_others : (w : World) (port place p : ℕ) → p ≢ port →
     mind_of place ((with_closed w port).ports p) ≡ mind_of place (w.ports p)

@@ -5,6 +5,8 @@ use Rattle.std.specs.Prelude.{slice_index, slice_index_or, Option, Some, None, A
 use Rattle.packet_entry.specs.Numbers.{longest_packet}
 use Rattle.packet_entry.specs.declared.letter.Letter.{Letter}
 use Rattle.netlink_codec.specs.Messages.{NetlinkMessage}
+use Rattle.nfqa_msgs.specs.declared.request.Request.{Request}
+use Rattle.nfqa_msgs.specs.RequestWriting.{spelled}
 use Rattle.script_lines.specs.declared.ask.Ask.{Ask}
 use Rattle.script_lines.specs.declared.ask.Ask.TheVariants.{Words, Close}
 use Rattle.inspector_script.specs.Scripts.{ScriptValue, next_count}
@@ -30,7 +32,6 @@ use Rattle.solo_run.specs.declared.run.Run.{Run}
 abbrev pub mind_of : ℕ → Option Port → Inspector
 mind_of place p = record {
   machine = record { place = place; received = received_in p };
-  call = call_at p;
   is_open = is_open_port p;
 }
 
@@ -113,6 +114,10 @@ pub record KeepsBut (port : ℕ) (old new : World) : Type 0 where
 abbrev pub SendsFirst : Setting → ℕ → Option (NetlinkMessage × ℕ) → World → World → ℕ → Type 0
 SendsFirst s port None old new used = (used ≡ 0) × (new ≡ old)
 SendsFirst s port (Some (m, n)) old new used = (used ≡ n) × (new ≡ sent s port m old)
+
+-- a request is sent, as the message that its spelling is, with the port's next number
+abbrev pub request_sent : Setting → ℕ → Request → World → World
+request_sent s port request w = sent s port (spelled port (call_at (w.ports port)) request) w
 
 -- the first of these notices is received, where there is one; what is asked for in answer
 abbrev pub ReceivesFirst : ScriptValue → ℕ → ℕ → List Letter → Option (List Ask) → World → World →

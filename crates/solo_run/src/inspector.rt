@@ -7,7 +7,6 @@ ghost use Rattle.inspector_script.specs.Scripts.{next_count};
 ghost use Rattle.run_parts.specs.Log.{asks_for};
 ghost use Rattle.nfqa_msgs.specs.NoticeTexts.{told_exactly};
 ghost use Rattle.packet_moves.specs.World.{opened};
-ghost use Rattle.packet_moves.specs.Calls.{after_this};
 ghost use Rattle.solo_run.specs.RunState.{mind_of, one_notice};
 ghost use Rattle.solo_run.specs.declared.inspector.Inspector.{Inspector};
 
@@ -22,8 +21,6 @@ use std::alloc::Global;
 pub(crate) struct Inspector {
     /// How it answers.
     pub(crate) machine: PortMachine,
-    /// The number of the port's next message.
-    pub(crate) call: u32,
     /// Whether the port is open.
     pub(crate) is_open: bool,
 }
@@ -38,26 +35,10 @@ pub(crate) fn inspectors(alloc: Global, ports: u32) -> Result<Vec<Inspector>, No
     for place in 0..ports {
         all.push(Inspector {
             machine: PortMachine::new(place),
-            call: 1,
             is_open: true,
         })?;
     }
     Ok(all)
-}
-
-/// The port sent a message more.
-pub(crate) fn count_call(all: &mut Vec<Inspector>, place: usize)
-    requires { place < length all.old.items }
-    ensures as_many { length all.new.items ≡ length all.old.items }
-    ensures others { (k : ℕ) (d : Inspector) → k ≢ place →
-        slice_index_or all.new.items k d ≡ slice_index_or all.old.items k d }
-    ensures this { (d : Inspector) → slice_index_or all.new.items place d
-        ≡ record (slice_index_or all.old.items place d) {
-          call = after_this (slice_index_or all.old.items place d).call;
-        } }
-{
-    let inspector = &mut all[place];
-    inspector.call = inspector.call.wrapping_add(1);
 }
 
 /// The port closed.

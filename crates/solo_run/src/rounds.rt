@@ -1,7 +1,7 @@
 //! Mailboxes that are emptied, round by round.
 
-ghost use Rattle.std.specs.Prelude.{◌≡◌, ◌<◌, ◌||◌, Bool, length, IfOk, OnOk, false, true};
-ghost use Rattle.solo_schedule.specs.Schedule.{Looked, emptied_in, looked, round};
+ghost use Rattle.std.specs.Prelude.{◌≡◌, ◌<◌, ◌||◌, ℕ, suc, Bool, length, IfOk, OnOk, true};
+ghost use Rattle.solo_schedule.specs.Schedule.{Looked, emptied_in, go_on_while, looked};
 ghost use Rattle.solo_run.specs.RunState.{Goes, IsWith, Keeps, is_open_at, port_at, setting_of};
 ghost use Rattle.solo_run.specs.RunState.{world_of};
 
@@ -59,19 +59,26 @@ fn answer(run: &mut Run, alloc: Global, script: &Script, place: u32) -> Result<b
     }
 }
 
-/// Each port looks once, in the script's order. Whether there was a notice.
+/// Each port looks once, in the script's order. Whether another round may find something: there
+/// was a notice, and there is one.
 fn round(run: &mut Run, alloc: Global, script: &Script) -> Result<bool, NoMemory>
     requires going { Goes script.now run.old }
     ensures going { OnOk result (Goes script.now run.new) }
     ensures made_with { OnOk result (IsWith run.old run.new) }
-    ensures looked { IfOk result (λ found. round (setting_of run.old) script.now 0 script.now.ports
-        (record { world = world_of run.old; found = false })
-        ≡ record { world = world_of run.new; found = found }) }
+    ensures emptied { IfOk result (λ more. (rounds : ℕ) →
+        emptied_in (suc rounds) (setting_of run.old) script.now (world_of run.old)
+        ≡ go_on_while (emptied_in rounds (setting_of run.old) script.now)
+        (record { world = world_of run.new; found = more })) }
     ensures keeps { OnOk result (Keeps (world_of run.old) (world_of run.new)) }
 {
     let mut found = false;
     for place in 0..script.ports().len() {
-        found = look(run, alloc, script, place as u32)? | found;
+        let here = look(run, alloc, script, place as u32)?;
+        // Mostly this notice was the only one.
+        if here && run.plane.is_quiet() {
+            return Ok(false);
+        }
+        found = here | found;
     }
     Ok(found)
 }

@@ -7,6 +7,8 @@ ghost use Rattle.solo_run.specs.Numbers.{most_frames};
 ghost use Rattle.packet_moves.specs.Soundness.{IsSound};
 ghost use Rattle.solo_schedule.specs.Schedule.{is_open_port, letters_at};
 ghost use Rattle.netlink_codec.specs.Messages.{first_message};
+ghost use Rattle.nfqa_msgs.specs.RequestReading.{PayloadFits};
+ghost use Rattle.nfqa_msgs.specs.RequestWriting.{FitsRequest};
 ghost use Rattle.histories.specs.History.{AreLegal};
 ghost use Rattle.histories.specs.Journeys.{AreSound};
 ghost use Rattle.histories.specs.Grouping.{IsGrouped};
@@ -15,10 +17,11 @@ ghost use Rattle.packet_moves.specs.Planes.{beginning, with_closed, without_devi
 ghost use Rattle.solo_schedule.specs.Schedule as schedule;
 ghost use Rattle.solo_plane.specs.Notices.{has_notice};
 
-use crate::inspector::{Inspector, asked, count_call, count_closing, inspectors};
+use crate::inspector::{Inspector, asked, count_closing, inspectors};
 use histories::Histories;
 use hook_chain::Tables;
 use inspector_script::{Asks, PortMachine, Script};
+use nfqa_msgs::Request;
 use packet_entry::{NoMemory, Packet};
 use packet_moves::{Refused, histories_stay_sound, what_goes_on_is_in_time};
 use script_lines::Ask;
@@ -30,15 +33,13 @@ use std::mem;
 pub(crate) struct Run {
     pub(crate) plane: SoloPlane,
     pub(crate) inspectors: Vec<Inspector>,
-    /// The text of one request. While it is being sent, the buffer isn't here.
-    pub(crate) text: Vec<u8>,
     /// The memory of one answer. While it is being given, it isn't here.
     pub(crate) room: Vec<Ask>,
 }
 
 impl Run {
     ghost use Rattle.solo_run.specs.RunState.{Goes, IsWith, Keeps, KeepsBut, SendsFirst};
-    ghost use Rattle.solo_run.specs.RunState.{ReceivesFirst, is_open_at};
+    ghost use Rattle.solo_run.specs.RunState.{ReceivesFirst, is_open_at, request_sent};
     ghost use Rattle.solo_run.specs.RunState.{port_at, setting_of, order_of, world_of};
 
     /// Nothing has happened yet.
@@ -55,7 +56,6 @@ impl Run {
         Ok(Run {
             plane,
             inspectors,
-            text: Vec::new(alloc),
             room: Vec::new(alloc),
         })
     }
@@ -83,34 +83,47 @@ impl Run {
         if datagram.is_empty() {
             return Ok(0);
         }
-        let port = script.ports()[place as usize];
-        let used = self.message(alloc, port, datagram)?;
-        if used > 0 {
-            count_call(&mut self.inspectors, place as usize);
-        }
-        Ok(used)
-    }
-
-    /// The same of the plane alone.
-    fn message(&mut self, alloc: Global, port: u32, datagram: &[u8]) -> Result<u32, NoMemory>
-        requires short { length datagram.now < 2 ^ 31 }
-        requires sound { IsSound (setting_of self.old) [] (world_of self.old) }
-        requires open { is_open_port ((world_of self.old).ports port) ≡ true }
-        ensures made_with { OnOk result (IsWith self.old self.new) }
-        ensures sent { IfOk result (SendsFirst (setting_of self.old) port
-            (first_message datagram.now) (world_of self.old) (world_of self.new)) }
-        ensures sound { OnOk result (IsSound (setting_of self.old) [] (world_of self.new)) }
-        ensures whole { OnOk result ((world_of self.new).lost ≡ []) }
-        ensures inspectors { self.new.inspectors.items ≡ self.old.inspectors.items }
-    {
         histories_stay_sound();
         what_goes_on_is_in_time();
+        let port = script.ports()[place as usize];
         // Nobody reads the replies: the plane's logs have what they would say.
         let used = self.plane.message_unread(alloc, port, datagram)?;
         if self.plane.lost() > 0 {
             return Err(NoMemory);
         }
         Ok(used)
+    }
+
+    /// A port sends a request, as the message that its spelling is.
+    pub(crate) fn send_request(
+        &mut self,
+        alloc: Global,
+        script: &Script,
+        place: u32,
+        request: Request,
+    ) -> Result<(), NoMemory>
+        requires payload { PayloadFits request }
+        requires going { Goes script.now self.old }
+        requires place { place < length script.now.ports }
+        requires open { is_open_at script.now (world_of self.old) place ≡ true }
+        ensures going { OnOk result (Goes script.now self.new) }
+        ensures made_with { OnOk result (IsWith self.old self.new) }
+        ensures sent { OnOk result (world_of self.new
+            ≡ request_sent (setting_of self.old) (port_at script.now place) request
+            (world_of self.old)) }
+        ensures keeps { OnOk result (Keeps (world_of self.old) (world_of self.new)) }
+        // The spelling is one message, of this port.
+        ensures fits { FitsRequest request }
+        ensures port { port_at script.now place < 2 ^ 32 }
+    {
+        histories_stay_sound();
+        what_goes_on_is_in_time();
+        let port = script.ports()[place as usize];
+        self.plane.request_unread(alloc, port, request)?;
+        if self.plane.lost() > 0 {
+            return Err(NoMemory);
+        }
+        Ok(())
     }
 
     /// A port closes, and each of its queues ends. Takes no memory.
@@ -234,6 +247,7 @@ impl Run {
                 let _lost = self.plane.lost();
                 let room = mem::replace(&mut self.room, Vec::new(alloc));
                 let asks = asked(&mut self.inspectors, room, script, place, &letter)?;
+                self.plane.give_back(alloc, letter);
                 Ok(Some(asks))
             }
             None => Ok(None),
@@ -252,7 +266,6 @@ impl Run {
         let Run {
             plane,
             inspectors: _inspectors,
-            text: _text,
             room: _room,
         } = self;
         plane.close(alloc)

@@ -1,7 +1,8 @@
 //! What ports send.
 
 ghost use Rattle.std.specs.Prelude.{◌≡◌, ◌<◌, ◌^◌, length, All, OnOk, true};
-ghost use Rattle.script_lines.specs.Limits.{IsAsk, IsWords};
+ghost use Rattle.histories.specs.declared.log.AskWords.TheVariants.{Plain};
+ghost use Rattle.script_lines.specs.Limits.{IsAsk, IsRequest, IsWords};
 ghost use Rattle.script_lines.specs.declared.ask.Ask.TheVariants.{Words};
 ghost use Rattle.solo_schedule.specs.Sending.{all_done, all_sent, done};
 ghost use Rattle.run_parts.specs.Datagrams.{messages_in};
@@ -13,11 +14,12 @@ use crate::between::Between;
 use crate::run::Run;
 use histories::AskWords;
 use inspector_script::Script;
+use netlink_codec::one_message_in_front;
+use nfqa_msgs::{Request, spelling_decodes_to_its_request};
 use packet_entry::NoMemory;
-use port_scripts::{behind, put_words};
+use port_scripts::behind;
 use script_lines::{Ask, Asks};
 use std::alloc::Global;
-use std::mem;
 
 /// A port sends the messages of some bytes, one after the other.
 pub(crate) fn send_all<B: Between>(
@@ -72,14 +74,38 @@ fn send_words<B: Between>(
         (port_at script.now place) (Words words) (world_of run.old)) }
     ensures keeps { OnOk result (Keeps (world_of run.old) (world_of run.new)) }
 {
-    let port = script.ports()[place as usize];
-    let call = run.inspectors[place as usize].call;
-    let mut text = mem::replace(&mut run.text, Vec::new(alloc));
-    put_words(&mut text, port, call, words)?;
-    send_all(run, alloc, script, place, text.as_slice(), between)?;
-    // What was sent between the messages took a buffer of its own.
-    run.text = text;
-    Ok(())
+    match words {
+        AskWords::Plain { request } => send_request(run, alloc, script, place, request, between),
+        AskWords::Raw { bytes } => {
+            send_all(run, alloc, script, place, bytes.as_slice(), between)
+        }
+    }
+}
+
+/// A port sends a request. Its spelling would be one message.
+fn send_request<B: Between>(
+    run: &mut Run,
+    alloc: Global,
+    script: &Script,
+    place: u32,
+    request: Request,
+    between: &B,
+) -> Result<(), NoMemory>
+    requires going { Goes script.now run.old }
+    requires place { place < length script.now.ports }
+    requires open { is_open_at script.now (world_of run.old) place ≡ true }
+    requires fits { IsRequest request }
+    ensures going { OnOk result (Goes script.now run.new) }
+    ensures made_with { OnOk result (IsWith run.old run.new) }
+    ensures done { OnOk result (world_of run.new
+        ≡ done (B.then between.now (setting_of run.old) script.now) (setting_of run.old)
+        (port_at script.now place) (Words (Plain request)) (world_of run.old)) }
+    ensures keeps { OnOk result (Keeps (world_of run.old) (world_of run.new)) }
+{
+    spelling_decodes_to_its_request();
+    one_message_in_front();
+    run.send_request(alloc, script, place, request)?;
+    between.go(run, alloc, script)
 }
 
 /// What an ask asks for is done.
