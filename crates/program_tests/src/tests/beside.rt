@@ -13,7 +13,7 @@ use std::test::Fail;
 use std::thread::Threads;
 
 /// How often a gate looks whether what it waits for has come, and how often a run is tried.
-const LOOKS: u32 = 10_000_000;
+const LOOKS: u32 = 100_000_000;
 
 const TRIES: u8 = 20;
 
