@@ -1,11 +1,11 @@
 -- What leaves, one packet after the other.
-use Rattle.std.proofs.Common.{◌≡◌, ℕ, suc, List, ◌∷◌, Option, None}
+use Rattle.std.proofs.Common.{◌≡◌, ℕ, suc, ◌∷◌, Option, None}
 use Rattle.std.proofs.Common.{drop, sym, ap, ◌∙◌}
 use Rattle.packet_entry.specs.declared.packet.Card.{Card}
 use Rattle.packet_entry.specs.Card.{edited}
 use Rattle.fate_ledger.specs.declared.happening.Happening.{Happening}
 use Rattle.fate_ledger.specs.declared.happening.How.{How}
-use Rattle.fate_ledger.specs.Following.{first_leave, happening, noted, noted_all, Waiting}
+use Rattle.fate_ledger.specs.Following.{first_leave, happening, Kept, noted, noted_all, Waiting}
 
 -- one of those that leave, and then one fewer
 pub one_left : (n m : ℕ) (ws rest : Waiting) (w : ℕ × Card) (how : How)
@@ -23,7 +23,7 @@ one_left n m ws rest w how mark priority count front = (
 -- it is noted, and the others are still to be noted
 pub note_on : (n m : ℕ) (ws rest : Waiting) (w : ℕ × Card) (how : How)
     (mark priority : Option ℕ)
-    (h : Happening) (old new : List (Option Happening)) → n ≡ suc m → ws ≡ w ∷ rest →
+    (h : Happening) (old new : Kept) → n ≡ suc m → ws ≡ w ∷ rest →
     h ≡ happening how (edited w.1 mark None priority) → new ≡ noted h old →
     noted_all (first_leave how mark priority n ws) old
     ≡ noted_all (first_leave how mark priority m rest) new

@@ -1,5 +1,5 @@
 -- Histories that are followed entry by entry.
-use Rattle.std.proofs.Common.{◌≡◌, ℕ, ◌+◌, ◌<◌, ◌^◌, List, [], ◌∷◌, ◌++◌, length, Option}
+use Rattle.std.proofs.Common.{◌≡◌, ℕ, ◌+◌, ◌<◌, ◌^◌, List, [], ◌∷◌, ◌++◌, length}
 use Rattle.std.proofs.Common.{true, false, cond, sym, ap, ◌∙◌, subst, arith, inl, inr}
 use Rattle.std.proofs.Common.{append_assoc}
 use Rattle.std.specs.Prelude.{◌==◌}
@@ -8,11 +8,11 @@ use Rattle.std.proofs.lemmas.List.{length-append, append-nil}
 use Rattle.histories.specs.declared.entry.Entry.{Entry}
 use Rattle.histories.specs.History.{replay, history, is_of, IsStep, AreLegal}
 use Rattle.histories.specs.QueueHistories.{own_last, others_last, state_last, step_at}
-use Rattle.fate_ledger.specs.declared.happening.Happening.{Happening}
+use Rattle.pcap_io.specs.declared.capture.Frame.{Frame}
 use Rattle.fate_ledger.specs.Fates.{happens_after, happenings_after, happenings}
 use Rattle.fate_ledger.specs.declared.followed_queues.FollowedQueues.{FollowedQueues}
 use Rattle.fate_ledger.specs.Following.{followed, AreNew, Follows, IsFollowed, AreFollowed, told_by}
-use Rattle.fate_ledger.specs.Following.{lasts, noted_all, at_in, waiting_in, waiting_of}
+use Rattle.fate_ledger.specs.Following.{Kept, lasts, noted_all, at_in, waiting_in, waiting_of}
 use Rattle.fate_ledger.specs.Following.{place_after}
 use Rattle.fate_ledger.specs.Following.{told, waiting_after}
 use Rattle.fate_ledger.proofs.Steps.{entry_tells}
@@ -39,12 +39,12 @@ happenings_on es e = happenings_on_after [] es e
 -- ---- one entry more
 
 -- so many entries are followed, and these are still to come
-pub record IsUnderway (entries rest : List Entry) (queues : FollowedQueues)
-    (kept : List (Option Happening)) (count : ℕ) : Type 0 where
+pub record IsUnderway (entries rest : List Entry) (queues : FollowedQueues) (kept : Kept)
+    (frames : List Frame) : Type 0 where
   pub before : List Entry
   pub split : entries ≡ before ++ rest
   pub followed : AreFollowed before queues
-  pub noted : kept ≡ lasts (happenings before) 1 count
+  pub noted : kept ≡ lasts (happenings before) 1 frames
 
 -- the place of the next entry
 place_is : (before : List Entry) (queues : FollowedQueues) (e : Entry) →
@@ -99,9 +99,9 @@ no_longer queue (e ∷ es) =
 
 -- nothing is followed yet
 pub underway_first : (entries rest : List Entry) (queues : FollowedQueues)
-    (kept : List (Option Happening)) (count : ℕ) → rest ≡ entries → AreNew queues →
-    kept ≡ lasts [] 1 count → IsUnderway entries rest queues kept count
-underway_first entries rest queues kept count all new none = record {
+    (kept : Kept) (frames : List Frame) → rest ≡ entries → AreNew queues →
+    kept ≡ lasts [] 1 frames → IsUnderway entries rest queues kept frames
+underway_first entries rest queues kept frames all new none = record {
   before = [];
   split = sym all;
   followed = λ queue. record { at = (new queue).at; waiting = (new queue).waiting };
@@ -109,19 +109,19 @@ underway_first entries rest queues kept count all new none = record {
 }
 
 pub underway_on : (entries rest after : List Entry) (e : Entry) (old new : FollowedQueues)
-    (kept more : List (Option Happening)) (count : ℕ) → length entries < 2 ^ 64 →
+    (kept more : Kept) (frames : List Frame) → length entries < 2 ^ 64 →
     AreLegal entries → rest ≡ e ∷ after → Follows old new e →
-    more ≡ noted_all (told_by old e) kept → IsUnderway entries rest old kept count →
-    IsUnderway entries after new more count
-underway_on entries rest after e old new kept more count few legal front follows grown u =
+    more ≡ noted_all (told_by old e) kept → IsUnderway entries rest old kept frames →
+    IsUnderway entries after new more frames
+underway_on entries rest after e old new kept more frames few legal front follows grown u =
     record {
       before = u.before ++ e ∷ [];
       split = there ∙ sym (append_assoc u.before (e ∷ []) after);
       followed = followed_on u.before old new e short u.followed follows is;
       noted = grown ∙ ap (λ hs. noted_all hs kept) (told_is u.before old e short u.followed is)
           ∙ ap (noted_all (happens_after u.before e)) u.noted
-          ∙ all_noted (happenings u.before) (happens_after u.before e) count
-          ∙ ap (λ hs. lasts hs 1 count) (sym (happenings_on u.before e));
+          ∙ all_noted (happenings u.before) (happens_after u.before e) frames
+          ∙ ap (λ hs. lasts hs 1 frames) (sym (happenings_on u.before e));
     }
   where
     there : entries ≡ u.before ++ e ∷ after

@@ -2,7 +2,7 @@
 -- leaves, and the steps of the sequential queue needn't be computed again.
 use Rattle.std.specs.Prelude.{◌≡◌, ℕ, ◌+◌, ◌-◌, suc, zero, List, [], ◌∷◌, ◌++◌, map, length, take}
 use Rattle.std.specs.Prelude.{drop, Option, Some, None, ◌==◌, if◌then◌else◌, slice_get, slice_set}
-use Rattle.std.specs.Prelude.{◌%◌, ◌^◌, Bool, false}
+use Rattle.std.specs.Prelude.{◌%◌, ◌^◌, Bool, false, nat_le}
 use Rattle.std.specs.Map.{lookup, remove_entry}
 use Rattle.std.specs.BTreeMap.{get}
 use Rattle.std.specs.Ordering.{nat_cmp}
@@ -30,7 +30,7 @@ use Rattle.fate_ledger.specs.declared.followed_queues.FollowedQueues.{FollowedQu
 use Rattle.fate_ledger.specs.declared.fate.Fate.{Fate}
 use Rattle.fate_ledger.specs.declared.fate.Fate.TheVariants as fate
 use Rattle.fate_ledger.specs.declared.fate.FateLine.{FateLine}
-use Rattle.fate_ledger.specs.Fates.{fate_at_arrival, fate_by_verdict, is_later, last_of, fate_line}
+use Rattle.fate_ledger.specs.Fates.{fate_at_arrival, fate_by_verdict, fate_unless, last_of}
 
 -- ---- what waits
 
@@ -43,26 +43,110 @@ waiting_of (Some q) = q.waiting
 
 -- ---- the last event of each packet
 
--- the last events of the packets with so many numbers, from this one on
-abbrev pub lasts : List Happening → ℕ → ℕ → List (Option Happening)
-lasts hs number zero = []
-lasts hs number (suc more) = last_of number hs None ∷ lasts hs (number + 1) more
+-- What is kept of each frame's packet: the visit of its last event, 0 where it has none, the payload
+-- of the line that this event gives, and that line without it.
+pub record Kept : Type 0 where
+  pub visits : List ℕ
+  pub payloads : List (List ℕ)
+  pub lines : List FateLine
 
--- the last events, after one more of the packet at this place, where it has a place
-abbrev pub noted_at : ℕ → Option (Option Happening) → Happening → List (Option Happening)
-    → List (Option Happening)
+-- as many of each
+pub record AsMany (visits : List ℕ) (payloads : List (List ℕ)) (lines : List FateLine) : Type 0
+  where
+    pub visits_are : length visits ≡ length lines
+    pub payloads_are : length payloads ≡ length lines
+
+-- with one packet more, before the others
+abbrev pub with_first : ℕ → List ℕ → FateLine → Kept → Kept
+with_first visit payload line kept =
+    record {
+      visits = visit ∷ kept.visits;
+      payloads = payload ∷ kept.payloads;
+      lines = line ∷ kept.lines;
+    }
+
+abbrev pub visit_of : Option Happening → ℕ
+visit_of None = 0
+visit_of (Some h) = h.card.visit
+
+abbrev pub payload_of : Frame → Option Happening → List ℕ
+payload_of f None = f.bytes
+payload_of f (Some h) = h.card.bytes
+
+-- a line without its payload, told of an event
+abbrev pub told_line : Happening → FateLine → FateLine
+told_line h l =
+    record l {
+      fate = h.fate;
+      queue = h.queue;
+      at = h.at;
+      mark = h.card.mark;
+      priority = h.card.priority;
+    }
+
+-- the line of a frame with this number, whose packet has no event, without its payload
+abbrev pub untold_line : ℕ → FateLine
+untold_line number =
+    record {
+      number = number;
+      fate = fate.Unhooked;
+      queue = 0;
+      at = 0;
+      mark = 0;
+      priority = 0;
+      payload = [];
+    }
+
+-- the line of the packet with this number and this last event, without its payload
+abbrev pub bare_line : ℕ → Option Happening → FateLine
+bare_line number None = untold_line number
+bare_line number (Some h) = told_line h (untold_line number)
+
+-- what is kept of frames from this number on, after these events
+abbrev pub lasts : List Happening → ℕ → List Frame → Kept
+lasts hs number [] = record { visits = []; payloads = []; lines = [] }
+lasts hs number (f ∷ fs) =
+    with_first (visit_of (last_of number hs None)) (payload_of f (last_of number hs None))
+    (bare_line number (last_of number hs None)) (lasts hs (number + 1) fs)
+
+-- the lines, of which the one at this place is told of an event
+abbrev pub told_at : ℕ → Happening → List FateLine → List FateLine
+told_at at h [] = []
+told_at zero h (l ∷ ls) = told_line h l ∷ ls
+told_at (suc at) h (l ∷ ls) = l ∷ told_at at h ls
+
+-- what is kept, after one more of the packet at this place, where it has a place
+abbrev pub noted_at : ℕ → Option ℕ → Happening → Kept → Kept
 noted_at at None h kept = kept
-noted_at at (Some last) h kept = if is_later last h then slice_set kept at (Some h) else kept
+noted_at at (Some visit) h kept =
+    if nat_le visit h.card.visit then record {
+      visits = slice_set kept.visits at h.card.visit;
+      payloads = slice_set kept.payloads at h.card.bytes;
+      lines = told_at at h kept.lines;
+    } else kept
 
--- the last events, where the packet with number 1 stands first, after one event more
-abbrev pub noted : Happening → List (Option Happening) → List (Option Happening)
+-- what is kept, where the packet with number 1 stands first, after one event more
+abbrev pub noted : Happening → Kept → Kept
 noted h kept =
     if h.card.number == 0 then kept
-    else noted_at (h.card.number - 1) (slice_get kept (h.card.number - 1)) h kept
+    else noted_at (h.card.number - 1) (slice_get kept.visits (h.card.number - 1)) h kept
 
-abbrev pub noted_all : List Happening → List (Option Happening) → List (Option Happening)
+abbrev pub noted_all : List Happening → Kept → Kept
 noted_all [] kept = kept
 noted_all (h ∷ hs) kept = noted_all hs (noted h kept)
+
+-- the lines with their payloads
+abbrev pub with_payload : List ℕ → FateLine → FateLine
+with_payload payload l = record l { payload = payload }
+
+abbrev pub with_payloads : List (List ℕ) → List FateLine → List FateLine
+with_payloads [] ls = []
+with_payloads (p ∷ ps) [] = []
+with_payloads (p ∷ ps) (l ∷ ls) = with_payload p l ∷ with_payloads ps ls
+
+-- the line of a packet that may have been lost, with a test for the numbers of those that were
+abbrev pub lost_line : (ℕ → Bool) → FateLine → FateLine
+lost_line lost l = record l { fate = fate_unless (lost l.number) l.fate }
 
 -- ---- what an entry's reply tells
 
@@ -194,13 +278,3 @@ pub record IsFollowed (so_far : List Entry) (f : Option Followed) : Type 0 where
 abbrev pub AreFollowed : List Entry → FollowedQueues → Type 0
 AreFollowed before queues = (queue : ℕ) →
     IsFollowed (history queue before) (followed queues queue)
-
--- ---- lines
-
--- the lines of frames from this number on, whose packets have these last events, with a test for
--- the numbers of packets that were lost
-abbrev pub lines_with : (ℕ → Bool) → ℕ → List Frame → List (Option Happening) → List FateLine
-lines_with lost number [] ls = []
-lines_with lost number (f ∷ fs) [] = []
-lines_with lost number (f ∷ fs) (l ∷ ls) =
-    fate_line (lost number) number f l ∷ lines_with lost (number + 1) fs ls

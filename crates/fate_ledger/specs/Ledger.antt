@@ -54,5 +54,9 @@ abbrev pub lines : List FateLine → List ℕ
 lines [] = []
 lines (l ∷ ls) = line l ++ lines ls
 
+-- the first line
+abbrev pub heading : List ℕ
+heading = codes "record fate queue at mark priority bytes\n"
+
 abbrev pub ledger : List FateLine → List ℕ
-ledger ls = codes "record fate queue at mark priority bytes\n" ++ lines ls
+ledger ls = heading ++ lines ls

@@ -1,4 +1,4 @@
-//! Cards that are seen where they lie.
+//! Cards, and bytes, that are seen where they lie.
 
 ghost use Rattle.std.specs.Prelude.{◌≡◌, None, IfOk};
 ghost use Rattle.packet_entry.specs.Card.{edited};
@@ -14,6 +14,37 @@ pub struct CardView<'a> {
     mark: u32,
     priority: u32,
     bytes: &'a Bytes,
+}
+
+/// Bytes, of which nothing is copied.
+#[derive(Debug, Drop)]
+pub(crate) struct BytesView<'a> {
+    bytes: &'a Bytes,
+}
+
+impl<'a> Model for BytesView<'a> {
+    ghost use Rattle.std.specs.Prelude.{List, ℕ};
+
+    ghost Value = { List ℕ };
+
+    ghost view = { λ v. v.bytes.now };
+}
+
+impl<'a> BytesView<'a> {
+    /// These bytes.
+    pub(crate) fn new(bytes: &'a Bytes) -> BytesView<'a>
+        ensures { result ≡ bytes.now }
+    {
+        BytesView { bytes }
+    }
+
+    /// The bytes once more, which are shared. `NoMemory` comes only where 2^63 - 1 lists share them
+    /// already.
+    pub(crate) fn share(&self) -> Result<Bytes, NoMemory>
+        ensures { IfOk result (λ bytes. bytes ≡ self.now) }
+    {
+        self.bytes.share()
+    }
 }
 
 impl<'a> Model for CardView<'a> {
@@ -69,12 +100,11 @@ impl<'a> CardView<'a> {
         self.priority
     }
 
-    /// The packet's bytes once more, which are shared. `NoMemory` comes only where 2^63 - 1 lists
-    /// share them already.
-    pub(crate) fn share_bytes(&self) -> Result<Bytes, NoMemory>
-        ensures { IfOk result (λ bytes. bytes ≡ self.now.bytes) }
+    /// The packet's bytes, where they lie.
+    pub(crate) fn bytes(&self) -> BytesView<'a>
+        ensures { result ≡ self.now.bytes }
     {
-        self.bytes.share()
+        BytesView { bytes: self.bytes }
     }
 
     /// The card with the mark and the priority that are given.

@@ -6,7 +6,7 @@ ghost use Rattle.std.specs.BTreeMap.{get, is_at};
 ghost use Rattle.fate_ledger.specs.Following as following;
 
 use crate::following::Followed;
-use crate::happening::Lasts;
+use crate::last_lines::LastLines;
 use histories::Entry;
 use packet_entry::NoMemory;
 use std::alloc::Global;
@@ -44,14 +44,14 @@ impl<'a> FollowedQueues<'a> {
         &mut self,
         alloc: Global,
         entry: &'a Entry,
-        lasts: &mut Lasts<'a>,
+        kept: &mut LastLines<'a>,
     ) -> Result<(), NoMemory>
         ensures queues { OnOk result (following.Follows self.old self.new entry.now) }
-        ensures lasts { OnOk result (lasts.new.items
-            ≡ following.noted_all (following.told_by self.old entry.now) lasts.old.items) }
+        ensures kept { OnOk result (kept.new
+            ≡ following.noted_all (following.told_by self.old entry.now) kept.old) }
     {
         self.turn_to(alloc, entry.queue)?;
-        self.at_hand.follow(entry, lasts)?;
+        self.at_hand.follow(entry, kept)?;
         Ok(())
     }
 

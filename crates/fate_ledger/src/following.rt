@@ -8,7 +8,8 @@ ghost use Rattle.fate_ledger.specs.Following as following;
 
 use crate::Fate;
 use crate::card_view::CardView;
-use crate::happening::{How, Lasts, note};
+use crate::happening::How;
+use crate::last_lines::LastLines;
 use crate::waiting_list::WaitingList;
 use histories::{Entry, Event, Reply};
 use nfqa_msgs::{Head, Request};
@@ -39,14 +40,14 @@ impl<'a> Followed<'a> {
 
     /// Follows the queue's next entry, and notes it for each packet that it is an event of, where
     /// it is the last one so far. When memory runs out, some of it may have been noted.
-    pub fn follow(&mut self, entry: &'a Entry, lasts: &mut Lasts<'a>) -> Result<(), NoMemory>
+    pub fn follow(&mut self, entry: &'a Entry, kept: &mut LastLines<'a>) -> Result<(), NoMemory>
         ensures at { OnOk result (self.new.at ≡ following.place_after self.old.at) }
         ensures waiting { OnOk result (self.new.waiting
             ≡ following.waiting_after entry.now.event entry.now.reply self.old.waiting) }
-        ensures lasts { OnOk result (lasts.new.items
+        ensures kept { OnOk result (kept.new
             ≡ following.noted_all (following.told entry.now.queue
             (following.place_after self.old.at) entry.now.event entry.now.reply
-            self.old.waiting) lasts.old.items) }
+            self.old.waiting) kept.old) }
     {
         let at = self.at.wrapping_add(1);
         self.at = at;
@@ -54,20 +55,20 @@ impl<'a> Followed<'a> {
         let waiting = &mut self.waiting;
         match (&entry.event, entry.reply) {
             (Event::Arrive { card, .. }, Reply::Arrived { outcome }) => {
-                arrive(queue, at, card, outcome, waiting, lasts)
+                arrive(queue, at, card, outcome, waiting, kept)
             }
             (Event::Ask { request, .. }, Reply::Answer { taken, .. }) => {
-                ask(queue, at, request, taken, waiting, lasts);
+                ask(queue, at, request, taken, waiting, kept);
                 Ok(())
             }
             (Event::PortClosed { .. }, Reply::Flushed { taken }) => {
                 let fate = Fate::PortClosed;
-                first_leave(How { queue, at, fate }, None, None, taken, waiting, lasts);
+                first_leave(How { queue, at, fate }, None, None, taken, waiting, kept);
                 Ok(())
             }
             (Event::DeviceDown { .. }, Reply::Flushed { taken }) => {
                 let fate = Fate::DeviceDown;
-                first_leave(How { queue, at, fate }, None, None, taken, waiting, lasts);
+                first_leave(How { queue, at, fate }, None, None, taken, waiting, kept);
                 Ok(())
             }
             _ => Ok(()),
@@ -82,19 +83,16 @@ fn arrive<'a>(
     card: &'a Card,
     outcome: Outcome,
     waiting: &mut WaitingList<'a>,
-    lasts: &mut Lasts<'a>,
+    kept: &mut LastLines<'a>,
 ) -> Result<(), NoMemory>
     ensures waiting { OnOk result (waiting.new
         ≡ following.waiting_after_arrival card.now outcome waiting.old) }
-    ensures lasts { OnOk result (lasts.new.items
+    ensures kept { OnOk result (kept.new
         ≡ following.noted (following.happening
-        (following.how_at queue at (fates.fate_at_arrival outcome)) card.now) lasts.old.items) }
+        (following.how_at queue at (fates.fate_at_arrival outcome)) card.now) kept.old) }
 {
     let fate = fate_at_arrival(outcome);
-    note(
-        How { queue, at, fate }.happening(CardView::new(card)),
-        lasts,
-    );
+    kept.note(How { queue, at, fate }.happening(CardView::new(card)));
     if let Outcome::Taken { id } = outcome {
         waiting.push(id, CardView::new(card))?;
     }
@@ -108,18 +106,18 @@ fn ask<'a>(
     request: &'a Request,
     taken: u32,
     waiting: &mut WaitingList<'a>,
-    lasts: &mut Lasts<'a>,
+    kept: &mut LastLines<'a>,
 )
     ensures waiting { waiting.new
         ≡ following.waiting_after_ask request.now taken waiting.old }
-    ensures lasts { lasts.new.items
+    ensures kept { kept.new
         ≡ following.noted_all (following.asked queue at request.now taken waiting.old)
-        lasts.old.items }
+        kept.old }
 {
     match request {
         Request::Config { .. } => {
             let fate = Fate::Unbind;
-            first_leave(How { queue, at, fate }, None, None, taken, waiting, lasts);
+            first_leave(How { queue, at, fate }, None, None, taken, waiting, kept);
         }
         Request::Verdict {
             head: Some(Head { verdict, id }),
@@ -133,7 +131,7 @@ fn ask<'a>(
             }
             let fate = fate_of(*verdict);
             let how = How { queue, at, fate };
-            one_leaves(how, *id, *mark, payload, *priority, waiting, lasts);
+            one_leaves(how, *id, *mark, payload, *priority, waiting, kept);
         }
         Request::Batch {
             head: Some(Head { verdict, .. }),
@@ -142,14 +140,8 @@ fn ask<'a>(
             ..
         } => {
             let fate = fate_of(*verdict);
-            first_leave(
-                How { queue, at, fate },
-                *mark,
-                *priority,
-                taken,
-                waiting,
-                lasts,
-            );
+            let how = How { queue, at, fate };
+            first_leave(how, *mark, *priority, taken, waiting, kept);
         }
         _ => {}
     }
@@ -162,18 +154,18 @@ fn first_leave<'a>(
     priority: Option<u32>,
     count: u32,
     waiting: &mut WaitingList<'a>,
-    lasts: &mut Lasts<'a>,
+    kept: &mut LastLines<'a>,
 )
     ensures waiting { waiting.new ≡ drop count waiting.old }
-    ensures lasts { lasts.new.items
+    ensures kept { kept.new
         ≡ following.noted_all (following.first_leave how mark priority count waiting.old)
-        lasts.old.items }
+        kept.old }
 {
     for _ in 0..count {
         let Some(card) = waiting.pop_front() else {
             return;
         };
-        note(how.happening(card.changed(mark, priority)), lasts);
+        kept.note(how.happening(card.changed(mark, priority)));
     }
 }
 
@@ -185,16 +177,16 @@ fn one_leaves<'a>(
     payload: &'a Option<Bytes>,
     priority: Option<u32>,
     waiting: &mut WaitingList<'a>,
-    lasts: &mut Lasts<'a>,
+    kept: &mut LastLines<'a>,
 )
     ensures waiting { waiting.new ≡ remove_entry (is_id id) waiting.old }
-    ensures lasts { lasts.new.items
+    ensures kept { kept.new
         ≡ following.noted_all (following.one_leaves how mark payload.now priority
-        (lookup (is_id id) waiting.old)) lasts.old.items }
+        (lookup (is_id id) waiting.old)) kept.old }
 {
     if let Some(card) = waiting.take(id) {
         let card = card.changed(mark, priority).replaced(payload);
-        note(how.happening(card), lasts);
+        kept.note(how.happening(card));
     }
 }
 

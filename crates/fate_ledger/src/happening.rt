@@ -1,12 +1,10 @@
-//! Events of packets, and the last one of each.
+//! Events of packets.
 
 ghost use Rattle.std.specs.Prelude.{◌≡◌};
-ghost use Rattle.fate_ledger.specs.Fates as fates;
 ghost use Rattle.fate_ledger.specs.Following as following;
 
 use crate::Fate;
 use crate::card_view::CardView;
-use std::mem::size_of;
 
 /// An event of a packet.
 #[derive(Debug, Drop)]
@@ -20,11 +18,6 @@ pub struct Happening<'a> {
     /// What became of the packet, if this is its last event and it wasn't lost.
     pub fate: Fate,
 }
-
-const _: () = prove!(size_of::<Option<Happening<'static>>>() == 48);
-
-/// The last event of each packet so far; that of the packet with number 1 stands first.
-pub(crate) type Lasts<'a> = Vec<Option<Happening<'a>>>;
 
 /// What an entry makes of the packets that it is an event of.
 #[derive(Clone, Copy, Debug)]
@@ -45,28 +38,5 @@ impl How {
             fate: self.fate,
             card,
         }
-    }
-}
-
-/// Keeps an event where it is the last of its packet so far.
-pub(crate) fn note<'a>(happening: Happening<'a>, lasts: &mut Lasts<'a>)
-    ensures { lasts.new.items ≡ following.noted happening.entry lasts.old.items }
-{
-    let number = happening.card.number() as usize;
-    if number == 0 || number > lasts.len() {
-        return;
-    }
-    if is_later(&lasts[number - 1], &happening) {
-        lasts[number - 1] = Some(happening);
-    }
-}
-
-/// Whether an event is no earlier than what is kept: visits count up.
-fn is_later(kept: &Option<Happening<'_>>, happening: &Happening<'_>) -> bool
-    ensures { result ≡ fates.is_later kept.now happening.now }
-{
-    match kept {
-        Some(kept) => kept.card.visit() <= happening.card.visit(),
-        None => true,
     }
 }

@@ -1,6 +1,7 @@
 //! The ledger: what became of each frame, as text.
 
 ghost use Rattle.std.specs.Prelude.{◌≡◌, ◌+◌, ◌≤◌, ◌++◌, length, OnOk, OnErr, codes, decimal};
+ghost use Rattle.journals.specs.Appending.{Appends};
 ghost use Rattle.journals.specs.Placing.{Placed};
 ghost use Rattle.fate_ledger.specs.Ledger as text;
 
@@ -28,21 +29,31 @@ pub fn ledger_text(alloc: Global, lines: &FateLines, out: &mut Vec<u8>) -> Resul
 fn push_ledger(lines: &FateLines, out: &mut Vec<u8>) -> Result<(), AllocError>
     ensures { OnOk result (out.new.items ≡ out.old.items ++ text.ledger lines.now) }
 {
-    append_word("record fate queue at mark priority bytes\n", out)?;
+    append_ledger_heading(out)?;
     push_lines(lines, out)
+}
+
+/// Appends a ledger's first line. So a ledger can be written line by line: this one, and each
+/// frame's ([`append_ledger_line`]).
+pub fn append_ledger_heading(out: &mut Vec<u8>) -> Result<(), AllocError>
+    ensures { Appends result out.old out.new text.heading }
+{
+    append_word("record fate queue at mark priority bytes\n", out)
 }
 
 fn push_lines(lines: &FateLines, out: &mut Vec<u8>) -> Result<(), AllocError>
     ensures { OnOk result (out.new.items ≡ out.old.items ++ text.lines lines.now) }
 {
     for line in lines {
-        push_line(line, out)?;
+        append_ledger_line(line, out)?;
     }
     Ok(())
 }
 
-fn push_line(line: &FateLine, out: &mut Vec<u8>) -> Result<(), AllocError>
-    ensures { OnOk result (out.new.items ≡ out.old.items ++ text.line line.now) }
+/// Appends the line of a frame, with its end. Takes no memory where there is room for the line, as
+/// [`ledger_line_room`] bytes are. Out of memory nothing has changed.
+pub fn append_ledger_line(line: &FateLine, out: &mut Vec<u8>) -> Result<(), AllocError>
+    ensures { Appends result out.old out.new (text.line line.now) }
 {
     line_is_short(line);
     let mut bytes = [0; LONGEST];
@@ -94,6 +105,14 @@ fn put_packet(line: &FateLine, to: &mut [u8], at: usize) -> usize
     let at = put_number(" ", line.priority as u64, to, at);
     let at = put_number(" ", line.payload.len() as u64, to, at);
     put_word("\n", to, at)
+}
+
+/// So many bytes hold the line of a frame with its end.
+pub fn ledger_line_room(line: &FateLine) -> usize
+    ensures { length (text.line line.now) ≤ result }
+{
+    line_is_short(line);
+    LONGEST
 }
 
 fn line_is_short(line: &FateLine)

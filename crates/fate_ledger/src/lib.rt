@@ -2,7 +2,8 @@
 //! tells it as text, the counts, and the capture of the frames that were released.
 //!
 //! [`fates`] reads it off histories, [`ledger_text`] and [`counts_text`] append texts of it, and
-//! [`released_capture`] keeps the released frames. [`journal_text`] appends the histories
+//! [`released_capture`] keeps the released frames. A ledger can be written line by line, too
+//! ([`append_ledger_heading`], [`append_ledger_line`]). [`journal_text`] appends the histories
 //! themselves as text, which [`read_journal`] reads back or refuses with a [`JournalFault`];
 //! [`read_old_journal`] reads a text of the format's version 1.
 #![tactic(auto)]
@@ -15,6 +16,7 @@ mod followed_queues;
 mod following;
 mod happening;
 mod indexed_list;
+mod last_lines;
 mod laws;
 mod ledger;
 mod released;
@@ -33,5 +35,5 @@ pub use laws::{
     what_edits_keep_holds_of_each_that_arrives, what_holds_of_packets_stays_so,
     what_left_last_is_over,
 };
-pub use ledger::ledger_text;
+pub use ledger::{append_ledger_heading, append_ledger_line, ledger_line_room, ledger_text};
 pub use released::released_capture;

@@ -43,7 +43,7 @@ fn released_frames(
     requires payloads { All (λ l. length l.payload ≤ longest_packet) lines.now }
     ensures { IfOk result (λ kept. kept ≡ text.frames link frames.now lines.now) }
 {
-    let mut kept = Frames::new(alloc);
+    let mut kept = Vec::with_capacity(alloc, count_releases(lines))?;
     let mut rest = frames.iter();
     for line in lines {
         let Some(frame) = rest.next() else {
@@ -51,7 +51,18 @@ fn released_frames(
         };
         keep(alloc, link, frame, line, &mut kept)?;
     }
-    Ok(kept)
+    Ok(Frames::from_vec(kept))
+}
+
+/// For so many frames room is made.
+fn count_releases(lines: &FateLines) -> usize {
+    let mut count: usize = 0;
+    for line in lines {
+        if line.fate.is_release() {
+            count = count.saturating_add(1);
+        }
+    }
+    count
 }
 
 /// Keeps the frame of this line, if it was released.
@@ -60,17 +71,17 @@ fn keep(
     link: u32,
     frame: &Frame,
     line: &FateLine,
-    kept: &mut Frames,
+    kept: &mut Vec<Frame>,
 ) -> Result<(), NoMemory>
     requires { length line.now.payload ≤ longest_packet }
-    ensures { OnOk result (kept.new
-        ≡ kept.old ++ text.frames link (frame.now ∷ []) (line.now ∷ [])) }
+    ensures { OnOk result (kept.new.items
+        ≡ kept.old.items ++ text.frames link (frame.now ∷ []) (line.now ∷ [])) }
 {
     if !line.fate.is_release() {
         return Ok(());
     }
-    kept.push(written(alloc, link, frame, line)?)
-        .map_err(|_| NoMemory)
+    kept.push(written(alloc, link, frame, line)?)?;
+    Ok(())
 }
 
 /// A released frame as it is written: as it was read, unless its packet's last bytes are others.

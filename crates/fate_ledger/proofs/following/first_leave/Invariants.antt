@@ -7,6 +7,6 @@ abbrev pub invariant-loop : goal.invariant-loop
 invariant-loop l =
     (drop (l.count - l.counter) l.waiting ≡ drop l.count l.fn.waiting)
     × (following.noted_all
-    (following.first_leave l.how l.mark l.priority (l.count - l.counter) l.waiting) l.lasts.items
+    (following.first_leave l.how l.mark l.priority (l.count - l.counter) l.waiting) l.kept
     ≡ following.noted_all (following.first_leave l.how l.mark l.priority l.count l.fn.waiting)
-    l.fn.lasts.items)
+    l.fn.kept)

@@ -8,8 +8,8 @@ returns-clause-queues c =
     followed_by c.args.self.now c.turn_to.new.self c.args.entry.now c.in_ok-turn_to.ensures _ refl
     refl c.in_ok-follow.ensures.at c.in_ok-follow.ensures.waiting
 
-pub returns-clause-lasts : goal.returns-clause-lasts
-returns-clause-lasts c =
-    c.in_ok-follow.ensures.lasts
-    ∙ ap (λ hs. noted_all hs c.args.lasts.now.items)
+pub returns-clause-kept : goal.returns-clause-kept
+returns-clause-kept c =
+    c.in_ok-follow.ensures.kept
+    ∙ ap (λ hs. noted_all hs c.args.kept.now)
     (told_is c.args.self.now c.turn_to.new.self c.args.entry.now c.in_ok-turn_to.ensures)

@@ -1,5 +1,5 @@
 use Rattle.fate_ledger.proofs.LastEventTable.{lost_on}
-use Rattle.fate_ledger.proofs.fate_lines.lost_numbers.Goals as goal
+use Rattle.fate_ledger.proofs.last_lines.lost_numbers.Goals as goal
 
 pub loop-one-preserved : goal.loop-one-preserved
 loop-one-preserved c =
