@@ -17,7 +17,7 @@ ghost use Rattle.commands.specs.Headline.{run_texts, texts_as};
 use crate::account::histories_of;
 use command_line::Play;
 use histories::Histories;
-use host_io::{Host, write_whole};
+use host_io::Host;
 use pcap_io::Capture;
 use run_files::{Made, Outputs, Stop, outputs_of, read_inputs};
 use std::alloc::Global;
@@ -87,7 +87,7 @@ fn write_outputs<H: Host>(files: &Play<'_>, outputs: Outputs, host: &mut H) -> R
     ensures output { OnOk result (IsTrue (H.tells host.old) →
         H.content host.new files.now.output.now ≡ Some outputs.capture) }
     ensures ledger { OnOk result (IsTrue (H.tells host.old) →
-        H.content host.new files.now.ledger.now ≡ Some outputs.ledger.items) }
+        H.content host.new files.now.ledger.now ≡ Some outputs.ledger) }
     ensures journal { OnOk result (IsTrue (H.tells host.old) →
         H.content host.new files.now.journal.now ≡ Some outputs.journal) }
     ensures only { OnErr result (IsErrOf result Stop.WriteFault) }
@@ -97,8 +97,8 @@ fn write_outputs<H: Host>(files: &Play<'_>, outputs: Outputs, host: &mut H) -> R
         (H.write_faults host.old) (H.write_faults host.new) (H.content host.old)
         (H.content host.new)) }
     ensures cut_short { OnErr result (IsTrue (H.tells host.old) →
-        IsStoppedAfter (texts_as (files_of files.now) outputs.capture
-        outputs.ledger.items outputs.journal)
+        IsStoppedAfter (texts_as (files_of files.now) outputs.capture outputs.ledger
+        outputs.journal)
         (H.write_faults host.old) (H.write_faults host.new) (H.content host.old)
         (H.content host.new)) }
     ensures others { OthersStay (play_outputs (files_of files.now))
@@ -111,7 +111,7 @@ fn write_outputs<H: Host>(files: &Play<'_>, outputs: Outputs, host: &mut H) -> R
         journal,
     } = outputs;
     capture.write(host, files.output)?;
-    write_whole(host, files.ledger, &ledger)?;
+    ledger.write(host, files.ledger)?;
     journal.write(host, files.journal)?;
     Ok(())
 }

@@ -1,2 +1,3 @@
+mod LineTexts
 mod ReaderAnswers
 mod TextParts

@@ -1,6 +1,6 @@
 -- A text that is written part by part, and grows: see Grows.
 use Rattle.std.proofs.Common.{◌≡◌, ℕ, ◌+◌, ◌≤◌, List, [], ◌++◌, length, take, arith, sym, ap, ◌∙◌}
-use Rattle.std.proofs.Common.{inr, ⊎_elim, Option, Some, length-append, append_assoc}
+use Rattle.std.proofs.Common.{inr, subst, ⊎_elim, Option, Some, length-append, append_assoc}
 use Rattle.std.proofs.lemmas.List.{length-take-le, take_all, append-nil}
 use Rattle.host_io.specs.Host.{MayGoOn, bytes_of, written}
 use Rattle.run_files.specs.Parts.{Grows}
@@ -64,6 +64,14 @@ put_into known before at part after next new bytes full grown put =
           ∙ ap (λ t. t ++ bytes) (grown.text k ∙ append-nil (written before at part));
       behind = grown.behind;
     }
+
+-- the same bytes, told otherwise
+pub grown_as : (known : Type 0) (before : Option (List ℕ)) (at : ℕ) (part : List ℕ)
+    (after : Option (List ℕ)) (next : ℕ) (new bytes same : List ℕ) → bytes ≡ same →
+    Grows known before at part after next new bytes →
+    Grows known before at part after next new same
+grown_as known before at part after next new bytes same is grown =
+    subst (λ (told : List ℕ). Grows known before at part after next new told) is grown
 
 -- the text grows twice
 pub grown_twice : (known known_then : Type 0) (before : Option (List ℕ)) (at : ℕ) (part : List ℕ)

@@ -8,11 +8,11 @@ use Rattle.pcap_io.specs.declared.capture.Capture.{Capture}
 use Rattle.pcap_io.specs.Numbers.{record_header_length}
 use Rattle.pcap_io.specs.Text.{IsHeld, capture_text}
 use Rattle.host_io.specs.Host.{MayGoOn, written}
-use Rattle.histories.specs.declared.entry.Entry.{Entry}
-use Rattle.histories.specs.declared.log.Did.{Did}
 use Rattle.histories.specs.declared.log.PortLog.{PortLog}
 use Rattle.histories.specs.declared.histories.Histories.{Histories}
 use Rattle.journals.specs.Journal as text
+use Rattle.fate_ledger.specs.declared.fate.FateLine.{FateLine}
+use Rattle.fate_ledger.specs.Ledger as ledger
 
 -- A text grew by these bytes. Of a text that is written part by part, the file has all up to the
 -- part's place, if it is known what the file has, and the part has the rest.
@@ -31,16 +31,13 @@ pub record IsCaptureReady (c : Capture) (at : ℕ) (part : Vec ℕ Global) : Typ
   pub empty : part.items ≡ []
   pub room : record_header_length + longest_packet ≤ vec_capacity part
 
--- no line of these has more than so many bytes
-abbrev pub AreEntriesWithin : ℕ → List Entry → Type 0
-AreEntriesWithin most es = AllByRecursion (λ e. length (text.entry e) ≤ most) es
-
-abbrev pub AreDidsWithin : ℕ → List Did → Type 0
-AreDidsWithin most ds = AllByRecursion (λ d. length (text.did d) ≤ most) ds
+-- none of these has a line of more than so many bytes
+abbrev pub AreLinesWithin : {L : Type 0} → (L → List ℕ) → ℕ → List L → Type 0
+AreLinesWithin line most ls = AllByRecursion (λ l. length (line l) ≤ most) ls
 
 pub record IsLogWithin (most : ℕ) (l : PortLog) : Type 0 where
   pub port : length (text.port l.port) ≤ most
-  pub dids : AreDidsWithin most l.dids
+  pub dids : AreLinesWithin text.did most l.dids
 
 abbrev pub AreLogsWithin : ℕ → List PortLog → Type 0
 AreLogsWithin most ls = AllByRecursion (λ l. IsLogWithin most l) ls
@@ -53,13 +50,26 @@ pub record Counts (longest all : ℕ) (AreWithin : ℕ → Type 0) (bytes new_lo
   pub lines : AreWithin new_longest
   pub bytes_fit : all + bytes ≤ new_all
 
--- The same as of a capture of a journal, of which no line has more than so many bytes.
-pub record IsJournalReady (h : Histories) (longest at : ℕ) (part : Vec ℕ Global) : Type 0 where
-  pub places : length (text.journal h) < 2 ^ 64
+-- A text of lines can be written with the memory of this part, its first: each place of the text
+-- fits a number of 64 bits, and the part is empty, and has room for the heading and for a line of
+-- so many bytes.
+pub record Begins (whole heading : List ℕ) (longest at : ℕ) (part : Vec ℕ Global) : Type 0 where
+  pub places : length whole < 2 ^ 64
   pub first : at ≡ 0
   pub empty : part.items ≡ []
-  pub heading : length text.heading ≤ vec_capacity part
+  pub heading_fits : length heading ≤ vec_capacity part
   pub room : longest ≤ vec_capacity part
-  pub entries : AreEntriesWithin longest h.entries
+
+-- A journal's file can be written with the memory of this part, and no line of it behind the
+-- heading has more than so many bytes: of its entries, of its logs, and the last one.
+pub record IsJournalReady (h : Histories) (longest at : ℕ) (part : Vec ℕ Global) : Type 0 where
+  pub begins : Begins (text.journal h) text.heading longest at part
+  pub entries : AreLinesWithin text.entry longest h.entries
   pub logs : AreLogsWithin longest h.logs
   pub ending : length text.ending ≤ longest
+
+-- A ledger's file can be written with the memory of this part, and no line of a frame has more than
+-- so many bytes.
+pub record IsLedgerReady (ls : List FateLine) (longest at : ℕ) (part : Vec ℕ Global) : Type 0 where
+  pub begins : Begins (ledger.ledger ls) ledger.heading longest at part
+  pub lines : AreLinesWithin ledger.line longest ls

@@ -4,7 +4,7 @@ ghost use Rattle.std.specs.Prelude.{◌≡◌, IsTrue, IfOk, OnOk, OnErr, Some};
 ghost use Rattle.host_io.specs.Host.{ChangesOnly, IsLater, Rises};
 ghost use Rattle.journals.specs.Journal as text;
 
-use crate::journal_lines::write_lines;
+use crate::journal_lines::write_journal;
 use crate::journal_room::journal_room;
 use crate::part_writing::Part;
 use histories::Histories;
@@ -63,6 +63,6 @@ impl JournalFile {
             longest,
             mut part,
         } = self;
-        write_lines(host, name, &histories, longest, &mut part)
+        write_journal(host, name, &histories, longest, &mut part)
     }
 }

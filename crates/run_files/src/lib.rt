@@ -1,5 +1,5 @@
 //! The files of a run: its inputs are read whole and tested, in the order rules, script, capture,
-//! and its outputs are written, the long ones part by part.
+//! and its outputs are written part by part.
 //!
 //! [`read_inputs`] answers what a run is made from, or a [`Stop`]: why the command ends before its
 //! end, with its exit status ([`status`]). A [`Refusal`] has the line that is printed of it.
@@ -14,6 +14,10 @@ mod inputs;
 mod journal_file;
 mod journal_lines;
 mod journal_room;
+mod ledger_file;
+mod line;
+mod line_room;
+mod line_writing;
 mod old_journal;
 mod outputs;
 mod part_writing;
@@ -26,6 +30,7 @@ mod told_run;
 pub use capture_file::CaptureFile;
 pub use inputs::{Made, read_inputs};
 pub use journal_file::JournalFile;
+pub use ledger_file::LedgerFile;
 pub use old_journal::read_journal_file;
 pub use outputs::{Outputs, outputs_of};
 pub use printing::{STANDARD_OUTPUT, print, print_usage};

@@ -10,19 +10,21 @@ ghost use Rattle.run_files.specs.Outputs as text;
 
 use crate::capture_file::CaptureFile;
 use crate::journal_file::JournalFile;
-use fate_ledger::{FateLines, fates, ledger_text, released_capture};
+use crate::ledger_file::LedgerFile;
+use fate_ledger::{FateLines, fates, released_capture};
 use histories::Histories;
 use packet_entry::NoMemory;
 use pcap_io::Capture;
 use std::alloc::Global;
 
-/// The three files that a run writes.
+/// The three files that a run writes, each part by part.
 #[derive(Debug, Drop)]
 pub struct Outputs {
-    /// The frames that were released, which are written part by part.
+    /// The frames that were released.
     pub capture: CaptureFile,
-    pub ledger: Vec<u8>,
-    /// The histories, which are written part by part.
+    /// What became of each frame.
+    pub ledger: LedgerFile,
+    /// The histories.
     pub journal: JournalFile,
 }
 
@@ -38,16 +40,13 @@ pub fn outputs_of(
         (text.fates_of capture.now histories) }
     requires held { IsHeld (released capture.now (text.fates_of capture.now histories)) }
     ensures output { IfOk result (λ o. o.capture ≡ text.output_text capture.now histories) }
-    ensures ledger { IfOk result (λ o. o.ledger.items
-        ≡ text.ledger_text capture.now histories) }
+    ensures ledger { IfOk result (λ o. o.ledger ≡ text.ledger_text capture.now histories) }
     ensures journal { IfOk result (λ o. o.journal ≡ text.journal_text histories) }
 {
     let lines = fates(alloc, capture, &histories)?;
-    let mut ledger = Vec::new(alloc);
-    ledger_text(alloc, &lines, &mut ledger)?;
     Ok(Outputs {
         capture: released_file(alloc, capture, &lines)?,
-        ledger,
+        ledger: LedgerFile::new(alloc, lines)?,
         journal: JournalFile::new(alloc, histories)?,
     })
 }

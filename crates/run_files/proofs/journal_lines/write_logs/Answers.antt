@@ -1,17 +1,18 @@
-use Rattle.std.proofs.Common.{List, ◌++◌, ap, ◌∙◌, subst, arith, length-append}
+use Rattle.std.proofs.Common.{List, ◌++◌, ap, length, ◌∙◌, subst, arith, length-append}
 use Rattle.host_io.specs.Host.{later_still}
 use Rattle.histories.specs.declared.log.PortLog.{PortLog}
 use Rattle.journals.specs.Journal as text
 use Rattle.run_files.specs.Parts.{AreLogsWithin}
-use Rattle.run_files.proofs.TextParts.{all_put, grown_twice, turn_fits, turned}
+use Rattle.run_files.proofs.LineTexts.{dids_by_line}
+use Rattle.run_files.proofs.TextParts.{all_put, grown_as, grown_twice, turn_fits, turned}
 use Rattle.run_files.proofs.journal_lines.write_logs.Goals as goal
 
-pub write_port-requires-clause-behind : goal.write_port-requires-clause-behind
-write_port-requires-clause-behind g c =
+pub write_line-requires-clause-behind : goal.write_line-requires-clause-behind
+write_line-requires-clause-behind g c =
     λ told. c.loop-log.invariant.underway.behind (rw (← c.loop-log.invariant.later.tells_same) told)
 
-pub write_port-requires-clause-places : goal.write_port-requires-clause-places
-write_port-requires-clause-places g c =
+pub write_line-requires-clause-places : goal.write_line-requires-clause-places
+write_line-requires-clause-places g c =
     omega (
       arith,
       turn_fits _ _ _ _ _ _ _ _ _
@@ -22,17 +23,17 @@ write_port-requires-clause-places g c =
       c.requires.places,
     )
 
-pub write_port-requires-clause-line : goal.write_port-requires-clause-line
-write_port-requires-clause-line g c =
+pub write_line-requires-clause-line : goal.write_line-requires-clause-line
+write_line-requires-clause-line g c =
     (subst (λ (left : List PortLog). AreLogsWithin c.args.longest left) c.in-Some.ensures.steps
     c.loop-log.invariant.lines).0.port
 
-pub write_dids-requires-clause-behind : goal.write_dids-requires-clause-behind
-write_dids-requires-clause-behind g c =
-    λ told. c.in_ok-write_port.ensures.grows.behind (rw (← c.write_port.ensures.later.tells_same) told)
+pub write_list-requires-clause-behind : goal.write_list-requires-clause-behind
+write_list-requires-clause-behind g c =
+    λ told. c.in_ok-write_line.ensures.grows.behind (rw (← c.write_line.ensures.later.tells_same) told)
 
-pub write_dids-requires-clause-places : goal.write_dids-requires-clause-places
-write_dids-requires-clause-places g c =
+pub write_list-requires-clause-places : goal.write_list-requires-clause-places
+write_list-requires-clause-places g c =
     omega (
       arith,
       turn_fits _ _ _ _ _ _ _ _ _
@@ -40,12 +41,13 @@ write_dids-requires-clause-places g c =
           (text.logs c.next.new.self) c.loop-log.invariant.underway
           (ap text.logs c.in-Some.ensures.steps),
       length-append (text.port c.in-Some.log.now.port) (text.dids c.in-Some.log.now.dids),
-      c.in_ok-write_port.ensures.grows.place,
+      ap length (dids_by_line c.in-Some.log.now.dids),
+      c.in_ok-write_line.ensures.grows.place,
       c.requires.places,
     )
 
-pub write_dids-requires-clause-lines : goal.write_dids-requires-clause-lines
-write_dids-requires-clause-lines g c =
+pub write_list-requires-clause-lines : goal.write_list-requires-clause-lines
+write_list-requires-clause-lines g c =
     (subst (λ (left : List PortLog). AreLogsWithin c.args.longest left) c.in-Some.ensures.steps
     c.loop-log.invariant.lines).0.dids
 
@@ -58,22 +60,24 @@ loop-log-preserved g c =
           turned _ _ _ _ _ _ _ _ _ _ _ _ _ _ _ (λ told. rw before.later.tells_same told)
           before.underway (ap text.logs c.in-Some.ensures.steps)
           (grown_twice _ _ _ _ _ _ _ _ _ _ _ (text.port log.port) (text.dids log.dids)
-          (λ told. rw c.write_port.ensures.later.tells_same told)
-          c.in_ok-write_port.ensures.grows c.in_ok-write_dids.ensures.grows);
+          (λ told. rw c.write_line.ensures.later.tells_same told)
+          c.in_ok-write_line.ensures.grows
+          (grown_as _ _ _ _ _ _ _ _ _ (dids_by_line log.dids)
+          c.in_ok-write_list.ensures.grows));
       lines = (subst (λ (left : List PortLog). AreLogsWithin c.args.longest left)
           c.in-Some.ensures.steps before.lines).1;
       capacity = omega (
         arith,
         before.capacity,
-        c.in_ok-write_port.ensures.capacity,
-        c.in_ok-write_dids.ensures.capacity,
+        c.in_ok-write_line.ensures.capacity,
+        c.in_ok-write_list.ensures.capacity,
       );
       files =
           λ other apart.
-          c.write_dids.ensures.files other apart ∙ c.write_port.ensures.files other apart
+          c.write_list.ensures.files other apart ∙ c.write_line.ensures.files other apart
           ∙ before.files other apart;
       later = later_still before.later
-          (later_still c.write_port.ensures.later c.write_dids.ensures.later);
+          (later_still c.write_line.ensures.later c.write_list.ensures.later);
     }
 
 pub returns-clause-grows : goal.returns-clause-grows

@@ -2,11 +2,12 @@ use Rattle.std.proofs.Common.{◌≤◌, ◌++◌, ℕ, List, [], ◌∷◌, ap,
 use Rattle.histories.specs.declared.log.Did.{Did}
 use Rattle.histories.specs.declared.log.PortLog.{PortLog}
 use Rattle.journals.specs.Journal as text
-use Rattle.run_files.specs.Parts.{AreDidsWithin, AreLogsWithin}
+use Rattle.run_files.specs.Parts.{AreLinesWithin, AreLogsWithin}
+use Rattle.run_files.proofs.LineTexts.{dids_by_line}
 use Rattle.run_files.proofs.journal_room.with_logs.Goals as goal
 
-within_more : (few many : ℕ) (ds : List Did) → few ≤ many → AreDidsWithin few ds →
-    AreDidsWithin many ds
+within_more : (few many : ℕ) (ds : List Did) → few ≤ many → AreLinesWithin text.did few ds →
+    AreLinesWithin text.did many ds
 within_more few many [] le all = tt
 within_more few many (d ∷ ds) le all =
     (omega (arith, all.0, le), within_more few many ds le all.1)
@@ -53,6 +54,7 @@ loop-log-preserved c =
             length-append (text.port log.port ++ text.dids log.dids)
                 (text.logs c.next.new.self),
             length-append (text.port log.port) (text.dids log.dids),
+            ap length (dids_by_line log.dids),
             c.port_room.ensures,
             c.in_ok-port.ensures.all,
             c.in_ok-more.ensures.bytes_fit,

@@ -1,5 +1,5 @@
 use Rattle.run_files.proofs.TextParts.{put_into}
-use Rattle.run_files.proofs.journal_lines.write_entry.Goals as goal
+use Rattle.run_files.proofs.line_writing.write_line.Goals as goal
 
 pub returns-clause-grows : goal.returns-clause-grows
 returns-clause-grows g c =

@@ -1,6 +1,0 @@
-use Rattle.run_files.proofs.TextParts.{put_into}
-use Rattle.run_files.proofs.journal_lines.write_did.Goals as goal
-
-pub returns-clause-grows : goal.returns-clause-grows
-returns-clause-grows g c =
-    put_into _ _ _ _ _ _ _ _ _ c.in_ok-make_room.ensures.grows c.in-Ok.ensures.ok
